@@ -1,0 +1,7 @@
+mod Bytes
+mod Reaching
+mod Forward
+mod Backward
+mod Arriving
+mod Counting
+mod Differing

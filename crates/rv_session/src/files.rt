@@ -1,0 +1,81 @@
+//! The image, as gdb asks for it: a file of one path, which is open as 5.
+
+ghost use Rattle.std.specs.Prelude.{◌≡◌, ◌++◌, IfOk, OnOk, codes, if◌then◌else◌, length};
+ghost use Rattle.std.specs.Int.{w32, to_be_bytes};
+ghost use Rattle.std.specs.List.{flat_map};
+ghost use Rattle.std.specs.Str.{bytes_eq};
+ghost use Rattle.rv_remote.specs.declared.request.Refusal.TheVariants as refusal;
+ghost use Rattle.rv_session.specs.Answers.{counted, file_part, file_reply, stat_words};
+ghost use Rattle.rv_session.specs.Replies.{refused, saying};
+
+use crate::reply::Reply;
+use crate::session::Session;
+use rv_remote::{Part, Refusal};
+use std::alloc::{AllocError, Global};
+
+/// The most bytes of a part, each of which may have to be escaped.
+const MOST_PART: usize = 8180;
+
+/// The bytes of gdb's `struct stat`.
+const STAT_BYTES: u32 = 64;
+
+/// A file that may be read, in its `st_mode`.
+const READABLE_FILE: u32 = 0x8124;
+
+impl Session {
+    // `vFile:open:`
+    pub(crate) fn open_file(&self, alloc: Global, path: &[u8]) -> Result<Reply, AllocError>
+        ensures { IfOk result (λ reply. reply
+            ≡ (if bytes_eq self.now.program.path path.now then saying (codes "F5") else refused refusal.OtherFile)) }
+    {
+        if self.program.path.as_slice() == path {
+            Reply::telling(alloc, "F5")
+        } else {
+            Reply::refusing(alloc, Refusal::OtherFile)
+        }
+    }
+
+    // `vFile:fstat:5`: words of four bytes, the high one first; the size stands at 28 to 35, and all but it and the mode is 0.
+    pub(crate) fn file_size(&self, alloc: Global) -> Result<Reply, AllocError>
+        ensures { IfOk result (λ reply. reply
+            ≡ saying (counted 64 ++ flat_map (to_be_bytes w32) (stat_words (length self.now.program.image)))) }
+    {
+        let size = self.program.image.as_slice().len() as u32;
+        let mut body = Vec::new(alloc);
+        push_count(&mut body, STAT_BYTES)?;
+        for word in 0..STAT_BYTES / 4 {
+            let value = match word {
+                2 => READABLE_FILE,
+                8 => size,
+                _ => 0,
+            };
+            body.extend_from_slice(value.to_be_bytes().as_slice())?;
+        }
+        Ok(Reply::saying(alloc, body))
+    }
+
+    // `vFile:pread:5,`
+    pub(crate) fn read_file(&self, alloc: Global, part: Part) -> Result<Reply, AllocError>
+        ensures { IfOk result (λ reply. reply ≡ file_reply (file_part self.now.program.image part)) }
+    {
+        let image = self.program.image.as_slice();
+        let rest = &image[image.len().min(part.offset as usize)..];
+        let count = rest.len().min(part.count as usize).min(MOST_PART);
+        let mut body = Vec::new(alloc);
+        push_count(&mut body, count as u32)?;
+        body.extend_from_slice(&rest[..count])?;
+        Ok(Reply::saying(alloc, body))
+    }
+}
+
+// `F`, a count and `;`
+fn push_count(body: &mut Vec<u8>, count: u32) -> Result<(), AllocError>
+    ensures { OnOk result (body.new.items ≡ body.old.items ++ counted count) }
+{
+    let mut digits = [0u8; 8];
+    hex::encode_to_slice(count.to_be_bytes().as_slice(), &mut digits).unwrap();
+    body.push(b'F')?;
+    body.extend_from_slice(&digits)?;
+    body.push(b';')?;
+    Ok(())
+}

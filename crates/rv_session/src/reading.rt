@@ -1,0 +1,83 @@
+//! Registers and memory as they stand at the session's place.
+
+ghost use Rattle.std.specs.Prelude.{◌≡◌, IfOk};
+ghost use Rattle.rv_remote.specs.Shown.{register_text};
+ghost use Rattle.rv_session.specs.Answers.{memory_reply, registers_here, value_of};
+ghost use Rattle.rv_session.specs.Memory.{bytes_from};
+ghost use Rattle.rv_session.specs.Replies.{saying};
+ghost use Rattle.rv_session.specs.Sessions.{here};
+
+use crate::reply::Reply;
+use crate::session::Session;
+use rv_memory::Bus;
+use rv_remote::{Range, Refusal, Register, push_memory, push_register, push_registers};
+use std::alloc::{AllocError, Global};
+
+/// The most bytes of memory in a reply, two digits each.
+const MOST_BYTES: u32 = 8184;
+
+impl Session {
+    // `g`
+    pub(crate) fn registers(&self, alloc: Global) -> Result<Reply, AllocError>
+        ensures { IfOk result (λ reply. reply ≡ saying (registers_here self.now)) }
+    {
+        let machine = self.history.machine();
+        let mut body = Vec::new(alloc);
+        push_registers(&mut body, &machine.registers(), machine.pc())?;
+        Ok(Reply::saying(alloc, body))
+    }
+
+    // `p`
+    pub(crate) fn register(&self, alloc: Global, register: Register) -> Result<Reply, AllocError>
+        ensures { IfOk result (λ reply. reply ≡ saying (register_text (value_of self.now register))) }
+    {
+        let mut body = Vec::new(alloc);
+        push_register(&mut body, self.value(register))?;
+        Ok(Reply::saying(alloc, body))
+    }
+
+    // The value of a register. What is no register of the hart is shown as the pc.
+    pub(crate) fn value(&self, register: Register) -> u32
+        ensures { result ≡ value_of self.now register }
+    {
+        let machine = self.history.machine();
+        match register {
+            Register::Hart(number) if number < 32 => machine.reg(number as u8),
+            Register::Hart(_) => machine.pc(),
+            Register::Steps => self.history.place(),
+            Register::Printed => machine.bus().console().len() as u32,
+            Register::Taken => self.script.saturating_sub(machine.bus().script_left()) as u32,
+        }
+    }
+
+    // `m`: as many bytes as stand in regions, one behind the other.
+    pub(crate) fn memory(&self, alloc: Global, range: Range) -> Result<Reply, AllocError>
+        ensures { IfOk result (λ reply. reply ≡ memory_reply (bytes_from (here self.now).bus range)) }
+    {
+        let bytes = bytes_from(alloc, self.history.machine().bus(), range)?;
+        if bytes.is_empty() {
+            return Reply::refusing(alloc, Refusal::Failed);
+        }
+        let mut body = Vec::new(alloc);
+        push_memory(alloc, &mut body, bytes.as_slice())?;
+        Ok(Reply::saying(alloc, body))
+    }
+}
+
+// The bytes from an address on, up to the first that stands in no region, and no more than fit.
+fn bytes_from(alloc: Global, bus: &Bus, range: Range) -> Result<Vec<u8>, AllocError>
+    ensures { IfOk result (λ bytes. bytes.items ≡ bytes_from bus.now range) }
+{
+    let room = u32::MAX - range.address;
+    let mut bytes = Vec::new(alloc);
+    for offset in 0..range.count.min(MOST_BYTES) {
+        if offset > room {
+            return Ok(bytes);
+        }
+        match bus.byte(range.address + offset) {
+            Some(byte) => bytes.push(byte)?,
+            None => return Ok(bytes),
+        }
+    }
+    Ok(bytes)
+}
