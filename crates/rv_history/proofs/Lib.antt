@@ -5,3 +5,5 @@ mod Backward
 mod Arriving
 mod Counting
 mod Differing
+mod Determined
+pub mod Public

@@ -3,7 +3,8 @@ use Rattle.std.specs.Prelude.{ℕ, ◌≡◌, ◌+◌, ◌<◌, ◌≤◌}
 use Rattle.rv_machine.specs.Run.{run_of}
 use Rattle.rv_machine.specs.State.{State}
 use Rattle.rv_machine.specs.declared.ending.Ending.{Ending}
-use Rattle.rv_history.specs.Places.{IsBreakAt, IsChangeAt, last_place}
+use Rattle.rv_history.specs.Places.{IsBreakAt, IsChangeAt, IsHaltAt, last_place}
+use Rattle.rv_history.specs.declared.bounds.Bounds.{Bounds}
 use Rattle.rv_history.specs.declared.found.Found.{Found}
 use Rattle.rv_history.specs.declared.found.Found.TheVariants as found
 use Rattle.rv_history.specs.declared.stops.Stops.{Stops}
@@ -14,29 +15,29 @@ IsEndAt budget start place ending = (place ≡ last_place budget start) × (endi
 
 -- ---- forwards
 
--- What a move forward from a place meets at this one: a break first, but not where it began, then the end, then a change by the
--- step in front of which it stands.
-abbrev pub MeetsAhead : Stops → ℕ → State → ℕ → ℕ → Found → Type 0
-MeetsAhead stops budget start from place found.Break = (from < place) × IsBreakAt stops start place
-MeetsAhead stops budget start from place (found.End ending) =
-    IsEndAt budget start place ending × (from < place → IsBreakAt stops start place → ⊥)
-MeetsAhead stops budget start from place found.Change =
-    IsChangeAt stops budget start place × (from < place → IsBreakAt stops start place → ⊥)
-MeetsAhead stops budget start from place found.Done = ⊥
-MeetsAhead stops budget start from place found.Begin = ⊥
+-- What a move forward from a place meets at this one: a breakpoint or an address outside the bounds first, but not where it began,
+-- then the end, then a change by the step in front of which it stands.
+abbrev pub MeetsAhead : Stops → Bounds → ℕ → State → ℕ → ℕ → Found → Type 0
+MeetsAhead stops bounds budget start from place found.Break = (from < place) × IsHaltAt stops bounds start place
+MeetsAhead stops bounds budget start from place (found.End ending) =
+    IsEndAt budget start place ending × (from < place → IsHaltAt stops bounds start place → ⊥)
+MeetsAhead stops bounds budget start from place found.Change =
+    IsChangeAt stops budget start place × (from < place → IsHaltAt stops bounds start place → ⊥)
+MeetsAhead stops bounds budget start from place found.Done = ⊥
+MeetsAhead stops bounds budget start from place found.Begin = ⊥
 
 -- it meets nothing there
-pub record GoesOnAhead (stops : Stops) (budget : ℕ) (start : State) (from place : ℕ) : Type 0 where
-  pub no_break : from < place → IsBreakAt stops start place → ⊥
+pub record GoesOnAhead (stops : Stops) (bounds : Bounds) (budget : ℕ) (start : State) (from place : ℕ) : Type 0 where
+  pub no_halt : from < place → IsHaltAt stops bounds start place → ⊥
   pub no_end : place < last_place budget start
   pub no_change : IsChangeAt stops budget start place → ⊥
 
 -- the next stop from a place on: the first place from there on where anything is met
-pub record IsNextStop (stops : Stops) (budget : ℕ) (start : State) (from place : ℕ) (found : Found) : Type 0 where
+pub record IsNextStop (stops : Stops) (bounds : Bounds) (budget : ℕ) (start : State) (from place : ℕ) (found : Found) : Type 0 where
   pub order : from ≤ place
   pub within : place ≤ last_place budget start
-  pub meets : MeetsAhead stops budget start from place found
-  pub between : (j : ℕ) → from ≤ j → j < place → GoesOnAhead stops budget start from j
+  pub meets : MeetsAhead stops bounds budget start from place found
+  pub between : (j : ℕ) → from ≤ j → j < place → GoesOnAhead stops bounds budget start from j
 
 -- a step forward: it stays at the end, and in front of a change
 abbrev pub IsNextStep : Stops → ℕ → State → ℕ → ℕ → Found → Type 0

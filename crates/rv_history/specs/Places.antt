@@ -3,7 +3,8 @@ use Rattle.std.specs.Prelude.{ℕ, ◌≡◌, ◌≢◌, ◌+◌, ◌<◌, true}
 use Rattle.rv_machine.specs.Run.{run_of}
 use Rattle.rv_machine.specs.State.{State}
 use Rattle.rv_trace.specs.Trace.{state_after}
-use Rattle.rv_history.specs.Stops.{is_break, watched_bytes}
+use Rattle.rv_history.specs.Stops.{is_break, is_halt, watched_bytes}
+use Rattle.rv_history.specs.declared.bounds.Bounds.{Bounds}
 use Rattle.rv_history.specs.declared.stops.Stops.{Stops}
 
 abbrev pub last_place : ℕ → State → ℕ
@@ -17,6 +18,10 @@ pub record IsReached (start : State) (place : ℕ) (s : State) : Type 0 where
 -- the pc at a place is a breakpoint
 abbrev pub IsBreakAt : Stops → State → ℕ → Type 0
 IsBreakAt stops start place = is_break stops (state_after place start).pc ≡ true
+
+-- the pc at a place is a breakpoint, or outside the bounds
+abbrev pub IsHaltAt : Stops → Bounds → State → ℕ → Type 0
+IsHaltAt stops bounds start place = is_halt stops bounds (state_after place start).pc ≡ true
 
 -- the step behind a place completes, and changes a watched byte
 pub record IsChangeAt (stops : Stops) (budget : ℕ) (start : State) (place : ℕ) : Type 0 where

@@ -7,7 +7,7 @@ use rv_machine::Ending;
 pub enum Found {
     /// The step is done.
     Done,
-    /// The pc is a breakpoint.
+    /// The pc is a breakpoint, or outside the bounds of a move forward.
     Break,
     /// A watched byte is changed by the step in front, of a move forward, or by the step behind, of a move backward.
     Change,

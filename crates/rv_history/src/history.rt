@@ -1,12 +1,13 @@
 //! A place in a run, and the moves from it.
 
-ghost use Rattle.std.specs.Prelude.{◌≡◌, ◌≤◌, ◌↔◌, IfOk, IsTrue, MatchBool, OnErr, if◌then◌else◌};
+ghost use Rattle.std.specs.Prelude.{◌≡◌, ◌+◌, ◌-◌, ◌<◌, ◌≤◌, ◌↔◌, IfOk, IsTrue, MatchBool, OnErr, if◌then◌else◌};
 ghost use Rattle.rv_machine.specs.Machine.{state_of};
 ghost use Rattle.rv_trace.specs.Trace.{state_after};
 
+use crate::bounds::Bounds;
 use crate::counts::{Count, first_with};
 use crate::found::{Arrival, Found};
-use crate::search::{next_step, next_stop};
+use crate::search::{Leg, next_step, next_stop};
 use crate::search_back::{step_before, stop_before};
 use crate::start::Start;
 use crate::stops::Stops;
@@ -75,13 +76,24 @@ impl History {
         &self.machine
     }
 
-    /// Goes to the next stop, which may be an end of the run. It does not stop at a breakpoint where it stands.
-    pub fn go_on(&mut self, alloc: Global, stops: &Stops) -> Result<Found, AllocError>
-        ensures stop { IfOk result (IsNextStop stops.now self.old.budget self.old.start self.old.place self.new.place) }
+    /// Goes to the next stop, which may be an end of the run. It does not stop at a breakpoint where it stands, and it may begin
+    /// outside the bounds.
+    pub fn go_on(
+        &mut self,
+        alloc: Global,
+        stops: &Stops,
+        bounds: Bounds,
+    ) -> Result<Found, AllocError>
+        ensures stop { IfOk result (IsNextStop stops.now bounds self.old.budget self.old.start self.old.place self.new.place) }
         ensures run { self.new ≡ record self.old { place = self.new.place } }
         ensures same { OnErr result (self.new ≡ self.old) }
     {
-        let arrival = next_stop(alloc, &self.start, self.budget, self.place, stops)?;
+        let leg = Leg {
+            from: self.place,
+            budget: self.budget,
+            bounds,
+        };
+        let arrival = next_stop(alloc, &self.start, leg, stops)?;
         self.arrive(alloc, arrival)
     }
 
@@ -159,20 +171,28 @@ impl History {
         }
     }
 
-    /// The address of the first watch whose bytes differ between the states behind two numbers of steps.
-    pub fn differing_watch(
-        &self,
-        alloc: Global,
-        one: u32,
-        other: u32,
-        stops: &Stops,
-    ) -> Result<Option<u32>, AllocError>
-        ensures { IfOk result (λ found. found ≡ first_differing stops.now.watches
-            (state_after one self.now.start).bus (state_after other self.now.start).bus) }
+    /// The address of the first watch whose bytes the step in front changes, if it completes within the budget and changes any.
+    pub fn watch_ahead(&self, alloc: Global, stops: &Stops) -> Result<Option<u32>, AllocError>
+        ensures { self.now.place < last_place self.now.budget self.now.start → IfOk result
+            (λ found. found ≡ first_differing stops.now.watches (state_after self.now.place self.now.start).bus
+                (state_after (self.now.place + 1) self.now.start).bus) }
     {
-        let here = self.start.machine_after(alloc, one)?;
-        let there = self.start.machine_after(alloc, other)?;
-        stops.differing_watch(alloc, here.bus(), there.bus())
+        let ahead = self
+            .start
+            .machine_after(alloc, self.place.saturating_add(1))?;
+        stops.differing_watch(alloc, self.machine.bus(), ahead.bus())
+    }
+
+    /// The address of the first watch whose bytes the step behind changes, if it changes any.
+    pub fn watch_behind(&self, alloc: Global, stops: &Stops) -> Result<Option<u32>, AllocError>
+        ensures { IfOk result
+            (λ found. found ≡ first_differing stops.now.watches (state_after (self.now.place - 1) self.now.start).bus
+                (state_after self.now.place self.now.start).bus) }
+    {
+        let behind = self
+            .start
+            .machine_after(alloc, self.place.saturating_sub(1))?;
+        stops.differing_watch(alloc, behind.bus(), self.machine.bus())
     }
 
     // Goes to where a search ended.

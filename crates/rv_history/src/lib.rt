@@ -5,17 +5,21 @@
 //! changes a watched byte ([`Stops`]), or an end of the run. No move changes the run.
 #![tactic(auto)]
 
+mod bounds;
 mod counts;
 mod found;
 mod history;
+mod law;
 mod search;
 mod search_back;
 mod start;
 mod stepping;
 mod stops;
 
+pub use bounds::Bounds;
 pub use counts::Count;
 pub use found::Found;
 pub use history::History;
+pub use law::moves_are_determined;
 pub use start::Start;
 pub use stops::{Stops, Watch};

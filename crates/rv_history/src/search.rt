@@ -5,8 +5,9 @@ ghost use Rattle.rv_machine.specs.Machine.{state_of};
 ghost use Rattle.rv_machine.specs.Run.{run_of};
 ghost use Rattle.rv_history.specs.Moves.{IsNextStep, IsNextStop};
 ghost use Rattle.rv_history.specs.Starts.{start_of};
-ghost use Rattle.rv_history.specs.Stops.{is_break};
+ghost use Rattle.rv_history.specs.Stops.{is_halt};
 
+use crate::bounds::Bounds;
 use crate::found::{Arrival, Found};
 use crate::start::Start;
 use crate::stepping::{Stepped, step_watched};
@@ -14,21 +15,30 @@ use crate::stops::Stops;
 use rv_machine::{Ending, Machine};
 use std::alloc::{AllocError, Global};
 
-/// The next stop from a place on. It takes the time of the run up to there.
+/// What a move forward goes through.
+#[derive(Clone, Copy)]
+pub(crate) struct Leg {
+    /// The place where it begins.
+    pub from: u32,
+    pub budget: u32,
+    pub bounds: Bounds,
+}
+
+/// The next stop on a leg. It takes the time of the run up to there.
 pub(crate) fn next_stop(
     alloc: Global,
     start: &Start,
-    budget: u32,
-    from: u32,
+    leg: Leg,
     stops: &Stops,
 ) -> Result<Arrival, AllocError>
-    requires comes { (run_of from (start_of start.now)).steps ≡ from }
-    requires within { from ≤ budget }
-    ensures { IfOk result (λ arrival. IsNextStop stops.now budget (start_of start.now) from arrival.place arrival.found) }
+    requires comes { (run_of leg.from (start_of start.now)).steps ≡ leg.from }
+    requires within { leg.from ≤ leg.budget }
+    ensures { IfOk result
+        (λ arrival. IsNextStop stops.now leg.bounds leg.budget (start_of start.now) leg.from arrival.place arrival.found) }
 {
-    let mut machine = start.machine_behind(alloc, from)?;
-    for place in from..budget {
-        if is_break_behind(stops, &machine, from, place) {
+    let mut machine = start.machine_behind(alloc, leg.from)?;
+    for place in leg.from..leg.budget {
+        if is_halt_behind(stops, leg, &machine, place) {
             return Ok(Arrival {
                 place,
                 found: Found::Break,
@@ -50,23 +60,29 @@ pub(crate) fn next_stop(
             Stepped::Quiet => {}
         }
     }
-    if is_break_behind(stops, &machine, from, budget) {
+    if is_halt_behind(stops, leg, &machine, leg.budget) {
         return Ok(Arrival {
-            place: budget,
+            place: leg.budget,
             found: Found::Break,
         });
     }
     Ok(Arrival {
-        place: budget,
+        place: leg.budget,
         found: Found::End(Ending::Budget),
     })
 }
 
-// Whether a machine at a place stands at a breakpoint, and behind the place where the move began.
-fn is_break_behind(stops: &Stops, machine: &Machine, from: u32, place: u32) -> bool
-    ensures { result ≡ (nat_lt from place && is_break stops.now (state_of machine.now).pc) }
+// Whether a machine at a place stands at a breakpoint or outside the bounds, and behind the place where the move began.
+fn is_halt_behind(stops: &Stops, leg: Leg, machine: &Machine, place: u32) -> bool
+    ensures { result ≡ (nat_lt leg.from place && is_halt stops.now leg.bounds (state_of machine.now).pc) }
 {
-    from < place && stops.has_break(machine.pc())
+    leg.from < place && is_halt(stops, leg.bounds, machine.pc())
+}
+
+fn is_halt(stops: &Stops, bounds: Bounds, pc: u32) -> bool
+    ensures { result ≡ is_halt stops.now bounds pc }
+{
+    stops.has_break(pc) || bounds.is_outside(pc)
 }
 
 /// A step forward from a place. It takes the time of the run up to there.

@@ -1,6 +1,6 @@
 //! Moves among the places of a run, by the lines of a table.
 use rv_base::Sequence;
-use rv_history::{Found, History, Start, Stops, Watch};
+use rv_history::{Bounds, Found, History, Start, Stops, Watch};
 use rv_isa::Isa;
 use rv_machine::Ending;
 use rv_memory::{Bus, Map, Misaligned};
@@ -94,7 +94,7 @@ fn moved(
         return Ok(format!(in alloc; "{told} {}", history.place())?);
     }
     let found = match asked {
-        "go_on" => history.go_on(alloc, stops)?,
+        "go_on" => history.go_on(alloc, stops, Bounds::All)?,
         "go_back" => history.go_back(alloc, stops)?,
         "step" => history.step(alloc, stops)?,
         "step_back" => history.step_back(alloc, stops)?,

@@ -1,1 +1,6 @@
+mod Appending
 mod Cuts
+mod Looking
+mod Moving
+mod Seeking
+mod Same

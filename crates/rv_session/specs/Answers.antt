@@ -1,5 +1,6 @@
 -- What a session answers to each request, and how it stands behind it.
-use Rattle.std.specs.Prelude.{ℕ, List, [], ◌∷◌, ◌++◌, ◌≡◌, ◌-◌, ◌==◌, ◌||◌, Bool, true, false, Option, Some, None, Result, Ok, Err, codes, if◌then◌else◌, drop, length, min, nat_le, nat_lt, take}
+use Rattle.std.specs.Prelude.{ℕ, List, [], ◌∷◌, ◌++◌, ◌≡◌, ◌-◌, ◌==◌, ◌||◌, Bool, true, false, None, Result, Ok, Err, codes, if◌then◌else◌, drop, length, min, nat_le, nat_lt, take, unwrap_or}
+use Rattle.std.specs.Fmt.{decimal}
 use Rattle.std.specs.Int.{w32, to_be_bytes}
 use Rattle.std.specs.List.{flat_map}
 use Rattle.std.specs.Str.{bytes_eq}
@@ -29,17 +30,26 @@ use Rattle.rv_session.specs.Moved.{IsMoved}
 use Rattle.rv_session.specs.Replies.{granted, granted_if, printing, refused, saying}
 use Rattle.rv_session.specs.Sessions.{at_place, here}
 use Rattle.rv_session.specs.Traps.{IsTrapped, without_trap}
+use Rattle.rv_session.specs.declared.monitor.TheConstants.{HELP}
 use Rattle.rv_session.specs.declared.reply.Reply.{Reply}
 use Rattle.rv_session.specs.declared.session.Session.{Session}
 
 -- ---- what is shown of the state
 
+-- a count as four bytes show it
+abbrev pub shown_count : ℕ → ℕ
+shown_count count = min count 4294967295
+
+-- how many bytes of the script are taken
+abbrev pub taken_here : Session → ℕ
+taken_here session = session.script - length (here session).bus.script
+
 -- the value of a register of the target's description
 abbrev pub value_of : Session → Register → ℕ
 value_of session (reg.Hart number) = if nat_lt number 32 then register (here session) number else (here session).pc
 value_of session reg.Steps = session.history.place
-value_of session reg.Printed = length (here session).bus.output
-value_of session reg.Taken = session.script - length (here session).bus.script
+value_of session reg.Printed = shown_count (length (here session).bus.output)
+value_of session reg.Taken = shown_count (taken_here session)
 
 abbrev pub registers_here : Session → List ℕ
 registers_here session = registers_text (here session).registers (here session).pc
@@ -66,29 +76,45 @@ file_reply bytes = saying (counted (length bytes) ++ bytes)
 abbrev pub stat_words : ℕ → List ℕ
 stat_words size = 0 ∷ 0 ∷ 0x8124 ∷ 0 ∷ 0 ∷ 0 ∷ 0 ∷ 0 ∷ size ∷ 0 ∷ 0 ∷ 0 ∷ 0 ∷ 0 ∷ 0 ∷ 0 ∷ []
 
--- the reply that every session gives
-abbrev pub fixed_shown : Option (List ℕ) → Option Reply
-fixed_shown (Some text) = Some (saying text)
-fixed_shown None = None
+abbrev pub size_reply : ℕ → Reply
+size_reply size = saying (counted 64 ++ flat_map (to_be_bytes w32) (stat_words (shown_count size)))
+
+-- what every session says; what is not known is the empty reply
+abbrev pub fixed_answer : Request → Reply
+fixed_answer request = saying (unwrap_or (fixed_reply request) [])
 
 -- the reply to a request that changes nothing of the session
-abbrev pub shown_reply : Session → Request → Option Reply
-shown_reply session ask.LastStop = Some (saying (stop_text session.last))
-shown_reply session ask.Registers = Some (saying (registers_here session))
-shown_reply session (ask.Register register) = Some (saying (register_text (value_of session register)))
-shown_reply session (ask.ReadMemory range) = Some (memory_reply (bytes_from (here session).bus range))
-shown_reply session (ask.Description part) = Some (saying (part_text TARGET part))
-shown_reply session (ask.ImagePath part) = Some (saying (part_text session.program.path part))
+abbrev pub shown_reply : Session → Request → Reply
+shown_reply session ask.LastStop = saying (stop_text session.last)
+shown_reply session ask.Registers = saying (registers_here session)
+shown_reply session (ask.Register register) = saying (register_text (value_of session register))
+shown_reply session (ask.ReadMemory range) = memory_reply (bytes_from (here session).bus range)
+shown_reply session (ask.Description part) = saying (part_text TARGET part)
+shown_reply session (ask.ImagePath part) = saying (part_text session.program.path part)
 shown_reply session (ask.OpenFile path) =
-    Some (if bytes_eq session.program.path path then saying (codes "F5") else refused refusal.OtherFile)
-shown_reply session ask.FileSize =
-    Some (saying (counted 64 ++ flat_map (to_be_bytes w32) (stat_words (length session.program.image))))
-shown_reply session (ask.ReadFile part) = Some (file_reply (file_part session.program.image part))
+    if bytes_eq session.program.path path then saying (codes "F5") else refused refusal.OtherFile
+shown_reply session ask.FileSize = size_reply (length session.program.image)
+shown_reply session (ask.ReadFile part) = file_reply (file_part session.program.image part)
 shown_reply session (ask.WriteRegisters bytes) =
-    Some (granted_if (bytes_eq (registers_here session) (encode_lower bytes)) refusal.WouldChange)
+    granted_if (bytes_eq (registers_here session) (encode_lower bytes)) refusal.WouldChange
 shown_reply session (ask.WriteMemory address bytes) =
-    Some (granted_if (stand_at (here session).bus address bytes) refusal.WouldChange)
-shown_reply session request = fixed_shown (fixed_reply request)
+    granted_if (stand_at (here session).bus address bytes) refusal.WouldChange
+shown_reply session request = fixed_answer request
+
+-- ---- commands
+
+-- the commands that go to the start of the run
+abbrev pub is_reset : List ℕ → Bool
+is_reset text = bytes_eq text (codes "reset") || bytes_eq text (codes "reset halt")
+
+-- what the other commands print
+abbrev pub command_text : Session → List ℕ → List ℕ
+command_text session text =
+    if bytes_eq text (codes "when") then decimal session.history.place ++ codes " steps are done\n"
+    else if bytes_eq text (codes "console") then (here session).bus.output
+    else if bytes_eq text (codes "input") then
+    decimal (taken_here session) ++ codes " of " ++ decimal session.script ++ codes " bytes are taken\n"
+    else HELP
 
 -- ---- what changes the session
 
@@ -131,26 +157,19 @@ pub record IsTrapAsked (session : Session) (place : Trap) (reply : Reply) (next 
   pub trapped : IsTrapped session.stops (here session).bus place outcome
   pub set : IsSet session outcome reply next
 
--- some text is shown, and granted
-abbrev pub IsPrinting : Reply → Type 0
-IsPrinting reply = reply ≡ printing reply.printed (codes "OK")
+-- a command of `monitor`: what it prints, and `OK`
+abbrev pub command_reply : Session → List ℕ → Reply
+command_reply session text = if is_reset text then granted else printing (command_text session text) (codes "OK")
 
--- the commands of `monitor`, whose texts are not said here: they are printed, and change nothing but that a reset goes to the start
-pub record IsCommanded (session : Session) (text : List ℕ) (reply : Reply) (next : Session) : Type 0 where
-  pub granted : IsPrinting reply
-  pub next_is : next ≡ (if bytes_eq text (codes "reset") || bytes_eq text (codes "reset halt") then at_place session 0 else session)
-  pub console : bytes_eq text (codes "console") ≡ true → reply.printed ≡ (here session).bus.output
-
--- what changes nothing has its one reply
-abbrev pub IsShown : Session → Option Reply → Reply → Session → Type 0
-IsShown session (Some shown) reply next = (reply ≡ shown) × (next ≡ session)
-IsShown session None reply next = ⊥
+abbrev pub IsCommanded : Session → List ℕ → Reply → Session → Type 0
+IsCommanded session text reply next =
+    (reply ≡ command_reply session text) × (next ≡ (if is_reset text then at_place session 0 else session))
 
 -- what a session answers, and how it stands behind the answer
 abbrev pub IsAnswered : Session → Request → Reply → Session → Type 0
 IsAnswered session (ask.Move asked) reply next = IsMoved session asked reply next
 IsAnswered session (ask.WriteRegister register value) reply next = IsWritten session register value reply next
-IsAnswered session (ask.Set place) reply next = IsSet session place (trap_refusal session.stops (here session).bus place) reply next
+IsAnswered session (ask.Set place) reply next = IsTrapAsked session place reply next
 IsAnswered session (ask.Clear place) reply next =
     (reply ≡ granted) × (next ≡ record session { stops = without_trap session.stops place })
 IsAnswered session (ask.Command text) reply next = IsCommanded session text reply next
@@ -160,4 +179,4 @@ IsAnswered session ask.NoAcknowledgements reply next = (reply ≡ granted) × (n
 IsAnswered session ask.Detach reply next = (reply ≡ granted) × (next ≡ record session { is_over = true })
 IsAnswered session ask.Kill reply next =
     (reply ≡ record { printed = []; body = None }) × (next ≡ record session { is_over = true })
-IsAnswered session request reply next = IsShown session (shown_reply session request) reply next
+IsAnswered session request reply next = (reply ≡ shown_reply session request) × (next ≡ session)

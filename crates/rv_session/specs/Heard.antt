@@ -21,10 +21,13 @@ use Rattle.rv_session.specs.declared.session.Session.{Session}
 abbrev pub most_printed : ℕ
 most_printed = 8184
 
-abbrev pub printed_packet : List ℕ → ℕ → List ℕ
-printed_packet printed number = framed (79 ∷ encode_lower (take most_printed (drop (number * most_printed) printed)))
+abbrev pub printed_part : List ℕ → ℕ → List ℕ
+printed_part printed number = take most_printed (drop (number * most_printed) printed)
 
-abbrev pub printed_packets : List ℕ → List ℕ
+abbrev pub printed_packet : List ℕ → ℕ → List ℕ
+printed_packet printed number = framed (79 ∷ encode_lower (printed_part printed number))
+
+unfoldable pub printed_packets : List ℕ → List ℕ
 printed_packets printed =
     flat_map (printed_packet printed) (range_with_len 0 ((length printed + (most_printed - 1)) / most_printed))
 
@@ -51,6 +54,12 @@ acknowledgement session = if session.acknowledges then 43 ∷ [] else []
 -- the last packet goes out again, while packets are acknowledged
 abbrev pub sent_again : Session → List ℕ
 sent_again session = if session.acknowledges then session.sent else []
+
+-- what is appended to bytes is such
+pub record IsAppended (old new : List ℕ) (IsSuch : List ℕ → Type 0) : Type 0 where
+  pub out : List ℕ
+  pub new_is : new ≡ old ++ out
+  pub such : IsSuch out
 
 -- ---- what is heard
 
@@ -89,17 +98,6 @@ IsResponseUnless false session heard out next = IsResponse session heard out nex
 abbrev pub IsRespondedTo : Session → Option Heard → List ℕ → Session → Type 0
 IsRespondedTo session None out next = (out ≡ []) × (next ≡ session)
 IsRespondedTo session (Some heard) out next = IsResponseUnless session.is_over session heard out next
-
--- the same, behind what goes out already
-pub record IsHeardOut (session : Session) (heard : Heard) (old new : List ℕ) (next : Session) : Type 0 where
-  pub out : List ℕ
-  pub new_is : new ≡ old ++ out
-  pub response : IsRespondedTo session (Some heard) out next
-
-pub record IsTakenOut (session : Session) (body : List ℕ) (sum : Sum) (old new : List ℕ) (next : Session) : Type 0 where
-  pub out : List ℕ
-  pub new_is : new ≡ old ++ out
-  pub judged : IsJudged session (session.acknowledges && is_wrong sum) body out next
 
 -- a byte is heard
 abbrev pub IsByteFed : Session → ℕ → List ℕ → Session → Type 0

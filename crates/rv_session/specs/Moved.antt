@@ -1,7 +1,9 @@
 -- Moves in the run, and the stops that are told of them.
-use Rattle.std.specs.Prelude.{ℕ, List, [], ◌≡◌, ◌+◌, ◌-◌, ◌<◌, ◌≤◌, ◌||◌, Bool, true, false, Option, Some, None, drop, if◌then◌else◌, length, max, nat_le, nat_lt}
+use Rattle.std.specs.Prelude.{ℕ, List, [], ◌≡◌, ◌+◌, ◌-◌, ◌<◌, Bool, true, false, Option, Some, None, drop, if◌then◌else◌, length, max}
 use Rattle.rv_history.specs.Moves.{IsNextStep, IsNextStop, IsStepBefore, IsStopBefore}
-use Rattle.rv_history.specs.Stops.{first_differing, is_break}
+use Rattle.rv_history.specs.Places.{last_place}
+use Rattle.rv_history.specs.Stops.{first_differing}
+use Rattle.rv_history.specs.declared.bounds.Bounds.TheVariants as bounds
 use Rattle.rv_history.specs.declared.found.Found.{Found}
 use Rattle.rv_history.specs.declared.found.Found.TheVariants as found
 use Rattle.rv_history.specs.declared.stops.Stops.{Stops}
@@ -13,7 +15,6 @@ use Rattle.rv_remote.specs.declared.request.Move.{Move}
 use Rattle.rv_remote.specs.declared.request.Move.TheVariants as move
 use Rattle.rv_remote.specs.declared.stop.Stop.{Stop}
 use Rattle.rv_remote.specs.declared.stop.Stop.TheVariants as stop
-use Rattle.rv_trace.specs.Trace.{state_after}
 use Rattle.rv_session.specs.Replies.{printing}
 use Rattle.rv_session.specs.Sessions.{state_at}
 use Rattle.rv_session.specs.declared.reply.Reply.{Reply}
@@ -26,26 +27,12 @@ is_forward (move.StepWithin low high) = true
 is_forward move.ContinueBack = false
 is_forward move.StepBack = false
 
--- the pc is a breakpoint, or outside the addresses from the first on and below the second
-abbrev pub is_left : Stops → ℕ → ℕ → State → Bool
-is_left stops low high s = (nat_lt s.pc low || nat_le high s.pc) || is_break stops s.pc
-
--- Steps within a range from a place on: the last is a step from the one before to this place, each before it is done and stays
--- within the range.
-pub record IsStepWithin (stops : Stops) (budget : ℕ) (start : State) (low high from place : ℕ) (found : Found) : Type 0 where
-  pub before : ℕ
-  pub order : from ≤ before
-  pub last : IsNextStep stops budget start before place found
-  pub ends : found ≡ found.Done → is_left stops low high (state_after place start) ≡ true
-  pub done : (j : ℕ) → from ≤ j → j < before → IsNextStep stops budget start j (j + 1) found.Done
-  pub stays : (j : ℕ) → from < j → j ≤ before → is_left stops low high (state_after j start) ≡ false
-
 -- where a move comes to, and what it finds there
 abbrev pub IsGone : Move → Stops → ℕ → State → ℕ → ℕ → Found → Type 0
-IsGone move.Continue stops budget start from place found = IsNextStop stops budget start from place found
+IsGone move.Continue stops budget start from place found = IsNextStop stops bounds.All budget start from place found
 IsGone move.Step stops budget start from place found = IsNextStep stops budget start from place found
 IsGone (move.StepWithin low high) stops budget start from place found =
-    IsStepWithin stops budget start low high from place found
+    IsNextStop stops (bounds.Within low high) budget start from place found
 IsGone move.ContinueBack stops budget start from place found = IsStopBefore stops budget start from place found
 IsGone move.StepBack stops budget start from place found = IsStepBefore stops budget start from place found
 
@@ -60,14 +47,20 @@ abbrev pub watch_told : Option ℕ → Stop
 watch_told (Some address) = stop.Watch address
 watch_told None = stop.Here
 
--- the place on the other side of the step that changes a watched byte: in front, or on the way back behind
-abbrev pub other_side : Move → ℕ → ℕ
-other_side asked place = if is_forward asked then place + 1 else place - 1
+-- the first watch whose bytes differ between two places
+abbrev pub watch_between : Session → ℕ → ℕ → Option ℕ
+watch_between session one other =
+    first_differing session.stops.watches (state_at session one).bus (state_at session other).bus
 
--- the first watch that the step changes
+-- the first watch that a step changes: the step in front, or on the way back the step behind
 abbrev pub watch_stop : Session → Move → ℕ → Stop
-watch_stop session asked place = watch_told (first_differing session.stops.watches
-    (state_at session place).bus (state_at session (other_side asked place)).bus)
+watch_stop session asked place = watch_told
+    (if is_forward asked then watch_between session place (place + 1) else watch_between session (place - 1) place)
+
+-- a change in front of a place is by a step that completes
+abbrev pub CanTell : Session → Move → Found → Type 0
+CanTell session asked found = found ≡ found.Change → is_forward asked ≡ true
+    → session.history.place < last_place session.history.budget session.history.start
 
 -- how what is found is told
 abbrev pub stop_of : Session → Move → ℕ → Found → Stop

@@ -1,6 +1,5 @@
 -- A session, and what it shows of its run.
-use Rattle.std.specs.Prelude.{ℕ, List, [], ◌≡◌, ◌≤◌, ◌-◌, true, false, length}
-use Rattle.rv_history.specs.Places.{last_place}
+use Rattle.std.specs.Prelude.{ℕ, [], ◌≡◌, true, false, length}
 use Rattle.rv_history.specs.Starts.{start_of}
 use Rattle.rv_history.specs.declared.start.Start.{Start}
 use Rattle.rv_machine.specs.State.{State}
@@ -38,10 +37,9 @@ here session = state_at session session.history.place
 abbrev pub at_place : Session → ℕ → Session
 at_place session place = record session { history = record session.history { place = place } }
 
--- One session comes of another by whatever is fed: the run is the same, and the place lies in it.
+-- One session comes of another by whatever is fed: the run is the same.
 pub record IsSameRun (session next : Session) : Type 0 where
   pub start_is : next.history.start ≡ session.history.start
   pub budget_is : next.history.budget ≡ session.history.budget
   pub program_is : next.program ≡ session.program
   pub script_is : next.script ≡ session.script
-  pub within : next.history.place ≤ last_place session.history.budget session.history.start

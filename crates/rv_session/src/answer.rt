@@ -1,20 +1,19 @@
 //! What a session answers to each request.
 
-ghost use Rattle.std.specs.Prelude.{◌≡◌, ◌×◌, [], IfOk, None, Some, false, true};
-ghost use Rattle.rv_remote.specs.Replies.{fixed_reply, part_text};
+ghost use Rattle.std.specs.Prelude.{◌≡◌, [], IfOk, None, false, true};
+ghost use Rattle.rv_remote.specs.Replies.{part_text};
 ghost use Rattle.rv_remote.specs.Stops.{stop_text};
 ghost use Rattle.rv_remote.specs.declared.stop.Stop.TheVariants as stop;
-ghost use Rattle.rv_session.specs.Answers.{IsAnswered, IsTrapAsked, fixed_shown, shown_reply};
+ghost use Rattle.rv_session.specs.Answers.{IsAnswered, IsTrapAsked, fixed_answer, shown_reply};
 ghost use Rattle.rv_session.specs.Replies.{granted, saying};
 ghost use Rattle.rv_session.specs.Sessions.{at_place};
 ghost use Rattle.rv_session.specs.Traps.{without_trap};
-ghost use Rattle.rv_session.specs.declared.reply.Reply.{Reply};
 
 use crate::reply::Reply;
 use crate::session::Session;
 use crate::traps::{with_trap, without_trap};
 use rv_base::Bytes;
-use rv_remote::{Part, Refusal, Request, Stop, TARGET, Trap, fixed_reply, push_part, push_stop};
+use rv_remote::{Part, Request, Stop, TARGET, Trap, fixed_reply, push_part, push_stop};
 use std::alloc::{AllocError, Global};
 
 impl Session {
@@ -40,7 +39,7 @@ impl Session {
 
     // The answer to what changes nothing of the session.
     fn look(&self, alloc: Global, request: &Request) -> Result<Reply, AllocError>
-        ensures { IfOk result (λ reply. (shown : Reply) → shown_reply self.now request.now ≡ Some shown → reply ≡ shown) }
+        ensures { IfOk result (λ reply. reply ≡ shown_reply self.now request.now) }
     {
         match request {
             Request::LastStop => self.last_stop(alloc),
@@ -136,12 +135,9 @@ impl Session {
 
 // The reply that is the same in every session.
 fn fixed(alloc: Global, request: &Request) -> Result<Reply, AllocError>
-    ensures { IfOk result (λ reply. (shown : Reply) → fixed_shown (fixed_reply request.now) ≡ Some shown → reply ≡ shown) }
+    ensures { IfOk result (λ reply. reply ≡ fixed_answer request.now) }
 {
-    match fixed_reply(request) {
-        Some(text) => Reply::telling(alloc, text),
-        None => Reply::refusing(alloc, Refusal::Unknown),
-    }
+    Reply::telling(alloc, fixed_reply(request).unwrap_or(""))
 }
 
 fn part_of(alloc: Global, text: &[u8], part: Part) -> Result<Reply, AllocError>

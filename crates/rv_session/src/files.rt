@@ -5,9 +5,10 @@ ghost use Rattle.std.specs.Int.{w32, to_be_bytes};
 ghost use Rattle.std.specs.List.{flat_map};
 ghost use Rattle.std.specs.Str.{bytes_eq};
 ghost use Rattle.rv_remote.specs.declared.request.Refusal.TheVariants as refusal;
-ghost use Rattle.rv_session.specs.Answers.{counted, file_part, file_reply, stat_words};
+ghost use Rattle.rv_session.specs.Answers.{counted, file_part, file_reply, size_reply};
 ghost use Rattle.rv_session.specs.Replies.{refused, saying};
 
+use crate::reading::shown_count;
 use crate::reply::Reply;
 use crate::session::Session;
 use rv_remote::{Part, Refusal};
@@ -35,22 +36,15 @@ impl Session {
         }
     }
 
-    // `vFile:fstat:5`: words of four bytes, the high one first; the size stands at 28 to 35, and all but it and the mode is 0.
+    // `vFile:fstat:5`: words of four bytes, the high one first; all but the mode and the size is 0.
     pub(crate) fn file_size(&self, alloc: Global) -> Result<Reply, AllocError>
-        ensures { IfOk result (λ reply. reply
-            ≡ saying (counted 64 ++ flat_map (to_be_bytes w32) (stat_words (length self.now.program.image)))) }
+        ensures { IfOk result (λ reply. reply ≡ size_reply (length self.now.program.image)) }
     {
-        let size = self.program.image.as_slice().len() as u32;
+        let size = shown_count(self.program.image.as_slice().len());
         let mut body = Vec::new(alloc);
         push_count(&mut body, STAT_BYTES)?;
-        for word in 0..STAT_BYTES / 4 {
-            let value = match word {
-                2 => READABLE_FILE,
-                8 => size,
-                _ => 0,
-            };
-            body.extend_from_slice(value.to_be_bytes().as_slice())?;
-        }
+        push_words(&mut body, &[0, 0, READABLE_FILE, 0, 0, 0, 0, 0])?;
+        push_words(&mut body, &[size, 0, 0, 0, 0, 0, 0, 0])?;
         Ok(Reply::saying(alloc, body))
     }
 
@@ -60,12 +54,21 @@ impl Session {
     {
         let image = self.program.image.as_slice();
         let rest = &image[image.len().min(part.offset as usize)..];
-        let count = rest.len().min(part.count as usize).min(MOST_PART);
+        let count = rest.len().min(MOST_PART.min(part.count as usize));
         let mut body = Vec::new(alloc);
         push_count(&mut body, count as u32)?;
         body.extend_from_slice(&rest[..count])?;
         Ok(Reply::saying(alloc, body))
     }
+}
+
+fn push_words(body: &mut Vec<u8>, words: &[u32]) -> Result<(), AllocError>
+    ensures { OnOk result (body.new.items ≡ body.old.items ++ flat_map (to_be_bytes w32) words.now) }
+{
+    for word in words {
+        body.extend_from_slice(word.to_be_bytes().as_slice())?;
+    }
+    Ok(())
 }
 
 // `F`, a count and `;`

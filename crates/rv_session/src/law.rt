@@ -1,6 +1,6 @@
 //! Laws of sessions, with nothing to run.
 
-ghost use Rattle.std.specs.Prelude.{◌≡◌, ◌×◌, ◌++◌, ℕ, List};
+ghost use Rattle.std.specs.Prelude.{◌++◌, ℕ, List};
 ghost use Rattle.rv_session.specs.Heard.{IsFed};
 ghost use Rattle.rv_session.specs.declared.session.Session.{Session};
 
@@ -8,10 +8,4 @@ ghost use Rattle.rv_session.specs.declared.session.Session.{Session};
 pub fn cuts_are_not_seen()
     ensures { (session between next : Session) (front rest out more : List ℕ) → IsFed session front out between
         → IsFed between rest more next → IsFed session (front ++ rest) (out ++ more) next }
-{}
-
-/// What goes out, and the session behind it, depend on the session and on the bytes alone.
-pub fn answers_are_determined()
-    ensures { (session one other : Session) (bytes out more : List ℕ) → IsFed session bytes out one
-        → IsFed session bytes more other → (out ≡ more) × (one ≡ other) }
 {}

@@ -1,72 +1,72 @@
 //! The commands behind `monitor`: their texts go out as printed bytes in front of an `OK`.
 
-ghost use Rattle.std.specs.Prelude.{◌≡◌, IfOk, codes};
+ghost use Rattle.std.specs.Prelude.{◌≡◌, ◌++◌, IfOk, codes};
+ghost use Rattle.std.specs.Fmt.{decimal};
 ghost use Rattle.std.specs.Str.{bytes_eq};
-ghost use Rattle.rv_session.specs.Answers.{IsCommanded, IsPrinting};
+ghost use Rattle.rv_session.specs.Answers.{IsCommanded, command_text, is_reset, taken_here};
 ghost use Rattle.rv_session.specs.Replies.{printing};
 
 use crate::reply::Reply;
 use crate::session::Session;
 use rv_base::Bytes;
-use rv_remote::Register;
 use std::alloc::{AllocError, Global};
 
-const HELP: &str = "\
-when: the steps that are done
-console: what is printed up to here
-input: how much of the script is taken
-reset, reset halt: to the start of the run
-";
+/// What `monitor help`, and every command that is not known, prints.
+const HELP: &str = "when: the steps that are done\nconsole: what is printed up to here\ninput: how much of the script is taken\nreset, reset halt: to the start of the run\n";
 
 impl Session {
     // `qRcmd,`
     pub(crate) fn command(&mut self, alloc: Global, text: &[u8]) -> Result<Reply, AllocError>
         ensures { IfOk result (λ reply. IsCommanded self.old text.now reply self.new) }
     {
-        if is(text, b"when") {
-            self.tell_when(alloc)
-        } else if is(text, b"console") {
-            let console = self.history.machine().bus().console();
-            printing(alloc, Vec::from_slice(alloc, console)?)
-        } else if is(text, b"input") {
-            self.tell_input(alloc)
-        } else if is(text, b"reset") || is(text, b"reset halt") {
+        if is_reset(text) {
             let _ = self.history.seek(alloc, 0)?;
-            Reply::granted(alloc)
+            return Reply::granted(alloc);
+        }
+        let printed = self.command_text(alloc, text)?;
+        Reply::printing(alloc, printed)
+    }
+
+    // What a command prints that is no reset.
+    fn command_text(&self, alloc: Global, text: &[u8]) -> Result<Vec<u8>, AllocError>
+        ensures { IfOk result (λ printed. printed.items ≡ command_text self.now text.now) }
+    {
+        if is(text, b"when") {
+            self.steps_text(alloc)
+        } else if is(text, b"console") {
+            Vec::from_slice(alloc, self.history.machine().bus().console())
+        } else if is(text, b"input") {
+            self.input_text(alloc)
         } else {
-            printing(alloc, Vec::from_slice(alloc, HELP.as_bytes())?)
+            Vec::from_slice(alloc, HELP.as_bytes())
         }
     }
 
-    fn tell_when(&self, alloc: Global) -> Result<Reply, AllocError>
-        ensures { IfOk result (λ reply. IsPrinting reply) }
+    fn steps_text(&self, alloc: Global) -> Result<Vec<u8>, AllocError>
+        ensures { IfOk result (λ text. text.items ≡ decimal self.now.history.place ++ codes " steps are done\n") }
     {
         let text = format!(in alloc; "{} steps are done\n", self.history.place())?;
-        printing(alloc, Vec::from_slice(alloc, text.as_bytes())?)
+        Ok(text.into_bytes())
     }
 
-    fn tell_input(&self, alloc: Global) -> Result<Reply, AllocError>
-        ensures { IfOk result (λ reply. IsPrinting reply) }
+    fn input_text(&self, alloc: Global) -> Result<Vec<u8>, AllocError>
+        ensures { IfOk result (λ text. text.items
+            ≡ decimal (taken_here self.now) ++ codes " of " ++ decimal self.now.script ++ codes " bytes are taken\n") }
     {
-        let taken = self.value(Register::Taken);
+        let taken = self.taken();
         let text = format!(in alloc; "{taken} of {} bytes are taken\n", self.script)?;
-        printing(alloc, Vec::from_slice(alloc, text.as_bytes())?)
+        Ok(text.into_bytes())
     }
+}
+
+fn is_reset(text: &[u8]) -> bool
+    ensures { result ≡ is_reset text.now }
+{
+    is(text, b"reset") || is(text, b"reset halt")
 }
 
 fn is(text: &[u8], name: &[u8]) -> bool
     ensures { result ≡ bytes_eq text.now name.now }
 {
     text == name
-}
-
-// A text to be shown, and `OK` behind it.
-fn printing(alloc: Global, text: Vec<u8>) -> Result<Reply, AllocError>
-    ensures { IfOk result (λ reply. reply ≡ printing text.items (codes "OK")) }
-{
-    let granted = Vec::from_slice(alloc, b"OK")?;
-    Ok(Reply {
-        printed: Bytes::new(text),
-        body: Some(Bytes::new(granted)),
-    })
 }

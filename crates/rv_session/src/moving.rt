@@ -1,13 +1,16 @@
 //! Moves in the run, and the stops that are told of them.
 
-ghost use Rattle.std.specs.Prelude.{◌≡◌, ◌<◌, IfOk, IsTrue};
-ghost use Rattle.rv_session.specs.Moved.{IsGone, IsMoved, IsStepWithin, end_stop, is_forward, is_left, printed_on, shown_on, stop_of, watch_stop};
+ghost use Rattle.std.specs.Prelude.{◌≡◌, IfOk, OnOk};
+ghost use Rattle.rv_history.specs.declared.found.Found.TheVariants as found;
+ghost use Rattle.rv_remote.specs.Stops.{stop_text};
+ghost use Rattle.rv_session.specs.Moved.{CanTell, IsGone, IsMoved, end_stop, is_forward, printed_on, shown_on, stop_of, watch_stop, watch_told};
+ghost use Rattle.rv_session.specs.Replies.{printing};
 ghost use Rattle.rv_session.specs.Sessions.{at_place, here};
 
 use crate::reply::Reply;
 use crate::session::Session;
 use rv_base::Bytes;
-use rv_history::Found;
+use rv_history::{Bounds, Found};
 use rv_machine::Ending;
 use rv_remote::{Move, Stop, push_stop};
 use std::alloc::{AllocError, Global};
@@ -19,14 +22,7 @@ impl Session {
     {
         let found = self.go(alloc, asked)?;
         let stop = self.stop_of(alloc, asked, found)?;
-        let mut body = Vec::new(alloc);
-        push_stop(&mut body, stop)?;
-        let printed = self.show(alloc, asked)?;
-        self.last = stop;
-        Ok(Reply {
-            printed: Bytes::new(printed),
-            body: Some(Bytes::new(body)),
-        })
+        self.tell(alloc, asked, stop)
     }
 
     fn go(&mut self, alloc: Global, asked: Move) -> Result<Found, AllocError>
@@ -35,39 +31,19 @@ impl Session {
         ensures same { self.new ≡ at_place self.old self.new.history.place }
     {
         match asked {
-            Move::Continue => self.history.go_on(alloc, &self.stops),
+            Move::Continue => self.history.go_on(alloc, &self.stops, Bounds::All),
             Move::Step => self.history.step(alloc, &self.stops),
-            Move::StepWithin(low, high) => self.step_within(alloc, low, high),
+            Move::StepWithin(low, high) => {
+                let bounds = Bounds::Within(low, high);
+                self.history.go_on(alloc, &self.stops, bounds)
+            }
             Move::ContinueBack => self.history.go_back(alloc, &self.stops),
             Move::StepBack => self.history.step_back(alloc, &self.stops),
         }
     }
 
-    // Steps until the pc is outside the addresses from `low` on and below `high`, or anything else stops it.
-    fn step_within(&mut self, alloc: Global, low: u32, high: u32) -> Result<Found, AllocError>
-        ensures gone { IfOk result (IsStepWithin self.old.stops self.old.history.budget self.old.history.start low high
-            self.old.history.place self.new.history.place) }
-        ensures same { self.new ≡ at_place self.old self.new.history.place }
-    {
-        for _ in 0..0x1_0000_0000u64 {
-            let found = self.history.step(alloc, &self.stops)?;
-            if !matches!(found, Found::Done) || self.is_left(low, high) {
-                return Ok(found);
-            }
-        }
-        Ok(Found::Done)
-    }
-
-    // Whether the pc is a breakpoint, or outside a range.
-    fn is_left(&self, low: u32, high: u32) -> bool
-        ensures { result ≡ is_left self.now.stops low high (here self.now) }
-    {
-        let pc = self.history.machine().pc();
-        pc < low || high <= pc || self.stops.breaks.as_slice().contains(&pc)
-    }
-
     fn stop_of(&self, alloc: Global, asked: Move, found: Found) -> Result<Stop, AllocError>
-        requires { found ≡ Found.Change → IsTrue (is_forward asked) → self.now.history.place < 0xFFFF_FFFF }
+        requires { CanTell self.now asked found }
         ensures { IfOk result (λ stop. stop ≡ stop_of self.now asked self.now.history.place found) }
     {
         match found {
@@ -80,22 +56,32 @@ impl Session {
 
     // The first watch that is changed: by the step in front, or on the way back by the step behind.
     fn watch_stop(&self, alloc: Global, asked: Move) -> Result<Stop, AllocError>
-        requires { IsTrue (is_forward asked) → self.now.history.place < 0xFFFF_FFFF }
+        requires { CanTell self.now asked found.Change }
         ensures { IfOk result (λ stop. stop ≡ watch_stop self.now asked self.now.history.place) }
     {
-        let here = self.history.place();
-        let other = if is_forward(asked) {
-            here + 1
+        if is_forward(asked) {
+            let address = self.history.watch_ahead(alloc, &self.stops)?;
+            Ok(watch_told(address))
         } else {
-            here.saturating_sub(1)
-        };
-        match self
-            .history
-            .differing_watch(alloc, here, other, &self.stops)?
-        {
-            Some(address) => Ok(Stop::Watch(address)),
-            None => Ok(Stop::Here),
+            let address = self.history.watch_behind(alloc, &self.stops)?;
+            Ok(watch_told(address))
         }
+    }
+
+    // Says a stop, and what is printed up to it.
+    fn tell(&mut self, alloc: Global, asked: Move, stop: Stop) -> Result<Reply, AllocError>
+        ensures reply { IfOk result
+            (λ reply. reply ≡ printing (printed_on self.old asked (here self.old)) (stop_text stop)) }
+        ensures next { OnOk result (self.new ≡ record self.old { shown = shown_on self.old asked (here self.old); last = stop }) }
+    {
+        let mut body = Vec::new(alloc);
+        push_stop(&mut body, stop)?;
+        let printed = self.show(alloc, asked)?;
+        self.last = stop;
+        Ok(Reply {
+            printed: Bytes::new(printed),
+            body: Some(Bytes::new(body)),
+        })
     }
 
     // The printed bytes that did not go out yet, once a move forward comes to them.
@@ -119,6 +105,15 @@ fn is_forward(asked: Move) -> bool
     match asked {
         Move::Continue | Move::Step | Move::StepWithin(..) => true,
         Move::ContinueBack | Move::StepBack => false,
+    }
+}
+
+fn watch_told(address: Option<u32>) -> Stop
+    ensures { result ≡ watch_told address }
+{
+    match address {
+        Some(address) => Stop::Watch(address),
+        None => Stop::Here,
     }
 }
 

@@ -2,8 +2,8 @@
 
 ghost use Rattle.std.specs.Prelude.{◌≡◌, IfOk};
 ghost use Rattle.rv_remote.specs.Shown.{register_text};
-ghost use Rattle.rv_session.specs.Answers.{memory_reply, registers_here, value_of};
-ghost use Rattle.rv_session.specs.Memory.{bytes_from};
+ghost use Rattle.rv_session.specs.Answers.{memory_reply, registers_here, shown_count, taken_here, value_of};
+ghost use Rattle.rv_session.specs.Memory.{bytes_asked, bytes_from};
 ghost use Rattle.rv_session.specs.Replies.{saying};
 ghost use Rattle.rv_session.specs.Sessions.{here};
 
@@ -45,9 +45,17 @@ impl Session {
             Register::Hart(number) if number < 32 => machine.reg(number as u8),
             Register::Hart(_) => machine.pc(),
             Register::Steps => self.history.place(),
-            Register::Printed => machine.bus().console().len() as u32,
-            Register::Taken => self.script.saturating_sub(machine.bus().script_left()) as u32,
+            Register::Printed => shown_count(machine.bus().console().len()),
+            Register::Taken => shown_count(self.taken()),
         }
+    }
+
+    /// How many bytes of the script are taken.
+    pub(crate) fn taken(&self) -> usize
+        ensures { result ≡ taken_here self.now }
+    {
+        let left = self.history.machine().bus().script_left();
+        self.script.saturating_sub(left)
     }
 
     // `m`: as many bytes as stand in regions, one behind the other.
@@ -64,16 +72,28 @@ impl Session {
     }
 }
 
-// The bytes from an address on, up to the first that stands in no region, and no more than fit.
+/// A count as four bytes show it.
+pub(crate) fn shown_count(count: usize) -> u32
+    ensures { result ≡ shown_count count }
+{
+    count.min(u32::MAX as usize) as u32
+}
+
+// How many bytes of a range are looked at: as many as fit a reply, and none past the last address.
+fn bytes_asked(range: Range) -> u32
+    ensures { result ≡ bytes_asked range }
+{
+    let room = (1u64 << 32) - u64::from(range.address);
+    let count = range.count.min(MOST_BYTES);
+    u64::from(count).min(room) as u32
+}
+
+// The bytes from an address on, up to the first that stands in no region.
 fn bytes_from(alloc: Global, bus: &Bus, range: Range) -> Result<Vec<u8>, AllocError>
     ensures { IfOk result (λ bytes. bytes.items ≡ bytes_from bus.now range) }
 {
-    let room = u32::MAX - range.address;
     let mut bytes = Vec::new(alloc);
-    for offset in 0..range.count.min(MOST_BYTES) {
-        if offset > room {
-            return Ok(bytes);
-        }
+    for offset in 0..bytes_asked(range) {
         match bus.byte(range.address + offset) {
             Some(byte) => bytes.push(byte)?,
             None => return Ok(bytes),

@@ -1,7 +1,6 @@
 //! What is sent for a request, before it is framed.
 
-ghost use Rattle.std.specs.Prelude.{◌≡◌, IfOk, codes, if◌then◌else◌};
-ghost use Rattle.rv_remote.specs.Replies.{refusal_text};
+ghost use Rattle.std.specs.Prelude.{◌≡◌, IfOk, codes};
 
 use rv_base::Bytes;
 use rv_remote::{Refusal, refusal_text};
@@ -17,7 +16,7 @@ pub struct Reply {
 }
 
 impl Reply {
-    ghost use Rattle.rv_session.specs.Replies.{saying};
+    ghost use Rattle.rv_session.specs.Replies.{granted, granted_if, printing, refused, saying};
 
     /// A body alone.
     pub(crate) fn saying(alloc: Global, body: Vec<u8>) -> Reply
@@ -29,6 +28,17 @@ impl Reply {
         }
     }
 
+    /// A text to be shown, and `OK` behind it.
+    pub(crate) fn printing(alloc: Global, text: Vec<u8>) -> Result<Reply, AllocError>
+        ensures { IfOk result (λ reply. reply ≡ printing text.items (codes "OK")) }
+    {
+        let granted = Vec::from_slice(alloc, b"OK")?;
+        Ok(Reply {
+            printed: Bytes::new(text),
+            body: Some(Bytes::new(granted)),
+        })
+    }
+
     /// A text alone.
     pub(crate) fn telling(alloc: Global, text: &str) -> Result<Reply, AllocError>
         ensures { IfOk result (λ reply. reply ≡ saying text.now) }
@@ -38,13 +48,13 @@ impl Reply {
 
     /// `OK`
     pub(crate) fn granted(alloc: Global) -> Result<Reply, AllocError>
-        ensures { IfOk result (λ reply. reply ≡ saying (codes "OK")) }
+        ensures { IfOk result (λ reply. reply ≡ granted) }
     {
         Reply::telling(alloc, "OK")
     }
 
     pub(crate) fn refusing(alloc: Global, refusal: Refusal) -> Result<Reply, AllocError>
-        ensures { IfOk result (λ reply. reply ≡ saying (refusal_text refusal)) }
+        ensures { IfOk result (λ reply. reply ≡ refused refusal) }
     {
         Reply::telling(alloc, refusal_text(refusal))
     }
@@ -52,12 +62,12 @@ impl Reply {
     /// `OK` or a refusal.
     pub(crate) fn granted_if(
         alloc: Global,
-        granted: bool,
+        is_granted: bool,
         refusal: Refusal,
     ) -> Result<Reply, AllocError>
-        ensures { IfOk result (λ reply. reply ≡ saying (if granted then codes "OK" else refusal_text refusal)) }
+        ensures { IfOk result (λ reply. reply ≡ granted_if is_granted refusal) }
     {
-        if granted {
+        if is_granted {
             Reply::granted(alloc)
         } else {
             Reply::refusing(alloc, refusal)

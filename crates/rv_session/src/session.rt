@@ -1,6 +1,7 @@
 //! A session with gdb.
 
-ghost use Rattle.std.specs.Prelude.{◌≡◌, IfOk};
+ghost use Rattle.std.specs.Prelude.{◌≡◌, ◌≤◌, IfOk};
+ghost use Rattle.rv_history.specs.Places.{last_place};
 ghost use Rattle.rv_session.specs.Sessions.{at_first};
 
 use crate::program::Program;
@@ -37,7 +38,7 @@ impl Session {
         budget: u32,
         program: Program,
     ) -> Result<Session, AllocError>
-        ensures { IfOk result (at_first start budget program) }
+        ensures { IfOk result (λ session. session ≡ at_first start budget program) }
     {
         let script = start.bus.script_left();
         let history = History::new(alloc, start, budget)?;
@@ -56,6 +57,14 @@ impl Session {
             sent: Bytes::new(Vec::new(alloc)),
             is_over: false,
         })
+    }
+
+    /// How many steps of the run are done.
+    pub fn place(&self) -> u32
+        ensures value { result ≡ self.now.history.place }
+        ensures within { result ≤ last_place self.now.history.budget self.now.history.start }
+    {
+        self.history.place()
     }
 
     /// Whether gdb ended the session. Nothing is answered from then on.

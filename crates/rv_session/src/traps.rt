@@ -1,7 +1,9 @@
 //! Where a run is to stop, as gdb sets and clears it.
 
 ghost use Rattle.std.specs.Prelude.{◌≡◌, ◌≤◌, ◌+◌, ◌^◌, IfOk};
-ghost use Rattle.rv_session.specs.Traps.{IsTrapped, has_byte, is_full, is_on, without_trap};
+ghost use Rattle.rv_session.specs.Traps.{IsTrapped, has_byte, is_full, is_on, is_set, without_trap};
+ghost use Rattle.rv_memory.specs.Bus.{Contents};
+ghost use Rattle.rv_remote.specs.declared.request.Trap.TheVariants as trap;
 
 use rv_base::Sequence;
 use rv_history::{Stops, Watch};
@@ -49,14 +51,17 @@ fn with_break(
     alloc: Global,
     stops: &Stops,
     address: u32,
-) -> Result<Result<Stops, Refusal>, AllocError> {
-    let mut breaks = Vec::from_slice(alloc, stops.breaks.as_slice())?;
-    if !stops.breaks.as_slice().contains(&address) {
-        if is_full(stops) {
-            return Ok(Err(Refusal::TooManyTraps));
-        }
-        breaks.push(address)?;
+) -> Result<Result<Stops, Refusal>, AllocError>
+    ensures { (bus : Contents) → IfOk result (IsTrapped stops.now bus (trap.Break address)) }
+{
+    if stops.breaks.as_slice().contains(&address) {
+        return Ok(Ok(copied(alloc, stops)?));
     }
+    if is_full(stops) {
+        return Ok(Err(Refusal::TooManyTraps));
+    }
+    let mut breaks = Vec::from_slice(alloc, stops.breaks.as_slice())?;
+    breaks.push(address)?;
     let watches = Vec::from_slice(alloc, stops.watches.as_slice())?;
     Ok(Ok(stops_of(breaks, watches)))
 }
@@ -66,49 +71,71 @@ fn with_watch(
     stops: &Stops,
     bus: &Bus,
     range: Range,
-) -> Result<Result<Stops, Refusal>, AllocError> {
+) -> Result<Result<Stops, Refusal>, AllocError>
+    ensures { IfOk result (IsTrapped stops.now bus.now (trap.Watch range)) }
+{
     let end = u64::from(range.address) + u64::from(range.count);
     if end > 1 << 32 || !has_byte(bus, range) {
         return Ok(Err(Refusal::Malformed));
     }
-    let mut watches = Vec::from_slice(alloc, stops.watches.as_slice())?;
-    if !stops
-        .watches
-        .as_slice()
-        .iter()
-        .any(|watch| is_on(watch, range))
-    {
-        if is_full(stops) {
-            return Ok(Err(Refusal::TooManyTraps));
-        }
-        watches.push(Watch {
-            address: range.address,
-            count: range.count,
-        })?;
+    if has_watch(stops, range) {
+        return Ok(Ok(copied(alloc, stops)?));
     }
+    if is_full(stops) {
+        return Ok(Err(Refusal::TooManyTraps));
+    }
+    let mut watches = Vec::from_slice(alloc, stops.watches.as_slice())?;
+    watches.push(Watch {
+        address: range.address,
+        count: range.count,
+    })?;
     let breaks = Vec::from_slice(alloc, stops.breaks.as_slice())?;
     Ok(Ok(stops_of(breaks, watches)))
 }
 
-fn without_break(alloc: Global, stops: &Stops, address: u32) -> Result<Stops, AllocError> {
-    let mut breaks = Vec::new(alloc);
-    for other in stops.breaks.as_slice() {
-        if *other != address {
-            breaks.push(*other)?;
-        }
-    }
+fn without_break(alloc: Global, stops: &Stops, address: u32) -> Result<Stops, AllocError>
+    ensures { IfOk result (λ next. next ≡ without_trap stops.now (trap.Break address)) }
+{
+    let breaks = stops
+        .breaks
+        .as_slice()
+        .iter()
+        .copied()
+        .filter(|other| *other != address)
+        .collect(alloc)?;
     let watches = Vec::from_slice(alloc, stops.watches.as_slice())?;
     Ok(stops_of(breaks, watches))
 }
 
-fn without_watch(alloc: Global, stops: &Stops, range: Range) -> Result<Stops, AllocError> {
-    let mut watches = Vec::new(alloc);
-    for watch in stops.watches.as_slice() {
-        if !is_on(watch, range) {
-            watches.push(*watch)?;
-        }
-    }
+fn without_watch(alloc: Global, stops: &Stops, range: Range) -> Result<Stops, AllocError>
+    ensures { IfOk result (λ next. next ≡ without_trap stops.now (trap.Watch range)) }
+{
+    let watches = stops
+        .watches
+        .as_slice()
+        .iter()
+        .copied()
+        .filter(|watch| !is_on(watch, range))
+        .collect(alloc)?;
     let breaks = Vec::from_slice(alloc, stops.breaks.as_slice())?;
+    Ok(stops_of(breaks, watches))
+}
+
+fn has_watch(stops: &Stops, range: Range) -> bool
+    ensures { result ≡ is_set stops.now (trap.Watch range) }
+{
+    stops
+        .watches
+        .as_slice()
+        .iter()
+        .any(|watch| is_on(watch, range))
+}
+
+fn copied(alloc: Global, stops: &Stops) -> Result<Stops, AllocError>
+    ensures { IfOk result (λ next. next ≡ stops.now) }
+{
+    let breaks = Vec::from_slice(alloc, stops.breaks.as_slice())?;
+    let watches = Vec::from_slice(alloc, stops.watches.as_slice())?;
     Ok(stops_of(breaks, watches))
 }
 

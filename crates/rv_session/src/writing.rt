@@ -1,11 +1,12 @@
 //! Writes, which are granted where they change nothing.
 
-ghost use Rattle.std.specs.Prelude.{◌≡◌, IfOk};
+ghost use Rattle.std.specs.Prelude.{◌≡◌, ◌&&◌, IfOk, nat_lt};
+ghost use Rattle.std.specs.FinMap as fin;
 ghost use Rattle.std.specs.Str.{bytes_eq};
 ghost use Rattle.hex.specs.Hex.{encode_lower};
 ghost use Rattle.rv_remote.specs.declared.request.Refusal.TheVariants as refusal;
 ghost use Rattle.rv_session.specs.Answers.{IsWritten, registers_here};
-ghost use Rattle.rv_session.specs.Memory.{stand_at};
+ghost use Rattle.rv_session.specs.Memory.{end_of_addresses, is_byte, stand_at};
 ghost use Rattle.rv_session.specs.Replies.{granted_if};
 ghost use Rattle.rv_session.specs.Sessions.{here};
 
@@ -66,15 +67,24 @@ impl Session {
     }
 }
 
-// Whether these bytes stand at an address and behind it.
+// Whether these bytes stand at an address and behind it, none of them past the last address.
 fn stand_at(bus: &Bus, address: u32, bytes: &[u8]) -> bool
     ensures { result ≡ stand_at bus.now address bytes.now }
 {
-    let room = (u32::MAX - address) as usize;
     for (offset, byte) in bytes.iter().enumerate() {
-        if offset > room || bus.byte(address + offset as u32) != Some(*byte) {
+        if !stands_at(bus, u64::from(address) + offset as u64, *byte) {
             return false;
         }
     }
     true
+}
+
+// Whether a byte stands at an address, which may be past the last.
+fn stands_at(bus: &Bus, address: u64, byte: u8) -> bool
+    ensures { result ≡ (nat_lt address end_of_addresses && is_byte (fin.get bus.now.memory address) byte) }
+{
+    match u32::try_from(address) {
+        Ok(address) => bus.byte(address) == Some(byte),
+        Err(_) => false,
+    }
 }

@@ -7,5 +7,5 @@ use Rattle.rv_history.proofs.search.next_stop.Given as goal
 abbrev pub invariant-loop-place : goal.invariant-loop-place
 invariant-loop-place l = record {
   reached : IsReached (start_of l.start) l.place (state_of l.machine);
-  quiet : QuietUpTo l.stops l.budget (start_of l.start) l.from l.place;
+  quiet : QuietUpTo l.stops l.leg.bounds l.leg.budget (start_of l.start) l.leg.from l.place;
 }

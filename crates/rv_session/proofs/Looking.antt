@@ -1,0 +1,130 @@
+-- Loops over bytes of memory.
+use Rattle.std.proofs.Common.{◌≡◌, ◌∙◌, ◌++◌, ◌∷◌, ◌+◌, ◌-◌, ◌<◌, ◌≤◌, ◌&&◌, ◌||◌, [], ℕ, zero, suc, Bool, true, false, List, Option, Some, None, ap, append-nil, append_assoc, arith, drop, get_or, length, refl, subst, sym}
+use Rattle.std.specs.Prelude.{is_some, map, nat_lt}
+use Rattle.std.specs.FinMap as fin
+use Rattle.std.specs.List.{flat_map, list_any, range_with_len}
+use Rattle.std.proofs.lemmas.List.{at_drop_more}
+use Rattle.rv_memory.specs.Bus.{Contents}
+use Rattle.rv_session.specs.Memory.{end_of_addresses, is_byte, leading, stand_at}
+
+-- ---- reads
+
+-- what can be read from an address on
+abbrev pub bytes_left : (ℕ → Option ℕ) → ℕ → ℕ → List ℕ
+bytes_left byte_of a n = leading (map byte_of (range_with_len a n))
+
+one_left : (n i : ℕ) → i < n → n - i ≡ suc (n - (i + 1))
+one_left n i within = omega arith
+
+first_some : (byte_of : ℕ → Option ℕ) (a n byte : ℕ) → byte_of a ≡ Some byte
+    → bytes_left byte_of a (suc n) ≡ byte ∷ bytes_left byte_of (a + 1) n
+unfolding leading
+first_some byte_of a n byte is =
+    ap (λ (first : Option ℕ). leading (first ∷ map byte_of (range_with_len (a + 1) n))) is
+
+first_none : (byte_of : ℕ → Option ℕ) (a n : ℕ) → byte_of a ≡ None → bytes_left byte_of a (suc n) ≡ []
+unfolding leading
+first_none byte_of a n is =
+    ap (λ (first : Option ℕ). leading (first ∷ map byte_of (range_with_len (a + 1) n))) is
+
+none_left : (byte_of : ℕ → Option ℕ) (a : ℕ) → bytes_left byte_of a 0 ≡ []
+unfolding leading
+none_left byte_of a = refl
+
+pub read_more : (byte_of : ℕ → Option ℕ) (a i n byte : ℕ) (bytes all : List ℕ) → i < n → Some byte ≡ byte_of (a + i)
+    → bytes ++ bytes_left byte_of (a + i) (n - i) ≡ all
+    → (bytes ++ byte ∷ []) ++ bytes_left byte_of (a + (i + 1)) (n - (i + 1)) ≡ all
+read_more byte_of a i n byte bytes all within is so_far =
+    let next : a + i + 1 ≡ a + (i + 1) = omega arith in
+    let rest = n - (i + 1) in
+    append_assoc bytes (byte ∷ []) (bytes_left byte_of (a + (i + 1)) rest)
+    ∙ ap (λ (k : ℕ). bytes ++ (byte ∷ bytes_left byte_of k rest)) (sym next)
+    ∙ ap (λ (left : List ℕ). bytes ++ left) (sym (first_some byte_of (a + i) rest byte (sym is)))
+    ∙ ap (λ (k : ℕ). bytes ++ bytes_left byte_of (a + i) k) (sym (one_left n i within)) ∙ so_far
+
+pub read_to_hole : (byte_of : ℕ → Option ℕ) (a i n : ℕ) (bytes all : List ℕ) → i < n → None ≡ byte_of (a + i)
+    → bytes ++ bytes_left byte_of (a + i) (n - i) ≡ all → bytes ≡ all
+read_to_hole byte_of a i n bytes all within is so_far =
+    sym (append-nil bytes)
+    ∙ ap (λ (left : List ℕ). bytes ++ left) (sym (first_none byte_of (a + i) (n - (i + 1)) (sym is)))
+    ∙ ap (λ (k : ℕ). bytes ++ bytes_left byte_of (a + i) k) (sym (one_left n i within)) ∙ so_far
+
+pub read_all : (byte_of : ℕ → Option ℕ) (a i n : ℕ) (bytes all : List ℕ) → n ≤ i
+    → bytes ++ bytes_left byte_of (a + i) (n - i) ≡ all → bytes ≡ all
+read_all byte_of a i n bytes all done so_far =
+    let none : n - i ≡ 0 = omega arith in
+    sym (append-nil bytes) ∙ ap (λ (left : List ℕ). bytes ++ left) (sym (none_left byte_of (a + i)))
+    ∙ ap (λ (k : ℕ). bytes ++ bytes_left byte_of (a + i) k) (sym none) ∙ so_far
+
+-- ---- a byte in a region
+
+abbrev pub any_left : (ℕ → Option ℕ) → ℕ → ℕ → Bool
+any_left byte_of a n = list_any (λ address. is_some (byte_of address)) (range_with_len a n)
+
+first_any : (byte_of : ℕ → Option ℕ) (a n : ℕ) (is : Bool) → is_some (byte_of a) ≡ is
+    → any_left byte_of a (suc n) ≡ (is || any_left byte_of (a + 1) n)
+first_any byte_of a n is here = ap (λ (first : Bool). first || any_left byte_of (a + 1) n) here
+
+pub any_later : (byte_of : ℕ → Option ℕ) (a i n : ℕ) (all : Bool) → i < n → is_some (byte_of (a + i)) ≡ false
+    → all ≡ any_left byte_of (a + i) (n - i) → all ≡ any_left byte_of (a + (i + 1)) (n - (i + 1))
+any_later byte_of a i n all within here so_far =
+    let next : a + i + 1 ≡ a + (i + 1) = omega arith in
+    so_far ∙ ap (any_left byte_of (a + i)) (one_left n i within) ∙ first_any byte_of (a + i) (n - (i + 1)) false here
+    ∙ ap (λ (k : ℕ). any_left byte_of k (n - (i + 1))) next
+
+pub any_here : (byte_of : ℕ → Option ℕ) (a i n : ℕ) (all : Bool) → i < n → is_some (byte_of (a + i)) ≡ true
+    → all ≡ any_left byte_of (a + i) (n - i) → true ≡ all
+any_here byte_of a i n all within here so_far =
+    sym (so_far ∙ ap (any_left byte_of (a + i)) (one_left n i within) ∙ first_any byte_of (a + i) (n - (i + 1)) true here)
+
+pub any_none : (byte_of : ℕ → Option ℕ) (a i n : ℕ) (all : Bool) → n ≤ i → all ≡ any_left byte_of (a + i) (n - i) → false ≡ all
+any_none byte_of a i n all done so_far =
+    let none : n - i ≡ 0 = omega arith in
+    sym (so_far ∙ ap (any_left byte_of (a + i)) none)
+
+-- ---- bytes that stand somewhere
+
+abbrev pub stands_at : Contents → ℕ → ℕ → Bool
+stands_at bus address byte = nat_lt address end_of_addresses && is_byte (fin.get bus.memory address) byte
+
+three : (x y z : Bool) → (x && (y && z)) ≡ ((x && y) && z)
+three true y z = refl
+three false y z = refl
+
+stand_more : (bus : Contents) (a i byte : ℕ) (bytes : List ℕ) → i < length bytes
+    → stand_at bus (a + i) (drop i bytes)
+    ≡ (stands_at bus (a + i) (get_or bytes i byte) && stand_at bus (a + i + 1) (drop (i + 1) bytes))
+unfolding stand_at
+stand_more bus a i byte bytes within =
+    at_drop_more (λ (rest : List ℕ). stand_at bus (a + i) rest) bytes i byte within
+    ∙ three (nat_lt (a + i) end_of_addresses) (is_byte (fin.get bus.memory (a + i)) (get_or bytes i byte))
+    (stand_at bus (a + i + 1) (drop (i + 1) bytes))
+
+pub stand_later : (bus : Contents) (a i byte : ℕ) (bytes : List ℕ) (all : Bool) → i < length bytes
+    → stands_at bus (a + i) (get_or bytes i byte) ≡ true → all ≡ stand_at bus (a + i) (drop i bytes)
+    → all ≡ stand_at bus (a + (i + 1)) (drop (i + 1) bytes)
+stand_later bus a i byte bytes all within here so_far =
+    let next : a + i + 1 ≡ a + (i + 1) = omega arith in
+    so_far ∙ stand_more bus a i byte bytes within
+    ∙ ap (λ (is : Bool). is && stand_at bus (a + i + 1) (drop (i + 1) bytes)) here
+    ∙ ap (λ (k : ℕ). stand_at bus k (drop (i + 1) bytes)) next
+
+pub stand_not : (bus : Contents) (a i byte : ℕ) (bytes : List ℕ) (all : Bool) → i < length bytes
+    → stands_at bus (a + i) (get_or bytes i byte) ≡ false → all ≡ stand_at bus (a + i) (drop i bytes) → false ≡ all
+stand_not bus a i byte bytes all within here so_far =
+    sym (so_far ∙ stand_more bus a i byte bytes within
+    ∙ ap (λ (is : Bool). is && stand_at bus (a + i + 1) (drop (i + 1) bytes)) here)
+
+stand_none : (bus : Contents) (a : ℕ) → stand_at bus a [] ≡ true
+unfolding stand_at
+stand_none bus a = refl
+
+-- ---- packets of printed bytes
+
+range_more : (a n : ℕ) → range_with_len a (n + 1) ≡ range_with_len a n ++ (a + n) ∷ []
+range_more a zero = ap (λ (k : ℕ). k ∷ []) (omega arith)
+range_more a (suc n) =
+    let later : a + 1 + n ≡ a + suc n = omega arith in
+    let sum : suc n + 1 ≡ suc (n + 1) = omega arith in
+    ap (range_with_len a) sum ∙ ap (λ (rest : List ℕ). a ∷ rest) (range_more (a + 1) n)
+    ∙ ap (λ (k : ℕ). a ∷ (range_with_len (a + 1) n ++ k ∷ [])) later
