@@ -1,7 +1,7 @@
 -- Texts with a mark between them, and the places of marks.
-use Rattle.std.proofs.Common.{◌≡◌, ◌∷◌, ◌+◌, ◌==◌, ◌∙◌, inl, inr, [], ℕ, suc, List, Bool, true, not, Option, Some, None, ltb, fold, take, drop, length, refl, ap, sym, arith, length-append}
-use Rattle.std.proofs.Math.Seq.{drop-append-add, take-append_seam}
-use Rattle.std.proofs.lemmas.Bool.{and_from, and_parts, cases_eq, cond-false, cond-true, eq-eqb, le-ltb, lt-ltb, ne_eqb, not_from_false}
+use Rattle.std.proofs.Common.{◌≡◌, ◌∷◌, ◌+◌, ◌++◌, ◌<◌, ◌≤◌, ◌==◌, ◌∙◌, inl, inr, [], ℕ, suc, List, Bool, true, false, not, append_assoc, Option, Some, None, ltb, fold, take, drop, length, refl, ap, sym, arith, length-append}
+use Rattle.std.proofs.Math.Seq.{drop-append-add, take-append-add, take-append_seam}
+use Rattle.std.proofs.lemmas.Bool.{and_from, and_parts, cases_eq, cond-false, cond-true, eq-eqb, le-ltb, lt-ltb, ltb-false, ltb-true, ne_eqb, not_from_false}
 use Rattle.std.proofs.lemmas.List.Folds.{list_all-append}
 use Rattle.std.specs.List.{list_all, prefix_len}
 use Rattle.hex.specs.Hex.{hex_digit_value}
@@ -115,3 +115,62 @@ no_place mark text others =
 pub until_all : (mark : ℕ) (text : List ℕ) → list_all (is_other mark) text ≡ true → until mark text ≡ text
 unfolding until
 until_all mark text others = rw (no_place mark text others) refl
+
+-- ---- what stands before a mark
+
+prefix_on : (mark : ℕ) (front rest : List ℕ) → list_all (is_other mark) front ≡ true
+    → prefix_len (is_other mark) (front ++ rest) ≡ length front + prefix_len (is_other mark) rest
+prefix_on mark [] rest others = omega arith
+prefix_on mark (byte ∷ front) rest others =
+    let parts = and_parts (is_other mark byte) (list_all (is_other mark) front) others in
+    let later = prefix_on mark front rest parts.1 in
+    cond-true (is_other mark byte) (1 + prefix_len (is_other mark) (front ++ rest)) 0 parts.0 ∙ omega (arith, later)
+
+-- the text before a mark, where nothing stands before it but the text
+pub until_mark : (mark : ℕ) (text rest : List ℕ) → list_all (is_other mark) text ≡ true → until mark (parted mark text rest) ≡ text
+unfolding until
+until_mark mark text rest others = rw (place_between mark text rest others) (before_mark mark text rest)
+
+-- a text in front of which a mark does not stand
+until_on_cases : (mark : ℕ) (front rest : List ℕ) (is : Bool)
+    → ltb (prefix_len (is_other mark) rest) (length rest) ≡ is → list_all (is_other mark) front ≡ true
+    → until mark (front ++ rest) ≡ front ++ until mark rest
+unfolding until
+until_on_cases mark front rest true is others =
+    let at = prefix_on mark front rest others in
+    let k = prefix_len (is_other mark) rest in
+    let within : k < length rest = ltb-true k (length rest) is in
+    let long : length (front ++ rest) ≡ length front + length rest = length-append front rest in
+    let there : place_of mark (front ++ rest) ≡ Some (length front + k) =
+    cond-true (ltb (prefix_len (is_other mark) (front ++ rest)) (length (front ++ rest)))
+    (Some (prefix_len (is_other mark) (front ++ rest))) None
+    (lt-ltb (prefix_len (is_other mark) (front ++ rest)) (length (front ++ rest)) (omega arith))
+    ∙ ap (λ (n : ℕ). Some n) at in
+    let here : place_of mark rest ≡ Some k = cond-true (ltb k (length rest)) (Some k) None is in
+    rw (there, here) (take-append-add front rest k)
+until_on_cases mark front rest false is others =
+    let at = prefix_on mark front rest others in
+    let k = prefix_len (is_other mark) rest in
+    let past : length rest ≤ k = ltb-false k (length rest) is in
+    let long : length (front ++ rest) ≡ length front + length rest = length-append front rest in
+    let there : place_of mark (front ++ rest) ≡ None =
+    cond-false (ltb (prefix_len (is_other mark) (front ++ rest)) (length (front ++ rest)))
+    (Some (prefix_len (is_other mark) (front ++ rest))) None
+    (le-ltb (prefix_len (is_other mark) (front ++ rest)) (length (front ++ rest)) (omega arith)) in
+    let here : place_of mark rest ≡ None = cond-false (ltb k (length rest)) (Some k) None is in
+    rw (there, here) refl
+
+-- what stands before the first of one mark and then of another, where neither stands in the text
+pub until_other : (mark other : ℕ) (text rest : List ℕ) → list_all (is_other mark) text ≡ true
+    → list_all (is_other other) text ≡ true → is_other mark other ≡ true
+    → until other (until mark (parted other text rest)) ≡ text
+until_other mark other text rest lacks lacks_other differ =
+    let both : list_all (is_other mark) (text ++ other ∷ []) ≡ true =
+    list_all-append (is_other mark) text (other ∷ [])
+    ∙ and_from (list_all (is_other mark) text) (list_all (is_other mark) (other ∷ [])) lacks
+    (and_from (is_other mark other) true differ refl) in
+    let split : until mark (parted other text rest) ≡ parted other text (until mark rest) =
+    ap (until mark) (sym (append_assoc text (other ∷ []) rest))
+    ∙ until_on_cases mark (text ++ other ∷ []) rest (ltb (prefix_len (is_other mark) rest) (length rest)) refl both
+    ∙ append_assoc text (other ∷ []) (until mark rest) in
+    ap (until other) split ∙ until_mark other text (until mark rest) lacks_other

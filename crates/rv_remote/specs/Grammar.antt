@@ -1,7 +1,8 @@
 -- Which packets ask what: a row for each packet of the protocol, in its order of fields. Other texts ask nothing, and are refused.
-use Rattle.std.specs.Prelude.{ℕ, List, ◌∷◌, ◌++◌, ◌≡◌, ◌≤◌, ◌+◌, Some, codes, length}
+use Rattle.std.specs.Prelude.{ℕ, List, ◌∷◌, ◌++◌, ◌≡◌, ◌≤◌, ◌+◌, ◌==◌, true, Some, codes, length, not}
+use Rattle.std.specs.List.{list_all}
 use Rattle.rv_remote.specs.Numbers.{bytes_of, number_of, value_of}
-use Rattle.rv_remote.specs.Requests.{colon, comma, equals, register_of, whole_data}
+use Rattle.rv_remote.specs.Requests.{colon, comma, equals, register_of, semicolon, whole_data}
 use Rattle.rv_remote.specs.declared.request.Move.{Move}
 use Rattle.rv_remote.specs.declared.request.Move.TheVariants as move
 use Rattle.rv_remote.specs.declared.request.Register.{Register}
@@ -13,6 +14,10 @@ use Rattle.rv_remote.specs.declared.request.Trap.TheVariants as trap
 -- two texts with a mark between them
 abbrev pub parted : ℕ → List ℕ → List ℕ → List ℕ
 parted mark first second = first ++ mark ∷ second
+
+-- a text in which a mark does not stand
+abbrev pub Lacks : ℕ → List ℕ → Type 0
+Lacks mark text = list_all (λ byte. not (byte == mark)) text ≡ true
 
 -- two numbers in their digits, with a comma between them
 pub record TellsTwo (text : List ℕ) (first second : ℕ) : Type 0 where
@@ -32,6 +37,15 @@ pub data IsTrap : List ℕ → Trap → Type 0 where
 pub data IsMove : List ℕ → Move → Type 0 where
   goes_on : IsMove (codes "c") move.Continue
   steps : IsMove (codes "s") move.Step
+
+-- an action of `vCont;`: a signal is passed over, and `r` steps while the pc is within two addresses
+pub data IsAction : List ℕ → Move → Type 0 where
+  moves : (text : List ℕ) (step : Move) → IsMove text step → IsAction text step
+  goes_on_signalled : (signal : List ℕ) (number : ℕ) → number_of signal ≡ Some number
+      → IsAction (codes "C" ++ signal) move.Continue
+  steps_signalled : (signal : List ℕ) (number : ℕ) → number_of signal ≡ Some number → IsAction (codes "S" ++ signal) move.Step
+  steps_within : (range : List ℕ) (low high : ℕ) → TellsTwo range low high
+      → IsAction (codes "r" ++ range) (move.StepWithin low high)
 
 pub data IsRequest : List ℕ → Request → Type 0 where
   features : (args : List ℕ) → IsRequest (codes "qSupported" ++ args) ask.Features
@@ -57,12 +71,38 @@ pub data IsRequest : List ℕ → Request → Type 0 where
   set_trap : (text : List ℕ) (place : Trap) → IsTrap text place → IsRequest (codes "Z" ++ text) (ask.Set place)
   clear_trap : (text : List ℕ) (place : Trap) → IsTrap text place → IsRequest (codes "z" ++ text) (ask.Clear place)
   actions : IsRequest (codes "vCont?") ask.Actions
-  moves : (text : List ℕ) (step : Move) → IsMove text step → IsRequest text (ask.Move step)
-  first_action : (text : List ℕ) (step : Move) → IsMove text step → IsRequest (codes "vCont;" ++ text) (ask.Move step)
-  range_step : (range : List ℕ) (low high : ℕ) → TellsTwo range low high
-      → IsRequest (codes "vCont;r" ++ range) (ask.Move (move.StepWithin low high))
+  plain_move : (text : List ℕ) (step : Move) → IsMove text step → IsRequest text (ask.Move step)
+  on_with_signal : (signal : List ℕ) (number : ℕ) → number_of signal ≡ Some number
+      → IsRequest (codes "C" ++ signal) (ask.Move move.Continue)
+  step_with_signal : (signal : List ℕ) (number : ℕ) → number_of signal ≡ Some number
+      → IsRequest (codes "S" ++ signal) (ask.Move move.Step)
+  one_action : (text : List ℕ) (step : Move) → IsAction text step → IsRequest (codes "vCont;" ++ text) (ask.Move step)
+  first_action : (text rest : List ℕ) (step : Move) → IsAction text step
+      → IsRequest (codes "vCont;" ++ parted semicolon text rest) (ask.Move step)
+  action_of_thread : (text rest : List ℕ) (step : Move) → IsAction text step
+      → IsRequest (codes "vCont;" ++ parted colon text rest) (ask.Move step)
   goes_back : IsRequest (codes "bc") (ask.Move move.ContinueBack)
   steps_back : IsRequest (codes "bs") (ask.Move move.StepBack)
   command : (digits text : List ℕ) → bytes_of digits ≡ Some text → IsRequest (codes "qRcmd," ++ digits) (ask.Command text)
   detach : IsRequest (codes "D") ask.Detach
   kill : IsRequest (codes "k") ask.Kill
+  detach_process : (process : List ℕ) → IsRequest (codes "D;" ++ process) ask.Detach
+  restart : (args : List ℕ) → IsRequest (codes "vRun" ++ args) ask.Restart
+  kill_process : (args : List ℕ) → IsRequest (codes "vKill" ++ args) ask.Accepted
+  choose_thread : (args : List ℕ) → IsRequest (codes "H" ++ args) ask.Accepted
+  is_alive : (args : List ℕ) → IsRequest (codes "T" ++ args) ask.Accepted
+  stay_extended : IsRequest (codes "!") ask.Accepted
+  attached : (args : List ℕ) → IsRequest (codes "qAttached" ++ args) ask.Attached
+  this_thread : IsRequest (codes "qC") ask.Thread
+  first_threads : IsRequest (codes "qfThreadInfo") ask.FirstThreads
+  more_threads : IsRequest (codes "qsThreadInfo") ask.MoreThreads
+  image_path : (process part : List ℕ) (offset count : ℕ) → Lacks colon process → TellsTwo part offset count
+      → IsRequest (codes "qXfer:exec-file:read:" ++ parted colon process part)
+      (ask.ImagePath (record { offset = offset; count = count }))
+  file_system : IsRequest (codes "vFile:setfs:0") ask.FileSystem
+  open_file : (digits path modes : List ℕ) (mode : ℕ) → Lacks comma digits → bytes_of digits ≡ Some path → TellsTwo modes 0 mode
+      → IsRequest (codes "vFile:open:" ++ parted comma digits modes) (ask.OpenFile path)
+  file_size : IsRequest (codes "vFile:fstat:5") ask.FileSize
+  read_file : (part : List ℕ) (count offset : ℕ) → TellsTwo part count offset
+      → IsRequest (codes "vFile:pread:5," ++ part) (ask.ReadFile (record { offset = offset; count = count }))
+  close_file : IsRequest (codes "vFile:close:5") ask.CloseFile

@@ -5,9 +5,10 @@ use Rattle.rv_remote.specs.Frames.{frame_behind, heard_at}
 use Rattle.rv_remote.specs.Packets.{request_of}
 use Rattle.rv_remote.specs.declared.frame.Heard.{Heard}
 use Rattle.rv_session.specs.Answers.{IsAnswered}
-use Rattle.rv_session.specs.Heard.{IsAppended, IsByteFed, IsFed, IsJudged, IsRespondedTo, IsResponse, IsResponseUnless, IsTaken, acknowledgement, byte_more, packets_of, with_sent}
+use Rattle.rv_session.specs.Heard.{IsAppended, IsByteFed, IsFed, IsJudged, IsRespondedTo, IsResponse, IsResponseUnless, IsTaken, acknowledgement, packets_of, with_sent}
 use Rattle.rv_session.specs.declared.reply.Reply.{Reply}
 use Rattle.rv_session.specs.declared.session.Session.{Session}
+use Rattle.rv_session.proofs.Cuts.{fed_byte}
 
 -- nothing is appended
 pub nothing_more : (old : List ℕ) (IsSuch : List ℕ → Type 0) → IsSuch [] → IsAppended old old IsSuch
@@ -50,7 +51,7 @@ pub fed_more : (session between next : Session) (bytes told new : List ℕ) (byt
     → IsAppended told new (λ out. IsByteFed between byte out next) → IsFed session (bytes ++ byte ∷ []) new next
 fed_more session between next bytes told new byte fed more =
     subst (λ (out : List ℕ). IsFed session (bytes ++ byte ∷ []) out next) (sym more.new_is)
-    (byte_more session between next bytes told more.out byte fed more.such)
+    (fed_byte session between next bytes told more.out byte fed more.such)
 
 pub fed_at : (session between next : Session) (bytes told new : List ℕ) (i byte : ℕ) → i < length bytes
     → IsFed session (take i bytes) told between → IsAppended told new (λ out. IsByteFed between (get_or bytes i byte) out next)

@@ -1,6 +1,7 @@
 mod Appending
 mod Cuts
+mod Determined
 mod Looking
 mod Moving
-mod Seeking
 mod Same
+mod Seeking

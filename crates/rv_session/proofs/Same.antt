@@ -14,7 +14,7 @@ use Rattle.rv_remote.specs.declared.request.Request.TheVariants as ask
 use Rattle.rv_history.specs.declared.stops.Stops.{Stops}
 use Rattle.rv_remote.specs.declared.request.Refusal.TheVariants as refusal
 use Rattle.rv_session.specs.Answers.{IsAnswered, IsSet, IsWritten, is_reset}
-use Rattle.rv_session.specs.Heard.{IsByteFed, IsFed, IsJudged, IsRespondedTo, IsResponse, IsResponseUnless, IsTaken, byte_more, is_wrong, no_bytes, with_sent}
+use Rattle.rv_session.specs.Heard.{IsByteFed, IsFed, IsJudged, IsRespondedTo, IsResponse, IsResponseUnless, IsTaken, byte_first, is_wrong, no_bytes, with_sent}
 use Rattle.rv_session.specs.Replies.{refused}
 use Rattle.rv_session.specs.Sessions.{IsSameRun, at_place}
 use Rattle.rv_session.specs.declared.reply.Reply.{Reply}
@@ -137,5 +137,5 @@ byte_same session next byte out fed =
 
 pub fed_same : (session next : Session) (bytes out : List ℕ) → IsFed session bytes out next → IsSameRun session next
 fed_same session next bytes out (no_bytes same) = same_run session
-fed_same session next bytes out (byte_more same between last front sent more byte fed one) =
-    same_run_on session between next (fed_same session between front sent fed) (byte_same between next byte more one)
+fed_same session next bytes out (byte_first same between last byte rest told more one fed) =
+    same_run_on session between next (byte_same session between byte told one) (fed_same between next rest more fed)

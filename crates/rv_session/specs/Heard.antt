@@ -107,5 +107,5 @@ IsByteFed session byte out next = IsRespondedTo (record session { reader = frame
 -- bytes are heard one behind the other
 pub data IsFed : Session → List ℕ → List ℕ → Session → Type 0 where
   no_bytes : (session : Session) → IsFed session [] [] session
-  byte_more : (session between next : Session) (bytes out more : List ℕ) (byte : ℕ) → IsFed session bytes out between
-      → IsByteFed between byte more next → IsFed session (bytes ++ byte ∷ []) (out ++ more) next
+  byte_first : (session between next : Session) (byte : ℕ) (rest out more : List ℕ) → IsByteFed session byte out between
+      → IsFed between rest more next → IsFed session (byte ∷ rest) (out ++ more) next

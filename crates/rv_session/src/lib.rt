@@ -18,7 +18,7 @@ mod session;
 mod traps;
 mod writing;
 
-pub use law::cuts_are_not_seen;
+pub use law::{answers_are_determined, cuts_are_not_seen};
 pub use program::Program;
 pub use reply::Reply;
 pub use session::Session;
