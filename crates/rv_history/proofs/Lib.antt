@@ -7,3 +7,4 @@ mod Counting
 mod Differing
 mod Determined
 pub mod Public
+mod Printing

@@ -23,7 +23,7 @@ run_none : (s : State) → run_of 0 s ≡ record { ending = Budget; steps = 0; s
 unfolding run_of
 run_none s = refl
 
-by_step : (s : State) (P : Type 0) → ((t : State) → step_of s ≡ Ok t → P) → ((e : Ending) → step_of s ≡ Err e → P) → P
+pub by_step : (s : State) (P : Type 0) → ((t : State) → step_of s ≡ Ok t → P) → ((e : Ending) → step_of s ≡ Err e → P) → P
 by_step s P ok err = elim (step_of s) as (λ r. step_of s ≡ r → P) [ Ok t ↦ ok t | Err e ↦ err e ] refl
 
 one_steps : (s t : State) → step_of s ≡ Ok t → (run_of 1 s).steps ≡ 1
@@ -43,8 +43,11 @@ steps_end n s e is = ap (λ r. r.steps) (run_ends n s e is)
 ending_first : (n : ℕ) (s t : State) → step_of s ≡ Ok t → (run_of (suc n) s).ending ≡ (run_of n t).ending
 ending_first n s t e = ap (λ r. r.ending) (run_goes_on n s t e)
 
-state_first : (n : ℕ) (s t : State) → step_of s ≡ Ok t → state_after (suc n) s ≡ state_after n t
+pub state_first : (n : ℕ) (s t : State) → step_of s ≡ Ok t → state_after (suc n) s ≡ state_after n t
 state_first n s t e = ap (λ r. r.state) (run_goes_on n s t e)
+
+pub state_end : (n : ℕ) (s : State) (e : Ending) → step_of s ≡ Err e → state_after (suc n) s ≡ s
+state_end n s e is = ap (λ r. r.state) (run_ends n s e is)
 
 -- the ending of a run is that of the steps behind those that complete
 ending_more : (m n : ℕ) (s : State) → (run_of m s).steps ≡ m → (run_of (m + n) s).ending ≡ (run_of n (state_after m s)).ending

@@ -6,3 +6,4 @@ pub mod Places
 pub mod Moves
 pub mod Counts
 pub mod Inside
+pub mod Printing

@@ -1,13 +1,15 @@
-//! A law of moves, with nothing to run.
+//! Laws of moves, with nothing to run.
 
-ghost use Rattle.std.specs.Prelude.{◌≡◌, ℕ};
+ghost use Rattle.std.specs.Prelude.{◌≡◌, ◌≤◌, ℕ};
 ghost use Rattle.rv_history.specs.Counts.{IsFirstWith};
 ghost use Rattle.rv_history.specs.Moves.{IsNextStep, IsNextStop, IsStepBefore, IsStopBefore};
+ghost use Rattle.rv_history.specs.Printing.{Begins};
 ghost use Rattle.rv_history.specs.declared.bounds.Bounds.{Bounds};
 ghost use Rattle.rv_history.specs.declared.counts.Count.{Count};
 ghost use Rattle.rv_history.specs.declared.found.Found.{Found};
 ghost use Rattle.rv_history.specs.declared.stops.Stops.{Stops};
 ghost use Rattle.rv_machine.specs.State.{State};
+ghost use Rattle.rv_trace.specs.Trace.{state_after};
 
 /// Where a move comes to, and what it finds there, is determined by the run, by where it begins and by the stops.
 pub fn moves_are_determined()
@@ -22,4 +24,10 @@ pub fn moves_are_determined()
         → IsStepBefore stops budget start from p one → IsStepBefore stops budget start from q other → (p ≡ q) × (one ≡ other) }
     ensures count { (count : Count) (value budget p q : ℕ) (start : State) → IsFirstWith count value budget start p
         → IsFirstWith count value budget start q → p ≡ q }
+{}
+
+/// What is printed at a place is printed at each later one, with nothing in front of it.
+pub fn printed_bytes_stay()
+    ensures { (i j : ℕ) (start : State) → i ≤ j
+        → Begins (state_after j start).bus.output (state_after i start).bus.output }
 {}

@@ -20,6 +20,6 @@ pub use bounds::Bounds;
 pub use counts::Count;
 pub use found::Found;
 pub use history::History;
-pub use law::moves_are_determined;
+pub use law::{moves_are_determined, printed_bytes_stay};
 pub use start::Start;
 pub use stops::{Stops, Watch};

@@ -5,3 +5,5 @@ mod Looking
 mod Moving
 mod Same
 mod Seeking
+mod Showing
+mod Ending

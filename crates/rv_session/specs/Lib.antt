@@ -5,3 +5,5 @@ pub mod Traps
 pub mod Moved
 pub mod Answers
 pub mod Heard
+pub mod Console
+pub mod Endings

@@ -18,7 +18,9 @@ mod session;
 mod traps;
 mod writing;
 
-pub use law::{answers_are_determined, cuts_are_not_seen};
+pub use law::{
+    answers_are_determined, cuts_are_not_seen, ends_are_told, printed_bytes_go_out_once,
+};
 pub use program::Program;
 pub use reply::Reply;
 pub use session::Session;
