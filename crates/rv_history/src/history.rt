@@ -177,9 +177,8 @@ impl History {
             (λ found. found ≡ first_differing stops.now.watches (state_after self.now.place self.now.start).bus
                 (state_after (self.now.place + 1) self.now.start).bus) }
     {
-        let ahead = self
-            .start
-            .machine_after(alloc, self.place.saturating_add(1))?;
+        let steps = self.budget.min(self.place.saturating_add(1));
+        let ahead = self.start.machine_after(alloc, steps)?;
         stops.differing_watch(alloc, self.machine.bus(), ahead.bus())
     }
 

@@ -1,7 +1,9 @@
 -- What is appended to the bytes that go out.
 use Rattle.std.proofs.Common.{◌≡◌, ◌∙◌, ◌++◌, ◌∷◌, ◌+◌, ◌<◌, ◌&&◌, [], ℕ, Bool, true, false, List, Some, None, ap, append-nil, append_assoc, get_or, length, refl, subst, sym, take}
 use Rattle.std.proofs.lemmas.List.{take_more}
-use Rattle.rv_remote.specs.Frames.{frame_behind, heard_at}
+use Rattle.std.specs.Prelude.{Option, Result, Ok, Err}
+use Rattle.std.specs.Result.{IfOk, OnOk}
+use Rattle.rv_remote.specs.Frames.{Frame, frame_behind, heard_at}
 use Rattle.rv_remote.specs.Packets.{request_of}
 use Rattle.rv_remote.specs.declared.frame.Heard.{Heard}
 use Rattle.rv_session.specs.Answers.{IsAnswered}
@@ -24,6 +26,17 @@ pub named_otherwise : (old new : List ℕ) (IsSuch IsOther : List ℕ → Type 0
 named_otherwise old new IsSuch IsOther other more =
     record { out = more.out; new_is = more.new_is; such = other more.out more.such }
 
+-- what two clauses of a call say together
+pub both_ok : {E : Type 0} (P Q R : Type 0) (result : Result (Unit {0}) E) → OnOk result P → OnOk result Q → (P → Q → R)
+    → OnOk result R
+both_ok P Q R (Ok done) first second together = together first second
+both_ok P Q R (Err error) first second together = tt
+
+pub both_if : {T E : Type 0} (P R : T → Type 0) (Q : Type 0) (result : Result T E) → IfOk result P → OnOk result Q
+    → ((value : T) → P value → Q → R value) → IfOk result R
+both_if P R Q (Ok value) first second together = together value first second
+both_if P R Q (Err error) first second together = tt
+
 -- ---- answers
 
 pub not_over : (session next : Session) (heard : Heard) (out : List ℕ) → session.is_over ≡ false → IsResponse session heard out next
@@ -34,11 +47,11 @@ not_over session next heard out is response =
 pub over : (session : Session) (heard : Heard) → session.is_over ≡ true → IsRespondedTo session (Some heard) [] session
 over session heard is = subst (λ (over : Bool). IsResponseUnless over session heard [] session) (sym is) (refl, refl)
 
-pub taken : (session behind next : Session) (body old new middle last : List ℕ) (reply : Reply)
+pub taken : (session behind next : Session) (body old middle last : List ℕ) (reply : Reply)
     → middle ≡ old ++ acknowledgement session → IsAnswered session (request_of body) reply behind
     → last ≡ middle ++ packets_of reply → next ≡ with_sent behind reply
     → IsAppended old last (λ out. IsTaken session body out next)
-taken session behind next body old new middle last reply acknowledged answered sent kept = record {
+taken session behind next body old middle last reply acknowledged answered sent kept = record {
   out = acknowledgement session ++ packets_of reply;
   new_is = sent ∙ ap (λ (front : List ℕ). front ++ packets_of reply) acknowledged
       ∙ append_assoc old (acknowledgement session) (packets_of reply);
@@ -59,3 +72,11 @@ pub fed_at : (session between next : Session) (bytes told new : List ℕ) (i byt
 fed_at session between next bytes told new i byte within fed more =
     subst (λ (front : List ℕ). IsFed session front new next) (sym (take_more bytes i byte within))
     (fed_more session between next (take i bytes) told new (get_or bytes i byte) fed more)
+
+-- a byte is heard by the reader first
+pub byte_heard : (session next : Session) (reader : Frame) (heard : Option Heard) (byte : ℕ) (out : List ℕ)
+    → reader ≡ frame_behind session.reader byte → heard ≡ heard_at session.reader byte
+    → IsRespondedTo (record session { reader = reader }) heard out next → IsByteFed session byte out next
+byte_heard session next reader heard byte out is same response =
+    subst (λ (f : Frame). IsRespondedTo (record session { reader = f }) (heard_at session.reader byte) out next) is
+    (subst (λ (h : Option Heard). IsRespondedTo (record session { reader = reader }) h out next) same response)

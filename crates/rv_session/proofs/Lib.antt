@@ -7,3 +7,4 @@ mod Same
 mod Seeking
 mod Showing
 mod Ending
+mod Trapping

@@ -1,9 +1,9 @@
 -- Loops over bytes of memory.
-use Rattle.std.proofs.Common.{◌≡◌, ◌∙◌, ◌++◌, ◌∷◌, ◌+◌, ◌-◌, ◌<◌, ◌≤◌, ◌&&◌, ◌||◌, [], ℕ, zero, suc, Bool, true, false, List, Option, Some, None, ap, append-nil, append_assoc, arith, drop, get_or, length, refl, subst, sym}
+use Rattle.std.proofs.Common.{◌≡◌, ◌∙◌, ◌++◌, ◌∷◌, ◌+◌, ◌-◌, ◌<◌, ◌≤◌, ◌&&◌, ◌||◌, [], ℕ, zero, suc, Bool, true, false, List, Option, Some, None, add-zero, ap, append-nil, append_assoc, arith, drop, get_or, length, refl, subst, sym}
 use Rattle.std.specs.Prelude.{is_some, map, nat_lt}
 use Rattle.std.specs.FinMap as fin
 use Rattle.std.specs.List.{flat_map, list_any, range_with_len}
-use Rattle.std.proofs.lemmas.List.{at_drop_more}
+use Rattle.std.proofs.lemmas.List.{at_drop_more, drop_all, flat_map_more}
 use Rattle.rv_memory.specs.Bus.{Contents}
 use Rattle.rv_session.specs.Memory.{end_of_addresses, is_byte, leading, stand_at}
 
@@ -30,6 +30,14 @@ first_none byte_of a n is =
 none_left : (byte_of : ℕ → Option ℕ) (a : ℕ) → bytes_left byte_of a 0 ≡ []
 unfolding leading
 none_left byte_of a = refl
+
+pub read_start : (byte_of : ℕ → Option ℕ) (a n : ℕ) (bytes : List ℕ) → bytes ≡ []
+    → bytes ++ bytes_left byte_of (a + 0) (n - 0) ≡ bytes_left byte_of a n
+read_start byte_of a n bytes none =
+    let at : a + 0 ≡ a = omega arith in
+    let all : n - 0 ≡ n = omega arith in
+    ap (λ (front : List ℕ). front ++ bytes_left byte_of (a + 0) (n - 0)) none
+    ∙ ap (λ (k : ℕ). bytes_left byte_of k (n - 0)) at ∙ ap (bytes_left byte_of a) all
 
 pub read_more : (byte_of : ℕ → Option ℕ) (a i n byte : ℕ) (bytes all : List ℕ) → i < n → Some byte ≡ byte_of (a + i)
     → bytes ++ bytes_left byte_of (a + i) (n - i) ≡ all
@@ -64,6 +72,12 @@ any_left byte_of a n = list_any (λ address. is_some (byte_of address)) (range_w
 first_any : (byte_of : ℕ → Option ℕ) (a n : ℕ) (is : Bool) → is_some (byte_of a) ≡ is
     → any_left byte_of a (suc n) ≡ (is || any_left byte_of (a + 1) n)
 first_any byte_of a n is here = ap (λ (first : Bool). first || any_left byte_of (a + 1) n) here
+
+pub any_start : (byte_of : ℕ → Option ℕ) (a n : ℕ) → any_left byte_of a n ≡ any_left byte_of (a + 0) (n - 0)
+any_start byte_of a n =
+    let at : a + 0 ≡ a = omega arith in
+    let all : n - 0 ≡ n = omega arith in
+    sym (ap (λ (k : ℕ). any_left byte_of k (n - 0)) at ∙ ap (any_left byte_of a) all)
 
 pub any_later : (byte_of : ℕ → Option ℕ) (a i n : ℕ) (all : Bool) → i < n → is_some (byte_of (a + i)) ≡ false
     → all ≡ any_left byte_of (a + i) (n - i) → all ≡ any_left byte_of (a + (i + 1)) (n - (i + 1))
@@ -100,6 +114,9 @@ stand_more bus a i byte bytes within =
     ∙ three (nat_lt (a + i) end_of_addresses) (is_byte (fin.get bus.memory (a + i)) (get_or bytes i byte))
     (stand_at bus (a + i + 1) (drop (i + 1) bytes))
 
+pub stand_start : (bus : Contents) (a : ℕ) (bytes : List ℕ) → stand_at bus a bytes ≡ stand_at bus (a + 0) (drop 0 bytes)
+stand_start bus a bytes = let at : a ≡ a + 0 = omega arith in ap (λ (k : ℕ). stand_at bus k bytes) at
+
 pub stand_later : (bus : Contents) (a i byte : ℕ) (bytes : List ℕ) (all : Bool) → i < length bytes
     → stands_at bus (a + i) (get_or bytes i byte) ≡ true → all ≡ stand_at bus (a + i) (drop i bytes)
     → all ≡ stand_at bus (a + (i + 1)) (drop (i + 1) bytes)
@@ -119,12 +136,26 @@ stand_none : (bus : Contents) (a : ℕ) → stand_at bus a [] ≡ true
 unfolding stand_at
 stand_none bus a = refl
 
+pub stand_all : (bus : Contents) (a i : ℕ) (bytes : List ℕ) (all : Bool) → length bytes ≤ i
+    → all ≡ stand_at bus (a + i) (drop i bytes) → true ≡ all
+stand_all bus a i bytes all done so_far =
+    sym (so_far ∙ ap (stand_at bus (a + i)) (drop_all i bytes done) ∙ stand_none bus (a + i))
+
 -- ---- packets of printed bytes
 
 range_more : (a n : ℕ) → range_with_len a (n + 1) ≡ range_with_len a n ++ (a + n) ∷ []
-range_more a zero = ap (λ (k : ℕ). k ∷ []) (omega arith)
+range_more a zero = ap (λ (k : ℕ). k ∷ []) (sym (add-zero a))
 range_more a (suc n) =
     let later : a + 1 + n ≡ a + suc n = omega arith in
     let sum : suc n + 1 ≡ suc (n + 1) = omega arith in
     ap (range_with_len a) sum ∙ ap (λ (rest : List ℕ). a ∷ rest) (range_more (a + 1) n)
     ∙ ap (λ (k : ℕ). a ∷ (range_with_len (a + 1) n ++ k ∷ [])) later
+
+pub packets_more : (packet : ℕ → List ℕ) (n : ℕ) (front out next : List ℕ)
+    → out ≡ front ++ flat_map packet (range_with_len 0 n) → next ≡ out ++ packet n
+    → next ≡ front ++ flat_map packet (range_with_len 0 (n + 1))
+packets_more packet n front out next so_far one =
+    let here : n ≡ 0 + n = omega arith in
+    one ∙ ap (λ (text : List ℕ). text ++ packet n) so_far ∙ flat_map_more packet front (range_with_len 0 n) n
+    ∙ ap (λ (k : ℕ). front ++ flat_map packet (range_with_len 0 n ++ k ∷ [])) here
+    ∙ ap (λ (numbers : List ℕ). front ++ flat_map packet numbers) (sym (range_more 0 n))

@@ -44,9 +44,13 @@ shown_count count = min count 4294967295
 abbrev pub taken_here : Session → ℕ
 taken_here session = session.script - length (here session).bus.script
 
+-- x0 to x31, and the pc behind them
+abbrev pub hart_value : Session → ℕ → ℕ
+hart_value session number = if nat_lt number 32 then register (here session) number else (here session).pc
+
 -- the value of a register of the target's description
 abbrev pub value_of : Session → Register → ℕ
-value_of session (reg.Hart number) = if nat_lt number 32 then register (here session) number else (here session).pc
+value_of session (reg.Hart number) = hart_value session number
 value_of session reg.Steps = session.history.place
 value_of session reg.Printed = shown_count (length (here session).bus.output)
 value_of session reg.Taken = shown_count (taken_here session)
@@ -56,8 +60,7 @@ registers_here session = registers_text (here session).registers (here session).
 
 -- `E01` where not one byte is there
 abbrev pub memory_reply : List ℕ → Reply
-memory_reply [] = refused refusal.Failed
-memory_reply (byte ∷ rest) = saying (encode_lower (byte ∷ rest))
+memory_reply bytes = if length bytes == 0 then refused refusal.Failed else saying (encode_lower bytes)
 
 -- `F`, a count of eight digits and `;`
 abbrev pub counted : ℕ → List ℕ
@@ -67,7 +70,7 @@ abbrev pub most_file_part : ℕ
 most_file_part = 8180
 
 abbrev pub file_part : List ℕ → Part → List ℕ
-file_part image part = take (min part.count most_file_part) (drop part.offset image)
+file_part image part = take (min most_file_part part.count) (drop part.offset image)
 
 abbrev pub file_reply : List ℕ → Reply
 file_reply bytes = saying (counted (length bytes) ++ bytes)

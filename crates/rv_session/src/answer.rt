@@ -97,7 +97,7 @@ impl Session {
         ensures { IfOk result (λ reply. (reply ≡ saying (stop_text stop.Here))
             × (self.new ≡ record (at_place self.old 0) { last = stop.Here })) }
     {
-        let _ = self.history.seek(alloc, 0)?;
+        self.go_to_start(alloc)?;
         self.last = Stop::Here;
         self.last_stop(alloc)
     }

@@ -1,6 +1,6 @@
 //! The image, as gdb asks for it: a file of one path, which is open as 5.
 
-ghost use Rattle.std.specs.Prelude.{◌≡◌, ◌++◌, IfOk, OnOk, codes, if◌then◌else◌, length};
+ghost use Rattle.std.specs.Prelude.{◌≡◌, ◌≤◌, ◌++◌, IfOk, OnOk, codes, if◌then◌else◌, length};
 ghost use Rattle.std.specs.Int.{w32, to_be_bytes};
 ghost use Rattle.std.specs.List.{flat_map};
 ghost use Rattle.std.specs.Str.{bytes_eq};
@@ -8,7 +8,7 @@ ghost use Rattle.rv_remote.specs.declared.request.Refusal.TheVariants as refusal
 ghost use Rattle.rv_session.specs.Answers.{counted, file_part, file_reply, size_reply};
 ghost use Rattle.rv_session.specs.Replies.{refused, saying};
 
-use crate::reading::shown_count;
+use crate::reading::{are_same, shown_count};
 use crate::reply::Reply;
 use crate::session::Session;
 use rv_remote::{Part, Refusal};
@@ -29,7 +29,7 @@ impl Session {
         ensures { IfOk result (λ reply. reply
             ≡ (if bytes_eq self.now.program.path path.now then saying (codes "F5") else refused refusal.OtherFile)) }
     {
-        if self.program.path.as_slice() == path {
+        if are_same(self.program.path.as_slice(), path) {
             Reply::telling(alloc, "F5")
         } else {
             Reply::refusing(alloc, Refusal::OtherFile)
@@ -52,14 +52,21 @@ impl Session {
     pub(crate) fn read_file(&self, alloc: Global, part: Part) -> Result<Reply, AllocError>
         ensures { IfOk result (λ reply. reply ≡ file_reply (file_part self.now.program.image part)) }
     {
-        let image = self.program.image.as_slice();
-        let rest = &image[image.len().min(part.offset as usize)..];
-        let count = rest.len().min(MOST_PART.min(part.count as usize));
+        let bytes = file_part(self.program.image.as_slice(), part);
         let mut body = Vec::new(alloc);
-        push_count(&mut body, count as u32)?;
-        body.extend_from_slice(&rest[..count])?;
+        push_count(&mut body, bytes.len() as u32)?;
+        body.extend_from_slice(bytes)?;
         Ok(Reply::saying(alloc, body))
     }
+}
+
+fn file_part(image: &[u8], part: Part) -> &[u8]
+    ensures bytes { result.now ≡ file_part image.now part }
+    ensures short { length result.now ≤ 8180 }
+{
+    let rest = &image[image.len().min(part.offset as usize)..];
+    let count = MOST_PART.min(part.count as usize);
+    &rest[..rest.len().min(count)]
 }
 
 fn push_words(body: &mut Vec<u8>, words: &[u32]) -> Result<(), AllocError>

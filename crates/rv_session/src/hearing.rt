@@ -48,7 +48,8 @@ impl Session {
             return Ok(());
         }
         match heard {
-            Heard::Interrupt | Heard::Arrived => Ok(()),
+            Heard::Interrupt => Ok(()),
+            Heard::Arrived => Ok(()),
             Heard::Again => self.send_again(out),
             Heard::TooLong => self.refuse_long(alloc, out),
             Heard::Packet(body, sum) => self.take_packet(alloc, out, body.as_slice(), *sum),
@@ -86,11 +87,18 @@ impl Session {
         ensures { OnOk result (IsAppended out.old.items out.new.items
             (λ told. IsJudged self.old (self.old.acknowledges && is_wrong sum) body.now told self.new)) }
     {
-        if self.acknowledges && is_wrong(sum) {
+        if self.is_refused(sum) {
             out.push(b'-')?;
             return Ok(());
         }
         self.take_body(alloc, out, body)
+    }
+
+    // Whether a packet is to be sent again.
+    fn is_refused(&self, sum: Sum) -> bool
+        ensures { result ≡ (self.now.acknowledges && is_wrong sum) }
+    {
+        self.acknowledges && is_wrong(sum)
     }
 
     // A packet that is acknowledged.

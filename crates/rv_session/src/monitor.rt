@@ -2,13 +2,11 @@
 
 ghost use Rattle.std.specs.Prelude.{◌≡◌, ◌++◌, IfOk, codes};
 ghost use Rattle.std.specs.Fmt.{decimal};
-ghost use Rattle.std.specs.Str.{bytes_eq};
 ghost use Rattle.rv_session.specs.Answers.{IsCommanded, command_text, is_reset, taken_here};
-ghost use Rattle.rv_session.specs.Replies.{printing};
 
+use crate::reading::are_same;
 use crate::reply::Reply;
 use crate::session::Session;
-use rv_base::Bytes;
 use std::alloc::{AllocError, Global};
 
 /// What `monitor help`, and every command that is not known, prints.
@@ -20,7 +18,7 @@ impl Session {
         ensures { IfOk result (λ reply. IsCommanded self.old text.now reply self.new) }
     {
         if is_reset(text) {
-            let _ = self.history.seek(alloc, 0)?;
+            self.go_to_start(alloc)?;
             return Reply::granted(alloc);
         }
         let printed = self.command_text(alloc, text)?;
@@ -31,11 +29,11 @@ impl Session {
     fn command_text(&self, alloc: Global, text: &[u8]) -> Result<Vec<u8>, AllocError>
         ensures { IfOk result (λ printed. printed.items ≡ command_text self.now text.now) }
     {
-        if is(text, b"when") {
+        if are_same(text, b"when") {
             self.steps_text(alloc)
-        } else if is(text, b"console") {
+        } else if are_same(text, b"console") {
             Vec::from_slice(alloc, self.history.machine().bus().console())
-        } else if is(text, b"input") {
+        } else if are_same(text, b"input") {
             self.input_text(alloc)
         } else {
             Vec::from_slice(alloc, HELP.as_bytes())
@@ -62,11 +60,5 @@ impl Session {
 fn is_reset(text: &[u8]) -> bool
     ensures { result ≡ is_reset text.now }
 {
-    is(text, b"reset") || is(text, b"reset halt")
-}
-
-fn is(text: &[u8], name: &[u8]) -> bool
-    ensures { result ≡ bytes_eq text.now name.now }
-{
-    text == name
+    are_same(text, b"reset") || are_same(text, b"reset halt")
 }

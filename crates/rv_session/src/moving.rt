@@ -60,11 +60,11 @@ impl Session {
         ensures { IfOk result (λ stop. stop ≡ watch_stop self.now asked self.now.history.place) }
     {
         if is_forward(asked) {
-            let address = self.history.watch_ahead(alloc, &self.stops)?;
-            Ok(watch_told(address))
+            let ahead = self.history.watch_ahead(alloc, &self.stops)?;
+            Ok(watch_told(ahead))
         } else {
-            let address = self.history.watch_behind(alloc, &self.stops)?;
-            Ok(watch_told(address))
+            let behind = self.history.watch_behind(alloc, &self.stops)?;
+            Ok(watch_told(behind))
         }
     }
 

@@ -1,8 +1,9 @@
 //! Registers and memory as they stand at the session's place.
 
 ghost use Rattle.std.specs.Prelude.{◌≡◌, IfOk};
+ghost use Rattle.std.specs.Str.{bytes_eq};
 ghost use Rattle.rv_remote.specs.Shown.{register_text};
-ghost use Rattle.rv_session.specs.Answers.{memory_reply, registers_here, shown_count, taken_here, value_of};
+ghost use Rattle.rv_session.specs.Answers.{hart_value, memory_reply, registers_here, shown_count, taken_here, value_of};
 ghost use Rattle.rv_session.specs.Memory.{bytes_asked, bytes_from};
 ghost use Rattle.rv_session.specs.Replies.{saying};
 ghost use Rattle.rv_session.specs.Sessions.{here};
@@ -40,13 +41,22 @@ impl Session {
     pub(crate) fn value(&self, register: Register) -> u32
         ensures { result ≡ value_of self.now register }
     {
-        let machine = self.history.machine();
         match register {
-            Register::Hart(number) if number < 32 => machine.reg(number as u8),
-            Register::Hart(_) => machine.pc(),
+            Register::Hart(number) => self.hart_value(number),
             Register::Steps => self.history.place(),
-            Register::Printed => shown_count(machine.bus().console().len()),
+            Register::Printed => shown_count(self.history.machine().bus().console().len()),
             Register::Taken => shown_count(self.taken()),
+        }
+    }
+
+    fn hart_value(&self, number: u32) -> u32
+        ensures { result ≡ hart_value self.now number }
+    {
+        let machine = self.history.machine();
+        if number < 32 {
+            machine.reg(number as u8)
+        } else {
+            machine.pc()
         }
     }
 
@@ -63,13 +73,20 @@ impl Session {
         ensures { IfOk result (λ reply. reply ≡ memory_reply (bytes_from (here self.now).bus range)) }
     {
         let bytes = bytes_from(alloc, self.history.machine().bus(), range)?;
-        if bytes.is_empty() {
+        if bytes.as_slice().is_empty() {
             return Reply::refusing(alloc, Refusal::Failed);
         }
         let mut body = Vec::new(alloc);
         push_memory(alloc, &mut body, bytes.as_slice())?;
         Ok(Reply::saying(alloc, body))
     }
+}
+
+/// Whether two texts are the same.
+pub(crate) fn are_same(one: &[u8], other: &[u8]) -> bool
+    ensures { result ≡ bytes_eq one.now other.now }
+{
+    one == other
 }
 
 /// A count as four bytes show it.
@@ -92,8 +109,9 @@ fn bytes_asked(range: Range) -> u32
 fn bytes_from(alloc: Global, bus: &Bus, range: Range) -> Result<Vec<u8>, AllocError>
     ensures { IfOk result (λ bytes. bytes.items ≡ bytes_from bus.now range) }
 {
+    let count = bytes_asked(range);
     let mut bytes = Vec::new(alloc);
-    for offset in 0..bytes_asked(range) {
+    for offset in 0..count {
         match bus.byte(range.address + offset) {
             Some(byte) => bytes.push(byte)?,
             None => return Ok(bytes),

@@ -1,7 +1,8 @@
 //! Seeks: gdb writes one of the run's counts, and the session goes to the first place with it.
 
-ghost use Rattle.std.specs.Prelude.{IfOk};
+ghost use Rattle.std.specs.Prelude.{◌≡◌, IfOk, OnOk};
 ghost use Rattle.rv_session.specs.Answers.{IsPlaceSought, IsSought};
+ghost use Rattle.rv_session.specs.Sessions.{at_place};
 
 use crate::reply::Reply;
 use crate::session::Session;
@@ -10,6 +11,14 @@ use rv_remote::Refusal;
 use std::alloc::{AllocError, Global};
 
 impl Session {
+    /// To the start of the run.
+    pub(crate) fn go_to_start(&mut self, alloc: Global) -> Result<(), AllocError>
+        ensures { OnOk result (self.new ≡ at_place self.old 0) }
+    {
+        let _is_granted = self.history.seek(alloc, 0)?;
+        Ok(())
+    }
+
     /// `P21=`: to a place.
     pub(crate) fn seek_place(&mut self, alloc: Global, place: u32) -> Result<Reply, AllocError>
         ensures { IfOk result (λ reply. IsPlaceSought self.old place reply self.new) }

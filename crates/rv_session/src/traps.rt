@@ -44,7 +44,7 @@ fn is_full(stops: &Stops) -> bool
 {
     let breaks = stops.breaks.as_slice().len();
     let watches = stops.watches.as_slice().len();
-    breaks >= MOST_TRAPS || watches >= MOST_TRAPS - breaks
+    breaks + watches >= MOST_TRAPS
 }
 
 fn with_break(
@@ -54,8 +54,9 @@ fn with_break(
 ) -> Result<Result<Stops, Refusal>, AllocError>
     ensures { (bus : Contents) → IfOk result (IsTrapped stops.now bus (trap.Break address)) }
 {
-    if stops.breaks.as_slice().contains(&address) {
-        return Ok(Ok(copied(alloc, stops)?));
+    if has_break(stops, address) {
+        let same = copied(alloc, stops)?;
+        return Ok(Ok(same));
     }
     if is_full(stops) {
         return Ok(Err(Refusal::TooManyTraps));
@@ -75,11 +76,15 @@ fn with_watch(
     ensures { IfOk result (IsTrapped stops.now bus.now (trap.Watch range)) }
 {
     let end = u64::from(range.address) + u64::from(range.count);
-    if end > 1 << 32 || !has_byte(bus, range) {
+    if end > 1 << 32 {
+        return Ok(Err(Refusal::Malformed));
+    }
+    if !has_byte(bus, range) {
         return Ok(Err(Refusal::Malformed));
     }
     if has_watch(stops, range) {
-        return Ok(Ok(copied(alloc, stops)?));
+        let same = copied(alloc, stops)?;
+        return Ok(Ok(same));
     }
     if is_full(stops) {
         return Ok(Err(Refusal::TooManyTraps));
@@ -121,6 +126,12 @@ fn without_watch(alloc: Global, stops: &Stops, range: Range) -> Result<Stops, Al
     Ok(stops_of(breaks, watches))
 }
 
+fn has_break(stops: &Stops, address: u32) -> bool
+    ensures { result ≡ is_set stops.now (trap.Break address) }
+{
+    stops.breaks.as_slice().contains(&address)
+}
+
 fn has_watch(stops: &Stops, range: Range) -> bool
     ensures { result ≡ is_set stops.now (trap.Watch range) }
 {
@@ -151,7 +162,12 @@ fn has_byte(bus: &Bus, range: Range) -> bool
     requires { range.address + range.count ≤ 2 ^ 32 }
     ensures { result ≡ has_byte bus.now range }
 {
-    (0..range.count).any(|offset| bus.byte(range.address + offset).is_some())
+    for offset in 0..range.count {
+        if bus.byte(range.address + offset).is_some() {
+            return true;
+        }
+    }
+    false
 }
 
 fn stops_of(breaks: Vec<u32>, watches: Vec<Watch>) -> Stops

@@ -10,12 +10,16 @@ ghost use Rattle.rv_session.specs.Memory.{end_of_addresses, is_byte, stand_at};
 ghost use Rattle.rv_session.specs.Replies.{granted_if};
 ghost use Rattle.rv_session.specs.Sessions.{here};
 
+use crate::reading::are_same;
 use crate::reply::Reply;
 use crate::session::Session;
 use rv_history::Count;
 use rv_memory::Bus;
 use rv_remote::{Refusal, Register, push_memory, push_registers};
 use std::alloc::{AllocError, Global};
+
+/// One past the last address.
+const END_OF_ADDRESSES: u64 = 0x1_0000_0000;
 
 impl Session {
     // `G`
@@ -28,7 +32,7 @@ impl Session {
         push_registers(&mut here, &machine.registers(), machine.pc())?;
         let mut asked = Vec::new(alloc);
         push_memory(alloc, &mut asked, bytes)?;
-        let same = here.as_slice() == asked.as_slice();
+        let same = are_same(here.as_slice(), asked.as_slice());
         Reply::granted_if(alloc, same, Refusal::WouldChange)
     }
 
@@ -83,8 +87,14 @@ fn stand_at(bus: &Bus, address: u32, bytes: &[u8]) -> bool
 fn stands_at(bus: &Bus, address: u64, byte: u8) -> bool
     ensures { result ≡ (nat_lt address end_of_addresses && is_byte (fin.get bus.now.memory address) byte) }
 {
-    match u32::try_from(address) {
-        Ok(address) => bus.byte(address) == Some(byte),
-        Err(_) => false,
+    address < END_OF_ADDRESSES && is_byte(bus.byte(address as u32), byte)
+}
+
+fn is_byte(found: Option<u8>, byte: u8) -> bool
+    ensures { result ≡ is_byte found byte }
+{
+    match found {
+        Some(other) => other == byte,
+        None => false,
     }
 }

@@ -1,0 +1,26 @@
+use Rattle.std.proofs.Common.{◌≡◌, ◌≤◌, ◌+◌, ◌&&◌, ◌∙◌, arith, false, leb, refl, rules, sym, true}
+use Rattle.std.proofs.lemmas.Bool.{and_from, le-leb, lt-leb}
+use Rattle.rv_remote.specs.declared.request.Trap.TheVariants as trap
+use Rattle.rv_session.specs.Traps.{can_be_set, has_byte}
+use Rattle.rv_session.proofs.Trapping.{cannot_be, set_already, set_now, too_many}
+use Rattle.rv_session.proofs.traps.with_watch.Goals as goal
+
+pub returns-then-has_watch : goal.returns-then-has_watch
+returns-then-has_watch c =
+    let bus = c.args.bus.now in
+    let range = c.args.range in
+    let low = le-leb (range.address + range.count) 4294967296 (omega arith) in
+    let can : can_be_set bus (trap.Watch range) ≡ true =
+    and_from (leb (range.address + range.count) 4294967296) (has_byte bus range) low (sym c.has_byte.ensures ∙ c.if-has_byte.true) in
+    set_already c.args.stops.now c.in_ok-same.same bus (trap.Watch range) can (sym c.has_watch.ensures ∙ c.if-has_watch.true)
+    c.in_ok-same.ensures
+
+pub returns-then-is_full : goal.returns-then-is_full
+returns-then-is_full c =
+    let bus = c.args.bus.now in
+    let range = c.args.range in
+    let low = le-leb (range.address + range.count) 4294967296 (omega arith) in
+    let can : can_be_set bus (trap.Watch range) ≡ true =
+    and_from (leb (range.address + range.count) 4294967296) (has_byte bus range) low (sym c.has_byte.ensures ∙ c.if-has_byte.true) in
+    too_many c.args.stops.now bus (trap.Watch range) can (sym c.has_watch.ensures ∙ c.if-has_watch.false)
+    (sym c.is_full.ensures ∙ c.if-is_full.true)
