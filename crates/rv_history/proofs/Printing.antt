@@ -11,11 +11,9 @@ use Rattle.rv_memory.specs.declared.access.Width.TheVariants.{Byte, Half, Word}
 use Rattle.rv_memory.specs.declared.faults.BusFault.{BusFault}
 use Rattle.rv_memory.specs.declared.faults.BusFault.TheVariants.{Access, ConsoleFull, Misaligned}
 use Rattle.rv_machine.specs.declared.ending.Ending.{Ending}
-use Rattle.rv_machine.specs.declared.accesses.Extend.{Extend}
-use Rattle.rv_machine.specs.declared.accesses.Extend.TheVariants.{Sign, Zero}
 use Rattle.rv_machine.specs.State.{State, at_pc, is_misaligned, with_bus, with_register}
 use Rattle.rv_machine.specs.Fetch.{Fetched, fetch}
-use Rattle.rv_machine.specs.Effect.{address, after_branch, after_load, after_store, at_target, effect, effect_of, from_pc, load, next_pc, rs2_value, store}
+use Rattle.rv_machine.specs.Effect.{address, after_branch, after_store, at_target, effect, effect_of, from_pc, next_pc, rs2_value, store}
 use Rattle.rv_machine.specs.Run.{after_fetch, run_of, step_of}
 use Rattle.rv_machine.proofs.Public.{ok_is}
 use Rattle.rv_trace.specs.Trace.{state_after}
@@ -114,12 +112,17 @@ branch : (holds : Bool) (s : State) (i : Instr) (next : ℕ) → ok_is (Grows s)
 branch true s i next = gone s (from_pc s i) s (all_of s)
 branch false s i next = all_of s
 
-load_grows : (w : Width) (x : Extend) (i : Instr) (next : ℕ) (s : State) → ok_is (Grows s) (load w x s i next)
-load_grows w x i next s = go (load_from s.bus (address s i) w) (loads s.bus (address s i) w)
-  where
-    go : (r : Result (ℕ × Contents) BusFault) → ok_is (Loads s.bus) r → ok_is (Grows s) (after_load r w x s i next)
-    go (Ok p) k = begins_on _ p.1.output s.bus.output k (written (with_bus s p.1) i.rd _)
-    go (Err e) k = tt
+-- by the answer of a load
+by_load : (s : State) (i : Instr) (w : Width) (P : Type 0) → ((p : ℕ × Contents) → load_from s.bus (address s i) w ≡ Ok p → P)
+    → ((e : BusFault) → load_from s.bus (address s i) w ≡ Err e → P) → P
+by_load s i w P ok err =
+    elim (load_from s.bus (address s i) w) as (λ r. load_from s.bus (address s i) w ≡ r → P) [ Ok p ↦ ok p | Err e ↦ err e ] refl
+
+-- what a load leaves, with a register written
+loaded : (s : State) (i : Instr) (w : Width) (p : ℕ × Contents) (n v : ℕ) → load_from s.bus (address s i) w ≡ Ok p
+    → Grows s (with_register (with_bus s p.1) n v)
+loaded s i w p n v e = begins_on _ p.1.output s.bus.output (subst (ok_is (Loads s.bus)) e (loads s.bus (address s i) w))
+    (written (with_bus s p.1) n v)
 
 store_grows : (w : Width) (i : Instr) (next : ℕ) (s : State) → ok_is (Grows s) (store w s i next)
 store_grows w i next s = go (store_to s.bus (address s i) w (rs2_value s i)) (store_prints s.bus (address s i) w (rs2_value s i))
@@ -139,11 +142,11 @@ effect_grows op.Blt i n s = branch _ s i (next_pc s n)
 effect_grows op.Bge i n s = branch _ s i (next_pc s n)
 effect_grows op.Bltu i n s = branch _ s i (next_pc s n)
 effect_grows op.Bgeu i n s = branch _ s i (next_pc s n)
-effect_grows op.Lb i n s = load_grows Byte Sign i (next_pc s n) s
-effect_grows op.Lh i n s = load_grows Half Sign i (next_pc s n) s
-effect_grows op.Lw i n s = load_grows Word Sign i (next_pc s n) s
-effect_grows op.Lbu i n s = load_grows Byte Zero i (next_pc s n) s
-effect_grows op.Lhu i n s = load_grows Half Zero i (next_pc s n) s
+effect_grows op.Lb i n s = by_load s i Byte _ (λ p e. rw e (loaded s i Byte p i.rd _ e)) (λ f e. rw e tt)
+effect_grows op.Lh i n s = by_load s i Half _ (λ p e. rw e (loaded s i Half p i.rd _ e)) (λ f e. rw e tt)
+effect_grows op.Lw i n s = by_load s i Word _ (λ p e. rw e (loaded s i Word p i.rd _ e)) (λ f e. rw e tt)
+effect_grows op.Lbu i n s = by_load s i Byte _ (λ p e. rw e (loaded s i Byte p i.rd _ e)) (λ f e. rw e tt)
+effect_grows op.Lhu i n s = by_load s i Half _ (λ p e. rw e (loaded s i Half p i.rd _ e)) (λ f e. rw e tt)
 effect_grows op.Sb i n s = store_grows Byte i (next_pc s n) s
 effect_grows op.Sh i n s = store_grows Half i (next_pc s n) s
 effect_grows op.Sw i n s = store_grows Word i (next_pc s n) s
