@@ -1,9 +1,8 @@
 -- What goes out, and the session behind it, are determined by the session and by the bytes that come.
 use Rattle.std.proofs.Common.{◌≡◌, ◌∙◌, ◌++◌, ◌∷◌, ◌+◌, ◌≤◌, ◌^◌, ◌&&◌, [], ℕ, List, Bool, true, false, Some, None, ap, refl, subst, sym}
 use Rattle.std.specs.Prelude.{Option, Result, Ok, Err, ◌==◌}
-use Rattle.std.proofs.lemmas.Bool.{and_parts, eqb-true, false≢true}
+use Rattle.std.proofs.lemmas.Bool.{and_parts, eqb-true}
 use Rattle.std.proofs.Math.Bridge.{le_prop}
-use Rattle.rv_history.specs.Counts.{IsFirstWith}
 use Rattle.rv_history.specs.declared.counts.Count.{Count}
 use Rattle.rv_history.specs.declared.counts.Count.TheVariants as count
 use Rattle.rv_history.specs.declared.found.Found.{Found}

@@ -1,3 +1,4 @@
+mod Answering
 mod Appending
 mod Cuts
 mod Determined

@@ -1,5 +1,5 @@
 -- Loops over bytes of memory.
-use Rattle.std.proofs.Common.{◌≡◌, ◌∙◌, ◌++◌, ◌∷◌, ◌+◌, ◌-◌, ◌<◌, ◌≤◌, ◌&&◌, ◌||◌, [], ℕ, zero, suc, Bool, true, false, List, Option, Some, None, add-zero, ap, append-nil, append_assoc, arith, drop, get_or, length, refl, subst, sym}
+use Rattle.std.proofs.Common.{◌≡◌, ◌∙◌, ◌++◌, ◌∷◌, ◌+◌, ◌-◌, ◌<◌, ◌≤◌, ◌&&◌, ◌||◌, [], ℕ, zero, suc, Bool, true, false, List, Option, Some, None, add-zero, ap, append-nil, append_assoc, arith, drop, get_or, length, refl, sym}
 use Rattle.std.specs.Prelude.{is_some, map, nat_lt}
 use Rattle.std.specs.FinMap as fin
 use Rattle.std.specs.List.{flat_map, list_any, range_with_len}

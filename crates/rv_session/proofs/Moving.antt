@@ -1,5 +1,5 @@
 -- Moves, and the stops that are told.
-use Rattle.std.proofs.Common.{◌≡◌, ◌∙◌, ◌<◌, ℕ, Bool, true, false, ap, arith, refl, subst, sym}
+use Rattle.std.proofs.Common.{◌≡◌, ◌∙◌, ◌<◌, ℕ, true, ap, arith, subst, sym}
 use Rattle.std.proofs.lemmas.Bool.{false≢true}
 use Rattle.rv_history.specs.Moves.{IsNextStep, MeetsAhead}
 use Rattle.rv_history.specs.Places.{last_place}

@@ -1,5 +1,5 @@
 -- Seeks, and what they grant.
-use Rattle.std.proofs.Common.{◌≡◌, ◌∙◌, ◌≤◌, ℕ, Bool, true, false, ap, arith, leb, refl}
+use Rattle.std.proofs.Common.{◌≡◌, ◌∙◌, ◌≤◌, ℕ, Bool, true, false, ap, arith, leb}
 use Rattle.std.specs.Prelude.{◌↔◌, IsTrue, if◌then◌else◌}
 use Rattle.std.proofs.lemmas.Bool.Decides.{Decides-leb, same_from_decides}
 use Rattle.rv_history.specs.Inside.{Stand}

@@ -1,5 +1,5 @@
 -- Each printed byte goes out once.
-use Rattle.std.proofs.Common.{◌≡◌, ◌∙◌, ◌+◌, ◌<◌, ◌≤◌, ◌++◌, [], ℕ, Bool, true, false, List, ap, append-nil, append_assoc, arith, drop, inl, inr, length, length-append, max, refl, subst, sym, take}
+use Rattle.std.proofs.Common.{◌≡◌, ◌∙◌, ◌+◌, ◌<◌, ◌≤◌, ◌++◌, [], ℕ, Bool, true, false, List, ap, append-nil, arith, drop, inl, inr, length, length-append, max, refl, subst, sym, take}
 use Rattle.std.proofs.Math.Seq.{take-append_seam}
 use Rattle.std.proofs.lemmas.Bool.{cases_lt}
 use Rattle.std.proofs.lemmas.List.{drop_all, take-append-drop, take-append-le}
@@ -14,7 +14,7 @@ use Rattle.rv_remote.specs.declared.request.Move.{Move}
 use Rattle.rv_remote.specs.declared.request.Move.TheVariants as move
 use Rattle.rv_session.specs.Console.{HasShown, printed_by}
 use Rattle.rv_session.specs.Moved.{IsGone, IsMoved, is_forward, printed_on, shown_on}
-use Rattle.rv_session.specs.Sessions.{at_place, state_at}
+use Rattle.rv_session.specs.Sessions.{state_at}
 use Rattle.rv_session.specs.declared.reply.Reply.{Reply}
 use Rattle.rv_session.specs.declared.session.Session.{Session}
 

@@ -1,10 +1,10 @@
 -- Traps that are set, and those that are not.
-use Rattle.std.proofs.Common.{◌≡◌, ◌&&◌, Bool, true, false, Some, None, Ok, Err, refl}
+use Rattle.std.proofs.Common.{◌≡◌, true, false, Ok, Err, refl}
 use Rattle.rv_history.specs.declared.stops.Stops.{Stops}
 use Rattle.rv_memory.specs.Bus.{Contents}
 use Rattle.rv_remote.specs.declared.request.Refusal.TheVariants as refusal
 use Rattle.rv_remote.specs.declared.request.Trap.{Trap}
-use Rattle.rv_session.specs.Traps.{IsAdded, IsTrapped, can_be_set, is_full, is_set, trap_refusal}
+use Rattle.rv_session.specs.Traps.{IsAdded, IsTrapped, can_be_set, is_full, is_set}
 
 pub cannot_be : (stops : Stops) (bus : Contents) (place : Trap) → can_be_set bus place ≡ false
     → IsTrapped stops bus place (Err refusal.Malformed)

@@ -11,11 +11,10 @@ use Rattle.rv_history.specs.declared.counts.Count.{Count}
 use Rattle.rv_history.specs.declared.counts.Count.TheVariants as count
 use Rattle.rv_history.specs.declared.stops.Stops.{Stops}
 use Rattle.rv_machine.specs.State.{register}
-use Rattle.rv_remote.specs.Replies.{fixed_reply, part_text, refusal_text}
+use Rattle.rv_remote.specs.Replies.{fixed_reply, part_text}
 use Rattle.rv_remote.specs.Shown.{register_text, registers_text}
 use Rattle.rv_remote.specs.Stops.{stop_text}
 use Rattle.rv_remote.specs.declared.request.Part.{Part}
-use Rattle.rv_remote.specs.declared.request.Range.{Range}
 use Rattle.rv_remote.specs.declared.request.Refusal.{Refusal}
 use Rattle.rv_remote.specs.declared.request.Refusal.TheVariants as refusal
 use Rattle.rv_remote.specs.declared.request.Register.{Register}
@@ -92,7 +91,7 @@ shown_reply session ask.LastStop = saying (stop_text session.last)
 shown_reply session ask.Registers = saying (registers_here session)
 shown_reply session (ask.Register register) = saying (register_text (value_of session register))
 shown_reply session (ask.ReadMemory range) = memory_reply (bytes_from (here session).bus range)
-shown_reply session (ask.Description part) = saying (part_text TARGET part)
+shown_reply session (ask.Description part) = saying (part_text TARGET.now part)
 shown_reply session (ask.ImagePath part) = saying (part_text session.program.path part)
 shown_reply session (ask.OpenFile path) =
     if bytes_eq session.program.path path then saying (codes "F5") else refused refusal.OtherFile
@@ -117,7 +116,7 @@ command_text session text =
     else if bytes_eq text (codes "console") then (here session).bus.output
     else if bytes_eq text (codes "input") then
     decimal (taken_here session) ++ codes " of " ++ decimal session.script ++ codes " bytes are taken\n"
-    else HELP
+    else HELP.now
 
 -- ---- what changes the session
 

@@ -3,7 +3,6 @@ use Rattle.std.specs.Prelude.{ℕ, [], ◌≡◌, true, false, length}
 use Rattle.rv_history.specs.Starts.{start_of}
 use Rattle.rv_history.specs.declared.start.Start.{Start}
 use Rattle.rv_machine.specs.State.{State}
-use Rattle.rv_memory.specs.Bus.{Contents}
 use Rattle.rv_remote.specs.Frames.{between}
 use Rattle.rv_remote.specs.declared.stop.Stop.TheVariants as stop
 use Rattle.rv_trace.specs.Trace.{state_after}

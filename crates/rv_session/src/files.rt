@@ -5,7 +5,7 @@ ghost use Rattle.std.specs.Int.{w32, to_be_bytes};
 ghost use Rattle.std.specs.List.{flat_map};
 ghost use Rattle.std.specs.Str.{bytes_eq};
 ghost use Rattle.rv_remote.specs.declared.request.Refusal.TheVariants as refusal;
-ghost use Rattle.rv_session.specs.Answers.{counted, file_part, file_reply, size_reply};
+ghost use Rattle.rv_session.specs.Answers.{counted, file_part, file_reply, size_reply, stat_words};
 ghost use Rattle.rv_session.specs.Replies.{refused, saying};
 
 use crate::reading::{are_same, shown_count};
@@ -43,8 +43,7 @@ impl Session {
         let size = shown_count(self.program.image.as_slice().len());
         let mut body = Vec::new(alloc);
         push_count(&mut body, STAT_BYTES)?;
-        push_words(&mut body, &[0, 0, READABLE_FILE, 0, 0, 0, 0, 0])?;
-        push_words(&mut body, &[size, 0, 0, 0, 0, 0, 0, 0])?;
+        push_words(&mut body, &stat_words(size))?;
         Ok(Reply::saying(alloc, body))
     }
 
@@ -67,6 +66,13 @@ fn file_part(image: &[u8], part: Part) -> &[u8]
     let rest = &image[image.len().min(part.offset as usize)..];
     let count = MOST_PART.min(part.count as usize);
     &rest[..rest.len().min(count)]
+}
+
+// The words of gdb's `struct stat`: the mode is the third, and the size the ninth.
+fn stat_words(size: u32) -> [u32; 16]
+    ensures { result ≡ stat_words size }
+{
+    [0, 0, READABLE_FILE, 0, 0, 0, 0, 0, size, 0, 0, 0, 0, 0, 0, 0]
 }
 
 fn push_words(body: &mut Vec<u8>, words: &[u32]) -> Result<(), AllocError>

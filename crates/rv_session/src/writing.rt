@@ -76,7 +76,8 @@ fn stand_at(bus: &Bus, address: u32, bytes: &[u8]) -> bool
     ensures { result ≡ stand_at bus.now address bytes.now }
 {
     for (offset, byte) in bytes.iter().enumerate() {
-        if !stands_at(bus, u64::from(address) + offset as u64, *byte) {
+        let stands = stands_at(bus, u64::from(address) + offset as u64, *byte);
+        if !stands {
             return false;
         }
     }
