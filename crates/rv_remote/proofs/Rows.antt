@@ -1,7 +1,7 @@
 -- Each packet of the protocol is read as what it asks.
-use Rattle.std.proofs.Common.{◌≡◌, ◌∷◌, ◌+◌, ◌≤◌, ℕ, List, Option, Some, true, ap, length, refl}
+use Rattle.std.proofs.Common.{◌≡◌, ◌∷◌, ◌+◌, ◌≤◌, ℕ, List, Option, Some, true, false, ap, arith, eqb, length, refl}
 use Rattle.std.specs.List.{list_all}
-use Rattle.std.proofs.lemmas.Bool.{eq-eqb, le-leb}
+use Rattle.std.proofs.lemmas.Bool.{eq-eqb, le-leb, ne_eqb}
 use Rattle.rv_remote.specs.Grammar.{IsAction, IsRequest, IsTrap, action_of_thread, actions, attached, choose_thread, clear_trap, close_file, command, description, detach, detach_process, features, file_size, file_system, first_action, first_threads, goes_back, goes_on, goes_on_signalled, hardware, image_path, is_alive, kill, kill_process, last_stop, more_threads, moves, no_acknowledgements, on_with_signal, one_action, open_file, plain_move, read_file, read_memory, register, registers, restart, set_trap, software, stay_extended, step_with_signal, steps, steps_back, steps_signalled, steps_within, this_thread, write_data, write_digits, write_register, write_registers, writes}
 use Rattle.rv_remote.specs.Numbers.{behind, until}
 use Rattle.rv_remote.specs.Packets as packet
@@ -58,6 +58,10 @@ action_lacks_colon text step (moves same other steps) = refl
 action_lacks_colon text step (goes_on_signalled signal number told) = number_lacks colon refl signal number told
 action_lacks_colon text step (steps_signalled signal number told) = number_lacks colon refl signal number told
 action_lacks_colon text step (steps_within range low high tells) = two_lack colon refl refl range low high tells
+
+-- a text of some bytes is not empty
+some_byte : (byte : ℕ) (text : List ℕ) → eqb (length (byte ∷ text)) 0 ≡ false
+some_byte byte text = ne_eqb (length (byte ∷ text)) 0 (λ is. omega arith)
 
 -- ---- each packet
 
@@ -127,7 +131,7 @@ is_read body request (action_of_thread text rest step is) =
       action_read text step is,
     ) refl
 is_read body request (command digits text told) = rw told refl
-is_read body request (detach_process process) = refl
+is_read body request (detach_process process) = rw (some_byte semicolon process) refl
 is_read body request (restart args) = refl
 is_read body request (kill_process args) = refl
 is_read body request (choose_thread args) = refl
