@@ -159,6 +159,7 @@ fn is_wrong(sum: Sum) -> bool
     }
 }
 
+#[tactic(auto, unfolding(crate::specs::Heard::printed_packets))]
 fn push_printed_packets(
     alloc: Global,
     out: &mut Vec<u8>,
