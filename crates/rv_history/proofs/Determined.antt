@@ -53,9 +53,11 @@ pub one_next_stop : (stops : Stops) (bounds : Bounds) (budget from p q : ℕ) (s
 one_next_stop stops bounds budget from p q start one other first second =
     let same : p ≡ q = one_place p q
     (λ before. meets_or_goes stops bounds budget from p start one first.meets (second.between p first.order before))
-    (λ before. meets_or_goes stops bounds budget from q start other second.meets (first.between q second.order before)) in
-    (same, met_ahead stops bounds budget from q start one other
-    (subst (λ (k : ℕ). MeetsAhead stops bounds budget start from k one) same first.meets) second.meets)
+    (λ before. meets_or_goes stops bounds budget from q start other second.meets (first.between q second.order before)) in (
+      same,
+      met_ahead stops bounds budget from q start one other
+          (subst (λ (k : ℕ). MeetsAhead stops bounds budget start from k one) same first.meets) second.meets,
+    )
 
 pub one_next_step : (stops : Stops) (budget from p q : ℕ) (start : State) (one other : Found)
     → IsNextStep stops budget start from p one → IsNextStep stops budget start from q other → (p ≡ q) × (one ≡ other)
@@ -122,9 +124,11 @@ pub one_stop_before : (stops : Stops) (budget from p q : ℕ) (start : State) (o
 one_stop_before stops budget from p q start one other first second =
     let same : p ≡ q = one_place p q
     (λ above. met_or_went stops budget from q p start other above second.meets (first.between q above second.order))
-    (λ above. met_or_went stops budget from p q start one above first.meets (second.between p above first.order)) in
-    (same, met_back stops budget from q start one other
-    (subst (λ (k : ℕ). MeetsBack stops budget start from k one) same first.meets) second.meets)
+    (λ above. met_or_went stops budget from p q start one above first.meets (second.between p above first.order)) in (
+      same,
+      met_back stops budget from q start one other
+          (subst (λ (k : ℕ). MeetsBack stops budget start from k one) same first.meets) second.meets,
+    )
 
 -- the step behind a place changes something, or nothing
 changes_or_not : (stops : Stops) (budget from place : ℕ) (start : State) → from ≡ place + 1

@@ -175,7 +175,7 @@ impl History {
     pub fn watch_ahead(&self, alloc: Global, stops: &Stops) -> Result<Option<u32>, AllocError>
         ensures { self.now.place < last_place self.now.budget self.now.start → IfOk result
             (λ found. found ≡ first_differing stops.now.watches (state_after self.now.place self.now.start).bus
-                (state_after (self.now.place + 1) self.now.start).bus) }
+            (state_after (self.now.place + 1) self.now.start).bus) }
     {
         let steps = self.budget.min(self.place.saturating_add(1));
         let ahead = self.start.machine_after(alloc, steps)?;
@@ -186,7 +186,7 @@ impl History {
     pub fn watch_behind(&self, alloc: Global, stops: &Stops) -> Result<Option<u32>, AllocError>
         ensures { IfOk result
             (λ found. found ≡ first_differing stops.now.watches (state_after (self.now.place - 1) self.now.start).bus
-                (state_after self.now.place self.now.start).bus) }
+            (state_after self.now.place self.now.start).bus) }
     {
         let behind = self
             .start

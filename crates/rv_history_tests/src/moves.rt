@@ -56,7 +56,12 @@ fn stops_of(alloc: Global, text: &str) -> Result<Stops, Fail> {
 }
 
 fn history_of(alloc: Global, budget: u32) -> Result<History, Fail> {
-    let mut bus = Bus::new(alloc, Map::default_map(), Vec::new(alloc), Misaligned::Fault)?;
+    let mut bus = Bus::new(
+        alloc,
+        Map::default_map(),
+        Vec::new(alloc),
+        Misaligned::Fault,
+    )?;
     let code = numbers(alloc, CODE)?;
     if code.len() > 0x100 || !bus.map().in_one(0x8000_0000, code.len() as u32) {
         return Err("a place".into());
@@ -82,12 +87,7 @@ fn found_text(alloc: Global, found: Found) -> Result<String, AllocError> {
     }
 }
 
-fn moved(
-    alloc: Global,
-    history: &mut History,
-    stops: &Stops,
-    asked: &str,
-) -> Result<String, Fail> {
+fn moved(alloc: Global, history: &mut History, stops: &Stops, asked: &str) -> Result<String, Fail> {
     if let Some(place) = asked.strip_prefix("seek ") {
         let granted = history.seek(alloc, place.parse()?)?;
         let told = if granted { "yes" } else { "no" };

@@ -58,7 +58,7 @@ moved_one session one other asked reply again first second =
     let same = gone_one asked session.stops session.history.budget session.history.place first.place second.place
     session.history.start first.found second.found first.gone second.gone in
     let said : ℕ → Found → Reply = λ place found.
-        printing (printed_on session asked (state_at session place)) (stop_text (stop_of session asked place found)) in
+    printing (printed_on session asked (state_at session place)) (stop_text (stop_of session asked place found)) in
     let stands : ℕ → Found → Session = λ place found. record session {
       history = record session.history { place = place };
       shown = shown_on session asked (state_at session place);
@@ -73,8 +73,11 @@ moved_one session one other asked reply again first second =
 sought_as_one : (session one other : Session) (count : Count) (value : ℕ) (grants again : Bool)
     → IsSoughtAs grants session count value one → IsSoughtAs again session count value other
     → (grants ≡ again) × (one.history.place ≡ other.history.place)
-sought_as_one session one other count value true true first second = (refl, one_first_with count value session.history.budget
-    one.history.place other.history.place session.history.start first second)
+sought_as_one session one other count value true true first second = (
+  refl,
+  one_first_with count value session.history.budget
+      one.history.place other.history.place session.history.start first second,
+)
 sought_as_one session one other count value true false first second =
     absurd (second.0 one.history.place first.within first.there)
 sought_as_one session one other count value false true first second =

@@ -82,6 +82,6 @@ pub moved : (session between next : Session) (asked : Move) (reply : Reply) (fou
 moved session between next asked reply found told same gone =
     let place = between.history.place in
     subst (λ (b : Session). told ≡ stop_of b asked place found
-        → reply ≡ printing (printed_on b asked (state_at b place)) (stop_text told)
-        → next ≡ record b { shown = shown_on b asked (state_at b place); last = told } → IsMoved session asked reply next)
+    → reply ≡ printing (printed_on b asked (state_at b place)) (stop_text told)
+    → next ≡ record b { shown = shown_on b asked (state_at b place); last = told } → IsMoved session asked reply next)
     (sym same) (moved_at session next asked reply place found told gone)

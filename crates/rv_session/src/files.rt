@@ -72,7 +72,24 @@ fn file_part(image: &[u8], part: Part) -> &[u8]
 fn stat_words(size: u32) -> [u32; 16]
     ensures { result ≡ stat_words size }
 {
-    [0, 0, READABLE_FILE, 0, 0, 0, 0, 0, size, 0, 0, 0, 0, 0, 0, 0]
+    [
+        0,
+        0,
+        READABLE_FILE,
+        0,
+        0,
+        0,
+        0,
+        0,
+        size,
+        0,
+        0,
+        0,
+        0,
+        0,
+        0,
+        0,
+    ]
 }
 
 fn push_words(body: &mut Vec<u8>, words: &[u32]) -> Result<(), AllocError>

@@ -102,12 +102,7 @@ impl Session {
     }
 
     // A packet that is acknowledged.
-    fn take_body(
-        &mut self,
-        alloc: Global,
-        out: &mut Vec<u8>,
-        body: &[u8],
-    ) -> Result<(), AllocError>
+    fn take_body(&mut self, alloc: Global, out: &mut Vec<u8>, body: &[u8]) -> Result<(), AllocError>
         ensures { OnOk result (IsAppended out.old.items out.new.items (λ told. IsTaken self.old body.now told self.new)) }
     {
         self.acknowledge(out)?;
@@ -160,11 +155,7 @@ fn is_wrong(sum: Sum) -> bool
 }
 
 #[tactic(auto, unfolding(crate::specs::Heard::printed_packets))]
-fn push_printed_packets(
-    alloc: Global,
-    out: &mut Vec<u8>,
-    printed: &[u8],
-) -> Result<(), AllocError>
+fn push_printed_packets(alloc: Global, out: &mut Vec<u8>, printed: &[u8]) -> Result<(), AllocError>
     ensures { OnOk result (out.new.items ≡ out.old.items ++ printed_packets printed.now) }
 {
     let packets = (printed.len() + (MOST_PRINTED - 1)) / MOST_PRINTED;

@@ -10,7 +10,8 @@ use crate::session::Session;
 use std::alloc::{AllocError, Global};
 
 /// What `monitor help`, and every command that is not known, prints.
-const HELP: &str = "when: the steps that are done\nconsole: what is printed up to here\ninput: how much of the script is taken\nreset, reset halt: to the start of the run\n";
+const HELP: &str =
+    "when: the steps that are done\nconsole: what is printed up to here\ninput: how much of the script is taken\nreset, reset halt: to the start of the run\n";
 
 impl Session {
     // `qRcmd,`

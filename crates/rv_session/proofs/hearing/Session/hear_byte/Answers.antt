@@ -7,7 +7,7 @@ pub returns-in-Some : goal.returns-in-Some
 returns-in-Some c = on_ok_weaker c.respond.result
     (named_otherwise _ _ _ _
     (λ out response. byte_heard c.args.self.now c.respond.new.self c.take.new.self (Some c.in-Some.heard) c.args.byte out ? ?
-        response))
+    response))
     c.respond.ensures
 
 pub returns-in-None : goal.returns-in-None

@@ -9,4 +9,4 @@ stop_of-requires c =
 pub returns : goal.returns
 returns c = both_if _ _ _ c.tell.result c.tell.ensures.reply c.tell.ensures.next
     (λ reply said stands. moved c.args.self.now c.go.new.self c.tell.new.self c.args.asked reply c.in_ok-found.found
-        c.in_ok-stop.stop c.go.ensures.same c.in_ok-found.ensures.gone c.in_ok-stop.ensures said stands)
+    c.in_ok-stop.stop c.go.ensures.same c.in_ok-found.ensures.gone c.in_ok-stop.ensures said stands)

@@ -12,9 +12,9 @@ returns c =
     let last = last_place session.history.budget session.history.start in
     IfOk-weaker c.granted_if.result _ _
     (λ reply is. (
-        is ∙ ap (λ (b : Bool). granted_if b refusal.NotReached)
-            (granted_is c.in_ok-granted.granted c.args.place last c.in_ok-granted.ensures.granted),
-        sought_where session c.seek.new.self c.args.place last c.in_ok-granted.granted c.in_ok-granted.ensures.granted
-            c.in_ok-granted.ensures.moved,
-      ))
+      is ∙ ap (λ (b : Bool). granted_if b refusal.NotReached)
+          (granted_is c.in_ok-granted.granted c.args.place last c.in_ok-granted.ensures.granted),
+      sought_where session c.seek.new.self c.args.place last c.in_ok-granted.granted c.in_ok-granted.ensures.granted
+          c.in_ok-granted.ensures.moved,
+    ))
     c.granted_if.ensures
