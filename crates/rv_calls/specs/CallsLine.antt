@@ -1,0 +1,36 @@
+-- The calls that have not returned, as a person is told them.
+use Rattle.std.specs.Prelude.{ℕ, ◌-◌, ◌==◌, List, [], ◌++◌, codes, length, reverse, take, if◌then◌else◌, Option, Some, None}
+use Rattle.std.specs.Fmt.{decimal}
+use Rattle.std.specs.List.{flat_map}
+use Rattle.rv_elf.specs.declared.image.Image.{Image}
+use Rattle.rv_elf.specs.SymbolSearch.{symbol_at}
+use Rattle.rv_rows.specs.Report.{line}
+use Rattle.rv_text.specs.Symbol.{symbol_text}
+use Rattle.rv_text.specs.Words.{word_digits}
+use Rattle.rv_calls.specs.declared.frames.Frame.{Frame}
+
+-- a place in code by its symbol, or by its address where it has none
+abbrev pub symbol_or_address : Option (List ℕ × ℕ) → ℕ → List ℕ
+symbol_or_address (Some place) address = symbol_text place
+symbol_or_address None address = word_digits address
+
+abbrev pub place_text : Image → List ℕ → ℕ → List ℕ
+place_text image file address = symbol_or_address (symbol_at image file address) address
+
+-- where a call was made
+abbrev pub call_text : Image → List ℕ → Frame → List ℕ
+call_text image file frame = codes " <- " ++ place_text image file frame.call
+
+-- how many calls are told at most: with the pc there are 32 places
+abbrev pub most_told : ℕ
+most_told = 31
+
+-- how many calls more there are, where there are any
+abbrev pub more_text : ℕ → List ℕ
+more_text count = if count == 0 then [] else codes " <- " ++ decimal count ++ codes " more"
+
+-- where a run ended, and behind it the place of each call, the innermost first
+unfoldable pub calls_line : Image → List ℕ → ℕ → List Frame → List ℕ
+calls_line image file pc frames =
+    line (codes "     calls: " ++ place_text image file pc
+    ++ flat_map (call_text image file) (take most_told (reverse frames)) ++ more_text (length frames - most_told))

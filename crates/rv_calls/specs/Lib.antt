@@ -1,0 +1,4 @@
+pub mod Stack
+pub mod Calls
+pub mod Spots
+pub mod CallsLine

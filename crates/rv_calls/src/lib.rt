@@ -1,0 +1,18 @@
+//! The calls of a run that have not returned where it ended.
+//!
+//! A job is run once more, an instruction at a time. What each instruction does to the stack of calls is what the ISA manual
+//! says that it hints to a return-address stack ([`StackAction`]). [`frames_at_end`] answers the frames that are left, and
+//! [`push_calls_line`] appends the line of them, with the symbols of the job's file.
+#![tactic(auto)]
+
+mod action;
+mod calls_line;
+mod frames;
+mod run;
+mod transfer;
+
+pub use action::{StackAction, action_of_code};
+pub use calls_line::push_calls_line;
+pub use frames::{Frame, Frames, MOST_FRAMES, pass_control};
+pub use run::{frames_at_end, frames_of_run};
+pub use transfer::Transfer;
