@@ -1,6 +1,6 @@
 //! How an instruction passes control to the next.
 
-ghost use Rattle.std.specs.Prelude.{◌≡◌, ◌×◌, MatchOption, Ok, false, is_ok};
+ghost use Rattle.std.specs.Prelude.{◌≡◌, MatchBool, MatchOption, Ok, false, is_ok};
 ghost use Rattle.rv_machine.specs.Machine.{state_of};
 ghost use Rattle.rv_machine.specs.Run.{step_of};
 ghost use Rattle.rv_trace.specs.Code.{size_of_code};
@@ -38,7 +38,7 @@ pub(crate) fn next_transfer(machine: &mut Machine) -> Option<Transfer>
     let from = machine.pc();
     let sp = machine.reg(SP);
     let code = code_at(machine.bus(), from);
-    if machine.run(1).steps == 0 {
+    if !step_once(machine) {
         return None;
     }
     Some(Transfer {
@@ -48,6 +48,15 @@ pub(crate) fn next_transfer(machine: &mut Machine) -> Option<Transfer>
         to: machine.pc(),
         sp,
     })
+}
+
+// Does the next instruction of a machine, and tells whether it completed.
+fn step_once(machine: &mut Machine) -> bool
+    ensures { MatchBool result (step_of (state_of machine.old) ≡ Ok (state_of machine.new))
+        ((is_ok (step_of (state_of machine.old)) ≡ false)
+        × (state_of machine.new ≡ state_of machine.old)) }
+{
+    machine.run(1).steps != 0
 }
 
 // The address behind a code.
