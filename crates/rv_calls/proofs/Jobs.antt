@@ -4,7 +4,7 @@ use Rattle.std.specs.Result.{result_ok}
 use Rattle.rv_jobs.specs.Plans.{Planned}
 use Rattle.rv_jobs.specs.declared_job.Job.{Job}
 use Rattle.rv_machine.specs.State.{State}
-use Rattle.rv_report.specs.declared.row.Refusal.{Refusal}
+use Rattle.rv_rows.specs.declared_row.Refusal.{Refusal}
 use Rattle.rv_rows.specs.Rows.{start_in}
 use Rattle.rv_calls.specs.declared.frames.Frame.{Frame}
 use Rattle.rv_calls.specs.Calls.{frames_in, frames_of_run}

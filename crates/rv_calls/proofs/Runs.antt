@@ -72,6 +72,6 @@ pub all_done : (left : ℕ) (s : State) (frames end : List Frame) → (left ≡ 
     → LeadsTo left s frames end → frames ≡ end
 all_done zero s frames end h so_far = ap (after_transfers frames) (sym (none s)) ∙ so_far
 all_done (suc n) s frames end h so_far = elim h [
-  | inl no ↦ absurd (omega arith)
+  | inl left ↦ absurd (omega arith)
   | inr over ↦ ap (after_transfers frames) (sym (ended n s over)) ∙ so_far
 ]

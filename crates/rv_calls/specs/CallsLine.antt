@@ -26,11 +26,15 @@ abbrev pub most_told : ℕ
 most_told = 31
 
 -- how many calls more there are, where there are any
-abbrev pub more_text : ℕ → List ℕ
+unfoldable pub more_text : ℕ → List ℕ
 more_text count = if count == 0 then [] else codes " <- " ++ decimal count ++ codes " more"
+
+-- of those frames that are not told
+abbrev pub rest_text : List Frame → List ℕ
+rest_text frames = more_text (length frames - most_told)
 
 -- where a run ended, and behind it the place of each call, the innermost first
 unfoldable pub calls_line : Image → List ℕ → ℕ → List Frame → List ℕ
 calls_line image file pc frames =
     line (codes "     calls: " ++ place_text image file pc
-    ++ flat_map (call_text image file) (take most_told (reverse frames)) ++ more_text (length frames - most_told))
+    ++ flat_map (call_text image file) (take most_told (reverse frames)) ++ rest_text frames)

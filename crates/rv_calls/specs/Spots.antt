@@ -12,7 +12,7 @@ abbrev pub function_at : Image → List ℕ → ℕ → Option ℕ
 function_at image file address = option_map (λ place. address - place.1) (symbol_at image file address)
 
 abbrev pub same_function : Option ℕ → Option ℕ → Bool
-same_function (Some a) (Some b) = a == b
+same_function (Some x) (Some y) = x == y
 same_function None None = true
 same_function _ _ = false
 
@@ -24,7 +24,7 @@ spot_at function pc frames = map (λ f. function f.call) frames ++ function pc �
 
 abbrev pub same_spot : List (Option ℕ) → List (Option ℕ) → Bool
 same_spot [] [] = true
-same_spot (a ∷ as) (b ∷ bs) = same_function a b && same_spot as bs
+same_spot (x ∷ xs) (y ∷ ys) = same_function x y && same_spot xs ys
 same_spot _ _ = false
 
 -- where control last stood at the depth that is left: the call of the lowest frame that was popped, or else this instruction

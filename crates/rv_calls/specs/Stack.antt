@@ -55,12 +55,13 @@ depth_below test frames = length frames - suffix_len test frames
 abbrev pub depth_up_to_return : ℕ → List Frame → ℕ
 depth_up_to_return to frames = depth_below (λ f. not (f.return_address == to)) frames
 
--- how many there are without those at the top whose sp is not above this one: what they called is gone
+-- how many there are without those at the top whose sp is not above this one: as the stack grows down, what they called has
+-- given up its part of it
 abbrev pub depth_above : ℕ → List Frame → ℕ
 depth_above sp frames = depth_below (λ f. nat_le f.sp sp) frames
 
 -- A return to an address pops down to and with the topmost frame that returns there. Where none does, as after
--- `longjmp` or the first switch to a task, it pops what the sp has passed, and is a jump.
+-- `longjmp` or the first switch to a task, it pops by the sp, and is a jump.
 abbrev pub depth_after_return : ℕ → ℕ → List Frame → ℕ
 depth_after_return to sp frames = if depth_up_to_return to frames == 0
     then depth_above sp frames

@@ -3,7 +3,7 @@
 ghost use Rattle.std.specs.Prelude.{◌≡◌, ◌++◌, ◌-◌, ◌≤◌, OnOk, length, reverse, take, option_map};
 ghost use Rattle.std.specs.List.{flat_map};
 ghost use Rattle.rv_elf.specs.SymbolSearch.{symbol_at};
-ghost use Rattle.rv_calls.specs.CallsLine.{call_text, calls_line, more_text, most_told, place_text, symbol_or_address};
+ghost use Rattle.rv_calls.specs.CallsLine.{call_text, calls_line, more_text, most_told, place_text, rest_text, symbol_or_address};
 
 use crate::frames::{Frame, Frames};
 use rv_elf::{SymbolAt, symbol_at};
@@ -29,8 +29,9 @@ pub fn push_calls_line(
 {
     push_text(bytes, "     calls: ")?;
     push_place(alloc, bytes, elf, pc)?;
-    push_calls(alloc, bytes, elf, frames.as_slice())?;
-    push_more(bytes, frames.as_slice().len().saturating_sub(MOST_TOLD))?;
+    let calls = frames.as_slice();
+    push_calls(alloc, bytes, elf, calls)?;
+    push_rest(bytes, calls)?;
     push_text(bytes, "\n")
 }
 
@@ -97,7 +98,15 @@ fn push_symbol_or_address(
     }
 }
 
+// How many calls are not told.
+fn push_rest(bytes: &mut Vec<u8>, frames: &[Frame]) -> Result<(), AllocError>
+    ensures { OnOk result (bytes.new.items ≡ bytes.old.items ++ rest_text frames.now) }
+{
+    push_more(bytes, frames.len().saturating_sub(MOST_TOLD))
+}
+
 // How many calls more there are, where there are any.
+#[tactic(auto, unfolding(crate::specs::CallsLine::more_text))]
 fn push_more(bytes: &mut Vec<u8>, count: usize) -> Result<(), AllocError>
     ensures { OnOk result (bytes.new.items ≡ bytes.old.items ++ more_text count) }
 {

@@ -8,11 +8,13 @@
 mod action;
 mod calls_line;
 mod frames;
+mod law;
 mod run;
 mod transfer;
 
 pub use action::{StackAction, action_of_code};
 pub use calls_line::push_calls_line;
 pub use frames::{Frame, Frames, MOST_FRAMES, pass_control};
+pub use law::frames_are_few;
 pub use run::{frames_at_end, frames_of_run};
 pub use transfer::Transfer;
