@@ -34,7 +34,9 @@ abbrev pub rest_text : List Frame → List ℕ
 rest_text frames = more_text (length frames - most_told)
 
 -- where a run ended, and behind it the place of each call, the innermost first
+unfoldable pub places_text : Image → List ℕ → ℕ → List Frame → List ℕ
+places_text image file pc frames = place_text image file pc
+    ++ flat_map (call_text image file) (take most_told (reverse frames)) ++ rest_text frames
+
 unfoldable pub calls_line : Image → List ℕ → ℕ → List Frame → List ℕ
-calls_line image file pc frames =
-    line (codes "     calls: " ++ place_text image file pc
-    ++ flat_map (call_text image file) (take most_told (reverse frames)) ++ rest_text frames)
+calls_line image file pc frames = line (codes "     calls: " ++ places_text image file pc frames)

@@ -3,7 +3,7 @@
 ghost use Rattle.std.specs.Prelude.{◌≡◌, ◌++◌, ◌-◌, ◌≤◌, OnOk, length, reverse, take, option_map};
 ghost use Rattle.std.specs.List.{flat_map};
 ghost use Rattle.rv_elf.specs.SymbolSearch.{symbol_at};
-ghost use Rattle.rv_calls.specs.CallsLine.{call_text, calls_line, more_text, most_told, place_text, rest_text, symbol_or_address};
+ghost use Rattle.rv_calls.specs.CallsLine.{call_text, calls_line, more_text, most_told, place_text, places_text, rest_text, symbol_or_address};
 
 use crate::frames::{Frame, Frames};
 use rv_elf::{SymbolAt, symbol_at};
@@ -28,11 +28,25 @@ pub fn push_calls_line(
         ++ calls_line elf.now.image.now elf.now.bytes.now pc frames.now) }
 {
     push_text(bytes, "     calls: ")?;
-    push_place(alloc, bytes, elf, pc)?;
-    let calls = frames.as_slice();
-    push_calls(alloc, bytes, elf, calls)?;
-    push_rest(bytes, calls)?;
+    push_places(alloc, bytes, elf, pc, frames.as_slice())?;
     push_text(bytes, "\n")
+}
+
+// The pc, and the calls behind it.
+#[tactic(auto, unfolding(crate::specs::CallsLine::places_text))]
+fn push_places(
+    alloc: Global,
+    bytes: &mut Vec<u8>,
+    elf: &ElfFile<'_>,
+    pc: u32,
+    frames: &[Frame],
+) -> Result<(), AllocError>
+    ensures { OnOk result (bytes.new.items ≡ bytes.old.items
+        ++ places_text elf.now.image.now elf.now.bytes.now pc frames.now) }
+{
+    push_place(alloc, bytes, elf, pc)?;
+    push_calls(alloc, bytes, elf, frames)?;
+    push_rest(bytes, frames)
 }
 
 // The innermost calls, as many as are told.
