@@ -1,5 +1,5 @@
 -- There are never more frames than are kept.
-use Rattle.std.proofs.Common.{◌≡◌, ◌<◌, ◌≤◌, ◌&&◌, ℕ, Bool, true, false, cond, List, [], ◌∷◌, ◌++◌, length, take, drop, refl, ap, arith, length-append, ltb→lt}
+use Rattle.std.proofs.Common.{◌≡◌, ◌<◌, ◌≤◌, ◌&&◌, ℕ, Bool, true, false, cond, List, [], ◌∷◌, ◌++◌, length, take, drop, refl, ap, arith, length-append, ltb-true}
 use Rattle.std.proofs.lemmas.List.{take-append-drop}
 use Rattle.std.proofs.lemmas.Bool.{false≢true}
 use Rattle.std.specs.Prelude.{nat_lt}
@@ -18,7 +18,7 @@ few_pushed : (left : List Frame) (t : Transfer) (b : Bool) → is_pushed left t 
 few_pushed left t false is few = few
 few_pushed left t true is few =
     let room : length left < most_frames =
-        ltb→lt (length left) most_frames (second_holds (pushes_frame t.action) (nat_lt (length left) most_frames) is) in
+        ltb-true (length left) most_frames (second_holds (pushes_frame t.action) (nat_lt (length left) most_frames) is) in
     let one = length-append left (frame_of t ∷ []) in
     omega (arith, room, one)
 

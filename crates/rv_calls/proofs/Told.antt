@@ -1,5 +1,5 @@
 -- The calls that are told, one more at a time.
-use Rattle.std.proofs.Common.{◌≡◌, ◌∙◌, ◌+◌, ◌-◌, ◌<◌, ◌≤◌, ℕ, suc, List, [], ◌∷◌, ◌++◌, length, take, reverse, get_or, sym, ap, arith, take-suc, append_assoc, append-nil, flat_map, inl, inr, eq-or-lt_of_le}
+use Rattle.std.proofs.Common.{◌≡◌, ◌∙◌, ◌+◌, ◌-◌, ◌<◌, ◌≤◌, ℕ, suc, List, [], ◌∷◌, ◌++◌, length, take, reverse, get_or, sym, ap, arith, take-suc, append_assoc, append-nil, flat_map, inl, inr, eq-or-lt_of_le, Result, Ok, Err, OnOk}
 use Rattle.std.proofs.lemmas.Grind.{flat_map-append}
 use Rattle.std.proofs.lemmas.List.{get_or-reverse, length-reverse, take_all}
 use Rattle.rv_calls.specs.declared.frames.Frame.{Frame}
@@ -30,3 +30,10 @@ all_told fs n most below rest =
           take_all n (reverse fs) (omega (arith, len, whole))
           ∙ sym (take_all most (reverse fs) (omega (arith, len, whole, less)))
     ]
+
+-- a line is what leads it, its places and its end
+pub ended_line : {A E : Type 0} (r : Result A E) (old lead places end before new : List ℕ) → OnOk r (new ≡ before ++ end)
+    → before ≡ (old ++ lead) ++ places → OnOk r (new ≡ old ++ ((lead ++ places) ++ end))
+ended_line (Ok x) old lead places end before new h e =
+    h ∙ ap (λ (xs : List ℕ). xs ++ end) (e ∙ append_assoc old lead places) ∙ append_assoc old (lead ++ places) end
+ended_line (Err x) old lead places end before new h e = h
