@@ -4,3 +4,4 @@ pub use Rattle.rv_machine.proofs.Narrower.{run_wider}
 pub use Rattle.rv_machine.proofs.Regions.{run_keeps}
 pub use Rattle.rv_machine.proofs.Loads.{byte_loaded, half_loaded, word_loaded}
 pub use Rattle.rv_machine.proofs.Right.{ok_is}
+pub use Rattle.rv_machine.proofs.Even.{effect_even, fetched_steady}
