@@ -3,9 +3,9 @@ mod Appending
 mod Cuts
 mod Determined
 mod Looking
-mod Moving
+mod Gone
 mod Same
-mod Seeking
+mod Sought
 mod Showing
 mod Ending
 mod Trapping

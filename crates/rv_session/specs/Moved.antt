@@ -59,7 +59,7 @@ watch_stop session asked place = watch_told
 
 -- a change in front of a place is by a step that completes
 abbrev pub CanTell : Session → Move → Found → Type 0
-CanTell session asked found = found ≡ found.Change → is_forward asked ≡ true
+CanTell session asked what = what ≡ found.Change → is_forward asked ≡ true
     → session.history.place < last_place session.history.budget session.history.start
 
 -- how what is found is told

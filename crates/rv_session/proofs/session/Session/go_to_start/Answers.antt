@@ -1,6 +1,6 @@
 use Rattle.rv_history.specs.Places.{last_place}
-use Rattle.rv_session.proofs.Seeking.{went_to_start}
-use Rattle.rv_session.proofs.seeking.Session.go_to_start.Goals as goal
+use Rattle.rv_session.proofs.Sought.{went_to_start}
+use Rattle.rv_session.proofs.session.Session.go_to_start.Goals as goal
 
 pub returns : goal.returns
 returns c =

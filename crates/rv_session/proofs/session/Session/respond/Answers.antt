@@ -1,7 +1,7 @@
 use Rattle.std.proofs.Common.{[], refl}
 use Rattle.std.proofs.lemmas.Result.{on_ok_weaker}
 use Rattle.rv_session.proofs.Appending.{both_ok, named_otherwise, not_over, nothing_more, over, these_more}
-use Rattle.rv_session.proofs.hearing.Session.respond.Goals as goal
+use Rattle.rv_session.proofs.session.Session.respond.Goals as goal
 
 pub returns-then-is_over : goal.returns-then-is_over
 returns-then-is_over c = nothing_more _ _ (over c.args.self.now c.args.heard.now c.if-is_over.true)

@@ -3,7 +3,7 @@ use Rattle.std.proofs.Common.{ℕ}
 use Rattle.rv_session.specs.Heard.{IsFed, no_bytes}
 use Rattle.rv_session.proofs.Appending.{fed_at}
 use Rattle.rv_session.proofs.Same.{fed_same}
-use Rattle.rv_session.proofs.hearing.Session.feed.Goals as goal
+use Rattle.rv_session.proofs.session.Session.feed.Goals as goal
 
 pub loop-byte-init : goal.loop-byte-init
 loop-byte-init c =

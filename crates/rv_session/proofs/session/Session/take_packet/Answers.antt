@@ -1,7 +1,7 @@
 use Rattle.std.proofs.Common.{◌∙◌, refl, sym}
 use Rattle.std.proofs.lemmas.Result.{on_ok_weaker}
 use Rattle.rv_session.proofs.Appending.{named_otherwise, these_more}
-use Rattle.rv_session.proofs.hearing.Session.take_packet.Goals as goal
+use Rattle.rv_session.proofs.session.Session.take_packet.Goals as goal
 
 pub returns-then-is_refused : goal.returns-then-is_refused
 returns-then-is_refused c =

@@ -1,7 +1,7 @@
 use Rattle.std.proofs.Common.{[], None, Some, refl}
 use Rattle.std.proofs.lemmas.Result.{on_ok_weaker}
 use Rattle.rv_session.proofs.Appending.{byte_heard, named_otherwise, nothing_more}
-use Rattle.rv_session.proofs.hearing.Session.hear_byte.Goals as goal
+use Rattle.rv_session.proofs.session.Session.hear_byte.Goals as goal
 
 pub returns-in-Some : goal.returns-in-Some
 returns-in-Some c = on_ok_weaker c.respond.result

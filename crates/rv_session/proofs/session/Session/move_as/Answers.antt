@@ -1,6 +1,6 @@
 use Rattle.rv_session.proofs.Appending.{both_if}
-use Rattle.rv_session.proofs.Moving.{can_tell, moved}
-use Rattle.rv_session.proofs.moving.Session.move_as.Goals as goal
+use Rattle.rv_session.proofs.Gone.{can_tell, moved}
+use Rattle.rv_session.proofs.session.Session.move_as.Goals as goal
 
 pub stop_of-requires : goal.stop_of-requires
 stop_of-requires c =

@@ -19,31 +19,31 @@ use Rattle.rv_session.specs.Sessions.{at_place, here, state_at}
 use Rattle.rv_session.specs.declared.reply.Reply.{Reply}
 use Rattle.rv_session.specs.declared.session.Session.{Session}
 
-changes_within : (stops : Stops) (limits : Bounds) (budget from place : ℕ) (start : State) (found : Found)
-    → MeetsAhead stops limits budget start from place found → found ≡ found.Change → place < last_place budget start
-changes_within stops limits budget from place start found meets is =
+changes_within : (stops : Stops) (limits : Bounds) (budget from place : ℕ) (start : State) (what : Found)
+    → MeetsAhead stops limits budget start from place what → what ≡ found.Change → place < last_place budget start
+changes_within stops limits budget from place start what meets is =
     let change = subst (λ (f : Found). MeetsAhead stops limits budget start from place f) is meets in change.0.completes
 
-step_changes_within : (stops : Stops) (budget from place : ℕ) (start : State) (found : Found)
-    → IsNextStep stops budget start from place found → found ≡ found.Change → place < last_place budget start
-step_changes_within stops budget from place start found meets is =
+step_changes_within : (stops : Stops) (budget from place : ℕ) (start : State) (what : Found)
+    → IsNextStep stops budget start from place what → what ≡ found.Change → place < last_place budget start
+step_changes_within stops budget from place start what meets is =
     let change = subst (λ (f : Found). IsNextStep stops budget start from place f) is meets in
     let same = change.0 in
     let completes = change.1.completes in
     omega arith
 
 -- a change that a move forward finds is by a step that completes
-gone_within : (asked : Move) (stops : Stops) (budget from place : ℕ) (start : State) (found : Found)
-    → IsGone asked stops budget start from place found → found ≡ found.Change → is_forward asked ≡ true
+gone_within : (asked : Move) (stops : Stops) (budget from place : ℕ) (start : State) (what : Found)
+    → IsGone asked stops budget start from place what → what ≡ found.Change → is_forward asked ≡ true
     → place < last_place budget start
-gone_within move.Continue stops budget from place start found gone is forward =
-    changes_within stops bounds.All budget from place start found gone.meets is
-gone_within move.Step stops budget from place start found gone is forward =
-    step_changes_within stops budget from place start found gone is
-gone_within (move.StepWithin low high) stops budget from place start found gone is forward =
-    changes_within stops (bounds.Within low high) budget from place start found gone.meets is
-gone_within move.ContinueBack stops budget from place start found gone is forward = absurd (false≢true forward)
-gone_within move.StepBack stops budget from place start found gone is forward = absurd (false≢true forward)
+gone_within move.Continue stops budget from place start what gone is forward =
+    changes_within stops bounds.All budget from place start what gone.meets is
+gone_within move.Step stops budget from place start what gone is forward =
+    step_changes_within stops budget from place start what gone is
+gone_within (move.StepWithin low high) stops budget from place start what gone is forward =
+    changes_within stops (bounds.Within low high) budget from place start what gone.meets is
+gone_within move.ContinueBack stops budget from place start what gone is forward = absurd (false≢true forward)
+gone_within move.StepBack stops budget from place start what gone is forward = absurd (false≢true forward)
 
 pub can_tell : (session between : Session) (asked : Move) (found : Found) → between ≡ at_place session between.history.place
     → IsGone asked session.stops session.history.budget session.history.start session.history.place between.history.place found

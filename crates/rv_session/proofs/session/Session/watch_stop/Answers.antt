@@ -1,6 +1,6 @@
 use Rattle.std.proofs.Common.{◌∙◌, ap, refl, sym}
 use Rattle.rv_session.specs.Moved.{watch_told}
-use Rattle.rv_session.proofs.moving.Session.watch_stop.Goals as goal
+use Rattle.rv_session.proofs.session.Session.watch_stop.Goals as goal
 
 pub returns-then-is_forward : goal.returns-then-is_forward
 returns-then-is_forward c =
