@@ -1,13 +1,15 @@
 -- Seeks, and what they grant.
 use Rattle.std.proofs.Common.{◌≡◌, ◌∙◌, ◌≤◌, ℕ, Bool, true, false, ap, arith, leb}
 use Rattle.std.specs.Prelude.{◌↔◌, IsTrue, if◌then◌else◌}
-use Rattle.std.proofs.lemmas.Bool.Decides.{Decides-leb, same_from_decides}
+use Rattle.std.proofs.lemmas.Bool.{le-leb, leb-true}
+use Rattle.std.proofs.lemmas.Bool.Decides.{same_from_decides}
 use Rattle.rv_history.specs.Inside.{Stand}
 use Rattle.rv_session.specs.Sessions.{at_place}
 use Rattle.rv_session.specs.declared.session.Session.{Session}
 
 pub granted_is : (granted : Bool) (place last : ℕ) → (IsTrue granted ↔ (place ≤ last)) → granted ≡ leb place last
-granted_is granted place last tells = same_from_decides granted (leb place last) tells (Decides-leb place last)
+granted_is granted place last tells = same_from_decides granted (leb place last) tells
+    (leb-true place last, le-leb place last)
 
 -- a move that is granted
 moved_where : (session : Session) (history : Stand) (place : ℕ) (granted : Bool)
