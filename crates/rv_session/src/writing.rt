@@ -76,8 +76,7 @@ fn stand_at(bus: &Bus, address: u32, bytes: &[u8]) -> bool
     ensures { result ≡ stand_at bus.now address bytes.now }
 {
     for (offset, byte) in bytes.iter().enumerate() {
-        let stands = stands_at(bus, u64::from(address) + offset as u64, *byte);
-        if !stands {
+        if !stands_at(bus, u64::from(address) + offset as u64, *byte) {
             return false;
         }
     }

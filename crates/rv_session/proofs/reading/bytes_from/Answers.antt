@@ -8,12 +8,12 @@ pub loop-offset-init : goal.loop-offset-init
 unfolding bytes_from
 loop-offset-init c =
     read_start (fin.get c.args.bus.now.memory) c.args.range.address (bytes_asked c.args.range) c.new-bytes.result.items
-    c.new-bytes.ensures
+    c.new-bytes.ensures.items
 
 pub loop-offset-preserved : goal.loop-offset-preserved
 loop-offset-preserved c =
     let within : c.loop-offset.offset < bytes_asked c.args.range = omega (arith, c.bytes_asked-count.ensures) in
-    rw c.in_ok-push.ensures.items
+    rw c.in_ok-push-in-Some.ensures.items
     (read_more (fin.get c.args.bus.now.memory) c.args.range.address c.loop-offset.offset (bytes_asked c.args.range)
     c.in-Some.byte c.loop-offset.bytes.items (bytes_from c.args.bus.now c.args.range) within
     (sym c.in-Some.is ∙ c.byte.ensures) c.loop-offset.invariant)

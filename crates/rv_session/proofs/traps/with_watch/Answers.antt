@@ -11,7 +11,7 @@ returns-then-has_watch c =
     let range = c.args.range in
     let low = le-leb (range.address + range.count) 4294967296 (omega arith) in
     let can : can_be_set bus (trap.Watch range) ≡ true =
-    and_from (leb (range.address + range.count) 4294967296) (has_byte bus range) low (sym c.has_byte.ensures ∙ c.if-has_byte.true) in
+    and_from (leb (range.address + range.count) 4294967296) (has_byte bus range) low (sym c.has_byte.ensures ∙ c.if-not-has_byte.false) in
     set_already c.args.stops.now c.in_ok-same.same bus (trap.Watch range) can (sym c.has_watch.ensures ∙ c.if-has_watch.true)
     c.in_ok-same.ensures
 
@@ -21,6 +21,17 @@ returns-then-is_full c =
     let range = c.args.range in
     let low = le-leb (range.address + range.count) 4294967296 (omega arith) in
     let can : can_be_set bus (trap.Watch range) ≡ true =
-    and_from (leb (range.address + range.count) 4294967296) (has_byte bus range) low (sym c.has_byte.ensures ∙ c.if-has_byte.true) in
+    and_from (leb (range.address + range.count) 4294967296) (has_byte bus range) low (sym c.has_byte.ensures ∙ c.if-not-has_byte.false) in
     too_many c.args.stops.now bus (trap.Watch range) can (sym c.has_watch.ensures ∙ c.if-has_watch.false)
     (sym c.is_full.ensures ∙ c.if-is_full.true)
+
+pub returns : goal.returns
+returns c =
+    let bus = c.args.bus.now in
+    let range = c.args.range in
+    let low = le-leb (range.address + range.count) 4294967296 (omega arith) in
+    let can : can_be_set bus (trap.Watch range) ≡ true =
+    and_from (leb (range.address + range.count) 4294967296) (has_byte bus range) low (sym c.has_byte.ensures ∙ c.if-not-has_byte.false) in
+    set_now c.args.stops.now c.stops_of.result bus (trap.Watch range) can (sym c.has_watch.ensures ∙ c.if-has_watch.false)
+    (sym c.is_full.ensures ∙ c.if-is_full.false)
+    (search rules, record { watch = ?; next_is = ?; on = ? })

@@ -6,19 +6,19 @@ use Rattle.rv_session.proofs.writing.stand_at.Goals as goal
 pub loop-offset-init : goal.loop-offset-init
 loop-offset-init c = stand_start c.args.bus.now c.args.address c.args.bytes.now
 
-pub returns-then-stands : goal.returns-then-stands
-returns-then-stands c =
+pub returns-then-not-stands_at : goal.returns-then-not-stands_at
+returns-then-not-stands_at c =
     let within : c.loop-offset.offset < length c.args.bytes.now = search rules in
     stand_not c.args.bus.now c.args.address c.loop-offset.offset 0 c.args.bytes.now
     (stand_at c.args.bus.now c.args.address c.args.bytes.now) within
-    (sym c.stands_at-stands.ensures ∙ c.if-stands.false) c.loop-offset.invariant
+    (sym c.stands_at.ensures ∙ c.if-not-stands_at.true) c.loop-offset.invariant
 
 pub loop-offset-preserved : goal.loop-offset-preserved
 loop-offset-preserved c =
     let within : c.loop-offset.offset < length c.args.bytes.now = search rules in
     stand_later c.args.bus.now c.args.address c.loop-offset.offset 0 c.args.bytes.now
     (stand_at c.args.bus.now c.args.address c.args.bytes.now) within
-    (sym c.stands_at-stands.ensures ∙ c.if-stands.true) c.loop-offset.invariant
+    (sym c.stands_at.ensures ∙ c.if-not-stands_at.false) c.loop-offset.invariant
 
 pub returns : goal.returns
 returns c =

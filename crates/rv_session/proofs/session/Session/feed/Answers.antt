@@ -7,7 +7,7 @@ use Rattle.rv_session.proofs.session.Session.feed.Goals as goal
 
 pub loop-byte-init : goal.loop-byte-init
 loop-byte-init c =
-    subst (λ (out : List ℕ). IsFed c.args.self.now [] out c.args.self.now) (sym c.new-out.ensures) (no_bytes c.args.self.now)
+    subst (λ (out : List ℕ). IsFed c.args.self.now [] out c.args.self.now) (sym c.new-out.ensures.items) (no_bytes c.args.self.now)
 
 pub loop-byte-preserved : goal.loop-byte-preserved
 loop-byte-preserved c =
