@@ -1,10 +1,10 @@
 -- Loops over bytes of memory.
-use Rattle.std.proofs.Common.{◌≡◌, ◌∙◌, ◌++◌, ◌∷◌, ◌+◌, ◌-◌, ◌<◌, ◌≤◌, ◌&&◌, ◌||◌, [], ℕ, zero, suc, Bool, true, false, List, Option, Some, None, add-zero, ap, append-nil, append_assoc, arith, drop, get_or, inl, inr, length, min, refl, sym, take}
+use Rattle.std.proofs.Common.{◌≡◌, ◌∙◌, ◌++◌, ◌∷◌, ◌+◌, ◌-◌, ◌<◌, ◌≤◌, ◌&&◌, ◌||◌, [], ℕ, zero, suc, Bool, true, false, List, Option, Some, None, add-zero, ap, append-nil, append_assoc, arith, drop, get_or, inl, inr, length, length-drop, min, refl, sym, take}
 use Rattle.std.specs.Prelude.{is_some, map, nat_lt}
 use Rattle.std.specs.FinMap as fin
 use Rattle.std.specs.List.{flat_map, list_any, range_with_len}
 use Rattle.std.proofs.lemmas.Bool.{cases_lt}
-use Rattle.std.proofs.lemmas.List.{at_drop_more, drop_all, flat_map_more, take_min}
+use Rattle.std.proofs.lemmas.List.{at_drop_more, drop_all, flat_map_more, take_all, take_min}
 use Rattle.rv_memory.specs.Bus.{Contents}
 use Rattle.rv_session.specs.Memory.{end_of_addresses, is_byte, leading, stand_at}
 
@@ -162,9 +162,9 @@ packets_more packet n front out next so_far one =
     ∙ ap (λ (numbers : List ℕ). front ++ flat_map packet numbers) (sym (range_more 0 n))
 
 -- a place that is cut at the end, and at the greatest number
-drop_cut : (bytes : List ℕ) (from product top : ℕ) → length bytes ≤ top → from ≡ min (length bytes) (min product top)
+drop_cut : (bytes : List ℕ) (cut from product top : ℕ) → length bytes ≤ top → cut ≡ min product top → from ≡ min (length bytes) cut
     → drop from bytes ≡ drop product bytes
-drop_cut bytes from product top short is = elim (cases_lt product (length bytes)) [
+drop_cut bytes cut from product top short is at = elim (cases_lt product (length bytes)) [
   | inl within ↦ let same : from ≡ product = omega arith in ap (λ (k : ℕ). drop k bytes) same
   | inr past ↦ drop_all from bytes (omega arith) ∙ sym (drop_all product bytes past)
 ]
@@ -174,9 +174,14 @@ take_cut bytes count most is =
     let same : count ≡ min most (length bytes) = omega arith in
     ap (λ (k : ℕ). take k bytes) same ∙ take_min most bytes
 
+rest_is : (bytes : List ℕ) (from : ℕ) → take (length bytes - from) (drop from bytes) ≡ drop from bytes
+rest_is bytes from =
+    let long = length-drop from bytes in take_all (length bytes - from) (drop from bytes) (omega arith)
+
 -- so many bytes from a place on
-pub part_is : (bytes : List ℕ) (from product top count most : ℕ) → length bytes ≤ top
-    → from ≡ min (length bytes) (min product top) → count ≡ min (length (drop from bytes)) most
-    → take count (drop from bytes) ≡ take most (drop product bytes)
-part_is bytes from product top count most short is counted =
-    take_cut (drop from bytes) count most counted ∙ ap (take most) (drop_cut bytes from product top short is)
+pub part_is : (bytes : List ℕ) (cut from count product top most : ℕ) → length bytes ≤ top → cut ≡ min product top
+    → from ≡ min (length bytes) cut → count ≡ min (length (take (length bytes - from) (drop from bytes))) most
+    → take count (take (length bytes - from) (drop from bytes)) ≡ take most (drop product bytes)
+part_is bytes cut from count product top most short is at counted =
+    take_cut (take (length bytes - from) (drop from bytes)) count most counted
+    ∙ ap (take most) (rest_is bytes from ∙ drop_cut bytes cut from product top short is at)

@@ -1,6 +1,6 @@
-use Rattle.std.proofs.Common.{◌<◌, ◌≤◌, ◌∙◌, length, rules, sym}
+use Rattle.std.proofs.Common.{◌+◌, ◌<◌, ◌≤◌, ◌∙◌, ℕ, ap, get_or, length, rules, sym}
 use Rattle.rv_session.specs.Memory.{stand_at}
-use Rattle.rv_session.proofs.Looking.{stand_all, stand_later, stand_not, stand_start}
+use Rattle.rv_session.proofs.Looking.{stand_all, stand_later, stand_not, stand_start, stands_at}
 use Rattle.rv_session.proofs.writing.stand_at.Goals as goal
 
 pub loop-offset-init : goal.loop-offset-init
@@ -11,14 +11,18 @@ returns-then-not-stands_at c =
     let within : c.loop-offset.offset < length c.args.bytes.now = search rules in
     stand_not c.args.bus.now c.args.address c.loop-offset.offset 0 c.args.bytes.now
     (stand_at c.args.bus.now c.args.address c.args.bytes.now) within
-    (sym c.stands_at.ensures ∙ c.if-not-stands_at.true) c.loop-offset.invariant
+    (ap (λ (from : ℕ). stands_at c.args.bus.now (from + c.loop-offset.offset) (get_or c.args.bytes.now c.loop-offset.offset 0))
+    (sym c.from.ensures) ∙ sym c.stands_at.ensures ∙ c.if-not-stands_at.true)
+    c.loop-offset.invariant
 
 pub loop-offset-preserved : goal.loop-offset-preserved
 loop-offset-preserved c =
     let within : c.loop-offset.offset < length c.args.bytes.now = search rules in
     stand_later c.args.bus.now c.args.address c.loop-offset.offset 0 c.args.bytes.now
     (stand_at c.args.bus.now c.args.address c.args.bytes.now) within
-    (sym c.stands_at.ensures ∙ c.if-not-stands_at.false) c.loop-offset.invariant
+    (ap (λ (from : ℕ). stands_at c.args.bus.now (from + c.loop-offset.offset) (get_or c.args.bytes.now c.loop-offset.offset 0))
+    (sym c.from.ensures) ∙ sym c.stands_at.ensures ∙ c.if-not-stands_at.false)
+    c.loop-offset.invariant
 
 pub returns : goal.returns
 returns c =

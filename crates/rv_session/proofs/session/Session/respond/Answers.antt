@@ -1,5 +1,6 @@
-use Rattle.std.proofs.Common.{[], refl}
+use Rattle.std.proofs.Common.{◌&&◌, [], ℕ, List, refl, subst}
 use Rattle.std.proofs.lemmas.Result.{on_ok_weaker}
+use Rattle.rv_session.specs.Heard.{IsJudged, is_wrong}
 use Rattle.rv_session.proofs.Appending.{both_ok, named_otherwise, not_over, nothing_more, over, these_more}
 use Rattle.rv_session.proofs.session.Session.respond.Goals as goal
 
@@ -26,8 +27,11 @@ returns-in-TooLong c = both_ok _ _ _ c.refuse_long.result c.refuse_long.ensures.
     (not_over c.args.self.now c.refuse_long.new.self c.args.heard.now _ c.if-self.false (rw c.in-TooLong.is (refl, kept))))
 
 pub returns-in-Packet : goal.returns-in-Packet
-returns-in-Packet c = on_ok_weaker c.take_packet.result
-    (named_otherwise _ _ _ _
+returns-in-Packet c =
+    let judges : List ℕ → List ℕ → Type 0 = λ body out. IsJudged c.args.self.now
+    (c.args.self.now.acknowledges && is_wrong c.in-Packet.sum) body out c.take_packet.new.self in
+    on_ok_weaker c.take_packet.result
+    (named_otherwise _ _ (judges c.as_slice.result.now) _
     (λ out judged. not_over c.args.self.now c.take_packet.new.self c.args.heard.now out c.if-self.false
-    (rw c.in-Packet.is judged)))
+    (rw c.in-Packet.is (subst (λ (body : List ℕ). judges body out) c.as_slice.ensures judged))))
     c.take_packet.ensures
