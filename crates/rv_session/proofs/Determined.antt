@@ -106,29 +106,28 @@ written_one session one other reg.Taken value reply again first second =
 -- ---- traps
 
 -- watches of the same bytes are the same
-watch_made : (address count : ℕ) → (address + count ≤ 2 ^ 32) × Unit {0} → Watch
-watch_made address count within = record { address = address; count = count; ok = within }
+watch_made : (address count : ℕ) → address + count ≤ 2 ^ 32 → Watch
+watch_made address count within = record { address = address; count = count; within = within }
 
-watch_with : (address count : ℕ) (one other : (address + count ≤ 2 ^ 32) × Unit {0})
-    → watch_made address count one ≡ watch_made address count other
+watch_with : (address count : ℕ) (one other : address + count ≤ 2 ^ 32) → watch_made address count one ≡ watch_made address count other
 unfolding watch_made
 watch_with address count one other =
-    ap (λ (within : address + count ≤ 2 ^ 32). watch_made address count (within, tt)) (le_prop one.0 other.0)
+    ap (λ (within : address + count ≤ 2 ^ 32). watch_made address count within) (le_prop one other)
 
-watch_of : (a : Watch) (address count : ℕ) (within : (address + count ≤ 2 ^ 32) × Unit {0}) → a.address ≡ address
-    → a.count ≡ count → a ≡ watch_made address count within
+watch_of : (a : Watch) (address count : ℕ) (within : address + count ≤ 2 ^ 32) → a.address ≡ address → a.count ≡ count
+    → a ≡ watch_made address count within
 unfolding watch_made
 watch_of a address count within at long =
-    subst (λ (n : ℕ). (w : (n + count ≤ 2 ^ 32) × Unit {0}) → a ≡ watch_made n count w) at
-    (subst (λ (m : ℕ). (w : (a.address + m ≤ 2 ^ 32) × Unit {0}) → a ≡ watch_made a.address m w) long
-    (λ w. watch_with a.address a.count a.ok w)) within
+    subst (λ (n : ℕ). (w : n + count ≤ 2 ^ 32) → a ≡ watch_made n count w) at
+    (subst (λ (m : ℕ). (w : a.address + m ≤ 2 ^ 32) → a ≡ watch_made a.address m w) long
+    (λ w. watch_with a.address a.count a.within w)) within
 
 watch_one : (range : Range) (one other : Watch) → is_on range one ≡ true → is_on range other ≡ true → one ≡ other
 unfolding watch_made
 watch_one range one other first second =
     let here = and_parts (one.address == range.address) (one.count == range.count) first in
     let there = and_parts (other.address == range.address) (other.count == range.count) second in
-    watch_of one other.address other.count other.ok
+    watch_of one other.address other.count other.within
     (eqb-true one.address range.address here.0 ∙ sym (eqb-true other.address range.address there.0))
     (eqb-true one.count range.count here.1 ∙ sym (eqb-true other.count range.count there.1))
 
