@@ -1,5 +1,5 @@
 -- Bytes that come in two reads.
-use Rattle.std.proofs.Common.{◌≡◌, ◌++◌, ◌∷◌, [], ℕ, List, append-nil, append_assoc, subst, sym}
+use Rattle.std.proofs.Common.{◌++◌, ◌∷◌, [], ℕ, List, append-nil, append_assoc, subst, sym}
 use Rattle.rv_session.specs.Heard.{IsByteFed, IsFed, byte_first, no_bytes}
 use Rattle.rv_session.specs.declared.session.Session.{Session}
 

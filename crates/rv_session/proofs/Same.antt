@@ -1,5 +1,5 @@
 -- The run stays the same, whatever is fed.
-use Rattle.std.proofs.Common.{◌≡◌, ◌∙◌, ◌++◌, ◌∷◌, ◌&&◌, [], ℕ, List, Bool, true, false, Some, None, ap, refl}
+use Rattle.std.proofs.Common.{◌≡◌, ◌∙◌, ◌&&◌, ℕ, List, Bool, true, false, Some, None, ap, refl}
 use Rattle.std.specs.Prelude.{Result, Ok, Err, Option, if◌then◌else◌, nat_le}
 use Rattle.rv_history.specs.Places.{last_place}
 use Rattle.rv_remote.specs.Frames.{frame_behind, heard_at}

@@ -1,5 +1,5 @@
 -- Replies, before they are framed.
-use Rattle.std.specs.Prelude.{ℕ, List, [], ◌≡◌, Some, Bool, codes, if◌then◌else◌}
+use Rattle.std.specs.Prelude.{ℕ, List, [], Some, Bool, codes, if◌then◌else◌}
 use Rattle.rv_remote.specs.Replies.{refusal_text}
 use Rattle.rv_remote.specs.declared.request.Refusal.{Refusal}
 use Rattle.rv_session.specs.declared.reply.Reply.{Reply}
