@@ -109,6 +109,6 @@ nearer count counter s t end h e so_far =
 pub arrived : (left : ℕ) (s end : State) → (left ≡ 0) ⊎ (is_ok (step_of s) ≡ false) → state_after left s ≡ end → s ≡ end
 arrived zero s end h so_far = sym (after_none s) ∙ so_far
 arrived (suc n) s end h so_far = elim h [
-  | inl none ↦ absurd (omega arith)
+  | inl left ↦ absurd (omega arith)
   | inr over ↦ sym (after_end n s over) ∙ so_far
 ]

@@ -1,11 +1,10 @@
 //! The calls at the end of a run.
 
-ghost use Rattle.std.specs.Prelude.{◌≡◌, ◌≤◌, IfOk, IfSome, OnOk, length};
+ghost use Rattle.std.specs.Prelude.{◌≡◌, IfOk, OnOk};
 ghost use Rattle.rv_jobs.specs.declared_job.Job.{Job as AJob};
 ghost use Rattle.rv_machine.specs.Machine.{state_of};
 ghost use Rattle.rv_trace.specs.Trace.{job_at, state_after};
 ghost use Rattle.rv_calls.specs.Calls.{calls_in, calls_of_run, frames_of_run};
-ghost use Rattle.rv_calls.specs.Stack.{most_frames};
 
 use crate::frames::{Frame, Frames, pass_control};
 use crate::transfer::next_transfer;
