@@ -87,7 +87,11 @@ fn told(alloc: Global, machine: Machine, budget: u32) -> Result<String, AllocErr
 }
 
 fn check(alloc: Global, row: &str) -> Result<(), Fail> {
-    let isa = if cell_of(row, 1) == "im" { Isa::Im } else { Isa::Imc };
+    let isa = if cell_of(row, 1) == "im" {
+        Isa::Im
+    } else {
+        Isa::Imc
+    };
     let budget = cell_of(row, 2).parse::<u32>()?;
     let machine = machine_of(alloc, isa, cell_of(row, 3))?;
     agree(row, told(alloc, machine, budget)?.as_str(), cell_of(row, 4))
