@@ -1,0 +1,13 @@
+deps={};order=[]
+for l in open('/work/w/int/crates.txt'):
+    l=l.split('#')[0].strip()
+    if not l: continue
+    n,d=l.split(':'); n=n.split()[0]; deps[n]=d.split(); order.append(n)
+seen=[]
+def clo(n):
+    for d in deps.get(n,[]):
+        if d in deps and d not in seen:
+            clo(d); seen.append(d)
+clo('rvtest_app')
+repo=[d for d in order if d in seen]
+kit=set(k for d in repo+['rvtest_app'] for k in deps[d] if k not in deps)
