@@ -1,7 +1,7 @@
+mod BadValues
 mod Counted
 mod Digits
 mod Names
 pub mod Public
-mod RefusedWords
 mod Stops
 mod ToldNames

@@ -8,7 +8,7 @@ use Rattle.rv_base.specs.Files.{FileContents}
 use Rattle.rv_cli.specs.RvtestWords.{borrowed_text}
 use Rattle.rv_cli.specs.declared.rvtest.run.RunAsked.{RunAsked}
 use Rattle.rv_command.proofs.Public.{told_stop}
-use Rattle.rv_command.specs.Stops.{IsRefusal, IsRequestedUnreadStop, stop_of_lines}
+use Rattle.rv_command.specs.Stops.{IsRequestedUnreadStop, stop_of_lines}
 use Rattle.rv_command.specs.declared.stop.Lines.TheVariants as lines
 use Rattle.rv_command.specs.declared.stop.Stop.{Stop}
 use Rattle.rv_command.specs.declared.stop.Stop.TheVariants as why
@@ -18,7 +18,7 @@ use Rattle.rv_lists.specs.declared.job.Job.{Job}
 use Rattle.regex.specs.Strings.{regex_source}
 use Rattle.regex.specs.declared.string.regex.Regex.{Regex}
 use Rattle.rv_choice.specs.Choice.{IsReadByDefault}
-use Rattle.rv_choice.specs.ChoiceStops.{IsChoiceStop, IsEmptiedStop, IsNoPattern, IsPatternStop, exclusion, memory, pattern, report}
+use Rattle.rv_choice.specs.ChoiceStops.{IsChoiceStop, IsEmptiedStop, IsPatternStop, IsRefusedPattern, exclusion, memory, pattern, report}
 use Rattle.rv_choice.specs.ChoiceStops.{unknown}
 use Rattle.rv_choice.specs.Chosen.{AreWanted}
 use Rattle.rv_choice.specs.declared.chooser.Choice.{Choice}
@@ -46,10 +46,12 @@ stop_of_pattern known words rule jobs stop said =
 
 -- of the pattern by which jobs are left out: memory was wanting, or it is none
 pub stop_of_no_exclusion : (known : Option FileContents) (words : RunAsked) (rule : Rule) (jobs : List Job) (stop : Stop)
-    → IsSomeAnd (borrowed_text words.exclude) (λ text. (stop ≡ why.OutOfMemory) ⊎ (IsNoPattern text × IsRefusal stop))
+    → IsSomeAnd (borrowed_text words.exclude)
+    (λ text. (stop ≡ why.OutOfMemory) ⊎ IsRefusedPattern (codes "--exclude <REGEX>") text stop)
     → IsChoiceStop known words rule jobs stop
 stop_of_no_exclusion known words rule jobs stop said =
-    let Says : List ℕ → Type 0 = λ text. (stop ≡ why.OutOfMemory) ⊎ (IsNoPattern text × IsRefusal stop) in
+    let Says : List ℕ → Type 0 =
+    λ text. (stop ≡ why.OutOfMemory) ⊎ IsRefusedPattern (codes "--exclude <REGEX>") text stop in
     let some = some_value (borrowed_text words.exclude) Says said in
     ⊎_elim memory (λ refused. exclusion some.0 some.1.0 (inl refused)) some.1.1
 

@@ -9,7 +9,8 @@ use Rattle.regex.specs.declared.string.regex.Regex.{Regex}
 use Rattle.rv_base.specs.Files.{FileContents}
 use Rattle.rv_cli.specs.RvtestWords.{borrowed_text}
 use Rattle.rv_cli.specs.declared.rvtest.run.RunAsked.{RunAsked}
-use Rattle.rv_command.specs.Stops.{IsRefusal, IsRequestedUnreadStop, IsStop}
+use Rattle.rv_choice.specs.BadValues.{IsBadPatternStop}
+use Rattle.rv_command.specs.Stops.{IsRequestedUnreadStop, IsStop}
 use Rattle.rv_command.specs.declared.stop.Stop.{Stop}
 use Rattle.rv_command.specs.declared.stop.Stop.TheVariants as why
 use Rattle.rv_expect.specs.declared.passing.Rule.{Rule}
@@ -23,6 +24,10 @@ use Rattle.rv_choice.specs.UnknownName.{IsUnknownNameStop, unknown_name}
 abbrev pub IsNoPattern : List ℕ → Type 0
 IsNoPattern text = (error : patterns.Error) × (error ≢ refused.OutOfMemory) × IsTextRefusal default_config text error
 
+-- a text of an option is no pattern, and that is told
+abbrev pub IsRefusedPattern : List ℕ → List ℕ → Stop → Type 0
+IsRefusedPattern option text stop = IsNoPattern text × IsBadPatternStop option text stop
+
 -- the pattern of a text is found in the name of no job
 abbrev pub IsUnmatched : List ℕ → List Job → Type 0
 IsUnmatched text jobs = (pattern : Regex) × (regex_source pattern ≡ text) × IsReadByDefault pattern
@@ -35,7 +40,8 @@ unmatched_pattern list text = codes "rvtest: " ++ printable_text list ++ codes "
 -- memory was wanting, a text is no pattern, or its pattern is found in no name
 abbrev pub IsPatternStop : List ℕ → List ℕ → List Job → Stop → Type 0
 IsPatternStop list text jobs stop = (stop ≡ why.OutOfMemory)
-    ⊎ ((IsNoPattern text × IsRefusal stop) ⊎ (IsUnmatched text jobs × IsStop 2 (unmatched_pattern list text) stop))
+    ⊎ (IsRefusedPattern (codes "--match <REGEX>") text stop
+    ⊎ (IsUnmatched text jobs × IsStop 2 (unmatched_pattern list text) stop))
 
 -- the pattern of a text leaves none of the jobs that words want
 pub record LeavesNone (known : Option FileContents) (words : RunAsked) (rule : Rule) (jobs : List Job) (text : List ℕ)
@@ -59,7 +65,7 @@ IsEmptiedStop list jobs marks pattern stop = (are_emptied marks (left_marks (reg
 
 -- a text is no pattern, or its pattern leaves no job
 abbrev pub IsExclusionStop : Option FileContents → RunAsked → Rule → List Job → List ℕ → Stop → Type 0
-IsExclusionStop known words rule jobs text stop = (IsNoPattern text × IsRefusal stop)
+IsExclusionStop known words rule jobs text stop = IsRefusedPattern (codes "--exclude <REGEX>") text stop
     ⊎ (LeavesNone known words rule jobs text × IsStop 2 (emptied_choice words.list.now text) stop)
 
 -- memory was wanting; a name is no job's; the pattern chooses nothing; the report was not read; or what is left out leaves nothing

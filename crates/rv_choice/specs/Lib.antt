@@ -1,3 +1,4 @@
+pub mod BadValues
 pub mod Choice
 pub mod ChoiceStops
 pub mod Chosen

@@ -1,5 +1,6 @@
 -- The part of a list that words ask for, and its stamp.
-use Rattle.std.specs.Prelude.{◌≡◌, ◌==◌, ◌≤◌, ◌<◌, ◌⊎◌, ℕ, IfSome, IsSomeAnd, List, Option, Some, None, false, is_some, take}
+use Rattle.std.specs.Prelude.{◌≡◌, ◌==◌, ◌≤◌, ◌<◌, ◌⊎◌, ℕ, IfSome, IsSomeAnd, List, Option, Some, None, codes, false, take}
+use Rattle.std.specs.Prelude.{is_some}
 use Rattle.std.specs.Borrow.{Bor}
 use Rattle.std.specs.List.{after_first, before_first}
 use Rattle.std.specs.Str.Parse.{IsNumeral, digits_value}
@@ -7,7 +8,8 @@ use Rattle.hex.specs.Hex.{encode_lower}
 use Rattle.sha2.specs.Sha256.{sha256}
 use Rattle.rv_base.specs.Limits.{most_jobs}
 use Rattle.rv_base.specs.Names.{is_name}
-use Rattle.rv_command.specs.Stops.{IsRefusal}
+use Rattle.rv_choice.specs.BadValues.{bad_value_text}
+use Rattle.rv_command.specs.Stops.{IsUsageStop}
 use Rattle.rv_command.specs.declared.stop.Stop.{Stop}
 use Rattle.rv_command.specs.declared.stop.Stop.TheVariants as why
 use Rattle.rv_report.specs.declared.saved.Shard.{Shard}
@@ -45,11 +47,20 @@ abbrev pub stamp_for : Option (Bor (List ℕ)) → List ℕ → List ℕ
 stamp_for (Some stamp) text = stamp.now
 stamp_for None text = encode_lower (take 8 (sha256 text))
 
--- words ask for a part, and the text is not K/N, or the stamp that they give is no name
-abbrev pub AskForNoShard : Option (Bor (List ℕ)) → Option (Bor (List ℕ)) → Type 0
-AskForNoShard shard stamp = IsSomeAnd shard (λ text. (IsShardText text.now → ⊥)
-    ⊎ IsSomeAnd stamp (λ stamp. is_name stamp.now ≡ false))
+-- a text is not K/N, and a stamp is no name
+abbrev pub bad_shard_text : List ℕ → List ℕ
+bad_shard_text text =
+    bad_value_text (codes "--shard <K/N>") text (codes "K and N are numbers, 1 <= K <= N <= 4096")
+
+abbrev pub bad_stamp_text : List ℕ → List ℕ
+bad_stamp_text stamp =
+    bad_value_text (codes "--stamp <TEXT>") stamp (codes "1 to 64 letters, digits, '.', '_' and '-'")
+
+-- why a part is refused that words ask for: the text is not K/N, or the stamp that they give is no name
+abbrev pub IsPartStop : List ℕ → Option (Bor (List ℕ)) → Stop → Type 0
+IsPartStop text stamp stop = ((IsShardText text → ⊥) × IsUsageStop (bad_shard_text text) stop)
+    ⊎ IsSomeAnd stamp (λ stamp. (is_name stamp.now ≡ false) × IsUsageStop (bad_stamp_text stamp.now) stop)
 
 -- memory was wanting, or the part is refused
 abbrev pub IsShardStop : Option (Bor (List ℕ)) → Option (Bor (List ℕ)) → Stop → Type 0
-IsShardStop shard stamp stop = (stop ≡ why.OutOfMemory) ⊎ (AskForNoShard shard stamp × IsRefusal stop)
+IsShardStop shard stamp stop = (stop ≡ why.OutOfMemory) ⊎ IsSomeAnd shard (λ text. IsPartStop text.now stamp stop)

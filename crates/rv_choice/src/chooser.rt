@@ -1,22 +1,23 @@
 //! The jobs that words choose.
 
-ghost use Rattle.std.specs.Prelude.{◌≡◌, ◌⊎◌, ◌++◌, IfErr, IfOk, IfSome, IsSomeAnd, None, OnOk, true};
+ghost use Rattle.std.specs.Prelude.{◌≡◌, ◌⊎◌, ◌++◌, IfErr, IfOk, IfSome, IsSomeAnd, None, OnOk, codes, string_bytes, true};
 ghost use Rattle.std.specs.Prelude.{false, is_some, length, option_map};
 ghost use Rattle.regex.specs.Strings.{regex_pattern, regex_source};
+ghost use Rattle.rv_choice.specs.BadValues.{IsBadPatternText, IsBadPatternStop};
 ghost use Rattle.rv_choice.specs.Choice.{IsReadByDefault, are_emptied, borrowed_names, chosen_marks, failed_job_names, has_mark};
 ghost use Rattle.rv_choice.specs.Choice.{is_found_in_names, left_marks, optional_names, pattern_of, requested_names};
-ghost use Rattle.rv_choice.specs.ChoiceStops.{IsChoiceStop, IsEmptiedStop, IsNoPattern, IsPatternStop, emptied_choice};
+ghost use Rattle.rv_choice.specs.ChoiceStops.{IsChoiceStop, IsEmptiedStop, IsPatternStop, IsRefusedPattern, emptied_choice};
 ghost use Rattle.rv_choice.specs.ChoiceStops.{unmatched_pattern};
 ghost use Rattle.rv_choice.specs.Chosen.{AreChosenBy, AreChosenFrom, AreLeft, AreWanted, IsChoice};
 ghost use Rattle.rv_choice.specs.FailedJobNotes.{failed_job_notes};
 ghost use Rattle.rv_choice.specs.UnknownName.{IsUnknownNameStop, unknown_name};
 ghost use Rattle.rv_cli.specs.RvtestWords.{borrowed_text};
 ghost use Rattle.rv_command.specs.Messages.{cut_off_note};
-ghost use Rattle.rv_command.specs.Stops.{IsRefusal, IsRequestedUnreadStop, IsStop};
+ghost use Rattle.rv_command.specs.Stops.{IsRequestedUnreadStop, IsStop};
 
+use crate::bad_value::{bad_value_stop, bad_value_text};
 use crate::failed_jobs::{failed_job_names, failed_job_notes};
 use crate::marks::{Wanted, chosen_marks, first_unknown_name, left_marks};
-use crate::shard::bad_value_stop;
 use crate::unknown_name::unknown_name_stop;
 use regex::Regex;
 use rv_cli::rvtest::{ChoosingCommand, RunAsked};
@@ -116,7 +117,7 @@ impl<'x, D: Inputs> Chooser<'x, D> {
         let Some(text) = self.asked.pattern else {
             return Ok(None);
         };
-        let pattern = self.compile_pattern("--match", text)?;
+        let pattern = self.compile_pattern("--match <REGEX>", text)?;
         if is_found_in_job_names(self.alloc, &pattern, jobs)? {
             Ok(Some(pattern))
         } else {
@@ -130,10 +131,10 @@ impl<'x, D: Inputs> Chooser<'x, D> {
             option_map regex_source excluded ≡ borrowed_text self.now.asked.now.exclude) }
         ensures read { IfOk result (λ excluded. IfSome excluded IsReadByDefault) }
         ensures refused { IfErr result (λ stop. IsSomeAnd (borrowed_text self.now.asked.now.exclude)
-            (λ text. (stop ≡ Stop.OutOfMemory) ⊎ (IsNoPattern text × IsRefusal stop))) }
+            (λ text. (stop ≡ Stop.OutOfMemory) ⊎ IsRefusedPattern (codes "--exclude <REGEX>") text stop)) }
     {
         match self.asked.exclude {
-            Some(text) => Ok(Some(self.compile_pattern("--exclude", text)?)),
+            Some(text) => Ok(Some(self.compile_pattern("--exclude <REGEX>", text)?)),
             None => Ok(None),
         }
     }
@@ -247,17 +248,14 @@ impl<'x, D: Inputs> Chooser<'x, D> {
     fn compile_pattern(&self, option: &str, text: &str) -> Result<Regex, Stop>
         ensures source { IfOk result (λ pattern. regex_source pattern ≡ text.now) }
         ensures read { IfOk result IsReadByDefault }
-        ensures refused { IfErr result (λ stop. (stop ≡ Stop.OutOfMemory) ⊎ (IsNoPattern text.now × IsRefusal stop)) }
+        ensures refused { IfErr result (λ stop. (stop ≡ Stop.OutOfMemory)
+            ⊎ IsRefusedPattern option.now text.now stop) }
     {
         let alloc = self.alloc;
         match Regex::new(alloc, text) {
             Ok(pattern) => Ok(pattern),
             Err(regex::Error::OutOfMemory) => Err(Stop::OutOfMemory),
-            Err(error) => Err(bad_value_stop(
-                alloc,
-                self.command,
-                format!(in alloc; "invalid value '{text}' for '{option} <REGEX>': {error}"),
-            )),
+            Err(error) => Err(bad_pattern_stop(alloc, self.command, option, text, &error)),
         }
     }
 
@@ -278,6 +276,33 @@ impl<'x, D: Inputs> Chooser<'x, D> {
         };
         chosen_marks(self.alloc, jobs, wanted)
     }
+}
+
+// The refusal of a text that is no pattern.
+fn bad_pattern_stop(
+    alloc: Global,
+    command: ChoosingCommand,
+    option: &str,
+    text: &str,
+    error: &regex::Error,
+) -> Stop
+    ensures { IsBadPatternStop option.now text.now result }
+{
+    let what = bad_pattern_text(alloc, option, text, error);
+    bad_value_stop(alloc, command, what)
+}
+
+// That a text is no pattern, and why.
+fn bad_pattern_text(
+    alloc: Global,
+    option: &str,
+    text: &str,
+    error: &regex::Error,
+) -> Result<String, AllocError>
+    ensures { IfOk result (λ what. IsBadPatternText option.now text.now (string_bytes what)) }
+{
+    let reason = error.to_string(alloc)?;
+    bad_value_text(alloc, option, text, reason.as_str())
 }
 
 // The exact names, where there are any.

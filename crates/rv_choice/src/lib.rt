@@ -3,6 +3,7 @@
 //! [`Chooser::choose`] gives a mark for each job, and [`requested_shard`] the part that is asked for.
 #![tactic(auto)]
 
+mod bad_value;
 mod chooser;
 mod failed_jobs;
 mod marks;

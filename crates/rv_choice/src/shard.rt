@@ -7,12 +7,12 @@ ghost use Rattle.std.specs.Str.Parse.{IsNumeral, digits_value};
 ghost use Rattle.hex.specs.Hex.{encode_lower};
 ghost use Rattle.sha2.specs.Sha256.{sha256};
 ghost use Rattle.rv_lists.specs.Limits.{most_jobs};
-ghost use Rattle.rv_choice.specs.Shard.{IsShardOf, IsShardStop, IsShardText, number_before_slash, number_behind_slash, stamp_for};
-ghost use Rattle.rv_command.specs.Stops.{IsRefusal};
+ghost use Rattle.rv_choice.specs.Shard.{IsShardOf, IsShardStop, IsShardText, bad_shard_text, bad_stamp_text, number_before_slash, number_behind_slash, stamp_for};
+ghost use Rattle.rv_command.specs.Stops.{IsUsageStop};
 ghost use Rattle.rv_base.specs.Names.{is_name};
 
-use clap::error::ErrorKind;
-use rv_cli::rvtest::{ChoosingCommand, RunAsked, usage_error};
+use crate::bad_value::{bad_value_stop, bad_value_text};
+use rv_cli::rvtest::{ChoosingCommand, RunAsked};
 use rv_command::Stop;
 use rv_jobs::Text;
 use rv_jobs::limits::MOST_JOBS;
@@ -101,42 +101,17 @@ fn list_digest(alloc: Global, text: &[u8]) -> Result<String, AllocError>
 }
 
 fn bad_shard_stop(alloc: Global, words: &str) -> Stop
-    ensures { IsRefusal result }
+    ensures { IsUsageStop (bad_shard_text words.now) result }
 {
-    bad_value_stop(
-        alloc,
-        ChoosingCommand::Run,
-        format!(in alloc;
-            "invalid value '{words}' for '--shard <K/N>': K and N are numbers, 1 <= K <= N <= 4096"
-        ),
-    )
+    let reason = "K and N are numbers, 1 <= K <= N <= 4096";
+    let what = bad_value_text(alloc, "--shard <K/N>", words, reason);
+    bad_value_stop(alloc, ChoosingCommand::Run, what)
 }
 
 fn bad_stamp_stop(alloc: Global, stamp: &str) -> Stop
-    ensures { IsRefusal result }
+    ensures { IsUsageStop (bad_stamp_text stamp.now) result }
 {
-    bad_value_stop(
-        alloc,
-        ChoosingCommand::Run,
-        format!(in alloc;
-            "invalid value '{stamp}' for '--stamp <TEXT>': 1 to 64 letters, digits, '.', '_' and '-'"
-        ),
-    )
-}
-
-/// That a value of a command is none, as these words say, where there was memory for them.
-pub(crate) fn bad_value_stop(
-    alloc: Global,
-    command: ChoosingCommand,
-    what: Result<String, AllocError>,
-) -> Stop
-    ensures { IsRefusal result }
-{
-    match what {
-        Ok(what) => {
-            let kind = ErrorKind::ValueValidation;
-            Stop::of_words_error(usage_error(alloc, command.command(alloc), kind, what.as_str()))
-        }
-        Err(error) => Stop::from(error),
-    }
+    let reason = "1 to 64 letters, digits, '.', '_' and '-'";
+    let what = bad_value_text(alloc, "--stamp <TEXT>", stamp, reason);
+    bad_value_stop(alloc, ChoosingCommand::Run, what)
 }

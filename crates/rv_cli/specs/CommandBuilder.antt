@@ -1,7 +1,10 @@
 -- What a call has come to that builds a command, and the rules of arguments that both programs have.
-use Rattle.std.specs.Prelude.{◌≡◌, ℕ, List, true, false, IfOk, IsSomeAnd, Result, Some, string_bytes}
+use Rattle.std.specs.Prelude.{◌≡◌, ℕ, List, [], ◌∷◌, true, false, IfOk, IsSomeAnd, Result, Some, string_bytes}
+use Rattle.std.specs.Borrow.{Bor}
 use Rattle.std.specs.declared.alloc.AllocError.{AllocError}
+use Rattle.clap.specs.Texts.{items_of}
 use Rattle.clap.specs.Words.{App, Rule, Text, app_of, new_rule}
+use Rattle.clap.specs.declared.builder.arg.Arg.{Arg}
 use Rattle.clap.specs.declared.builder.command.Command.{Command}
 use Rattle.clap.specs.declared.builder.command.Command.TheViews.{out-Command}
 
@@ -32,3 +35,7 @@ word_rule name = record (new_rule name) { required = true; value_names = 1 }
 -- an option with one value
 abbrev pub option_rule : Text → Rule
 option_rule name = record (new_rule name) { long = Some name; value_names = 1 }
+
+-- help shows the argument with this name of its value and this text
+abbrev pub IsShownAs : Bor Text → Bor Text → Arg → Type 0
+IsShownAs value text argument = (items_of argument.val_names ≡ value ∷ []) × (argument.help ≡ Some text)

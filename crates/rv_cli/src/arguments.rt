@@ -2,7 +2,7 @@
 
 ghost use Rattle.std.specs.Prelude.{◌≡◌, false};
 ghost use Rattle.clap.specs.Words.{rule_of};
-ghost use Rattle.rv_cli.specs.CommandBuilder.{option_rule, word_rule};
+ghost use Rattle.rv_cli.specs.CommandBuilder.{IsShownAs, option_rule, word_rule};
 ghost use Rattle.rv_cli.specs.RvfleetCommand.{group_rule};
 
 use clap::{Arg, value_parser};
@@ -10,7 +10,9 @@ use std::alloc::Global;
 
 /// A word that stands for itself.
 pub fn word_argument<'a>(alloc: Global, name: &'a str, value: &'a str, help: &'a str) -> Arg<'a>
-    ensures { (rule_of result ≡ word_rule name.entry.now) × (result.global ≡ false) }
+    ensures rule { (rule_of result ≡ word_rule name.entry.now) × (result.global ≡ false) }
+    // Help shows it by this value and this text.
+    ensures shown { IsShownAs value.entry help.entry result }
 {
     Arg::new(alloc, name)
         .value_name(value)
@@ -20,7 +22,9 @@ pub fn word_argument<'a>(alloc: Global, name: &'a str, value: &'a str, help: &'a
 
 /// An option with a value.
 pub fn option_argument<'a>(alloc: Global, name: &'a str, value: &'a str, help: &'a str) -> Arg<'a>
-    ensures { (rule_of result ≡ option_rule name.entry.now) × (result.global ≡ false) }
+    ensures rule { (rule_of result ≡ option_rule name.entry.now) × (result.global ≡ false) }
+    // Help shows it by this value and this text.
+    ensures shown { IsShownAs value.entry help.entry result }
 {
     Arg::new(alloc, name)
         .long(name)

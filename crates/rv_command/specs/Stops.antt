@@ -17,13 +17,14 @@ use Rattle.rv_lists.specs.JobList.{job_list_of}
 use Rattle.rv_lists.specs.declared.error.JobError.{JobError}
 use Rattle.rv_report.specs.Differences.{count_of_line_feeds}
 use Rattle.rv_report.specs.LeastLine.{BeginsReport, IsLeastRefusedLine, first_lines}
+use Rattle.rv_report.specs.declared.saved.SavedReport.{SavedReport}
 use Rattle.rv_command.specs.declared.stop.Lines.{Lines}
 use Rattle.rv_command.specs.declared.stop.Lines.TheVariants as lines
 use Rattle.rv_command.specs.declared.stop.Stop.{Stop}
 use Rattle.rv_command.specs.declared.stop.Stop.TheVariants as why
 use Rattle.rv_command.specs.Messages.{path_message, stop_message}
 use Rattle.rv_command.specs.RefusedLines.{refused_line_message}
-use Rattle.rv_command.specs.Texts.{IsTextAt}
+use Rattle.rv_command.specs.Texts.{IsReportText, IsTextAt}
 
 -- the status of lines that end a command: 2 where what is asked for is refused, 3 where the system failed
 abbrev pub lines_status : Lines → ℕ
@@ -131,10 +132,11 @@ IsReportFaultTold path bytes stop =
     ((line : ℕ) × IsLeastRefusedLine line bytes × IsLineStop path bytes line stop)
     ⊎ (BeginsReport (first_lines (count_of_line_feeds bytes) bytes) × IsCutOffStop path stop)
 
--- memory was wanting, or a fault of the report is told; a beginning of a report is told as cut off
+-- memory was wanting, or a fault of the report is told; a beginning of a report is told as cut off, and a whole one has no fault
 pub record IsReportFaultStop (path bytes : List ℕ) (stop : Stop) : Type 0 where
   pub told : (stop ≡ why.OutOfMemory) ⊎ IsReportFaultTold path bytes stop
   pub cut : BeginsReport bytes → IsCutOffStop path stop
+  pub whole : (report : SavedReport) → IsReportText bytes report → stop ≡ why.OutOfMemory
 
 -- the path was not read, or what stands there is no report
 abbrev pub IsReportUnreadStop : Option FileContents → List ℕ → Stop → Type 0

@@ -10,6 +10,8 @@ use Rattle.rv_command.specs.declared.stop.Stop.{Stop}
 use Rattle.rv_command.specs.declared.stop.Stop.TheVariants as stop
 use Rattle.rv_counts.specs.Read.{IsLeast}
 use Rattle.rv_counts.specs.Sum.{IsTooGreat, no_counts}
+use Rattle.rv_counts.specs.Table.{IsTable}
+use Rattle.rv_counts.specs.Text.{table_text}
 use Rattle.rv_counts.specs.declared.read.ReadError.{ReadError}
 use Rattle.rv_counts.specs.declared.read.ReadError.TheVariants as read
 use Rattle.rv_counts.specs.declared.sum.SumError.{SumError}
@@ -38,9 +40,11 @@ IsSumErrorStop path sum.OutOfMemory why = why ≡ stop.OutOfMemory
 IsSumErrorStop path (sum.Count address) why = IsStop 2 (great_count_message path address) why
 IsSumErrorStop path sum.Runs why = IsStop 2 (path_message path (codes "the number of runs does not fit in 64 bits")) why
 
--- memory was wanting; or the text at a path is no table: the least line is told that no table has there, or that it is cut off
-abbrev pub IsTableFaultStop : List ℕ → List ℕ → Stop → Type 0
-IsTableFaultStop path text why = (error : ReadError) × (IsLeast error text × IsReadErrorStop path error why)
+-- memory was wanting; or the text at a path is no table: the least line is told that no table has there, or that it is cut off; a
+-- whole table has no fault
+pub record IsTableFaultStop (path text : List ℕ) (why : Stop) : Type 0 where
+  pub told : (error : ReadError) × (IsLeast error text × IsReadErrorStop path error why)
+  pub whole : (table : CountTable) → IsTable table → table_text table ≡ text → why ≡ stop.OutOfMemory
 
 -- the table at a path has no sum with what was added before it
 abbrev pub IsGreatSumStop : Option FileContents → List ℕ → CountTable → Stop → Type 0

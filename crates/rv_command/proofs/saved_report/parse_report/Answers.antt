@@ -11,19 +11,26 @@ pub returns-in-Ok-clause-few : goal.returns-in-Ok-clause-few
 returns-in-Ok-clause-few c = few_rows c.in-Ok.report c.in-Ok.ensures.found.0
 
 pub returns-in-Err-OutOfMemory-clause-fault : goal.returns-in-Err-OutOfMemory-clause-fault
-returns-in-Err-OutOfMemory-clause-fault c = record { told = inl refl; cut = λ begins. inl refl }
+returns-in-Err-OutOfMemory-clause-fault c = record { told = inl refl; cut = λ begins. inl refl; whole = λ report is. refl }
 
 pub returns-in-Err-CutOff-clause-fault : goal.returns-in-Err-CutOff-clause-fault
 returns-in-Err-CutOff-clause-fault c =
     let least = rw c.in-Err-CutOff.field-0-is at c.in-Err-CutOff.ensures.least in
+    let only = rw c.in-Err-CutOff.field-0-is at c.in-Err-CutOff.ensures.only in
     let told = told_stop _ _ _ _ c.of_refusal.ensures c.path_message-told.ensures in
-    record { told = inr (inr (least, told)); cut = λ begins. told }
+    record {
+      told = inr (inr (least, told));
+      cut = λ begins. told;
+      whole = λ report is. let memory = only report is.saved is.text in cc;
+    }
 
 pub returns-in-Err-Line-clause-fault : goal.returns-in-Err-Line-clause-fault
 returns-in-Err-Line-clause-fault c =
     let least = rw c.in-Err-Line.field-0-is at c.in-Err-Line.ensures.least in
     let cut = rw c.in-Err-Line.field-0-is at c.in-Err-Line.ensures.cut in
+    let only = rw c.in-Err-Line.field-0-is at c.in-Err-Line.ensures.only in
     record {
       told = inr (inl (c.in-Err-Line.line, least, c.report_line_stop.ensures));
       cut = λ begins. let other = cut begins in cc;
+      whole = λ report is. let memory = only report is.saved is.text in cc;
     }

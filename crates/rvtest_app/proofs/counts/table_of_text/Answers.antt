@@ -1,0 +1,21 @@
+use Rattle.std.proofs.Common.{◌≡◌, ℕ, List, Err, subst}
+use Rattle.rv_command.specs.declared.stop.Stop.{Stop}
+use Rattle.rv_counts.specs.Read.{AnswersUnlessMemory, IsLeast}
+use Rattle.rv_counts.specs.Table.{IsTable}
+use Rattle.rv_counts.specs.Text.{table_text}
+use Rattle.rv_counts.specs.declared.read.ReadError.{ReadError}
+use Rattle.rv_counts.specs.declared.table.CountTable.{CountTable}
+use Rattle.rvtest_app.specs.CountStops.{IsReadErrorStop, IsTableFaultStop}
+use Rattle.rvtest_app.proofs.counts.table_of_text.Goals as goal
+
+refused_table : (path text : List ℕ) (error : ReadError) (why : Stop) → IsLeast error text
+    → ((table : CountTable) → IsTable table → table_text table ≡ text → AnswersUnlessMemory table (Err error))
+    → IsReadErrorStop path error why → IsTableFaultStop path text why
+refused_table path text error why least only is = record {
+  told = (error, (least, is));
+  whole = λ table can same. subst (λ e. IsReadErrorStop path e why) (only table can same) is;
+}
+
+pub returns-in-Err-clause-stopped : goal.returns-in-Err-clause-stopped
+returns-in-Err-clause-stopped c =
+    refused_table _ _ _ _ c.in-Err.ensures.least c.in-Err.ensures.only c.read_error_stop.ensures
