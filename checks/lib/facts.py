@@ -107,7 +107,7 @@ class Facts:
             "crates": len(names),
             "program-crates": names.index("samples"),
             "externals": len(self.externals),
-            "edits": sum(1 for path in self.files if re.fullmatch(r"crates/\w+/must-fail/\w+\.edit", path)),
+            "edits": sum(1 for path in self.files if re.fullmatch(r"(crates/\w+/must-fail|must-fail/\w+)/\w+\.edit", path)),
             "tests": sum(text.count("#[test]") for text in self.sources.values()),
             "tables": len(tables),
             "rows": sum(rows_in(self.read(path)) for path in tables),
