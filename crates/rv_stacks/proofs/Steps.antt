@@ -1,5 +1,6 @@
 -- One step of a run whose stacks are counted.
 use Rattle.std.proofs.Common.{◌≡◌, ◌∙◌, ◌==◌, ◌+◌, ◌<◌, ◌≤◌, ◌&&◌, ℕ, Bool, true, false, List, [], ◌∷◌, ◌++◌, length, map, Result, Ok, Err, refl, sym, ap, subst, arith, length-append}
+use Rattle.std.proofs.lemmas.Bool.{false≢true}
 use Rattle.std.specs.Prelude.{is_ok}
 use Rattle.std.specs.Str.{bytes_eq}
 use Rattle.rv_calls.specs.declared.frames.Frame.{Frame}
@@ -8,7 +9,7 @@ use Rattle.rv_calls.specs.Calls.{transfer_of}
 use Rattle.rv_calls.specs.Stack.{after_transfer}
 use Rattle.rv_coverage.specs.Coverage.{completes, fetch_at, is_begun, once_if, StaysOr}
 use Rattle.rv_machine.specs.declared.ending.Ending.{Ending}
-use Rattle.rv_machine.specs.Run.{step_of}
+use Rattle.rv_machine.specs.Run.{Ran, go_on, run_of, step_of}
 use Rattle.rv_machine.specs.State.{State}
 use Rattle.rv_spots.specs.declared.walk.Walk.{Walk}
 use Rattle.rv_spots.specs.Trees.{all_arrivals, all_steps, arrivals_at, ends_with, own_in, steps_at}
@@ -52,6 +53,22 @@ pub still_at : (function : ℕ → ℕ) (frames : List Frame) (pc : ℕ) (begun 
 still_at function frames pc begun old mid h counts = record { walk = counts.walk; path = counts.path ∙ h.path }
 
 -- ---- a step that ends the run
+
+-- a run of one step that does not complete ends as the step does
+abbrev EndsAs : State → Result State Ending → Ran → Type 0
+EndsAs s r ran = is_ok r ≡ false → (r ≡ Err ran.ending) × (ran.state ≡ s)
+
+ends_as : (s : State) (r : Result State Ending) → EndsAs s r (go_on r s (λ t. run_of 0 t))
+ends_as s (Ok t) h = absurd (false≢true (sym h))
+ends_as s (Err e) h = (refl, refl)
+
+one_run : (s : State) → EndsAs s (step_of s) (run_of 1 s)
+unfolding run_of
+one_run s = ends_as s (step_of s)
+
+pub ended_with : (s t : State) (n : ℕ) (e : Ending) → run_of 1 s ≡ record { ending = e; steps = n; state = t }
+    → is_ok (step_of s) ≡ false → (step_of s ≡ Err e) × (t ≡ s)
+ended_with s t n e ran = subst (λ (r : Ran). EndsAs s (step_of s) r) ran (one_run s)
 
 not_completed : (r : Result State Ending) → is_ok r ≡ false → false ≡ completes r
 not_completed (Ok t) h = sym h

@@ -12,7 +12,7 @@ ghost use Rattle.rv_stacks.specs.Stacks.{AreStacksOf, function_at};
 use crate::functions::{Known, known_functions, look_up};
 use crate::turns::follow;
 use rv_calls::{Frame, next_transfer};
-use rv_coverage::{count_step, run_begins_its_steps};
+use rv_coverage::{begins_at_end, run_begins_its_end, run_begins_its_steps};
 use rv_machine::Machine;
 use rv_spots::{Spots, Walk};
 use rv_trace::ElfFile;
@@ -98,5 +98,6 @@ fn begins_here(machine: &mut Machine) -> bool
     ensures begun { result ≡ is_begun (fetch_at (state_of machine.old)) }
     ensures state { state_of machine.new ≡ state_of machine.old }
 {
-    count_step(machine).begun
+    run_begins_its_end();
+    begins_at_end(machine.run(1).ending)
 }
