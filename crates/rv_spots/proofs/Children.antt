@@ -11,7 +11,7 @@ use Rattle.rv_spots.specs.declared.spot.Spot.{Spot}
 use Rattle.rv_spots.specs.Trees.{path_behind, last_path, path_of_first, arrivals_of, steps_if, steps_of, counted_behind, counted_in_all, begins_with_spot, is_passed, is_spot, HasChild, IsTree, StandsBehind, StandBehind}
 use Rattle.rv_spots.proofs.Fronts.{StandsAlike, behind_other, counted_alike, stand_alike}
 use Rattle.rv_spots.proofs.Tests.{equal_by, equal_test, less_by, not_less_by, unequal_by}
-use Rattle.rv_spots.proofs.Parts.{last_parts, counted_parts, sum_parts, stand_parts, stand_of_parts, length_behind}
+use Rattle.rv_spots.proofs.Parts.{last_parts, counted_parts, sum_parts, stand_parts, stand_of_parts, length_behind, some_beside, some_parts}
 
 -- ---- what is passed
 
@@ -196,6 +196,7 @@ child_found from depth function xs (s ∷ ss) below h spot tree =
       own = λ f. refl;
       all_arrivals = refl;
       all_steps = refl;
+      some = λ h. let p = some_parts xs (s ∷ ss) h in some_beside xs ss s (length xs) refl p.0 p.1.1;
     }
 
 child_made : (from depth function : ℕ) (xs ys : List Spot) → from ≤ length xs
@@ -221,6 +222,7 @@ child_made from depth function xs ys below h ahead spot tree =
       own = λ f. sum_between (λ (s : Spot). steps_if (s.function == f) s.steps) depth function xs ys (nothing_if (function == f));
       all_arrivals = sum_between arrivals_of depth function xs ys refl;
       all_steps = sum_between steps_of depth function xs ys refl;
+      some = λ k. let p = some_parts xs ys k in some_beside xs ys new (length xs) refl p.0 p.1;
     }
 
 -- at the place behind all that are passed

@@ -1,9 +1,10 @@
 -- One more in a spot.
-use Rattle.std.proofs.Common.{◌≡◌, ◌∙◌, ◌==◌, ◌+◌, ◌<◌, ◌≤◌, ℕ, zero, suc, Bool, true, false, cond, List, [], ◌∷◌, ◌++◌, length, take, get_or, set, refl, sym, ap, subst, arith, length-set}
+use Rattle.std.proofs.Common.{◌≡◌, ◌∙◌, ◌==◌, ◌+◌, ◌<◌, ◌≤◌, ℕ, zero, suc, Bool, true, false, cond, List, [], ◌∷◌, ◌++◌, length, take, drop, get_or, set, refl, sym, ap, subst, arith, length-set}
+use Rattle.std.proofs.lemmas.List.{set_split}
 use Rattle.std.specs.Str.{bytes_eq}
 use Rattle.rv_spots.specs.declared.spot.Spot.{Spot}
-use Rattle.rv_spots.specs.Trees.{path_behind, last_path, path_of_first, arrivals_of, steps_of, counted_behind, counted_in_all, ends_with, once_if, own_in, steps_if, ArrivesOnce, StepsOnce, KeepsPaths, StandsBehind, StandBehind}
-use Rattle.rv_spots.proofs.Parts.{path_with}
+use Rattle.rv_spots.specs.Trees.{path_behind, last_path, path_of_first, arrivals_of, steps_of, counted_behind, counted_in_all, ends_with, once_if, own_in, steps_if, ArrivesOnce, HasArrivals, StepsOnce, KeepsPaths, StandsBehind, StandBehind}
+use Rattle.rv_spots.proofs.Parts.{path_with, some_of_parts}
 
 -- ---- a spot in place of another of the same depth and function
 
@@ -51,6 +52,13 @@ stand_stay (suc place) front (x ∷ xs) s d within h old =
 sum_if : (t : Bool) (n m : ℕ) → cond t (n + m) 0 ≡ cond t n 0 + cond t m 0
 sum_if true n m = refl
 sum_if false n m = omega arith
+
+some_stay : (place : ℕ) (spots : List Spot) (s d : Spot) → place < length spots
+    → s.arrivals ≡ (get_or spots place d).arrivals → HasArrivals spots → HasArrivals (set spots place s)
+some_stay zero [] s d within is h = absurd (omega arith)
+some_stay (suc place) [] s d within is h = absurd (omega arith)
+some_stay zero (x ∷ xs) s d within is h = let some = h.0 in (omega (arith, is, some), h.1)
+some_stay (suc place) (x ∷ xs) s d within is h = (h.0, some_stay place xs s d (omega arith) is h.1)
 
 -- ---- so much more in it
 
@@ -141,6 +149,8 @@ module _ (spots : List Spot) (place : ℕ) (old : Spot) (within : place < length
         own = λ f. summed_not (λ (x : Spot). steps_if (x.function == f) x.steps) s refl;
         all_arrivals = summed arrivals_of 1 s refl;
         all_steps = summed_not steps_of s refl;
+        some = λ front rest. subst (λ (zs : List Spot). HasArrivals zs) (sym (set_split spots place s within))
+            (some_of_parts (take place spots) (s ∷ drop (suc place) spots) front (omega arith, rest));
       }
 
   pub stepped_once : StepsOnce place spots (set spots place (record { depth = old.depth; function = old.function; arrivals = old.arrivals; steps = old.steps + 1 }))
@@ -157,6 +167,7 @@ module _ (spots : List Spot) (place : ℕ) (old : Spot) (within : place < length
             omega (arith, summed_here, last);
         all_arrivals = summed_not arrivals_of s refl;
         all_steps = summed steps_of 1 s refl;
+        some = λ h. some_stay place spots s old within (ap (λ (x : Spot). x.arrivals) is) h;
       }
 
 -- what one spot has is in the sum of all

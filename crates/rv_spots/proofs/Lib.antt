@@ -8,3 +8,4 @@ pub mod Merged
 pub mod Profiled
 pub mod Functions
 pub mod Walked
+pub mod Unique

@@ -1,9 +1,9 @@
 -- Spots in two parts.
 use Rattle.std.proofs.Common.{◌≡◌, ◌∙◌, ◌+◌, ◌<◌, ◌≤◌, ℕ, suc, List, [], ◌∷◌, ◌++◌, length, take, drop, get_or, refl, sym, ap, subst, arith, length-append, take-suc, append_assoc}
-use Rattle.std.proofs.lemmas.List.{take-take, take-append-drop, length-take-le}
+use Rattle.std.proofs.lemmas.List.{drop_at, take_at, take-take, take-append-drop, length-take-le}
 use Rattle.std.specs.Str.{bytes_eq}
 use Rattle.rv_spots.specs.declared.spot.Spot.{Spot}
-use Rattle.rv_spots.specs.Trees.{path_behind, last_path, path_of_first, counted_behind, counted_in_all, StandsBehind, StandBehind}
+use Rattle.rv_spots.specs.Trees.{path_behind, last_path, path_of_first, counted_behind, counted_in_all, HasArrivals, StandsBehind, StandBehind}
 
 pub last_parts : (front : List ℕ) (xs ys : List Spot) → last_path front (xs ++ ys) ≡ last_path (last_path front xs) ys
 last_parts front [] ys = refl
@@ -19,6 +19,25 @@ counted_parts count path front (s ∷ ss) ys =
 pub sum_parts : (count : Spot → ℕ) (xs ys : List Spot) → counted_in_all count (xs ++ ys) ≡ counted_in_all count xs + counted_in_all count ys
 sum_parts count [] ys = omega arith
 sum_parts count (s ∷ ss) ys = let h = sum_parts count ss ys in omega (arith, h)
+
+pub some_parts : (xs ys : List Spot) → HasArrivals (xs ++ ys) → HasArrivals xs × HasArrivals ys
+some_parts [] ys h = (tt, h)
+some_parts (s ∷ ss) ys h = let k = some_parts ss ys h.1 in ((h.0, k.0), k.1)
+
+pub some_of_parts : (xs ys : List Spot) → HasArrivals xs → HasArrivals ys → HasArrivals (xs ++ ys)
+some_of_parts [] ys h k = k
+some_of_parts (s ∷ ss) ys h k = (h.0, some_of_parts ss ys h.1 k)
+
+-- all but the first of the second part
+pub some_beside : (xs ys : List Spot) (s : Spot) (place : ℕ) → length xs ≡ place → HasArrivals xs → HasArrivals ys
+    → HasArrivals (take place (xs ++ s ∷ ys)) × HasArrivals (drop (suc place) (xs ++ s ∷ ys))
+some_beside xs ys s place long h k =
+    let one = length-append xs (s ∷ []) in
+    let next : length (xs ++ s ∷ []) ≡ suc place = omega (arith, one, long) in (
+      subst (λ (zs : List Spot). HasArrivals zs) (sym (take_at xs (s ∷ ys) place long)) h,
+      subst (λ (zs : List Spot). HasArrivals (drop (suc place) zs)) (append_assoc xs (s ∷ []) ys)
+          (subst (λ (zs : List Spot). HasArrivals zs) (sym (drop_at (xs ++ s ∷ []) ys (suc place) next)) k),
+    )
 
 pub stand_parts : (front : List ℕ) (xs ys : List Spot) → StandBehind front (xs ++ ys)
     → StandBehind front xs × StandBehind (last_path front xs) ys

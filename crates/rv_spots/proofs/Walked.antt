@@ -5,7 +5,7 @@ use Rattle.std.proofs.lemmas.List.{get_or_default, length-take-le, take_all}
 use Rattle.std.specs.Str.{bytes_eq}
 use Rattle.rv_spots.specs.declared.spot.Spot.{Spot}
 use Rattle.rv_spots.specs.declared.walk.Walk.{Walk}
-use Rattle.rv_spots.specs.Trees.{all_arrivals, all_steps, arrivals_at, ends_with, once_if, own_in, path_of_first, steps_at, ArrivesOnce, HasChild, IsTree, StepsOnce}
+use Rattle.rv_spots.specs.Trees.{all_arrivals, all_steps, arrivals_at, ends_with, once_if, own_in, path_of_first, steps_at, ArrivesOnce, HasArrivals, HasChild, IsTree, StepsOnce}
 use Rattle.rv_spots.specs.Walks.{Arrives, IsTrail, IsWalk, Returns, Steps}
 use Rattle.rv_spots.proofs.Trails.{longer, no_trail, shorter, trail_kept}
 
@@ -16,6 +16,7 @@ begins w path trail spots = record {
   tree = subst (λ (ss : List Spot). IsTree ss) (sym spots) tt;
   trail = subst (λ (p : List ℕ). IsTrail w.spots.items p w.trail.items) (sym path)
       (subst (λ (t : List ℕ). IsTrail w.spots.items [] t) (sym trail) (no_trail w.spots.items));
+  some = subst (λ (ss : List Spot). HasArrivals ss) (sym spots) tt;
 }
 
 pub returned : (old new : Walk) (depth : ℕ) → IsWalk old → depth ≤ length old.path.items
@@ -28,6 +29,7 @@ returned old new depth h below path trail spots = record {
         (subst (λ (p : List ℕ). IsTrail old.spots.items p new.trail.items) (sym path)
         (subst (λ (t : List ℕ). IsTrail old.spots.items (take depth old.path.items) t) (sym trail)
         (shorter old.spots.items old.path.items old.trail.items depth h.trail below)));
+    some = subst (λ (ss : List Spot). HasArrivals ss) (sym spots) h.some;
   };
   path = path;
   spots = spots;
@@ -84,6 +86,7 @@ module _ (w : Walk) (h : IsWalk w) (place : ℕ) (some : 0 < length w.trail.item
           trail = subst (λ (p : List ℕ). IsTrail new.spots.items p new.trail.items) (sym path)
               (subst (λ (t : List ℕ). IsTrail new.spots.items w.path.items t) (sym trail)
               (trail_kept w.spots.items new.spots.items w.path.items w.trail.items h.trail once.kept));
+          some = once.some h.some;
         };
         path = path;
         arrivals = once.arrivals;
@@ -119,6 +122,7 @@ arrived old mid new from depth function place made back here behind child once p
         tree = once.kept.tree child.tree;
         trail = subst (λ (p : List ℕ). IsTrail new.spots.items p new.trail.items) (sym path)
             (subst (λ (t : List ℕ). IsTrail new.spots.items (mid.path.items ++ own) t) (sym trail) grown);
+        some = let parts = child.some back.walk.some in once.some parts.0 parts.1;
       };
       path = path ∙ ap (λ (p : List ℕ). p ++ own) back.path;
       arrivals = λ at.

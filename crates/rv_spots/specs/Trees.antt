@@ -1,5 +1,5 @@
 -- Spots in preorder: of which functions each is, and what is counted in a list of functions.
-use Rattle.std.specs.Prelude.{◌≡◌, ◌==◌, ◌+◌, ◌<◌, ◌≤◌, ℕ, Bool, false, ◌&&◌, ◌||◌, nat_lt, if◌then◌else◌, List, [], ◌∷◌, ◌++◌, length, take, drop, slice_index_or}
+use Rattle.std.specs.Prelude.{◌≡◌, ◌==◌, ◌+◌, ◌<◌, ◌≤◌, ℕ, suc, Bool, false, ◌&&◌, ◌||◌, nat_lt, if◌then◌else◌, List, [], ◌∷◌, ◌++◌, length, take, drop, slice_index_or}
 use Rattle.std.specs.Str.{bytes_eq}
 use Rattle.rv_spots.specs.declared.spot.Spot.{Spot}
 
@@ -80,6 +80,11 @@ StandBehind front (s ∷ ss) = StandsBehind front s × StandBehind (path_behind 
 abbrev pub IsTree : List Spot → Type 0
 IsTree spots = StandBehind [] spots
 
+-- a run came to each of them
+abbrev pub HasArrivals : List Spot → Type 0
+HasArrivals [] = Unit {0}
+HasArrivals (s ∷ ss) = (0 < s.arrivals) × HasArrivals ss
+
 -- ---- a spot more
 
 -- what stands in front of the child of a spot by the function, behind that spot: all below its lower children
@@ -105,6 +110,7 @@ pub record HasChild (start function : ℕ) (old : List Spot) (place : ℕ) (new 
   pub own : (f : ℕ) → own_in f new ≡ own_in f old
   pub all_arrivals : all_arrivals new ≡ all_arrivals old
   pub all_steps : all_steps new ≡ all_steps old
+  pub some : HasArrivals old → HasArrivals (take place new) × HasArrivals (drop (suc place) new)
 
 -- ---- one more in a spot
 
@@ -122,6 +128,7 @@ pub record ArrivesOnce (place : ℕ) (old new : List Spot) : Type 0 where
   pub own : (function : ℕ) → own_in function new ≡ own_in function old
   pub all_arrivals : all_arrivals new ≡ all_arrivals old + 1
   pub all_steps : all_steps new ≡ all_steps old
+  pub some : HasArrivals (take place old) → HasArrivals (drop (suc place) old) → HasArrivals new
 
 pub record StepsOnce (place : ℕ) (old new : List Spot) : Type 0 where
   pub kept : KeepsPaths old new
@@ -132,3 +139,4 @@ pub record StepsOnce (place : ℕ) (old new : List Spot) : Type 0 where
       ≡ own_in function old + once_if (ends_with function (path_of_first (place + 1) old))
   pub all_arrivals : all_arrivals new ≡ all_arrivals old
   pub all_steps : all_steps new ≡ all_steps old + 1
+  pub some : HasArrivals old → HasArrivals new

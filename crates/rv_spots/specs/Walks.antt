@@ -3,7 +3,7 @@ use Rattle.std.specs.Prelude.{◌≡◌, ◌+◌, ◌<◌, ℕ, List, [], ◌∷
 use Rattle.std.specs.Str.{bytes_eq}
 use Rattle.rv_spots.specs.declared.spot.Spot.{Spot}
 use Rattle.rv_spots.specs.declared.walk.Walk.{Walk}
-use Rattle.rv_spots.specs.Trees.{all_arrivals, all_steps, arrivals_at, ends_with, once_if, own_in, path_of_first, steps_at, IsTree}
+use Rattle.rv_spots.specs.Trees.{all_arrivals, all_steps, arrivals_at, ends_with, once_if, own_in, path_of_first, steps_at, HasArrivals, IsTree}
 
 -- each of the first places is that of a spot, whose functions are the first of the path
 pub record IsTrail (spots : List Spot) (path trail : List ℕ) : Type 0 where
@@ -15,6 +15,7 @@ pub record IsTrail (spots : List Spot) (path trail : List ℕ) : Type 0 where
 pub record IsWalk (w : Walk) : Type 0 where
   pub tree : IsTree w.spots.items
   pub trail : IsTrail w.spots.items w.path.items w.trail.items
+  pub some : HasArrivals w.spots.items
 
 -- it came to the spot of these functions by a call or a jump
 pub record Arrives (there : List ℕ) (old new : Walk) : Type 0 where

@@ -12,7 +12,7 @@ mod spot;
 mod sum;
 mod walk;
 
-pub use law::own_steps_sum_to_all;
+pub use law::{one_tree_has_these_counts, own_steps_sum_to_all};
 pub use profile::{FunctionSteps, functions_of, steps_of_function};
 pub use spot::{Spot, Spots};
 pub use sum::{SpotSumError, sum_of_spots};

@@ -163,6 +163,7 @@ module _ (function : ℕ → ℕ) (n i : ℕ) (start s t : State) (frames after 
   pub ended : StacksStep function s frames old false t after new → AreStacksOf function n start new.spots.items
   ended step = record {
     tree = step.walk.tree;
+    some = step.walk.some;
     steps = λ path.
         let b = step.steps path in
         let k = steps_next function path n i frames s under in
@@ -194,6 +195,7 @@ pub used_up : (function : ℕ → ℕ) (n i : ℕ) (start s : State) (frames : L
     → SoFar function n i start s frames walk → n ≤ i → AreStacksOf function n start walk.spots.items
 used_up function n i start s frames walk h over = record {
   tree = h.at.walk.tree;
+  some = h.at.walk.some;
   steps = λ path.
       let k = no_steps function path n i frames s over in let all = h.steps path in omega (arith, k, all);
   arrivals = λ path.

@@ -13,7 +13,7 @@ use Rattle.rv_machine.specs.Run.{step_of}
 use Rattle.rv_machine.specs.State.{State}
 use Rattle.rv_report.specs.declared.row.Refusal.{Refusal}
 use Rattle.rv_spots.specs.declared.spot.Spot.{Spot}
-use Rattle.rv_spots.specs.Trees.{all_steps, arrivals_at, own_in, steps_at, IsTree}
+use Rattle.rv_spots.specs.Trees.{all_steps, arrivals_at, own_in, steps_at, HasArrivals, IsTree}
 
 -- ---- functions
 
@@ -80,6 +80,7 @@ begun_in_function function f (suc n) s =
 -- the spots of a run of at most n steps, which begins with no frame, and comes so to its first function
 pub record AreStacksOf (function : ℕ → ℕ) (n : ℕ) (s : State) (spots : List Spot) : Type 0 where
   pub tree : IsTree spots
+  pub some : HasArrivals spots
   pub steps : (path : List ℕ) → steps_at path spots ≡ steps_in function path n [] s
   pub arrivals : (path : List ℕ) → arrivals_at path spots
       ≡ once_if (bytes_eq (function s.pc ∷ []) path) + arrivals_in function path n [] s

@@ -14,5 +14,5 @@ mod turns;
 
 pub use functions::{Known, function_of};
 pub use job::stacks_of_job;
-pub use law::own_steps_are_the_counts_of_addresses;
+pub use law::{own_steps_are_the_counts_of_addresses, run_has_one_list_of_spots};
 pub use run::stacks_of_run;
