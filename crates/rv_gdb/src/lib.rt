@@ -4,8 +4,8 @@
 //! the session answers.
 #![tactic(auto)]
 
-mod converse;
+mod conversation;
 mod job_session;
 
-pub use converse::{Broken, converse};
+pub use conversation::{Broken, converse};
 pub use job_session::session_at;

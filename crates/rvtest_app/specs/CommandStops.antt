@@ -22,7 +22,7 @@ use Rattle.rv_command.specs.Stops.{IsListFaultStop, IsListUnreadStop, IsRefusal,
 use Rattle.rv_command.specs.Texts.{IsReportReadAt, IsTextAt, optional_text}
 use Rattle.rv_command.specs.declared.stop.Stop.{Stop}
 use Rattle.rv_command.specs.declared.stop.Stop.TheVariants as stop
-use Rattle.rv_gdb.specs.declared.converse.Broken.{Broken}
+use Rattle.rv_gdb.specs.declared.conversation.Broken.{Broken}
 use Rattle.rv_lists.specs.JobList.{job_list_of}
 use Rattle.rv_lists.specs.declared.job.Job.{Job}
 use Rattle.rv_report.specs.declared.partial.PartialReport.{PartialReport}

@@ -13,8 +13,8 @@ use Rattle.rv_expect.specs.declared.passing.Rule.TheVariants.{Strict}
 use Rattle.rv_files.specs.UnreadPaths.{contents_below, resolved_path}
 use Rattle.rv_files.specs.declared.noting_store.Unread.{Unread}
 use Rattle.rv_gdb.specs.Conversing.{IsEnded}
-use Rattle.rv_gdb.specs.declared.converse.Broken.{Broken}
-use Rattle.rv_gdb.specs.declared.converse.Broken.TheVariants as broken
+use Rattle.rv_gdb.specs.declared.conversation.Broken.{Broken}
+use Rattle.rv_gdb.specs.declared.conversation.Broken.TheVariants as broken
 use Rattle.rv_gdb.specs.JobSessions.{IsSessionOf}
 use Rattle.rv_job_text.specs.Telling.{row_line}
 use Rattle.rv_jobs.specs.Plans.{AreKept, Planned, jobs_needed_for, paths_of, paths_used}

@@ -21,7 +21,7 @@ pub enum Broken {
 }
 
 impl From<AllocError> for Broken {
-    ghost use Rattle.rv_gdb.specs.declared.converse.Broken.TheVariants.{OutOfMemory};
+    ghost use Rattle.rv_gdb.specs.declared.conversation.Broken.TheVariants.{OutOfMemory};
 
     ghost from_gives = { λ _ error. error ≡ OutOfMemory };
 

@@ -1,6 +1,6 @@
 use Rattle.std.proofs.Common.{◌≡◌}
 use Rattle.rv_gdb.specs.Conversing.{IsConversed}
-use Rattle.rv_gdb.proofs.converse.converse.Given as goal
+use Rattle.rv_gdb.proofs.conversation.converse.Given as goal
 
 abbrev pub invariant-loop : goal.invariant-loop
 invariant-loop g l =
