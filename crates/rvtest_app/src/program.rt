@@ -110,7 +110,9 @@ where
     ensures stopped { IfErr result.1 (IsStopFor (D.contents host.now.inputs.now) (map T.text words.entry.now)) }
 {
     match read_words(host.alloc, words) {
-        Ok(Some(asked)) => { run_in_colors::<Brand, R, D, F, O, E, P, I>(host, asked, to, terminals, input) }
+        Ok(Some(asked)) => {
+            run_in_colors::<Brand, R, D, F, O, E, P, I>(host, asked, to, terminals, input)
+        }
         Ok(None) => (to, Ok(REFUSED)),
         Err(error) => {
             let mut to = to;
