@@ -21,7 +21,10 @@ use Rattle.rv_rows.specs.declared.outcome.Loadable.{Loadable}
 use Rattle.rv_rows.specs.declared_row.Refusal.{Refusal}
 use Rattle.rv_rows.specs.Outcome.{image_file_or_refusal, loadable_image, loaded_state, range_if_asked, reference_or_refusal, start_if_loadable, start_if_readable, start_of}
 use Rattle.rv_rows.specs.Rows.{content_if_read, image_if_read, image_in, start_in}
-use Rattle.rv_gdb.specs.JobSessions.{image_bytes}
+use Rattle.rv_history.specs.declared.start.Start.{Start}
+use Rattle.rv_session.specs.Sessions.{at_first}
+use Rattle.rv_session.specs.declared.session.Session.{Session}
+use Rattle.rv_gdb.specs.JobSessions.{IsSessionOf, image_bytes}
 
 -- the bytes of the image were read, and the run begins at its entry
 pub record IsBegun (job : Job) (bytes : Option (List ℕ)) (s : State) : Type 0 where
@@ -143,3 +146,17 @@ pub aligned_of : (answers : List Answer) (job : Job) (image : Image) (file : Lis
 aligned_of answers job image file bytes there =
     let found = ap (λ (bytes : Option (List ℕ)). image_if_read job.isa bytes) (sym bytes) ∙ there in
     entry_fits job.isa image.entry (entry_aligned job.isa file image (read_as job.isa file image found))
+
+-- a session over a start that is the state in which the run of a job begins
+pub opened : (answers : List Answer) (job : Job) (image : Image) (s : State) (start : Start) (budget : ℕ) (path bytes : List ℕ)
+    (session : Session) → start_in answers job ≡ Ok s → image_in answers job ≡ Some image → image_bytes answers job ≡ Some bytes
+    → start.bus ≡ s.bus → start.entry ≡ image.entry → start.isa ≡ job.isa → budget ≡ job.budget
+    → session ≡ at_first start budget (record { path = path; image = bytes }) → IsSessionOf answers job path session
+opened answers job image s start budget path bytes session begins there read bus entry isa same is = record {
+  start = start;
+  starts = begins ∙ ap (λ (t : State). Ok t) (begun_at job s answers image begins there
+      ∙ (λ i. at_reset (bus (~ i)) (entry (~ i)) (isa (~ i))));
+  image = bytes;
+  read = read;
+  session_is = is ∙ ap (λ (n : ℕ). at_first start n (record { path = path; image = bytes })) same;
+}

@@ -28,10 +28,11 @@ pub fn session_at(
         (is_ok (start_in plan.now.answers (job_at plan.now place d)) ≡ false)
         (IsSessionOf plan.now.answers (job_at plan.now place d) path)) }
 {
+    let job = plan.job(place);
     let Some(bytes) = image_bytes(plan, place) else {
         return Ok(None);
     };
-    let Some(image) = image_of_bytes(alloc, plan.job(place).isa, bytes)? else {
+    let Some(image) = image_of_bytes(alloc, job.isa, bytes)? else {
         return Ok(None);
     };
     let copy = Bytes::new(Vec::from_slice(alloc, bytes)?);
