@@ -155,7 +155,7 @@ pub opened : (answers : List Answer) (job : Job) (image : Image) (s : State) (st
 opened answers job image s start budget path bytes session begins there read bus entry isa same is = record {
   start = start;
   starts = begins ∙ ap (λ (t : State). Ok t) (begun_at job s answers image begins there
-      ∙ (λ i. at_reset (bus (~ i)) (entry (~ i)) (isa (~ i))));
+      ∙ (λ i. at_reset (sym bus i) (sym entry i) (sym isa i)));
   image = bytes;
   read = read;
   session_is = is ∙ ap (λ (n : ℕ). at_first start n (record { path = path; image = bytes })) same;
