@@ -1,14 +1,15 @@
 //! The command `gdb`.
 
-ghost use Rattle.std.specs.Prelude.{◌≡◌, ◌<◌, ◌⊎◌, IfErr, IfOk, length, slice_index_or};
+ghost use Rattle.std.specs.Prelude.{◌≡◌, ◌<◌, ◌⊎◌, IfErr, IfOk, MatchOption, false, is_ok, length, slice_index_or};
 ghost use Rattle.rv_lists.specs.declared.job.Job.{Job as AJob};
 ghost use Rattle.rv_command.specs.Stops.{IsStop};
 ghost use Rattle.rv_command.specs.Texts.{optional_text};
 ghost use Rattle.rv_expect.specs.Judgement.{judging_by_rule};
 ghost use Rattle.rv_expect.specs.declared.passing.Rule.TheVariants.{Strict};
 ghost use Rattle.rv_files.specs.UnreadPaths.{contents_below, resolved_path};
+ghost use Rattle.rv_gdb.specs.JobSessions.{IsSessionOf};
 ghost use Rattle.rv_job_text.specs.Telling.{row_line};
-ghost use Rattle.rv_rows.specs.Rows.{row_of};
+ghost use Rattle.rv_rows.specs.Rows.{row_of, start_in};
 ghost use Rattle.rvtest_app.specs.CommandStops.{IsGdbStop, IsNoJobStop, IsUnopenedAtStop};
 ghost use Rattle.rvtest_app.specs.Debugging.{IsBrokenStop, IsGdbAnswered, IsJobOpened, IsOpenedAt, IsOpenedOf, IsUnopenedOfStop, IsUnopenedStop};
 ghost use Rattle.rvtest_app.specs.Said.{said};
@@ -22,7 +23,7 @@ use rv_expect::{Judge, Rule};
 use rv_files::{FileError, Inputs, NotingStore, Outputs, Unread};
 use rv_gdb::{Broken, converse, session_at};
 use rv_job_text::{RowTelling, Verbosity};
-use rv_jobs::{JobList, Plan, gather_places};
+use rv_jobs::{Plan, gather_places};
 use rv_rows::{Sink, row_at};
 use rv_session::Session;
 use std::alloc::{AllocError, Global};
@@ -94,32 +95,48 @@ fn session_of_text<D: Inputs>(
     ensures stopped { IfErr result (λ why. IsNoJobStop asked.entry.list.now text.now asked.entry.name.now why
         ⊎ IsUnopenedOfStop (D.contents inputs.now) asked.entry text.now why) }
 {
-    let NamedJob { jobs, place } = find_named_job(alloc, asked.list, asked.name, text)?;
-    session_of_job(inputs, alloc, asked, jobs, place)
+    let named = find_named_job(alloc, asked.list, asked.name, text)?;
+    session_of_job(inputs, alloc, asked, named)
 }
 
-// The same of the job at a place.
+// The same of the job at the place that was found.
 fn session_of_job<D: Inputs>(
     inputs: &D,
     alloc: Global,
     asked: GdbAsked<'_>,
-    jobs: JobList,
-    place: usize,
+    named: NamedJob,
 ) -> Result<Session, Stop>
-    requires { place < length jobs }
+    requires { named.place < length named.jobs }
     ensures opened { IfOk result (IsJobOpened (contents_below (optional_text asked.entry.root) (D.contents inputs.now))
-        (optional_text asked.entry.root) jobs place) }
+        (optional_text asked.entry.root) named.jobs named.place) }
     ensures stopped { IfErr result (IsUnopenedStop (contents_below (optional_text asked.entry.root) (D.contents inputs.now))
-        jobs place) }
+        named.jobs named.place) }
 {
+    let NamedJob { jobs, place } = named;
     let places = vec![in alloc; place; 1]?;
     let mut store = NotingStore::new(inputs, alloc, asked.root);
     let plan = gather_places(alloc, jobs, places, &mut store)?;
-    let path = resolved_path(alloc, asked.root, plan.job(place).image.as_str())?;
-    match session_at(alloc, &plan, place, path)? {
+    match session_over_plan(alloc, &plan, place, asked.root)? {
         Some(session) => Ok(session),
         None => Err(refused_job_stop(alloc, &plan, store.unread_paths(), place)),
     }
+}
+
+// The session over the run of the job at a place of a plan, whose image's path is taken from a folder; nothing where the job is refused.
+fn session_over_plan(
+    alloc: Global,
+    plan: &Plan,
+    place: usize,
+    root: Option<&str>,
+) -> Result<Option<Session>, AllocError>
+    requires { place < length plan.now.jobs }
+    ensures { IfOk result (λ found. (d : AJob) → MatchOption found
+        (is_ok (start_in plan.now.answers (slice_index_or plan.now.jobs place d)) ≡ false)
+        (IsSessionOf plan.now.answers (slice_index_or plan.now.jobs place d)
+        (resolved_path (optional_text root.entry) (slice_index_or plan.now.jobs place d).image))) }
+{
+    let path = resolved_path(alloc, root, plan.job(place).image.as_str())?;
+    session_at(alloc, plan, place, path)
 }
 
 // Where the file of a path in a list is.
