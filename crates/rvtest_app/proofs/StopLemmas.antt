@@ -15,7 +15,7 @@ use Rattle.rv_command.specs.Texts.{IsTextAt, optional_text}
 use Rattle.rv_command.specs.declared.stop.Stop.{Stop}
 use Rattle.rv_command.specs.declared.stop.Stop.TheVariants as stop
 use Rattle.rv_gdb.specs.declared.conversation.Broken.{Broken}
-use Rattle.rv_gdb.specs.declared.conversation.Broken.TheVariants as broken
+use Rattle.rv_gdb.specs.declared.conversation.Broken.TheVariants as cause
 use Rattle.rvtest_app.specs.Accepts.{IsAcceptedAt}
 use Rattle.rvtest_app.specs.CommandStops.{IsCommandStop, IsDiffAtStop, IsGdbStop}
 use Rattle.rvtest_app.specs.CountSums.{IsSumPut}
@@ -94,8 +94,8 @@ unshown_sum known words status before after Untouched put =
     )))) inr
 
 -- a session that was broken off
-pub broken_is : (known : Option FileContents) (words : GdbAsked) (broken : Broken) (why : Stop) → IsBrokenStop broken why
+pub broken_is : (known : Option FileContents) (words : GdbAsked) (cut : Broken) (why : Stop) → IsBrokenStop cut why
     → (why ≡ stop.WriteFailed) ⊎ IsGdbStop known words why
-broken_is known words broken.Unput why is = inl is
-broken_is known words broken.OutOfMemory why is = inr (inr (broken.OutOfMemory, is))
-broken_is known words (broken.Unread reason) why is = inr (inr (broken.Unread reason, is))
+broken_is known words cause.Unput why is = inl is
+broken_is known words cause.OutOfMemory why is = inr (inr (cause.OutOfMemory, is))
+broken_is known words (cause.Unread reason) why is = inr (inr (cause.Unread reason, is))
