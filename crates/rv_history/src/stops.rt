@@ -25,6 +25,11 @@ pub struct Stops {
 impl Stops {
     ghost use Rattle.rv_history.specs.Stops.{first_differing, is_break, watched_bytes};
 
+    /// Whether there are none at all.
+    pub(crate) fn are_none(&self) -> bool {
+        self.breaks.as_slice().is_empty() && self.watches.as_slice().is_empty()
+    }
+
     /// Whether an address is a breakpoint.
     pub(crate) fn has_break(&self, pc: u32) -> bool
         ensures { result ≡ is_break self.now pc }
