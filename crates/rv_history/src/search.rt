@@ -10,7 +10,7 @@ ghost use Rattle.rv_history.specs.Stops.{is_halt};
 use crate::bounds::Bounds;
 use crate::found::{Arrival, Found};
 use crate::track::Track;
-use crate::stepping::{Stepped, step_watched};
+use crate::stepping::{Stepped, step_beside, step_watched};
 use crate::stops::Stops;
 use rv_machine::{Ending, Machine};
 use std::alloc::{AllocError, Global};
@@ -37,6 +37,7 @@ pub(crate) fn next_stop(
         (λ arrival. IsNextStop stops.now leg.bounds leg.budget (start_of start.now) leg.from arrival.place arrival.found) }
 {
     let mut machine = start.machine_after(alloc, leg.from)?;
+    let mut watched = stops.watched_bytes(alloc, machine.bus())?;
     for place in leg.from..leg.budget {
         if is_halt_behind(stops, leg, &machine, place) {
             return Ok(Arrival {
@@ -44,7 +45,7 @@ pub(crate) fn next_stop(
                 found: Found::Break,
             });
         }
-        match step_watched(alloc, &mut machine, stops)? {
+        match step_beside(alloc, &mut machine, stops, &mut watched)? {
             Stepped::Ended(ending) => {
                 return Ok(Arrival {
                     place,

@@ -8,7 +8,7 @@ ghost use Rattle.rv_history.specs.Starts.{start_of};
 
 use crate::found::{Arrival, Found};
 use crate::track::Track;
-use crate::stepping::{Stepped, step_watched};
+use crate::stepping::{Stepped, step_beside, step_watched};
 use crate::stops::Stops;
 use std::alloc::{AllocError, Global};
 
@@ -34,10 +34,11 @@ pub(crate) fn stop_before(
     'legs: while behind > 0 {
         let begin = start.place_before(behind - 1);
         let mut machine = start.machine_after(alloc, begin)?;
+        let mut watched = stops.watched_bytes(alloc, machine.bus())?;
         let mut last = None;
         for place in begin..behind {
             let is_break = stops.has_break(machine.pc());
-            let stepped = step_watched(alloc, &mut machine, stops)?;
+            let stepped = step_beside(alloc, &mut machine, stops, &mut watched)?;
             match stepped {
                 Stepped::Changed => last = Some(last_behind(none, place, is_break, stepped)),
                 Stepped::Quiet | Stepped::Ended(_) => {

@@ -49,6 +49,22 @@ impl Stops {
         Ok(bytes)
     }
 
+    /// Whether the watched bytes that stand in regions are these.
+    pub(crate) fn stand_as(&self, bus: &Bus, bytes: &[u8]) -> bool {
+        let mut rest = bytes;
+        for watch in self.watches.as_slice() {
+            for offset in 0..watch.count {
+                if let Some(byte) = bus.byte(watch.address + offset) {
+                    match rest.split_first() {
+                        Some((first, others)) if *first == byte => rest = others,
+                        _ => return false,
+                    }
+                }
+            }
+        }
+        true
+    }
+
     /// The address of the first watch whose bytes differ between two buses.
     #[tactic(auto, using(crate::proofs::Differing::differing_at), unfolding(crate::specs::Stops::first_differing))]
     pub(crate) fn differing_watch(
