@@ -1,24 +1,20 @@
 #!/bin/bash
 while true; do
-  for p in $(pgrep -f "bin/rattle |/program"); do
+  for p in $(pgrep -f "bin/rattle |/program|valgrind"); do
     d=$(readlink /proc/$p/cwd 2>/dev/null) || continue
     case "$d" in
-      /work/w/gate*) n=2;;
-      /tmp/rt-edits-*|/tmp/rt-edit-*) n=$(cat /work/notes/nice.edit 2>/dev/null || echo 14);;
-      /tmp/rt-plant-*) n=0;;
-      /work/w/plant*) n=8;;
-      /work/w/cli*) n=-6;;
-      /work/w/try-int*) n=0;;
-      /work/w/whole*) n=-3;;
-      /work/w/app*) n=4;;
-      /work/w/try-app*) n=4;;
-      /work/w/calls*|/work/w/kit*|/work/w/try-calls*) n=14;;
-      /work/w/try-gdb*) n=10;;
-      /work/w/gdb*) n=6;;
-      *) n=2;;
+      /work/w/gate/crates/rvtest*) n=-12;;
+      /work/w/gate*) n=$(cat /work/notes/nice.gate 2>/dev/null || echo 4);;
+      /tmp/rt-edits-*|/tmp/rt-edit-*) n=$(cat /work/notes/nice.edit 2>/dev/null || echo 6);;
+      /tmp/rt-plant-*) n=2;;
+      /tmp/tmp*) n=-8;;
+      /work/w/plant*) n=0;;
+      /work/w/next*|/work/w/try-next*|/work/w/land*) n=-5;;
+      /work/w/c62*|/work/w/k62*|/work/w/g61*) n=18;;
+      *) n=18;;
     esac
     c=$(ps -o ni= -p $p | tr -d ' ')
     [ "$c" != "$n" ] && renice -n $n -p $p >/dev/null 2>&1
   done
-  sleep 8
+  sleep 6
 done
