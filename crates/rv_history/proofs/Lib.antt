@@ -1,0 +1,11 @@
+mod Bytes
+mod Reaching
+mod SingleSteps
+mod Forward
+mod Backward
+mod Arriving
+mod Counting
+mod Differing
+mod Determined
+pub mod Public
+mod Printing
