@@ -6,7 +6,9 @@
 //! [`jobs_have_one_table`] whatever their order, and [`tables_of_shards_sum_to_that_of_all`].
 #![tactic(auto)]
 
+mod block;
 mod count;
+mod known;
 mod law;
 mod places;
 mod step;
