@@ -17,9 +17,10 @@ use Rattle.rv_jobs.specs.declared.kept.Kept.{Kept}
 use Rattle.rv_jobs.specs.declared.kept.Kept.TheVariants as kept
 use Rattle.rv_jobs.specs.declared_job.Job.{Job}
 use Rattle.rv_machine.specs.State.{State, at_reset, is_misaligned}
+use Rattle.rv_memory.specs.Bus.{Contents}
 use Rattle.rv_rows.specs.declared.outcome.Loadable.{Loadable}
 use Rattle.rv_rows.specs.declared_row.Refusal.{Refusal}
-use Rattle.rv_rows.specs.Outcome.{image_file_or_refusal, loadable_image, loaded_state, range_if_asked, reference_or_refusal, start_if_loadable, start_if_readable, start_of}
+use Rattle.rv_rows.specs.Outcome.{image_file_or_refusal, loadable_image, loaded_contents, loaded_state, range_if_asked, reference_or_refusal, start_if_loadable, start_if_readable, start_of}
 use Rattle.rv_rows.specs.Rows.{content_if_read, image_if_read, image_in, start_in}
 use Rattle.rv_history.specs.declared.start.Start.{Start}
 use Rattle.rv_session.specs.Sessions.{at_first}
@@ -102,15 +103,14 @@ module _ (job : Job) (s : State) where
       ap (λ (bytes : Option (List ℕ)). image_if_read job.isa bytes) (sym b.there) ∙ there in
       let read = ap (λ (r : Result Image ImageError). result_ok r) (sym b.read) ∙ found in
       let same : b.image ≡ image = cc in
-      let bus = ap (λ (t : State). t.bus) b.state in
-      b.state ∙ ap (λ (i : Image). loaded_state job b.file i) same
-      ∙ ap (λ bus. at_reset bus image.entry job.isa)
-      (sym bus ∙ refl)
+      let loaded : s ≡ loaded_state job b.file image = b.state ∙ ap (λ (i : Image). loaded_state job b.file i) same in
+      let bus : loaded_contents job b.file image ≡ s.bus = sym (ap (λ (t : State). t.bus) loaded) in
+      loaded ∙ ap (λ (held : Contents). at_reset held image.entry job.isa) bus
 
 -- an answer that is no state
 not_ok : {A E : Type 0} (r : Result A E) → ((x : A) → r ≡ Ok x → ⊥) → is_ok r ≡ false
-not_ok (Ok x) no = absurd (no x refl)
-not_ok (Err why) no = refl
+not_ok (Ok x) never = absurd (never x refl)
+not_ok (Err why) never = refl
 
 -- a job without an image has no run
 pub no_bytes : (answers : List Answer) (job : Job) → image_bytes answers job ≡ None → is_ok (start_in answers job) ≡ false
