@@ -5,6 +5,7 @@ use Rattle.rv_base.specs.Files.{FileContents}
 use Rattle.rv_cli.specs.declared.rvtest.accept.AcceptAsked.{AcceptAsked}
 use Rattle.rv_cli.specs.declared.rvtest.counts.CountsAsked.{CountsAsked}
 use Rattle.rv_cli.specs.declared.rvtest.diff.DiffAsked.{DiffAsked}
+use Rattle.rv_cli.specs.declared.rvtest.gdb.GdbAsked.{GdbAsked}
 use Rattle.rv_cli.specs.declared.rvtest.merge.MergeAsked.{MergeAsked}
 use Rattle.rv_cli.specs.declared.rvtest.requests.Asked.TheVariants as asked
 use Rattle.rv_cli.specs.declared.rvtest.run.RunAsked.{RunAsked}
@@ -13,9 +14,12 @@ use Rattle.rv_command.specs.Stops.{IsUnreadStop}
 use Rattle.rv_command.specs.Texts.{IsTextAt, optional_text}
 use Rattle.rv_command.specs.declared.stop.Stop.{Stop}
 use Rattle.rv_command.specs.declared.stop.Stop.TheVariants as stop
+use Rattle.rv_gdb.specs.declared.conversation.Broken.{Broken}
+use Rattle.rv_gdb.specs.declared.conversation.Broken.TheVariants as cause
 use Rattle.rvtest_app.specs.Accepts.{IsAcceptedAt}
-use Rattle.rvtest_app.specs.CommandStops.{IsCommandStop, IsDiffAtStop}
+use Rattle.rvtest_app.specs.CommandStops.{IsCommandStop, IsDiffAtStop, IsGdbStop}
 use Rattle.rvtest_app.specs.CountSums.{IsSumPut}
+use Rattle.rvtest_app.specs.Debugging.{IsBrokenStop}
 use Rattle.rvtest_app.specs.Merges.{IsMergedAt}
 use Rattle.rvtest_app.specs.Outlets.{is_stdout}
 use Rattle.rvtest_app.specs.Runs.{AreJobsToRun}
@@ -88,3 +92,10 @@ unshown_sum known words status before after Untouched put =
         subst (λ (b : Bool). IsUnwrittenBy b (written_path (optional_text words.out)) stop.WriteFailed) (sym out) refl,
       ),
     )))) inr
+
+-- a session that was broken off
+pub broken_is : (known : Option FileContents) (words : GdbAsked) (cut : Broken) (why : Stop) → IsBrokenStop cut why
+    → (why ≡ stop.WriteFailed) ⊎ IsGdbStop known words why
+broken_is known words cause.Unput why is = inl is
+broken_is known words cause.OutOfMemory why is = inr (inr (cause.OutOfMemory, is))
+broken_is known words (cause.Unread reason) why is = inr (inr (cause.Unread reason, is))

@@ -13,6 +13,7 @@ use Rattle.rv_cli.specs.declared.rvtest.check.CheckAsked.{CheckAsked}
 use Rattle.rv_cli.specs.declared.rvtest.console.ConsoleAsked.{ConsoleAsked}
 use Rattle.rv_cli.specs.declared.rvtest.diff.DiffAsked.{DiffAsked}
 use Rattle.rv_cli.specs.declared.rvtest.explain.ExplainAsked.{ExplainAsked}
+use Rattle.rv_cli.specs.declared.rvtest.gdb.GdbAsked.{GdbAsked}
 use Rattle.rv_cli.specs.declared.rvtest.run.RunAsked.{RunAsked}
 use Rattle.rv_cli.specs.declared.rvtest.show.ShowAsked.{ShowAsked}
 use Rattle.rv_cli.specs.declared.rvtest.requests.Asked.{Asked}
@@ -21,6 +22,7 @@ use Rattle.rv_command.specs.Stops.{IsListFaultStop, IsListUnreadStop, IsRefusal,
 use Rattle.rv_command.specs.Texts.{IsReportReadAt, IsTextAt, optional_text}
 use Rattle.rv_command.specs.declared.stop.Stop.{Stop}
 use Rattle.rv_command.specs.declared.stop.Stop.TheVariants as stop
+use Rattle.rv_gdb.specs.declared.conversation.Broken.{Broken}
 use Rattle.rv_lists.specs.JobList.{job_list_of}
 use Rattle.rv_lists.specs.declared.job.Job.{Job}
 use Rattle.rv_report.specs.declared.partial.PartialReport.{PartialReport}
@@ -28,6 +30,7 @@ use Rattle.rvtest_app.specs.AcceptStops.{IsUnacceptedStop}
 use Rattle.rvtest_app.specs.Answers.{AskForHelp}
 use Rattle.rvtest_app.specs.Commands.{failure_rule}
 use Rattle.rvtest_app.specs.CountStops.{IsCountsStop}
+use Rattle.rvtest_app.specs.Debugging.{IsBrokenStop, IsUnopenedOfStop}
 use Rattle.rvtest_app.specs.HelpTopics.{IsNoTopicStop}
 use Rattle.rvtest_app.specs.MergeStops.{IsMergeStop}
 use Rattle.rvtest_app.specs.PutStops.{IsOutputStop}
@@ -53,6 +56,15 @@ IsExplainStop known words why = IsListUnreadStop known words.list.now why
 abbrev pub IsConsoleStop : Option FileContents → ConsoleAsked → Stop → Type 0
 IsConsoleStop known words why = IsListUnreadStop known words.list.now why
     ⊎ ((text : List ℕ) × (IsTextAt known words.list.now text × IsNoJobStop words.list.now text words.name.now why))
+
+-- `gdb`: the list was not read, it has no such job, or that job is refused; or memory was wanting, or standard input was not read
+abbrev pub IsUnopenedAtStop : Option FileContents → GdbAsked → Stop → Type 0
+IsUnopenedAtStop known words why = IsListUnreadStop known words.list.now why
+    ⊎ ((text : List ℕ) × (IsTextAt known words.list.now text
+    × (IsNoJobStop words.list.now text words.name.now why ⊎ IsUnopenedOfStop known words text why)))
+
+abbrev pub IsGdbStop : Option FileContents → GdbAsked → Stop → Type 0
+IsGdbStop known words why = IsUnopenedAtStop known words why ⊎ ((broken : Broken) × IsBrokenStop broken why)
 
 -- a text is no list, or words choose no job of it
 abbrev pub IsNoChoiceStop : Option FileContents → RunAsked → List ℕ → Stop → Type 0
@@ -86,6 +98,7 @@ abbrev pub IsCommandStop : Option FileContents → Asked → Stop → Type 0
 IsCommandStop known (asked.Explain words) why = (why ≡ stop.WriteFailed) ⊎ IsExplainStop known words why
 IsCommandStop known (asked.List words) why = (why ≡ stop.WriteFailed) ⊎ IsListStop known words why
 IsCommandStop known (asked.Console words) why = (why ≡ stop.WriteFailed) ⊎ IsConsoleStop known words why
+IsCommandStop known (asked.Gdb words) why = (why ≡ stop.WriteFailed) ⊎ IsGdbStop known words why
 IsCommandStop known (asked.Check words) why = (why ≡ stop.WriteFailed) ⊎ IsCheckStop known words why
 IsCommandStop known (asked.Diff words) why = (why ≡ stop.WriteFailed) ⊎ IsDiffAtStop known words why
 IsCommandStop known (asked.Help words) why = (why ≡ stop.WriteFailed) ⊎ IsNoTopicStop words.topic.now why

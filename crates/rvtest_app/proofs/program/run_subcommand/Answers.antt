@@ -2,7 +2,7 @@ use Rattle.std.proofs.Common.{inl, refl}
 use Rattle.rvtest_app.proofs.Results.{IfOk-from, IfOk-map}
 use Rattle.rvtest_app.proofs.StopLemmas.{put_or_found, unshown_accept, unshown_merge, unshown_report, unshown_run, unshown_sum}
 use Rattle.rvtest_app.proofs.program.run_subcommand.Goals as goal
-use Rattle.rvtest_app.proofs.program.run_subcommand.Goals.{in-Explain, in-List, in-Console, in-Check, in-Accept, in-Merge, in-Diff, in-Show, in-Counts, in-Help}
+use Rattle.rvtest_app.proofs.program.run_subcommand.Goals.{in-Explain, in-List, in-Console, in-Gdb, in-Check, in-Accept, in-Merge, in-Diff, in-Show, in-Counts, in-Help}
 
 pub returns-in-Run-clause-stopped : goal.returns-in-Run-clause-stopped
 returns-in-Run-clause-stopped g c =
@@ -26,6 +26,7 @@ returns-clause-stopped g c = elim c.match-asked.branch [
       w.put_findings-answer-in-Check.ensures.stopped)
   | in-List w ↦ rw (w.answer-is, w.in-List.is) w.list_chosen_jobs-answer.ensures.stopped
   | in-Console w ↦ rw (w.answer-is, w.in-Console.is) w.put_job_console-answer.ensures.stopped
+  | in-Gdb w ↦ rw (w.answer-is, w.in-Gdb.is) w.show_job_to_gdb-answer.ensures.stopped
   | in-Accept w ↦ rw (w.answer-is, w.in-Accept.is) w.accept_runs-answer.ensures.stopped
   | in-Merge w ↦ rw (w.answer-is, w.in-Merge.is) w.merge_reports-answer.ensures.stopped
   | in-Diff w ↦
@@ -45,6 +46,7 @@ returns-clause-untouched g c = elim c.match-asked.branch [
   | in-Check w ↦ rw (w.answer-is, w.in-Check.is) (IfOk-from w.put_findings-answer-in-Check.result _ (inl (inl refl)))
   | in-List w ↦ rw (w.answer-is, w.in-List.is) (IfOk-from w.list_chosen_jobs-answer.result _ (inl (inl refl)))
   | in-Console w ↦ rw (w.answer-is, w.in-Console.is) (IfOk-from w.put_job_console-answer.result _ (inl (inl refl)))
+  | in-Gdb w ↦ rw (w.answer-is, w.in-Gdb.is) (IfOk-from w.show_job_to_gdb-answer.result _ (inl (inl refl)))
   | in-Accept w ↦
       rw (w.answer-is, w.in-Accept.is)
       (IfOk-map w.accept_runs-answer.result _ _ (λ status done. inl (unshown_accept _ _ status _ _ done))
