@@ -85,7 +85,7 @@ fn check(alloc: Global, row: &str) -> Result<(), Fail> {
 
 #[test]
 fn runs_are_counted(rt: HostRuntime) -> Result<(), Fail> {
-    has_lines(RUNS, 20)?;
+    has_lines(RUNS, 23)?;
     for row in RUNS.lines() {
         check(rt.alloc(), row)?;
     }
