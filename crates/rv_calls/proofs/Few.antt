@@ -7,7 +7,7 @@ use Rattle.rv_machine.specs.State.{State}
 use Rattle.rv_calls.specs.declared.frames.Frame.{Frame}
 use Rattle.rv_calls.specs.declared.transfer.Transfer.{Transfer}
 use Rattle.rv_calls.specs.Calls.{transfers_from, after_transfers, frames_of_run}
-use Rattle.rv_calls.specs.Stack.{most_frames, pushes_frame, is_pushed, frame_of, popped, pushed, depth_left, after_transfer}
+use Rattle.rv_calls.specs.Stack.{most_frames, pushes_frame, is_pushed, frame_of, popped, depth_left, after_transfer}
 
 second_holds : (a b : Bool) → (a && b) ≡ true → b ≡ true
 second_holds true b h = h

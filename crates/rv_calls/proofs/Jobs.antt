@@ -1,5 +1,5 @@
 -- The calls of a job.
-use Rattle.std.proofs.Common.{◌≡◌, ◌∙◌, ℕ, Option, Some, None, Result, Ok, Err, option_map, sym, ap}
+use Rattle.std.proofs.Common.{◌≡◌, ◌∙◌, ℕ, Some, None, Result, Ok, Err, option_map, sym, ap}
 use Rattle.std.specs.Result.{result_ok}
 use Rattle.rv_jobs.specs.Plans.{Planned}
 use Rattle.rv_jobs.specs.declared_job.Job.{Job}

@@ -1,5 +1,5 @@
 -- What leads the line, its places, and its end.
-use Rattle.std.proofs.Common.{◌≡◌, ◌∙◌, ◌++◌, codes}
+use Rattle.std.proofs.Common.{◌∙◌, ◌++◌, codes}
 use Rattle.rv_calls.specs.CallsLine.{calls_line, places_text}
 use Rattle.rv_calls.proofs.Told.{ended_line}
 use Rattle.rv_calls.proofs.calls_line.push_calls_line.Goals as goal
