@@ -11,8 +11,8 @@ returns-in-Some-clause-opened g c =
       over = λ d. rw c.in-Some.is at (c.in_ok-session.ensures d);
     }
 
-pub returns-in-None-clause-stopped : goal.returns-in-None-clause-stopped
-returns-in-None-clause-stopped g c =
+pub returns-clause-stopped : goal.returns-clause-stopped
+returns-clause-stopped g c =
     let gathered = c.in_ok-plan.ensures in
     inr (record {
       plan = c.in_ok-plan.plan;
