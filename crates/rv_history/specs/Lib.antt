@@ -5,5 +5,6 @@ pub mod LastStop
 pub mod Places
 pub mod Moves
 pub mod Counts
-pub mod Inside
+pub mod Stands
+pub mod StandInside
 pub mod Printing

@@ -28,8 +28,9 @@ pub struct History {
 impl Model for History {
     ghost use Rattle.std.specs.Prelude.{◌≤◌};
     ghost use Rattle.rv_machine.specs.Machine.{state_of};
-    ghost use Rattle.rv_history.specs.Inside.{Stand, stand_code};
     ghost use Rattle.rv_history.specs.Places.{IsReached};
+    ghost use Rattle.rv_history.specs.StandInside.{stand_code};
+    ghost use Rattle.rv_history.specs.Stands.{Stand};
     ghost use Rattle.rv_history.specs.Starts.{start_of};
 
     ghost Value = { Stand };
