@@ -1,9 +1,10 @@
 -- What `gdb` answers gdb, of a job.
-use Rattle.std.specs.Prelude.{◌≡◌, ◌⊎◌, ℕ, List, [], ◌∷◌, Option, Ok, codes, false, is_ok, slice_index_or}
+use Rattle.std.specs.Prelude.{◌≡◌, ◌⊎◌, ℕ, Bool, List, [], ◌∷◌, Option, Ok, codes, false, is_ok, slice_index_or}
 use Rattle.std.specs.Io.KnownBytes.{Consumes}
 use Rattle.std.specs.declared.io.ErrorKind.{ErrorKind}
 use Rattle.rv_base.specs.Files.{FileContents}
 use Rattle.rv_cli.specs.declared.rvtest.gdb.GdbAsked.{GdbAsked}
+use Rattle.rv_command.specs.Messages.{path_message}
 use Rattle.rv_command.specs.Stops.{IsStop, IsSystemStop}
 use Rattle.rv_command.specs.Texts.{IsTextAt, optional_text}
 use Rattle.rv_command.specs.declared.stop.Stop.{Stop}
@@ -52,9 +53,10 @@ pub record IsOpenedAt (known : Option FileContents) (words : GdbAsked) (session 
   pub of_list : IsOpenedOf known words bytes session
 
 -- bytes of standard input were read, up to the end of the session or of the bytes, and what the session answers to them went to
--- standard output, and nothing else did
-pub record IsGdbAnswered (known : Option FileContents) (words : GdbAsked) (input rest : Option (List ℕ)) (status : ℕ)
-    (before after : Said) : Type 0 where
+-- standard output, which is no terminal, and nothing else did
+pub record IsGdbAnswered (known : Option FileContents) (is_terminal : Bool) (words : GdbAsked) (input rest : Option (List ℕ))
+    (status : ℕ) (before after : Said) : Type 0 where
+  pub spoken : is_terminal ≡ false
   pub first : Session
   pub opened : IsOpenedAt known words first
   pub heard : List ℕ
@@ -67,6 +69,11 @@ pub record IsGdbAnswered (known : Option FileContents) (words : GdbAsked) (input
   pub done : status ≡ 0
 
 -- ---- why it is stopped
+
+-- a terminal stands in gdb's place: it is said how gdb starts the command
+abbrev pub IsNoGdbStop : Stop → Type 0
+IsNoGdbStop why = IsStop 2 (path_message (codes "standard output")
+    (codes "it is a terminal, not gdb; run gdb-multiarch -ex 'target remote | rvtest gdb LIST NAME'")) why
 
 -- a job is refused, as its line says
 pub record IsRefusedJobStop (known : Option FileContents) (jobs : List Job) (place : ℕ) (why : Stop) : Type 0 where

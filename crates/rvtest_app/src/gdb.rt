@@ -11,14 +11,15 @@ ghost use Rattle.rv_gdb.specs.JobSessions.{IsSessionOf};
 ghost use Rattle.rv_job_text.specs.Telling.{row_line};
 ghost use Rattle.rv_rows.specs.Rows.{row_of, start_in};
 ghost use Rattle.rvtest_app.specs.CommandStops.{IsGdbStop, IsNoJobStop, IsUnopenedAtStop};
-ghost use Rattle.rvtest_app.specs.Debugging.{IsBrokenStop, IsGdbAnswered, IsJobOpened, IsOpenedAt, IsOpenedOf, IsUnopenedOfStop, IsUnopenedStop};
+ghost use Rattle.rvtest_app.specs.Debugging.{IsBrokenStop, IsGdbAnswered, IsJobOpened, IsNoGdbStop, IsOpenedAt, IsOpenedOf, IsUnopenedOfStop, IsUnopenedStop};
 ghost use Rattle.rvtest_app.specs.Said.{said};
 
 use crate::destinations::Destinations;
+use crate::host::Host;
 use crate::named_job::{NamedJob, find_named_job};
 use rv_base::Bytes;
 use rv_cli::rvtest::GdbAsked;
-use rv_command::{DONE, Stop, file_error_stop, read_list_text};
+use rv_command::{DONE, Stop, file_error_stop, path_message, read_list_text};
 use rv_expect::{Judge, Rule};
 use rv_files::{FileError, Inputs, NotingStore, Outputs, Unread};
 use rv_gdb::{Broken, converse, session_at};
@@ -31,31 +32,45 @@ use std::io::Read;
 use std::path::Path;
 
 /// Shows the run of the job of a name to gdb, whose bytes the reader has, and puts the replies to standard output, until gdb ends the
-/// session or sends no more. The status is 0.
+/// session or sends no more. The status is 0. Where standard output is a terminal nobody there would understand them.
 pub(crate) fn show_job_to_gdb<
+    R,
     D: Inputs,
     I: Read,
     F: Outputs + Drop,
     O: Sink + Drop,
     E: Sink + Drop,
 >(
-    inputs: &D,
-    alloc: Global,
+    host: &Host<'_, R, D>,
     asked: GdbAsked<'_>,
+    is_terminal: bool,
     input: &mut I,
     to: &mut Destinations<F, O, E>,
 ) -> Result<u8, Stop>
-    ensures answered { IfOk result (λ status. IsGdbAnswered (D.contents inputs.now) asked.entry
+    ensures answered { IfOk result (λ status. IsGdbAnswered (D.contents host.now.inputs.now) is_terminal asked.entry
         (I.remaining input.old) (I.remaining input.new) status
         (said F.placed O.taken E.taken E.failed to.old) (said F.placed O.taken E.taken E.failed to.new)) }
     ensures done { IfOk result (λ status. status ≡ 0) }
-    ensures stopped { IfErr result (λ why. (why ≡ Stop.WriteFailed) ⊎ IsGdbStop (D.contents inputs.now) asked.entry why) }
+    ensures stopped { IfErr result (IsGdbStop (D.contents host.now.inputs.now) is_terminal asked.entry) }
 {
-    let mut session = session_of_named_job(inputs, alloc, asked)?;
+    let alloc = host.alloc;
+    if is_terminal {
+        return Err(no_gdb_stop(alloc));
+    }
+    let mut session = session_of_named_job(host.inputs, alloc, asked)?;
     match converse(alloc, &mut session, input, &mut to.out) {
         Ok(()) => Ok(DONE),
         Err(broken) => Err(broken_stop(alloc, broken)),
     }
+}
+
+// It is said how gdb starts the command.
+fn no_gdb_stop(alloc: Global) -> Stop
+    ensures { IsNoGdbStop result }
+{
+    let how =
+        "it is a terminal, not gdb; run gdb-multiarch -ex 'target remote | rvtest gdb LIST NAME'";
+    Stop::of_refusal(path_message(alloc, "standard output", how))
 }
 
 // Why the session with gdb was broken off.

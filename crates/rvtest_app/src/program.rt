@@ -62,15 +62,16 @@ where
     F::File: Send,
     ensures low { O.closed result.0.out ≡ false → result.1 ≤ 3 }
     // A status of 0 or 1 says that all went out, to standard output in the colours that are asked for.
-    ensures answered { result.1 ≤ 1 → IsAnswered (D.contents host.now.inputs.now) (I.remaining input.old) (map T.text words.entry.now)
-        terminals.is_out_colored result.1
+    ensures answered { result.1 ≤ 1 → IsAnswered (D.contents host.now.inputs.now) (I.remaining input.old)
+        terminals.is_out_terminal terminals.is_out_colored (map T.text words.entry.now) result.1
         (said F.placed O.taken E.taken E.failed to) (said F.placed O.taken E.taken E.failed result.0) }
     // Any other status says that the command ended before its work was done, and that this was told last; but a reader that closed
     // standard output is told nothing.
-    ensures ended { IsAnswered (D.contents host.now.inputs.now) (I.remaining input.old) (map T.text words.entry.now)
-        terminals.is_out_colored result.1
+    ensures ended { IsAnswered (D.contents host.now.inputs.now) (I.remaining input.old)
+        terminals.is_out_terminal terminals.is_out_colored (map T.text words.entry.now) result.1
         (said F.placed O.taken E.taken E.failed to) (said F.placed O.taken E.taken E.failed result.0)
-        ⊎ IsStopTold (O.closed result.0.out) (IsStopFor (D.contents host.now.inputs.now) (map T.text words.entry.now))
+        ⊎ IsStopTold (O.closed result.0.out)
+        (IsStopFor (D.contents host.now.inputs.now) terminals.is_out_terminal (map T.text words.entry.now))
         result.1 (said F.placed O.taken E.taken E.failed result.0) }
 {
     let (mut to, answer) = answer_words(host, words, to, terminals, input);
@@ -105,9 +106,10 @@ where
     F::File: Send,
     ensures low { IfOk result.1 (λ status. status ≤ 2) }
     ensures answered { IfOk result.1 (λ status. IsAnswered (D.contents host.now.inputs.now) (I.remaining input.old)
-        (map T.text words.entry.now) terminals.is_out_colored status
+        terminals.is_out_terminal terminals.is_out_colored (map T.text words.entry.now) status
         (said F.placed O.taken E.taken E.failed to) (said F.placed O.taken E.taken E.failed result.0)) }
-    ensures stopped { IfErr result.1 (IsStopFor (D.contents host.now.inputs.now) (map T.text words.entry.now)) }
+    ensures stopped { IfErr result.1 (IsStopFor (D.contents host.now.inputs.now) terminals.is_out_terminal
+        (map T.text words.entry.now)) }
 {
     match read_words(host.alloc, words) {
         Ok(Some(asked)) => {
@@ -144,10 +146,10 @@ where
     requires colors { asked_colors asked terminals.is_out_colored ≡ J.colors }
     requires before { O.taken to.out ≡ J.before }
     ensures low { IfOk result.1 (λ status. status ≤ 2) }
-    ensures done { IfOk result.1 (λ status. IsDoneInColors (D.contents host.now.inputs.now) (I.remaining input.old) asked.entry
-        terminals.is_out_colored status
+    ensures done { IfOk result.1 (λ status. IsDoneInColors (D.contents host.now.inputs.now) (I.remaining input.old)
+        terminals.is_out_terminal terminals.is_out_colored asked.entry status
         (said F.placed O.taken E.taken E.failed to) (said F.placed O.taken E.taken E.failed result.0)) }
-    ensures stopped { IfErr result.1 (IsCommandStop (D.contents host.now.inputs.now) asked.entry) }
+    ensures stopped { IfErr result.1 (IsCommandStop (D.contents host.now.inputs.now) terminals.is_out_terminal asked.entry) }
     // Whatever comes of it, standard output took results in their colours, and behind them at most the first bytes of a mark.
     ensures shown { (plain : Option (List ℕ)) × IsOutInPart (asked_colors asked.entry terminals.is_out_colored)
         (O.taken to.out) plain (O.taken result.0.out) }
@@ -194,12 +196,14 @@ fn run_subcommand<
 where
     F::File: Send,
     ensures low { IfOk result.1 (λ status. status ≤ 2) }
-    ensures done { IfOk result.1 (λ status. IsDone (D.contents host.now.inputs.now) (I.remaining input.old) asked.entry status
+    ensures done { IfOk result.1 (λ status. IsDone (D.contents host.now.inputs.now) (I.remaining input.old)
+        terminals.is_out_terminal asked.entry status
         (said F.placed O.taken E.taken E.failed to) (said F.placed O.taken E.taken E.failed result.0)) }
     // A command that could not have been stopped by a failed put put nothing.
-    ensures untouched { IfOk result.1 (λ _. IsCommandStop (D.contents host.now.inputs.now) asked.entry Stop.WriteFailed
+    ensures untouched { IfOk result.1 (λ _.
+        IsCommandStop (D.contents host.now.inputs.now) terminals.is_out_terminal asked.entry Stop.WriteFailed
         ⊎ (result.0.out ≡ to.out)) }
-    ensures stopped { IfErr result.1 (IsCommandStop (D.contents host.now.inputs.now) asked.entry) }
+    ensures stopped { IfErr result.1 (IsCommandStop (D.contents host.now.inputs.now) terminals.is_out_terminal asked.entry) }
 {
     let (inputs, alloc) = (host.inputs, host.alloc);
     let mut to = to;
@@ -210,7 +214,9 @@ where
         }
         Asked::List(asked) => list_chosen_jobs(inputs, alloc, &asked, &mut to),
         Asked::Console(asked) => put_job_console(inputs, alloc, asked, &mut to),
-        Asked::Gdb(asked) => show_job_to_gdb(inputs, alloc, asked, input, &mut to),
+        Asked::Gdb(asked) => {
+            show_job_to_gdb(host, asked, terminals.is_out_terminal, input, &mut to)
+        }
         Asked::Check(asked) => put_findings(&mut to.out, check_list(inputs, alloc, asked)),
         Asked::Accept(asked) => accept_runs(host, &asked, &mut to),
         Asked::Merge(asked) => merge_reports(inputs, alloc, &asked, &mut to),
