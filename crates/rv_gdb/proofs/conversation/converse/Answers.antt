@@ -13,6 +13,8 @@ returns-then-not-branch-clause-heard g c =
     c.loop.invariant.0 c.in_ok-answer_chunk.ensures.heard
 
 pub loop-preserved : goal.loop-preserved
-loop-preserved g c =
-    (heard_both _ c.loop.session _ _ (g.I.Read.remaining c.loop.input) _ _ (g.O.Sink.taken c.loop.out) _ c.cuts_are_not_seen.ensures
-    c.loop.invariant.0 c.in_ok-answer_chunk.ensures.heard, c.in_ok-answer_chunk.ensures.counted ∙ c.loop.invariant.1)
+loop-preserved g c = (
+  heard_both _ c.loop.session _ _ (g.I.Read.remaining c.loop.input) _ _ (g.O.Sink.taken c.loop.out) _ c.cuts_are_not_seen.ensures
+      c.loop.invariant.0 c.in_ok-answer_chunk.ensures.heard,
+  c.in_ok-answer_chunk.ensures.counted ∙ c.loop.invariant.1,
+)
