@@ -1,5 +1,5 @@
 -- The children of a spot: what stands in front of one, and one more among them.
-use Rattle.std.proofs.Common.{◌≡◌, ◌∙◌, ◌==◌, ◌+◌, ◌<◌, ◌≤◌, ◌&&◌, ◌||◌, ◌⊎◌, ℕ, suc, Bool, true, false, cond, List, [], ◌∷◌, ◌++◌, length, take, drop, get_or, refl, sym, ap, subst, arith, inl, inr, length-append, append_assoc, take-add, drop-drop}
+use Rattle.std.proofs.Common.{◌≡◌, ◌∙◌, ◌==◌, ◌+◌, ◌<◌, ◌≤◌, ◌&&◌, ◌⊎◌, ℕ, suc, Bool, true, false, cond, List, [], ◌∷◌, ◌++◌, length, take, drop, get_or, refl, sym, ap, subst, arith, inl, inr, length-append, append_assoc, take-add, drop-drop}
 use Rattle.std.proofs.lemmas.Bool.{false≢true, and_parts, cases_Bool, cases_lt, or_cases, or_parts}
 use Rattle.std.proofs.lemmas.List.{take-take, take-append-drop, take-append-le, take_all, take_at, length-take-le, length-drop, get_or_append_left, get_or-take}
 use Rattle.std.proofs.lemmas.List.Sums.{prefix_len-le-length}

@@ -3,7 +3,7 @@ use Rattle.std.proofs.Common.{◌≡◌, ◌∙◌, ◌==◌, ◌+◌, ◌<◌, 
 use Rattle.std.proofs.lemmas.List.{set_split}
 use Rattle.std.specs.Str.{bytes_eq}
 use Rattle.rv_spots.specs.declared.spot.Spot.{Spot}
-use Rattle.rv_spots.specs.Trees.{path_behind, last_path, path_of_first, arrivals_of, steps_of, counted_behind, counted_in_all, ends_with, once_if, own_in, steps_if, ArrivesOnce, HasArrivals, StepsOnce, KeepsPaths, StandsBehind, StandBehind}
+use Rattle.rv_spots.specs.Trees.{path_behind, last_path, path_of_first, arrivals_of, steps_of, counted_behind, counted_in_all, ends_with, once_if, steps_if, ArrivesOnce, HasArrivals, StepsOnce, KeepsPaths, StandsBehind, StandBehind}
 use Rattle.rv_spots.proofs.Parts.{path_with, some_of_parts}
 
 -- ---- a spot in place of another of the same depth and function

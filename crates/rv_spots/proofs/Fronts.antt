@@ -4,7 +4,7 @@ use Rattle.std.proofs.lemmas.List.{take-take, take-append-le, length-take-le, ge
 use Rattle.std.proofs.Math.Seq.{get_or-append_seam}
 use Rattle.std.specs.Str.{bytes_eq}
 use Rattle.rv_spots.specs.declared.spot.Spot.{Spot}
-use Rattle.rv_spots.specs.Trees.{counted_behind, path_behind, StandsBehind, StandBehind}
+use Rattle.rv_spots.specs.Trees.{counted_behind, StandsBehind, StandBehind}
 
 -- the first of the rest stands behind the one path as behind the other
 abbrev pub StandsAlike : List ℕ → List ℕ → List Spot → Type 0

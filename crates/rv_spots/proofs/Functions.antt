@@ -1,11 +1,11 @@
 -- Each function of spots once, and the sum of their steps.
-use Rattle.std.proofs.Common.{◌≡◌, ◌∙◌, ◌==◌, ◌+◌, ◌<◌, ◌≤◌, ◌||◌, ℕ, zero, suc, Bool, true, false, cond, List, [], ◌∷◌, ◌++◌, length, take, get_or, refl, sym, ap, subst, arith, inl, inr}
+use Rattle.std.proofs.Common.{◌≡◌, ◌∙◌, ◌==◌, ◌+◌, ◌<◌, ◌||◌, ℕ, zero, suc, Bool, true, false, cond, List, [], ◌∷◌, ◌++◌, length, take, get_or, refl, sym, ap, subst, arith, inl, inr}
 use Rattle.std.proofs.lemmas.Bool.{false≢true, or_cases, or_parts}
 use Rattle.std.proofs.lemmas.List.{take_more}
-use Rattle.std.specs.List.{list_any, AllByRecursion}
+use Rattle.std.specs.List.{AllByRecursion}
 use Rattle.rv_spots.specs.declared.spot.Spot.{Spot}
 use Rattle.rv_spots.specs.Profiles.{has_function, is_last_of_some, own_of_all, times, with_function, AreFunctionsOf}
-use Rattle.rv_spots.specs.Trees.{all_steps, counted_in_all, once_if, own_in, steps_if}
+use Rattle.rv_spots.specs.Trees.{all_steps, once_if, steps_if}
 use Rattle.rv_spots.proofs.Tests.{equal_by, equal_test, turned}
 
 -- ---- the sum

@@ -1,6 +1,6 @@
 -- Two trees, merged from the front.
-use Rattle.std.proofs.Common.{◌≡◌, ◌∙◌, ◌==◌, ◌+◌, ◌^◌, ◌<◌, ◌≤◌, ◌&&◌, ◌||◌, ◌⊎◌, ℕ, Bool, true, false, cond, List, [], ◌∷◌, ◌++◌, length, take, drop, refl, sym, ap, subst, arith, inl, inr, append-nil, take-add, drop-drop}
-use Rattle.std.proofs.lemmas.Bool.{false≢true, and_parts, cases_Bool, cases_lt, or_cases, or_parts}
+use Rattle.std.proofs.Common.{◌≡◌, ◌∙◌, ◌==◌, ◌+◌, ◌<◌, ◌≤◌, ◌&&◌, ◌⊎◌, ℕ, Bool, true, false, cond, List, [], ◌∷◌, ◌++◌, length, take, drop, refl, sym, ap, subst, arith, inl, inr, append-nil, take-add, drop-drop}
+use Rattle.std.proofs.lemmas.Bool.{false≢true, and_parts, cases_Bool, or_cases, or_parts}
 use Rattle.std.proofs.lemmas.List.{take_all, take-append-drop}
 use Rattle.std.proofs.lemmas.Slice.Eq.{bytes_eq-Decides}
 use Rattle.std.specs.Prelude.{nat_lt}
@@ -13,7 +13,7 @@ use Rattle.rv_spots.specs.Sums.{both_of, goes_first, next_of, next_of_both, of_f
 use Rattle.rv_spots.specs.Trees.{path_behind, last_path, arrivals_of, steps_of, counted_behind, IsTree, StandsBehind, StandBehind}
 use Rattle.rv_spots.proofs.Fronts.{StandsAlike, behind_other}
 use Rattle.rv_spots.proofs.Tests.{equal_by, equal_test, less_by, not_less_by}
-use Rattle.rv_spots.proofs.Parts.{last_parts, counted_parts, stand_parts, stand_of_parts}
+use Rattle.rv_spots.proofs.Parts.{last_parts, counted_parts, stand_of_parts}
 
 -- so much of both is added: the spots in front of a rest are xs and ys
 pub record SoFar (xs ms ys bs sums : List Spot) : Type 0 where

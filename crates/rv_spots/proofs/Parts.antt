@@ -1,9 +1,8 @@
 -- Spots in two parts.
 use Rattle.std.proofs.Common.{◌≡◌, ◌∙◌, ◌+◌, ◌<◌, ◌≤◌, ℕ, suc, List, [], ◌∷◌, ◌++◌, length, take, drop, get_or, refl, sym, ap, subst, arith, length-append, take-suc, append_assoc}
-use Rattle.std.proofs.lemmas.List.{drop_at, take_at, take-take, take-append-drop, length-take-le}
-use Rattle.std.specs.Str.{bytes_eq}
+use Rattle.std.proofs.lemmas.List.{drop_at, take_at, take-take, length-take-le}
 use Rattle.rv_spots.specs.declared.spot.Spot.{Spot}
-use Rattle.rv_spots.specs.Trees.{path_behind, last_path, path_of_first, counted_behind, counted_in_all, HasArrivals, StandsBehind, StandBehind}
+use Rattle.rv_spots.specs.Trees.{path_behind, last_path, path_of_first, counted_behind, counted_in_all, HasArrivals, StandBehind}
 
 pub last_parts : (front : List ℕ) (xs ys : List Spot) → last_path front (xs ++ ys) ≡ last_path (last_path front xs) ys
 last_parts front [] ys = refl

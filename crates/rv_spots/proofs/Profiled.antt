@@ -1,15 +1,13 @@
 -- Where a function stands first, from spot to spot.
 use Rattle.std.proofs.Common.{◌≡◌, ◌∙◌, ◌==◌, ◌+◌, ◌<◌, ◌≤◌, ◌||◌, ℕ, zero, suc, Bool, true, false, cond, List, [], ◌∷◌, ◌++◌, length, take, drop, get_or, Option, Some, None, is_some, refl, sym, ap, subst, arith, inl, inr, length-append}
-use Rattle.std.proofs.lemmas.Bool.{cases_Bool, cases_lt, or_parts}
+use Rattle.std.proofs.lemmas.Bool.{cases_lt, or_parts}
 use Rattle.std.proofs.lemmas.List.{drop_more, take_more, take-append-drop, take-take, take-append-le, take_at, length-take-le, get_or_append_left, get_or-take}
 use Rattle.std.proofs.Math.Seq.{get_or-append_seam}
-use Rattle.std.specs.Prelude.{nat_lt}
-use Rattle.std.specs.List.{list_any}
 use Rattle.rv_spots.specs.declared.spot.Spot.{Spot}
 use Rattle.rv_spots.specs.Profiles.{has_function, inclusive_behind, kept_depth, outermost_behind}
-use Rattle.rv_spots.specs.Trees.{all_steps, counted_in_all, last_path, path_behind, path_of_first, own_in, steps_if, steps_of, IsTree, StandBehind, StandsBehind}
+use Rattle.rv_spots.specs.Trees.{all_steps, counted_in_all, last_path, path_behind, path_of_first, steps_if, steps_of, IsTree, StandsBehind}
 use Rattle.rv_spots.proofs.Tests.{equal_by, equal_test, less_test, not_less_test}
-use Rattle.rv_spots.proofs.Parts.{last_parts, path_with, stand_parts, sum_parts}
+use Rattle.rv_spots.proofs.Parts.{path_with, stand_parts, sum_parts}
 
 -- ---- which lists have a function
 
@@ -186,3 +184,13 @@ pub outermost_next : (f : ℕ) (spots : List Spot) (k : ℕ) (d : Spot) (o : Opt
 outermost_next f spots k d o tree within h =
     subst (λ (path : List ℕ). IsOutermost f path (outermost_behind o (get_or spots k d) f)) (sym (path_with spots k d within))
     (next_outermost f (path_of_first k spots) (get_or spots k d) o (stands_there spots k d tree within) h)
+
+-- as the code finds it: where the function stands first, whether it does, and what is added for that
+pub inclusive_step : (f : ℕ) (spots : List Spot) (k : ℕ) (d : Spot) (o next : Option ℕ) (there : Bool) (more : ℕ) → IsTree spots
+    → k < length spots → IsOutermost f (path_of_first k spots) o → next ≡ outermost_behind o (get_or spots k d) f
+    → there ≡ is_some next → more ≡ steps_if there (get_or spots k d).steps
+    → inclusive_behind f [] (take (k + 1) spots) ≡ inclusive_behind f [] (take k spots) + more
+inclusive_step f spots k d o next there more tree within h next_is there_is more_is =
+    inclusive_next f spots k d (outermost_behind o (get_or spots k d) f) within (outermost_next f spots k d o tree within h)
+    ∙ ap (λ (n : ℕ). inclusive_behind f [] (take k spots) + n)
+    (sym (more_is ∙ ap (λ (b : Bool). steps_if b (get_or spots k d).steps) (there_is ∙ ap (λ (x : Option ℕ). is_some x) next_is)))

@@ -1,10 +1,10 @@
 -- The places of the spots on the way to one.
-use Rattle.std.proofs.Common.{◌≡◌, ◌∙◌, ◌+◌, ◌<◌, ◌≤◌, ◌⊎◌, ℕ, suc, List, [], ◌∷◌, ◌++◌, length, take, get_or, refl, sym, ap, subst, arith, inl, inr, length-append}
+use Rattle.std.proofs.Common.{◌≡◌, ◌∙◌, ◌+◌, ◌<◌, ◌≤◌, ℕ, List, [], ◌∷◌, ◌++◌, length, take, get_or, refl, sym, ap, arith, inl, inr, length-append}
 use Rattle.std.proofs.lemmas.Bool.{cases_lt}
 use Rattle.std.proofs.lemmas.List.{take-take, take-append-le, take_all, length-take-le, get_or_append_left, get_or-take}
 use Rattle.std.proofs.Math.Seq.{get_or-append_seam}
 use Rattle.rv_spots.specs.declared.spot.Spot.{Spot}
-use Rattle.rv_spots.specs.Trees.{path_of_first, HasChild, KeepsPaths, IsTree}
+use Rattle.rv_spots.specs.Trees.{path_of_first, HasChild, KeepsPaths}
 use Rattle.rv_spots.specs.Walks.{IsTrail}
 use Rattle.rv_spots.proofs.Parts.{same_first}
 

@@ -1,7 +1,7 @@
 -- Functions that are known.
-use Rattle.std.proofs.Common.{◌≡◌, ◌∙◌, ◌<◌, ◌≤◌, ℕ, List, length, get_or, replicate, set, refl, sym, ap, subst, arith, inl, inr, length-set, length-replicate}
+use Rattle.std.proofs.Common.{◌≡◌, ◌∙◌, ◌<◌, ℕ, List, length, get_or, replicate, set, sym, ap, subst, arith, inl, inr, length-set, length-replicate}
 use Rattle.std.proofs.lemmas.Bool.{cases_eq}
-use Rattle.std.proofs.lemmas.List.{get_or_default, get_or-replicate, get_or-set_other, get_or-set_same}
+use Rattle.std.proofs.lemmas.List.{get_or-replicate, get_or-set_other, get_or-set_same}
 use Rattle.rv_stacks.specs.declared.functions.Known.{Known}
 use Rattle.rv_stacks.specs.StackSteps.{AreKnown}
 

@@ -1,20 +1,19 @@
 -- The functions of a walk that goes with control.
-use Rattle.std.proofs.Common.{◌≡◌, ◌∙◌, ◌==◌, ◌+◌, ◌-◌, ◌<◌, ◌≤◌, ◌&&◌, ℕ, Bool, true, false, not, cond, List, [], ◌∷◌, ◌++◌, length, map, take, get_or, refl, sym, ap, subst, arith, inl, inr, length-append, length-map, append_assoc}
+use Rattle.std.proofs.Common.{◌≡◌, ◌∙◌, ◌==◌, ◌+◌, ◌-◌, ◌<◌, ◌≤◌, ◌&&◌, ℕ, Bool, true, false, not, cond, List, [], ◌∷◌, ◌++◌, length, map, take, get_or, sym, ap, arith, inl, inr, length-append, length-map}
 use Rattle.std.proofs.lemmas.Bool.{cases_Bool, cases_lt}
 use Rattle.std.proofs.lemmas.List.{get_or-map, get_or_append_left, get_or_past, length-take-le, map-append, take-append-le, take-map, take_all}
 use Rattle.std.proofs.Math.Seq.{get_or-append_seam}
-use Rattle.std.specs.List.{suffix_len}
 use Rattle.std.specs.Str.{bytes_eq}
 use Rattle.rv_calls.specs.declared.action.StackAction.{StackAction}
 use Rattle.rv_calls.specs.declared.action.StackAction.TheVariants as action
 use Rattle.rv_calls.specs.declared.frames.Frame.{Frame}
 use Rattle.rv_calls.specs.declared.transfer.Transfer.{Transfer}
-use Rattle.rv_calls.specs.Stack.{after_transfer, depth_after_return, depth_below, depth_left, depth_up_to_return, frame_of, is_pushed, popped, pushed}
+use Rattle.rv_calls.specs.Stack.{after_transfer, depth_below, depth_left, depth_up_to_return, frame_of, is_pushed, popped}
 use Rattle.rv_coverage.specs.Coverage.{once_if}
 use Rattle.rv_spots.specs.declared.walk.Walk.{Walk}
-use Rattle.rv_spots.specs.Trees.{all_arrivals, all_steps, arrivals_at, steps_at}
-use Rattle.rv_spots.specs.Walks.{Arrives, IsWalk}
-use Rattle.rv_stacks.specs.Stacks.{arrivals_by, back_at, calls_to, goes_on_at, jumps_to, path_at}
+use Rattle.rv_spots.specs.Trees.{all_arrivals, all_steps}
+use Rattle.rv_spots.specs.Walks.{Arrives}
+use Rattle.rv_stacks.specs.Stacks.{back_at, calls_to, goes_on_at, jumps_to, path_at}
 use Rattle.rv_stacks.specs.StackSteps.{Follows, GoesOn, IsAt}
 
 -- ---- what is left of frames

@@ -1,5 +1,5 @@
 -- One step of a run whose stacks are counted.
-use Rattle.std.proofs.Common.{◌≡◌, ◌∙◌, ◌==◌, ◌+◌, ◌<◌, ◌≤◌, ◌&&◌, ℕ, Bool, true, false, List, [], ◌∷◌, ◌++◌, length, map, Result, Ok, Err, refl, sym, ap, subst, arith, length-append}
+use Rattle.std.proofs.Common.{◌≡◌, ◌∙◌, ◌==◌, ◌+◌, ◌<◌, ◌&&◌, ℕ, Bool, true, false, List, [], ◌∷◌, ◌++◌, length, map, Result, Ok, Err, refl, sym, ap, subst, arith, length-append}
 use Rattle.std.proofs.lemmas.Bool.{false≢true}
 use Rattle.std.specs.Prelude.{is_ok}
 use Rattle.std.specs.Str.{bytes_eq}
@@ -12,7 +12,7 @@ use Rattle.rv_machine.specs.declared.ending.Ending.{Ending}
 use Rattle.rv_machine.specs.Run.{Ran, go_on, run_of, step_of}
 use Rattle.rv_machine.specs.State.{State}
 use Rattle.rv_spots.specs.declared.walk.Walk.{Walk}
-use Rattle.rv_spots.specs.Trees.{all_arrivals, all_steps, arrivals_at, ends_with, own_in, steps_at}
+use Rattle.rv_spots.specs.Trees.{all_arrivals, all_steps, ends_with, own_in, steps_at}
 use Rattle.rv_spots.specs.Walks.{Steps}
 use Rattle.rv_stacks.specs.Stacks.{arrivals_by, path_at}
 use Rattle.rv_stacks.specs.StackSteps.{CountsHere, Follows, IsAt, StacksStep}
