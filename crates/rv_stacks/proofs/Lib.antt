@@ -1,6 +1,6 @@
 pub mod Counting
 pub mod Paths
-pub mod Functions
+pub mod AddressCounts
 pub mod Steps
 pub mod Going
 pub mod Knowns

@@ -1,4 +1,4 @@
-use Rattle.rv_stacks.proofs.Functions.{own_counts}
+use Rattle.rv_stacks.proofs.AddressCounts.{own_counts}
 use Rattle.rv_stacks.proofs.law.own_steps_are_the_counts_of_addresses.Goals as goal
 
 pub returns : goal.returns
