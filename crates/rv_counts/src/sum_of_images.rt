@@ -11,8 +11,10 @@ use crate::growth::push_item;
 use crate::order::is_before;
 use crate::sum::SumError;
 use crate::sum_of_counts::sum_of_counts;
+use crate::sum_of_names::{copy_of_names, least_path, sum_of_names};
 use crate::table::{Addresses, Digest, ImageCounts, Images};
 use rv_base::Text;
+use rv_spots::{Spots, sum_of_spots};
 use std::alloc::{AllocError, Global};
 
 /// The images of both tables, each once. Takes memory for the sum alone.
@@ -118,10 +120,14 @@ fn sum_of_image(alloc: Global, a: &ImageCounts, b: &ImageCounts) -> Result<Image
     let addresses = sum_of_counts(alloc, a.addresses.as_slice(), b.addresses.as_slice())?;
     let digest = Digest::new(copy_of(alloc, a.digest.as_slice())?);
     let path = Text::copy(alloc, least_path(a.path.as_str(), b.path.as_str()))?;
+    let functions = sum_of_names(alloc, a.functions.as_slice(), b.functions.as_slice())?;
+    let spots = sum_of_spots(alloc, a.spots.as_slice(), b.spots.as_slice())?;
     Ok(ImageCounts {
         digest,
         path,
         addresses,
+        functions,
+        spots,
     })
 }
 
@@ -131,10 +137,14 @@ fn copy_of_image(alloc: Global, image: &ImageCounts) -> Result<ImageCounts, Allo
     let digest = Digest::new(copy_of(alloc, image.digest.as_slice())?);
     let path = Text::copy(alloc, image.path.as_str())?;
     let addresses = Addresses::new(copy_of(alloc, image.addresses.as_slice())?);
+    let functions = copy_of_names(alloc, image.functions.as_slice())?;
+    let spots = Spots::new(copy_of(alloc, image.spots.as_slice())?);
     Ok(ImageCounts {
         digest,
         path,
         addresses,
+        functions,
+        spots,
     })
 }
 
@@ -144,15 +154,4 @@ fn copy_of<T: Copy>(alloc: Global, items: &[T]) -> Result<Vec<T>, AllocError>
     let mut copy = Vec::new(alloc);
     copy.extend_from_slice(items)?;
     Ok(copy)
-}
-
-// The path that comes first in the order of bytes.
-fn least_path<'a>(path: &'a str, other: &'a str) -> &'a str
-    ensures { result.now ≡ least_path path.now other.now }
-{
-    if is_before(other.as_bytes(), path.as_bytes()) {
-        other
-    } else {
-        path
-    }
 }
