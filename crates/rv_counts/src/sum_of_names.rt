@@ -4,10 +4,10 @@ ghost use Rattle.std.specs.Prelude.{◌≡◌, ◌+◌, ◌<◌, IfOk, length};
 ghost use Rattle.std.specs.List.{AllByRecursion};
 ghost use Rattle.rv_counts.specs.Sum.{IsSumOfNames};
 ghost use Rattle.rv_counts.specs.SumSteps.{IsNextName};
-ghost use Rattle.rv_counts.specs.Table.{AreNames, IsName, least_path};
+ghost use Rattle.rv_counts.specs.Table.{AreNames, IsName};
 
 use crate::growth::push_item;
-use crate::order::is_before;
+use crate::order::least_path;
 use crate::table::{FunctionName, FunctionNames};
 use rv_base::Text;
 use std::alloc::{AllocError, Global};
@@ -106,7 +106,10 @@ fn copy_of_name(alloc: Global, name: &FunctionName) -> Result<FunctionName, Allo
 }
 
 /// The same names.
-pub(crate) fn copy_of_names(alloc: Global, names: &[FunctionName]) -> Result<FunctionNames, AllocError>
+pub(crate) fn copy_of_names(
+    alloc: Global,
+    names: &[FunctionName],
+) -> Result<FunctionNames, AllocError>
     ensures { IfOk result (λ copy. copy ≡ names.now) }
 {
     let mut copies = Vec::new(alloc);
@@ -114,15 +117,4 @@ pub(crate) fn copy_of_names(alloc: Global, names: &[FunctionName]) -> Result<Fun
         push_item(&mut copies, copy_of_name(alloc, name)?)?;
     }
     Ok(FunctionNames::new(copies))
-}
-
-/// The path or name that comes first in the order of bytes.
-pub(crate) fn least_path<'a>(path: &'a str, other: &'a str) -> &'a str
-    ensures { result.now ≡ least_path path.now other.now }
-{
-    if is_before(other.as_bytes(), path.as_bytes()) {
-        other
-    } else {
-        path
-    }
 }

@@ -9,3 +9,4 @@ pub mod Profiled
 pub mod Functions
 pub mod Walked
 pub mod Unique
+pub mod Public

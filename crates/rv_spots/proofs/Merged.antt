@@ -10,16 +10,17 @@ use Rattle.rv_spots.specs.declared.sum.NextSpot.{NextSpot}
 use Rattle.rv_spots.specs.declared.sum.SpotSumError.{SpotSumError}
 use Rattle.rv_spots.specs.declared.sum.SpotSumError.TheVariants.{OutOfMemory, Count}
 use Rattle.rv_spots.specs.Sums.{both_of, goes_first, next_of, next_of_both, of_first, of_second, IsSumOfSpots, IsTooGreat, IsTooGreatHere, IsTooGreatOf}
-use Rattle.rv_spots.specs.Trees.{path_behind, last_path, arrivals_of, steps_of, counted_behind, IsTree, StandsBehind, StandBehind}
+use Rattle.rv_spots.specs.Trees.{path_behind, last_path, arrivals_of, steps_of, counted_behind, HasArrivals, IsTree, StandsBehind, StandBehind}
 use Rattle.rv_spots.proofs.Fronts.{StandsAlike, behind_other}
 use Rattle.rv_spots.proofs.Tests.{equal_by, equal_test, less_by, not_less_by}
-use Rattle.rv_spots.proofs.Parts.{last_parts, counted_parts, stand_of_parts}
+use Rattle.rv_spots.proofs.Parts.{last_parts, counted_parts, some_of_parts, some_parts, stand_of_parts}
 
 -- so much of both is added: the spots in front of a rest are xs and ys
 pub record SoFar (xs ms ys bs sums : List Spot) : Type 0 where
   pub rest_of_a : StandBehind (last_path [] xs) ms
   pub rest_of_b : StandBehind (last_path [] ys) bs
   pub tree : IsTree sums
+  pub some : HasArrivals xs → HasArrivals ys → HasArrivals sums
   pub counted : (count : Spot → ℕ) (path : List ℕ)
       → ((s t : Spot) → count (both_of s t).spot ≡ count s + count t)
       → counted_behind count path [] sums ≡ counted_behind count path [] xs + counted_behind count path [] ys
@@ -79,6 +80,8 @@ take_first xs ss ys bs sums s h ahead =
       rest_of_a = subst (λ (path : List ℕ). StandBehind path ss) (sym of_own) h.rest_of_a.1;
       rest_of_b = h.rest_of_b;
       tree = more_tree sums s h.tree h.first.1;
+      some = λ some_a some_b.
+          let parts = some_parts xs (s ∷ []) some_a in some_of_parts sums (s ∷ []) (h.some parts.0 some_b) parts.1;
       counted = λ count path adds.
           let so_far = h.counted count path adds in
           let a = more_counted count path xs s in
@@ -103,6 +106,8 @@ take_second xs ms ys ts sums t h ahead =
       rest_of_a = h.rest_of_a;
       rest_of_b = subst (λ (path : List ℕ). StandBehind path ts) (sym of_own) h.rest_of_b.1;
       tree = more_tree sums t h.tree h.second.1;
+      some = λ some_a some_b.
+          let parts = some_parts ys (t ∷ []) some_b in some_of_parts sums (t ∷ []) (h.some some_a parts.0) parts.1;
       counted = λ count path adds.
           let so_far = h.counted count path adds in
           let a = more_counted count path ys t in
@@ -158,6 +163,11 @@ take_both xs ss ys ts sums s t h deep function =
       rest_of_a = subst (λ (path : List ℕ). StandBehind path ss) (sym ends_a) h.rest_of_a.1;
       rest_of_b = subst (λ (path : List ℕ). StandBehind path ts) (sym ends_b) h.rest_of_b.1;
       tree = more_tree sums new h.tree (record { within = h.first.1.within; rising = h.first.1.rising });
+      some = λ some_a some_b.
+          let of_first = some_parts xs (s ∷ []) some_a in
+          let of_second = some_parts ys (t ∷ []) some_b in
+          let here = of_first.1.0 in
+          some_of_parts sums (new ∷ []) (h.some of_first.0 of_second.0) (omega (arith, here), tt);
       counted = λ count path adds.
           let so_far = h.counted count path adds in
           let a = more_counted count path xs s in
@@ -233,6 +243,7 @@ none_added a b tree_a tree_b = record {
   rest_of_a = tree_a;
   rest_of_b = tree_b;
   tree = tt;
+  some = λ some_a some_b. tt;
   counted = λ count path adds. refl;
   first = alike_at_first a tree_a;
   second = alike_at_first b tree_b;
@@ -260,6 +271,8 @@ all_added a b sums i j h over_a over_b =
     h.counted count path adds
     ∙ (λ k. counted_behind count path [] (take_all i a over_a k) + counted_behind count path [] (take_all j b over_b k)) in record {
       tree = h.tree;
+      some = λ some_a some_b. h.some (subst HasArrivals (sym (take_all i a over_a)) some_a)
+          (subst HasArrivals (sym (take_all j b over_b)) some_b);
       arrivals = λ path. whole arrivals_of path (λ s t. refl);
       steps = λ path. whole steps_of path (λ s t. refl);
     }

@@ -4,10 +4,11 @@ use Rattle.rv_spots.specs.declared.spot.Spot.{Spot}
 use Rattle.rv_spots.specs.declared.sum.NextSpot.{NextSpot}
 use Rattle.rv_spots.specs.declared.sum.SpotSumError.{SpotSumError}
 use Rattle.rv_spots.specs.declared.sum.SpotSumError.TheVariants.{OutOfMemory, Count}
-use Rattle.rv_spots.specs.Trees.{arrivals_at, steps_at, IsTree}
+use Rattle.rv_spots.specs.Trees.{arrivals_at, steps_at, HasArrivals, IsTree}
 
 pub record IsSumOfSpots (a b sum : List Spot) : Type 0 where
   pub tree : IsTree sum
+  pub some : HasArrivals a → HasArrivals b → HasArrivals sum
   pub arrivals : (path : List ℕ) → arrivals_at path sum ≡ arrivals_at path a + arrivals_at path b
   pub steps : (path : List ℕ) → steps_at path sum ≡ steps_at path a + steps_at path b
 

@@ -30,10 +30,9 @@ returns-clause-found c =
     let d = c.as_slice.ensures in
     let both = and_parts (length c.as_slice.result.now == 32) (is_behind (last_digest None c.args.earlier.now) c.as_slice.result.now)
     (sym c.can_follow.ensures.value ∙ c.if-not-can_follow.false) in
-    one_image (last_digest None c.args.earlier.now) text c.tail_from.result.now image c.in_ok-lines.lines
-    (length line + c.in_ok-lines.lines.length)
-    (c.tail_from.ensures ∙ ap (λ (s : List ℕ). drop (length s) text) w) (sym w ∙ same)
+    one_image (last_digest None c.args.earlier.now) text image c.in_ok-lines.lines c.in_ok-names.names c.in_ok-spots.spots
+    _ (sym w ∙ same)
     (ap (λ (s : List ℕ). length s) (sym d) ∙ eqb-true (length c.as_slice.result.now) 32 both.0)
     (ap (is_behind (last_digest None c.args.earlier.now)) (sym d) ∙ both.1)
     (subst (λ (s : List ℕ). AllByRecursion (λ b. b < 256) s) d c.can_follow.ensures.bytes) c.in_ok-image.ensures.text
-    c.in_ok-lines.ensures (ap (λ (s : List ℕ). length s + c.in_ok-lines.lines.length) w)
+    (record { addresses = ?; functions = ?; stacks = ?; end = ? })

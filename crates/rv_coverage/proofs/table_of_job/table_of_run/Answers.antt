@@ -1,5 +1,6 @@
 -- The one image can stand in a table.
-use Rattle.rv_coverage.proofs.OfJobs.{one_image_is_table}
+use Rattle.std.proofs.Common.{[]}
+use Rattle.rv_coverage.proofs.OfJobs.{no_names, no_spots, one_image_is_table}
 use Rattle.rv_coverage.proofs.table_of_job.table_of_run.Goals as goal
 
 pub returns-clause-table : goal.returns-clause-table
@@ -8,6 +9,8 @@ returns-clause-table c =
       digest = c.in_ok-digest.digest;
       path = c.in_ok-path.path;
       addresses = c.args.addresses;
+      functions = [];
+      spots = [];
     })
     (record { images = c.in_ok-images.images; runs = 1 })
     (λ i. record { images = c.in_ok-images.ensures i; runs = 1 })
@@ -17,4 +20,6 @@ returns-clause-table c =
       path = c.in_ok-path.ensures.line;
       text = c.in_ok-path.ensures.text;
       counts = c.requires;
+      names = no_names;
+      spots = no_spots;
     })
