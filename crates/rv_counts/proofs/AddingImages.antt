@@ -12,13 +12,14 @@ use Rattle.rv_counts.specs.declared.sum.SumError.TheVariants.{OutOfMemory, Count
 use Rattle.rv_counts.specs.declared.sum_of_images.NextImage.{NextImage}
 use Rattle.rv_counts.specs.Lines.{lacks}
 use Rattle.rv_counts.specs.Table.{begun_at, taken_at, name_at, begun_in, taken_in, path_in, name_in, arrivals_in, steps_in, least_path, least_path_of}
-use Rattle.rv_counts.specs.Table.{is_before, is_behind, digests_rise, AreSpots, IsImage}
+use Rattle.rv_counts.specs.Table.{is_before, is_behind, digests_rise, AreSpots, IsImage, IsSpot}
 use Rattle.rv_counts.specs.Sum.{sum_error_of, IsSumOfCounts, IsSumOfNames, IsTooGreatAt}
 use Rattle.rv_counts.specs.SumSteps.{ImagesAddUp, IsNextImage, IsTooGreatIn, IsTooGreatOf}
 use Rattle.rv_spots.specs.declared.sum.SpotSumError.{SpotSumError}
 use Rattle.rv_spots.specs.declared.sum.SpotSumError.TheVariants as spots
-use Rattle.rv_spots.specs.Sums.{IsSumOfSpots, IsTooGreat}
-use Rattle.rv_spots.specs.Trees.{arrivals_at, steps_at}
+use Rattle.rv_spots.specs.declared.spot.Spot.{Spot as ASpot}
+use Rattle.rv_spots.specs.Sums.{FitsSpot, IsSumOfSpots, IsTooGreat}
+use Rattle.rv_spots.specs.Trees.{arrivals_at, steps_at, HasArrivals}
 use Rattle.rv_counts.proofs.Adding.{parts}
 use Rattle.rv_counts.proofs.Paths.{any_first, second_first, by_two, same_place}
 
@@ -289,6 +290,30 @@ pub too_great_of_spots : (why : SpotSumError) (a b : ImageCounts) → IsTooGreat
     → IsTooGreatOf (sum_error_of why) a b
 too_great_of_spots spots.OutOfMemory a b h = tt
 too_great_of_spots (spots.Count f) a b h = h
+
+-- ---- spots of a sum
+
+pub all_come_to : (ss : List ASpot) → AllByRecursion IsSpot ss → HasArrivals ss
+all_come_to [] h = tt
+all_come_to (s ∷ ss) h = (h.0.some, all_come_to ss h.1)
+
+come_and_fit : (ss : List ASpot) → HasArrivals ss → AllByRecursion FitsSpot ss → AllByRecursion IsSpot ss
+come_and_fit [] h k = tt
+come_and_fit (s ∷ ss) h k =
+    (record {
+      depth = k.0.depth;
+      function = k.0.function;
+      some = h.0;
+      arrivals = k.0.arrivals;
+      steps = k.0.steps;
+    }, come_and_fit ss h.1 k.1)
+
+pub are_spots : (a b xs ys sum : List ASpot) → AreSpots a → AreSpots b → xs ≡ a → ys ≡ b → IsSumOfSpots xs ys sum
+    → AllByRecursion FitsSpot sum → AreSpots sum
+are_spots a b xs ys sum h k is at sums fits =
+    let some = sums.some (subst (λ (ss : List ASpot). HasArrivals ss) (sym is) (all_come_to a h.each))
+    (subst (λ (ss : List ASpot). HasArrivals ss) (sym at) (all_come_to b k.each)) in
+    record { each = come_and_fit sum some fits; tree = sums.tree }
 
 -- ---- the loop: what both lists have ahead
 

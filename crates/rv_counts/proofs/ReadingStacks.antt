@@ -120,10 +120,10 @@ pub record SpotsSoFar (text : List ℕ) (ss : List Spot) (front : List ℕ) (n :
   pub lines : AreLines spot_line text ss n
   pub each : AllByRecursion IsSpot ss
   pub tree : IsTree ss
-  pub front : front ≡ last_path [] ss
+  pub path : front ≡ last_path [] ss
 
 pub no_spots_so_far : (text : List ℕ) → SpotsSoFar text [] [] 0
-no_spots_so_far text = record { lines = record { within = omega arith; lines = refl }; each = tt; tree = tt; front = refl }
+no_spots_so_far text = record { lines = record { within = omega arith; lines = refl }; each = tt; tree = tt; path = refl }
 
 pub one_spot : (text : List ℕ) (ss : List Spot) (front : List ℕ) (n m : ℕ) (s : Spot) → SpotsSoFar text ss front n
     → IsSpot s → StandsBehind front s → whole_line (drop n text) ≡ spot_line s
@@ -131,8 +131,8 @@ pub one_spot : (text : List ℕ) (ss : List Spot) (front : List ℕ) (n m : ℕ)
 one_spot text ss front n m s h spot stands is e = record {
   lines = one_line spot_line text ss s n m h.lines is e;
   each = each_push IsSpot ss s h.each spot;
-  tree = stand_of_parts [] ss (s ∷ []) h.tree (subst (λ (path : List ℕ). StandsBehind path s) h.front stands, tt);
-  front = ap (λ (path : List ℕ). path_behind path s) h.front ∙ sym (last_parts [] ss (s ∷ []));
+  tree = stand_of_parts [] ss (s ∷ []) h.tree (subst (λ (path : List ℕ). StandsBehind path s) h.path stands, tt);
+  path = ap (λ (path : List ℕ). path_behind path s) h.path ∙ sym (last_parts [] ss (s ∷ []));
 }
 
 pub spots_read : (text : List ℕ) (front : List ℕ) (read : SpotLines) → SpotsSoFar text read.spots front read.length
@@ -141,5 +141,5 @@ spots_read text front read h no_more = record {
   within = h.lines.within;
   lines = h.lines.lines;
   spots = record { each = h.each; tree = h.tree };
-  behind = subst (λ (path : List ℕ). IsNoSpot path (whole_line (drop read.length text))) h.front no_more;
+  behind = subst (λ (path : List ℕ). IsNoSpot path (whole_line (drop read.length text))) h.path no_more;
 }

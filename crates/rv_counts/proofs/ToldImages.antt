@@ -7,14 +7,13 @@ use Rattle.std.specs.Str.{bytes_eq}
 use Rattle.rv_counts.specs.declared.table.AddressCounts.{AddressCounts}
 use Rattle.rv_counts.specs.declared.table.ImageCounts.{ImageCounts}
 use Rattle.rv_counts.specs.declared.table.CountTable.{CountTable}
-use Rattle.rv_counts.specs.Table.{begun_at, taken_at, name_at, begun_in, taken_in, path_in, name_in, arrivals_in, steps_in, least_path_of, is_before, is_behind, digests_rise, AreSpots, IsImage, IsSpot, IsTable}
-use Rattle.rv_spots.specs.declared.spot.Spot.{Spot}
-use Rattle.rv_spots.specs.Trees.{arrivals_at, steps_at, HasArrivals}
+use Rattle.rv_counts.specs.Table.{begun_at, taken_at, name_at, begun_in, taken_in, path_in, name_in, arrivals_in, steps_in, least_path_of, is_before, is_behind, digests_rise, IsImage, IsTable}
+use Rattle.rv_spots.specs.Trees.{arrivals_at, steps_at}
 use Rattle.rv_spots.proofs.Public.{one_tree_of_counts}
 use Rattle.rv_counts.proofs.AddingNames.{one_list_of_names}
 use Rattle.rv_counts.specs.Sum.{IsSum}
 use Rattle.rv_counts.proofs.Told.{one_of, left_over, either_order, either_first}
-use Rattle.rv_counts.proofs.AddingImages.{image_low, images_behind, images_raised}
+use Rattle.rv_counts.proofs.AddingImages.{all_come_to, image_low, images_behind, images_raised}
 use Rattle.rv_counts.proofs.Paths.{none_before_itself, none_behind, before_both, same_place, either, any_first}
 
 -- ---- a digest that is not among those of a list
@@ -136,10 +135,6 @@ pub record AreAlike (is js : List ImageCounts) : Type 0 where
   pub names : (digest : List ℕ) (f : ℕ) → name_in digest f is ≡ name_in digest f js
   pub arrivals : (digest path : List ℕ) → arrivals_in digest path is ≡ arrivals_in digest path js
   pub steps : (digest path : List ℕ) → steps_in digest path is ≡ steps_in digest path js
-
-all_come_to : (ss : List Spot) → AllByRecursion IsSpot ss → HasArrivals ss
-all_come_to [] h = tt
-all_come_to (s ∷ ss) h = (h.0.some, all_come_to ss h.1)
 
 -- a number of the first images of both lists
 first_count : (count : ImageCounts → ℕ) (l m : Option (List ℕ)) (i j : ImageCounts) (is js : List ImageCounts)

@@ -1,6 +1,6 @@
 //! Lines of names and of spots, read as far as they can stand there, as those of addresses are.
 
-ghost use Rattle.std.specs.Prelude.{◌≡◌, ◌≤◌, ℕ, List, IfOk, IfSome, IfNone, IsTrue, ◌↔◌};
+ghost use Rattle.std.specs.Prelude.{◌≡◌, ◌≤◌, ◌<◌, ◌^◌, ℕ, List, IfOk, IfSome, IfNone, IsTrue, ◌↔◌};
 ghost use Rattle.std.specs.Str.{bytes_eq, IsUtf8};
 ghost use Rattle.rv_counts.specs.declared.table.FunctionName.{FunctionName as Name};
 ghost use Rattle.rv_counts.specs.Lines.{whole_line};
@@ -68,11 +68,18 @@ fn next_name(alloc: Global, line: &[u8], lowest: u64) -> Result<Option<FunctionN
     ensures none { IfOk result (λ read. IfNone read (IsNoName lowest line.now)) }
 {
     let name = name_of_line(alloc, line)?;
-    if lowest <= u64::from(name.function) && has_name_line(alloc, &name, line)? {
+    if is_from(name.function, lowest) && has_name_line(alloc, &name, line)? {
         Ok(Some(name))
     } else {
         Ok(None)
     }
+}
+
+// Whether it is no lower function.
+fn is_from(function: u32, lowest: u64) -> bool
+    ensures { IsTrue result ↔ ((function < 2 ^ 32) × (lowest ≤ function)) }
+{
+    lowest <= u64::from(function)
 }
 
 // function ADDRESS NAME

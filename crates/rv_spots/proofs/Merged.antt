@@ -4,6 +4,7 @@ use Rattle.std.proofs.lemmas.Bool.{false≢true, and_parts, cases_Bool, or_cases
 use Rattle.std.proofs.lemmas.List.{take_all, take-append-drop}
 use Rattle.std.proofs.lemmas.Slice.Eq.{bytes_eq-Decides}
 use Rattle.std.specs.Prelude.{nat_lt}
+use Rattle.std.specs.List.{AllByRecursion}
 use Rattle.std.specs.Str.{bytes_eq}
 use Rattle.rv_spots.specs.declared.spot.Spot.{Spot}
 use Rattle.rv_spots.specs.declared.sum.NextSpot.{NextSpot}
@@ -227,6 +228,10 @@ goes xs [] ys [] sums some h = absurd (omega arith)
 goes xs (s ∷ ss) ys [] sums some h = goes_first_alone xs ss ys [] sums s (take_first xs ss ys [] sums s h tt)
 goes xs [] ys (t ∷ ts) sums some h = goes_second_alone xs [] ys ts sums t (take_second xs [] ys ts sums t h tt)
 goes xs (s ∷ ss) ys (t ∷ ts) sums some h = goes_both xs ss ys ts sums s t h
+
+pub each_push : (P : Spot → Type 0) (xs : List Spot) (s : Spot) → AllByRecursion P xs → P s → AllByRecursion P (xs ++ s ∷ [])
+each_push P [] s h p = (p, tt)
+each_push P (x ∷ xs) s h p = (h.0, each_push P xs s h.1 p)
 
 -- ---- by places
 

@@ -1,5 +1,5 @@
 -- The sum of two trees of spots: each number of each list of functions is the sum of both.
-use Rattle.std.specs.Prelude.{◌≡◌, ◌==◌, ◌+◌, ◌^◌, ◌≤◌, ◌⊎◌, ℕ, Bool, false, ◌&&◌, ◌||◌, nat_lt, if◌then◌else◌, List, [], ◌∷◌}
+use Rattle.std.specs.Prelude.{◌≡◌, ◌==◌, ◌+◌, ◌^◌, ◌<◌, ◌≤◌, ◌⊎◌, ℕ, Bool, false, ◌&&◌, ◌||◌, nat_lt, if◌then◌else◌, List, [], ◌∷◌}
 use Rattle.rv_spots.specs.declared.spot.Spot.{Spot}
 use Rattle.rv_spots.specs.declared.sum.NextSpot.{NextSpot}
 use Rattle.rv_spots.specs.declared.sum.SpotSumError.{SpotSumError}
@@ -11,6 +11,13 @@ pub record IsSumOfSpots (a b sum : List Spot) : Type 0 where
   pub some : HasArrivals a → HasArrivals b → HasArrivals sum
   pub arrivals : (path : List ℕ) → arrivals_at path sum ≡ arrivals_at path a + arrivals_at path b
   pub steps : (path : List ℕ) → steps_at path sum ≡ steps_at path a + steps_at path b
+
+-- its numbers are such as a spot can have
+pub record FitsSpot (s : Spot) : Type 0 where
+  pub depth : s.depth < 2 ^ 64
+  pub function : s.function < 2 ^ 32
+  pub arrivals : s.arrivals < 2 ^ 64
+  pub steps : s.steps < 2 ^ 64
 
 -- a number of some list of functions is of 2^64 or more
 abbrev pub IsTooGreat : SpotSumError → List Spot → List Spot → Type 0

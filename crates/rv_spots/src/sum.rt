@@ -1,7 +1,8 @@
 //! The sum of two trees of spots.
 
 ghost use Rattle.std.specs.Prelude.{◌≡◌, ◌+◌, ◌<◌, ◌++◌, ◌∷◌, [], IfOk, IfErr, OnOk, length};
-ghost use Rattle.rv_spots.specs.Sums.{both_of, goes_first, next_of, of_first, of_second, IsTooGreat, IsTooGreatHere, IsTooGreatOfBoth, IsSumOfSpots};
+ghost use Rattle.std.specs.List.{AllByRecursion};
+ghost use Rattle.rv_spots.specs.Sums.{both_of, goes_first, next_of, of_first, of_second, FitsSpot, IsTooGreat, IsTooGreatHere, IsTooGreatOfBoth, IsSumOfSpots};
 ghost use Rattle.rv_spots.specs.Trees.{IsTree};
 ghost use Rattle.rv_spots.specs.declared.sum.SpotSumError.TheVariants.{OutOfMemory};
 
@@ -30,6 +31,7 @@ pub fn sum_of_spots(alloc: Global, a: &[Spot], b: &[Spot]) -> Result<Spots, Spot
     requires a { IsTree a.now }
     requires b { IsTree b.now }
     ensures value { IfOk result (λ sum. IsSumOfSpots a.now b.now sum) }
+    ensures fits { IfOk result (λ sum. AllByRecursion FitsSpot sum) }
     ensures refused { IfErr result (λ error. IsTooGreat error a.now b.now) }
 {
     let mut sums = Vec::new(alloc);
@@ -63,6 +65,7 @@ fn push_spot(spots: &mut Vec<Spot>, spot: Spot) -> Result<(), AllocError>
 fn next_spot(a: &[Spot], b: &[Spot]) -> Result<NextSpot, SpotSumError>
     requires { 0 < length a.now + length b.now }
     ensures value { IfOk result (λ next. next ≡ next_of a.now b.now) }
+    ensures fits { IfOk result (λ next. FitsSpot next.spot) }
     ensures refused { IfErr result (λ error. IsTooGreatHere error a.now b.now) }
 {
     if b.is_empty() {
@@ -88,7 +91,8 @@ fn goes_first(spot: Spot, other: Spot) -> bool
 }
 
 fn of_first(spot: Spot) -> NextSpot
-    ensures { result ≡ of_first spot }
+    ensures value { result ≡ of_first spot }
+    ensures fits { FitsSpot result.spot }
 {
     NextSpot {
         spot,
@@ -98,7 +102,8 @@ fn of_first(spot: Spot) -> NextSpot
 }
 
 fn of_second(spot: Spot) -> NextSpot
-    ensures { result ≡ of_second spot }
+    ensures value { result ≡ of_second spot }
+    ensures fits { FitsSpot result.spot }
 {
     NextSpot {
         spot,
@@ -110,6 +115,7 @@ fn of_second(spot: Spot) -> NextSpot
 // The sum of two spots of one depth and function.
 fn both_of(spot: Spot, other: Spot) -> Result<NextSpot, SpotSumError>
     ensures value { IfOk result (λ next. next ≡ both_of spot other) }
+    ensures fits { IfOk result (λ next. FitsSpot next.spot) }
     ensures refused { IfErr result (λ error. IsTooGreatOfBoth error spot other) }
 {
     match (

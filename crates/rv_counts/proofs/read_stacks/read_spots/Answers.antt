@@ -23,4 +23,19 @@ lines-smaller c =
     omega (arith, inside, same, long)
 
 pub lines-preserved : goal.lines-preserved
-lines-preserved c = ?
+lines-preserved c =
+    let text = c.args.text.now in
+    let front = c.lines.front.items in
+    let spot = c.in-Some.spot in
+    let w = c.whole_line-line.ensures ∙ ap whole_line c.tail_from.ensures in
+    let fits = rw c.in-Some.is at c.in_ok-spot.ensures.spot in
+    let stands = subst (λ (path : List ℕ). StandsBehind path spot) c.as_slice.ensures.value
+    (rw c.in-Some.is at c.in_ok-spot.ensures.stands) in
+    let line = rw c.in-Some.is at c.in_ok-spot.ensures.line in
+    let m = c.lines.length + length c.whole_line-line.result.now in
+    let more = one_spot text c.lines.spots.items front c.lines.length m spot c.lines.invariant fits stands
+    (sym w ∙ line) (ap (λ (s : List ℕ). c.lines.length + length s) w) in
+    let path : c.push_item.new.items.items ≡ path_behind front spot = c.in_ok-push_item-in-Some.ensures
+    ∙ ap (λ (p : List ℕ). p ++ spot.function ∷ []) c.truncate.ensures.items in
+    subst (λ (ss : List Spot). SpotsSoFar text ss c.push_item.new.items.items m) (sym c.in_ok-push_item-in-Some-2.ensures)
+    (subst (λ (p : List ℕ). SpotsSoFar text (c.lines.spots.items ++ spot ∷ []) p m) (sym path) more)

@@ -4,8 +4,9 @@ use Rattle.std.proofs.lemmas.List.{take_rest}
 use Rattle.std.proofs.lemmas.Result.{err_from_is_err_and}
 use Rattle.rv_spots.specs.declared.spot.Spot.{Spot}
 use Rattle.rv_spots.specs.declared.sum.NextSpot.{NextSpot}
-use Rattle.rv_spots.specs.Sums.{next_of, IsSumOfSpots}
-use Rattle.rv_spots.proofs.Merged.{all_added, few_of, more_added, none_added, too_great, Added, FewOf}
+use Rattle.std.specs.List.{AllByRecursion}
+use Rattle.rv_spots.specs.Sums.{next_of, FitsSpot, IsSumOfSpots}
+use Rattle.rv_spots.proofs.Merged.{all_added, each_push, few_of, more_added, none_added, too_great, Added, FewOf}
 use Rattle.rv_spots.proofs.sum.sum_of_spots.Goals as goal
 use Rattle.rv_spots.proofs.sum.sum_of_spots.Goals.{then-from_a-a, else-from_a-a+then-from_b-b}
 
@@ -15,6 +16,7 @@ loop-from_a-init c = record {
   within_b = omega arith;
   added = subst (λ (sums : List Spot). Added c.args.a.now c.args.b.now 0 0 sums) (sym c.new-sums.ensures.items)
       (none_added c.args.a.now c.args.b.now c.requires.a c.requires.b);
+  fits = subst (λ (sums : List Spot). AllByRecursion FitsSpot sums) (sym c.new-sums.ensures.items) tt;
 }
 
 pub loop-from_a-preserved : goal.loop-from_a-preserved
@@ -37,6 +39,8 @@ loop-from_a-preserved c =
       within_b = (let m = few.of_b in let w = inv.within_b in omega (arith, m, w, rest_b));
       added = subst (λ (sums : List Spot). Added a b (i + next.of_a) (j + next.of_b) sums) (sym c.in_ok-push_spot.ensures)
           (more_added a b c.loop-from_a.sums.items i j next inv.added some is);
+      fits = subst (λ (sums : List Spot). AllByRecursion FitsSpot sums) (sym c.in_ok-push_spot.ensures)
+          (each_push FitsSpot c.loop-from_a.sums.items next.spot inv.fits c.in_ok-next.ensures.fits);
     }
 
 pub returns-in_err-next-clause-refused : goal.returns-in_err-next-clause-refused
@@ -55,3 +59,6 @@ returns-clause-value c =
     subst (λ (s : List Spot). IsSumOfSpots c.args.a.now c.args.b.now s) (sym c.new.ensures)
     (all_added c.args.a.now c.args.b.now c.loop-from_a.sums.items c.loop-from_a.from_a c.loop-from_a.from_b
     inv.added (omega (arith, n)) (omega (arith, m)))
+
+pub returns-clause-fits : goal.returns-clause-fits
+returns-clause-fits c = subst (λ (s : List Spot). AllByRecursion FitsSpot s) (sym c.new.ensures) c.loop-from_a.invariant.fits
