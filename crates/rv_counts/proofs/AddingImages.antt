@@ -273,11 +273,14 @@ too_great_first (x ∷ xs) (y ∷ ys) z w (Count n) some other is at first secon
     (x.digest, great_here (λ i. begun_at n i.addresses) x y z w (begun_in x.digest n xs) (begun_in x.digest n ys) is at one h)
 too_great_first (x ∷ xs) (y ∷ ys) z w (Spot f) some other is at first second h =
     let one : x.digest ≡ y.digest = ap (λ (i : ImageCounts). i.digest) (sym is)
-    ∙ same_place z.digest w.digest first second ∙ ap (λ (i : ImageCounts). i.digest) at in
-    (x.digest, h.0, elim h.1 [
-      | inl k ↦ inl (great_here (λ i. arrivals_at h.0 i.spots) x y z w (arrivals_in x.digest h.0 xs) (arrivals_in x.digest h.0 ys) is at one k)
-      | inr k ↦ inr (great_here (λ i. steps_at h.0 i.spots) x y z w (steps_in x.digest h.0 xs) (steps_in x.digest h.0 ys) is at one k)
-    ])
+    ∙ same_place z.digest w.digest first second ∙ ap (λ (i : ImageCounts). i.digest) at in (
+      x.digest,
+      h.0,
+      elim h.1 [
+        | inl k ↦ inl (great_here (λ i. arrivals_at h.0 i.spots) x y z w (arrivals_in x.digest h.0 xs) (arrivals_in x.digest h.0 ys) is at one k)
+        | inr k ↦ inr (great_here (λ i. steps_at h.0 i.spots) x y z w (steps_in x.digest h.0 xs) (steps_in x.digest h.0 ys) is at one k)
+      ],
+    )
 
 -- what is refused of addresses, and of spots, is refused of their images
 pub too_great_of_counts : (error : SumError) (a b : ImageCounts) → IsTooGreatAt error a.addresses b.addresses → IsTooGreatOf error a b
@@ -299,14 +302,16 @@ all_come_to (s ∷ ss) h = (h.0.some, all_come_to ss h.1)
 
 come_and_fit : (ss : List ASpot) → HasArrivals ss → AllByRecursion FitsSpot ss → AllByRecursion IsSpot ss
 come_and_fit [] h k = tt
-come_and_fit (s ∷ ss) h k =
-    (record {
-      depth = k.0.depth;
-      function = k.0.function;
-      some = h.0;
-      arrivals = k.0.arrivals;
-      steps = k.0.steps;
-    }, come_and_fit ss h.1 k.1)
+come_and_fit (s ∷ ss) h k = (
+  record {
+    depth = k.0.depth;
+    function = k.0.function;
+    some = h.0;
+    arrivals = k.0.arrivals;
+    steps = k.0.steps;
+  },
+  come_and_fit ss h.1 k.1,
+)
 
 pub are_spots : (a b xs ys sum : List ASpot) → AreSpots a → AreSpots b → xs ≡ a → ys ≡ b → IsSumOfSpots xs ys sum
     → AllByRecursion FitsSpot sum → AreSpots sum
@@ -348,16 +353,20 @@ too_great_in_rest n m a b (Count address) h =
     let p = some_images_left n h.0 address a in
     let q = some_images_left m h.0 address b in
     (h.0, omega (arith, k, p, q))
-too_great_in_rest n m a b (Spot f) h = (h.0, h.1, elim h.2 [
-  | inl k ↦
-      let p = some_arrivals_left n h.0 h.1 a in
-      let q = some_arrivals_left m h.0 h.1 b in
-      inl (omega (arith, k, p, q))
-  | inr k ↦
-      let p = some_steps_left n h.0 h.1 a in
-      let q = some_steps_left m h.0 h.1 b in
-      inr (omega (arith, k, p, q))
-])
+too_great_in_rest n m a b (Spot f) h = (
+  h.0,
+  h.1,
+  elim h.2 [
+    | inl k ↦
+        let p = some_arrivals_left n h.0 h.1 a in
+        let q = some_arrivals_left m h.0 h.1 b in
+        inl (omega (arith, k, p, q))
+    | inr k ↦
+        let p = some_steps_left n h.0 h.1 a in
+        let q = some_steps_left m h.0 h.1 b in
+        inr (omega (arith, k, p, q))
+  ],
+)
 too_great_in_rest n m a b Runs h = h
 
 none_add_up : ImagesAddUp [] [] []
