@@ -1,6 +1,6 @@
 -- The sum of two tables of counts: each count of each image is the sum of both, and of two names the first in the order of
 -- bytes stays.
-use Rattle.std.specs.Prelude.{◌≡◌, ◌+◌, ◌^◌, ◌≤◌, ◌⊎◌, ℕ, List, [], Result, Ok, Err}
+use Rattle.std.specs.Prelude.{◌≡◌, ◌+◌, ◌^◌, ◌≤◌, ◌⊎◌, ℕ, true, List, [], Result, Ok, Err}
 use Rattle.rv_counts.specs.declared.table.AddressCounts.{AddressCounts}
 use Rattle.rv_counts.specs.declared.table.FunctionName.{FunctionName}
 use Rattle.rv_counts.specs.declared.table.ImageCounts.{ImageCounts}
@@ -8,6 +8,7 @@ use Rattle.rv_counts.specs.declared.table.CountTable.{CountTable}
 use Rattle.rv_counts.specs.declared.sum.SumError.{SumError}
 use Rattle.rv_counts.specs.declared.sum.SumError.TheVariants.{OutOfMemory, Count, Spot, Runs}
 use Rattle.rv_counts.specs.Table.{begun_at, taken_at, name_at, begun_in, taken_in, path_in, name_in, arrivals_in, steps_in, least_path_of, AreCounts, AreNames, IsImage, IsTable}
+use Rattle.rv_spots.specs.Trees.{ends_with}
 use Rattle.rv_spots.specs.declared.sum.SpotSumError.{SpotSumError}
 use Rattle.rv_spots.specs.declared.sum.SpotSumError.TheVariants as spots
 
@@ -50,7 +51,7 @@ abbrev pub IsTooGreat : SumError → CountTable → CountTable → Type 0
 IsTooGreat OutOfMemory a b = Unit {0}
 IsTooGreat (Count address) a b = (digest : List ℕ)
     × (2 ^ 64 ≤ begun_in digest address a.images + begun_in digest address b.images)
-IsTooGreat (Spot function) a b = (digest : List ℕ) × (path : List ℕ)
+IsTooGreat (Spot function) a b = (digest : List ℕ) × (path : List ℕ) × (ends_with function path ≡ true)
     × ((2 ^ 64 ≤ arrivals_in digest path a.images + arrivals_in digest path b.images)
     ⊎ (2 ^ 64 ≤ steps_in digest path a.images + steps_in digest path b.images))
 IsTooGreat Runs a b = 2 ^ 64 ≤ a.runs + b.runs

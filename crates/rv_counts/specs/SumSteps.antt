@@ -12,7 +12,7 @@ use Rattle.rv_counts.specs.declared.sum_of_names.NextName.{NextName}
 use Rattle.rv_counts.specs.Sum.{IsTooGreatAt}
 use Rattle.rv_counts.specs.Table.{begun_at, taken_at, name_at, begun_in, taken_in, path_in, name_in, arrivals_in, steps_in, least_path_of}
 use Rattle.rv_counts.specs.Table.{rise_from, names_rise, digests_rise, IsCounted, IsImage, IsName}
-use Rattle.rv_spots.specs.Trees.{arrivals_at, steps_at}
+use Rattle.rv_spots.specs.Trees.{arrivals_at, ends_with, steps_at}
 
 -- at each address the sum of both counts; it rises from where both lists do
 pub record AddsUp (a b sum : List AddressCounts) : Type 0 where
@@ -72,7 +72,7 @@ abbrev pub IsTooGreatIn : SumError → List ImageCounts → List ImageCounts →
 IsTooGreatIn OutOfMemory a b = Unit {0}
 IsTooGreatIn (Count address) a b = (digest : List ℕ)
     × (2 ^ 64 ≤ begun_in digest address a + begun_in digest address b)
-IsTooGreatIn (Spot function) a b = (digest : List ℕ) × (path : List ℕ)
+IsTooGreatIn (Spot function) a b = (digest : List ℕ) × (path : List ℕ) × (ends_with function path ≡ true)
     × ((2 ^ 64 ≤ arrivals_in digest path a + arrivals_in digest path b)
     ⊎ (2 ^ 64 ≤ steps_in digest path a + steps_in digest path b))
 IsTooGreatIn Runs a b = ⊥
@@ -81,7 +81,7 @@ IsTooGreatIn Runs a b = ⊥
 abbrev pub IsTooGreatOf : SumError → ImageCounts → ImageCounts → Type 0
 IsTooGreatOf OutOfMemory a b = Unit {0}
 IsTooGreatOf (Count address) a b = IsTooGreatAt (Count address) a.addresses b.addresses
-IsTooGreatOf (Spot function) a b = (path : List ℕ)
+IsTooGreatOf (Spot function) a b = (path : List ℕ) × (ends_with function path ≡ true)
     × ((2 ^ 64 ≤ arrivals_at path a.spots + arrivals_at path b.spots)
     ⊎ (2 ^ 64 ≤ steps_at path a.spots + steps_at path b.spots))
 IsTooGreatOf Runs a b = ⊥

@@ -88,7 +88,7 @@ sum_with count more zero (x ∷ xs) s d within is = omega (arith, is)
 sum_with count more (suc place) (x ∷ xs) s d within is =
     let more_there = sum_with count more place xs s d (omega arith) is in omega (arith, more_there)
 
-last_of : (f : ℕ) (xs : List ℕ) (x : ℕ) → ends_with f (xs ++ x ∷ []) ≡ (x == f)
+pub last_of : (f : ℕ) (xs : List ℕ) (x : ℕ) → ends_with f (xs ++ x ∷ []) ≡ (x == f)
 last_of f [] x = refl
 last_of f (y ∷ []) x = refl
 last_of f (y ∷ z ∷ zs) x = last_of f (z ∷ zs) x

@@ -12,6 +12,7 @@ use Rattle.rv_spots.specs.declared.sum.SpotSumError.{SpotSumError}
 use Rattle.rv_spots.specs.declared.sum.SpotSumError.TheVariants.{OutOfMemory, Count}
 use Rattle.rv_spots.specs.Sums.{both_of, goes_first, next_of, next_of_both, of_first, of_second, IsSumOfSpots, IsTooGreat, IsTooGreatHere, IsTooGreatOf}
 use Rattle.rv_spots.specs.Trees.{path_behind, last_path, arrivals_of, steps_of, counted_behind, HasArrivals, IsTree, StandsBehind, StandBehind}
+use Rattle.rv_spots.proofs.Counted.{last_of}
 use Rattle.rv_spots.proofs.Fronts.{StandsAlike, behind_other}
 use Rattle.rv_spots.proofs.Tests.{equal_by, equal_test, less_by, not_less_by}
 use Rattle.rv_spots.proofs.Parts.{last_parts, counted_parts, some_of_parts, some_parts, stand_of_parts}
@@ -295,8 +296,9 @@ counted_here count path xs ss s is =
     omega (arith, parts, here)
 
 too_great_of : (xs ss ys ts sums : List Spot) (s t : Spot) → SoFar xs (s ∷ ss) ys (t ∷ ts) sums → goes_first s t ≡ false
-    → goes_first t s ≡ false → (function : ℕ) → IsTooGreatOf s t → IsTooGreat (Count function) (xs ++ s ∷ ss) (ys ++ t ∷ ts)
-too_great_of xs ss ys ts sums s t h one other function great =
+    → goes_first t s ≡ false → (function : ℕ) → function ≡ s.function → IsTooGreatOf s t
+    → IsTooGreat (Count function) (xs ++ s ∷ ss) (ys ++ t ∷ ts)
+too_great_of xs ss ys ts sums s t h one other function is great =
     let same = same_order s t one other in
     let path = path_behind (last_path [] sums) s in
     let at_a : path_behind (last_path [] xs) s ≡ path = ap (λ (p : List ℕ). p ++ s.function ∷ []) h.first.0 in
@@ -305,6 +307,7 @@ too_great_of xs ss ys ts sums s t h one other function great =
     let a = λ (count : Spot → ℕ). counted_here count path xs ss s at_a in
     let b = λ (count : Spot → ℕ). counted_here count path ys ts t at_b in (
       path,
+      last_of function (take s.depth (last_path [] sums)) s.function ∙ equal_test s.function function (sym is),
       elim great [
         | inl arrivals ↦ let m = a arrivals_of in let n = b arrivals_of in inl (omega (arith, arrivals, m, n))
         | inr steps ↦ let m = a steps_of in let n = b steps_of in inr (omega (arith, steps, m, n))
@@ -317,7 +320,7 @@ too_great_there xs ms ys bs sums OutOfMemory h great = tt
 too_great_there xs [] ys bs sums (Count function) h great = absurd great
 too_great_there xs (s ∷ ss) ys [] sums (Count function) h great = absurd great
 too_great_there xs (s ∷ ss) ys (t ∷ ts) sums (Count function) h great =
-    too_great_of xs ss ys ts sums s t h great.0 great.1 function great.2
+    too_great_of xs ss ys ts sums s t h great.0 great.1 function great.2 great.3
 
 pub too_great : (a b sums : List Spot) (i j : ℕ) (error : SpotSumError) → Added a b i j sums
     → IsTooGreatHere error (drop i a) (drop j b) → IsTooGreat error a b

@@ -1,10 +1,10 @@
 -- The sum of two trees of spots: each number of each list of functions is the sum of both.
-use Rattle.std.specs.Prelude.{◌≡◌, ◌==◌, ◌+◌, ◌^◌, ◌<◌, ◌≤◌, ◌⊎◌, ℕ, Bool, false, ◌&&◌, ◌||◌, nat_lt, if◌then◌else◌, List, [], ◌∷◌}
+use Rattle.std.specs.Prelude.{◌≡◌, ◌==◌, ◌+◌, ◌^◌, ◌<◌, ◌≤◌, ◌⊎◌, ℕ, Bool, true, false, ◌&&◌, ◌||◌, nat_lt, if◌then◌else◌, List, [], ◌∷◌}
 use Rattle.rv_spots.specs.declared.spot.Spot.{Spot}
 use Rattle.rv_spots.specs.declared.sum.NextSpot.{NextSpot}
 use Rattle.rv_spots.specs.declared.sum.SpotSumError.{SpotSumError}
 use Rattle.rv_spots.specs.declared.sum.SpotSumError.TheVariants.{OutOfMemory, Count}
-use Rattle.rv_spots.specs.Trees.{arrivals_at, steps_at, HasArrivals, IsTree}
+use Rattle.rv_spots.specs.Trees.{arrivals_at, ends_with, steps_at, HasArrivals, IsTree}
 
 pub record IsSumOfSpots (a b sum : List Spot) : Type 0 where
   pub tree : IsTree sum
@@ -19,10 +19,10 @@ pub record FitsSpot (s : Spot) : Type 0 where
   pub arrivals : s.arrivals < 2 ^ 64
   pub steps : s.steps < 2 ^ 64
 
--- a number of some list of functions is of 2^64 or more
+-- a number of some list of functions, of which the one that is told is the last, is of 2^64 or more
 abbrev pub IsTooGreat : SpotSumError → List Spot → List Spot → Type 0
 IsTooGreat OutOfMemory a b = Unit {0}
-IsTooGreat (Count function) a b = (path : List ℕ)
+IsTooGreat (Count function) a b = (path : List ℕ) × (ends_with function path ≡ true)
     × ((2 ^ 64 ≤ arrivals_at path a + arrivals_at path b) ⊎ (2 ^ 64 ≤ steps_at path a + steps_at path b))
 
 -- ---- spots from the front
@@ -65,11 +65,11 @@ IsTooGreatOf s t = (2 ^ 64 ≤ s.arrivals + t.arrivals) ⊎ (2 ^ 64 ≤ s.steps 
 
 abbrev pub IsTooGreatOfBoth : SpotSumError → Spot → Spot → Type 0
 IsTooGreatOfBoth OutOfMemory s t = ⊥
-IsTooGreatOfBoth (Count function) s t = IsTooGreatOf s t
+IsTooGreatOfBoth (Count function) s t = (function ≡ s.function) × IsTooGreatOf s t
 
 -- a sum of the first two, which are of one depth and function
 abbrev pub IsTooGreatHere : SpotSumError → List Spot → List Spot → Type 0
 IsTooGreatHere OutOfMemory a b = ⊥
 IsTooGreatHere (Count function) (s ∷ ss) (t ∷ ts) = (goes_first s t ≡ false) × (goes_first t s ≡ false)
-    × IsTooGreatOf s t
+    × (function ≡ s.function) × IsTooGreatOf s t
 IsTooGreatHere (Count function) _ _ = ⊥
