@@ -276,7 +276,8 @@ too_great_first (x ∷ xs) (y ∷ ys) z w (Spot f) some other is at first second
     ∙ same_place z.digest w.digest first second ∙ ap (λ (i : ImageCounts). i.digest) at in (
       x.digest,
       h.0,
-      elim h.1 [
+      h.1,
+      elim h.2 [
         | inl k ↦ inl (great_here (λ i. arrivals_at h.0 i.spots) x y z w (arrivals_in x.digest h.0 xs) (arrivals_in x.digest h.0 ys) is at one k)
         | inr k ↦ inr (great_here (λ i. steps_at h.0 i.spots) x y z w (steps_in x.digest h.0 xs) (steps_in x.digest h.0 ys) is at one k)
       ],
@@ -356,7 +357,8 @@ too_great_in_rest n m a b (Count address) h =
 too_great_in_rest n m a b (Spot f) h = (
   h.0,
   h.1,
-  elim h.2 [
+  h.2,
+  elim h.3 [
     | inl k ↦
         let p = some_arrivals_left n h.0 h.1 a in
         let q = some_arrivals_left m h.0 h.1 b in

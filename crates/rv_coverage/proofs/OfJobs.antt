@@ -90,7 +90,7 @@ sum_has_none t u sum h k is = record {
 
 -- so none of their numbers is too great
 pub no_great_stacks : (t u : CountTable) (f : ℕ) → HasNoStacks t → HasNoStacks u → IsTooGreat (Spot f) t u → ⊥
-no_great_stacks t u f h k great = elim great.2 [
+no_great_stacks t u f h k great = elim great.3 [
   | inl much ↦
       let p = h.arrivals great.0 great.1 in
       let q = k.arrivals great.0 great.1 in
