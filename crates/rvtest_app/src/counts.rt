@@ -125,10 +125,10 @@ fn sum_error_stop(alloc: Global, path: &str, error: SumError) -> Stop
     }
 }
 
-fn great_count_message(
+fn great_count_message<'a>(
     alloc: Global,
-    path: &str,
-    what: &str,
+    path: &'a str,
+    what: &'a str,
     address: u32,
 ) -> Result<Vec<u8>, AllocError>
     ensures { IfOk result (λ text. text.items ≡ great_count_message path.now what.now address) }
