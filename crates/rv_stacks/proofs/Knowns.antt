@@ -1,18 +1,9 @@
 -- Functions that are known.
-use Rattle.std.proofs.Common.{◌≡◌, ◌∙◌, ◌<◌, ℕ, List, length, get_or, replicate, set, sym, ap, subst, arith, inl, inr, length-set, length-replicate}
+use Rattle.std.proofs.Common.{◌≡◌, ◌∙◌, ◌<◌, ℕ, List, length, get_or, set, sym, ap, subst, arith, inl, inr, length-set}
 use Rattle.std.proofs.lemmas.Bool.{cases_eq}
-use Rattle.std.proofs.lemmas.List.{get_or-replicate, get_or-set_other, get_or-set_same}
+use Rattle.std.proofs.lemmas.List.{get_or-set_other, get_or-set_same}
 use Rattle.rv_stacks.specs.declared.functions.Known.{Known}
 use Rattle.rv_stacks.specs.StackSteps.{AreKnown}
-
-pub all_alike : (function : ℕ → ℕ) (count : ℕ) (x : Known) → 0 < count → x.function ≡ function x.address
-    → AreKnown function (replicate count x)
-all_alike function count x some is =
-    let long = length-replicate count x in record {
-      some = omega (arith, long, some);
-      each = λ k d within. subst (λ (y : Known). y.function ≡ function y.address)
-          (sym (get_or-replicate count k x d (omega (arith, long, within)))) is;
-    }
 
 pub one_more_known : (function : ℕ → ℕ) (known : List Known) (place : ℕ) (x : Known) → AreKnown function known
     → place < length known → x.function ≡ function x.address → AreKnown function (set known place x)
