@@ -13,6 +13,14 @@ pub enum Bounds {
 }
 
 impl Bounds {
+    /// Whether they are all addresses.
+    pub(crate) fn are_all(self) -> bool {
+        match self {
+            Bounds::All => true,
+            Bounds::Within(..) => false,
+        }
+    }
+
     /// Whether an address is another one.
     pub(crate) fn is_outside(self, pc: u32) -> bool
         ensures { result ≡ is_outside self pc }

@@ -10,6 +10,7 @@ use crate::found::{Arrival, Found};
 use crate::search::{Leg, next_step, next_stop};
 use crate::search_back::{step_before, stop_before};
 use crate::start::Start;
+use crate::track::Track;
 use crate::stops::Stops;
 use rv_machine::Machine;
 use std::alloc::{AllocError, Global};
@@ -19,7 +20,7 @@ use std::marker::Model;
 /// and to where it ends, and no move changes the run.
 #[derive(Drop)]
 pub struct History {
-    start: Start,
+    track: Track,
     budget: u32,
     place: u32,
     machine: Machine,
@@ -55,7 +56,7 @@ impl History {
     {
         let machine = start.machine(alloc)?;
         Ok(History {
-            start,
+            track: Track::new(alloc, start),
             budget,
             place: 0,
             machine,
@@ -94,7 +95,10 @@ impl History {
             budget: self.budget,
             bounds,
         };
-        let arrival = next_stop(alloc, &self.start, leg, stops)?;
+        if leg.bounds.are_all() && stops.are_none() {
+            return self.go_to_end(alloc);
+        }
+        let arrival = next_stop(alloc, &self.track, leg, stops)?;
         self.arrive(alloc, arrival)
     }
 
@@ -104,7 +108,7 @@ impl History {
         ensures run { self.new ≡ record self.old { place = self.new.place } }
         ensures same { OnErr result (self.new ≡ self.old) }
     {
-        let arrival = next_step(alloc, &self.start, self.budget, self.place, stops)?;
+        let arrival = next_step(alloc, &self.track, self.budget, self.place, stops)?;
         self.arrive(alloc, arrival)
     }
 
@@ -114,7 +118,7 @@ impl History {
         ensures run { self.new ≡ record self.old { place = self.new.place } }
         ensures same { OnErr result (self.new ≡ self.old) }
     {
-        let arrival = stop_before(alloc, &self.start, self.place, stops)?;
+        let arrival = stop_before(alloc, &self.track, self.place, stops)?;
         self.arrive(alloc, arrival)
     }
 
@@ -124,7 +128,7 @@ impl History {
         ensures run { self.new ≡ record self.old { place = self.new.place } }
         ensures same { OnErr result (self.new ≡ self.old) }
     {
-        let arrival = step_before(alloc, &self.start, self.place, stops)?;
+        let arrival = step_before(alloc, &self.track, self.place, stops)?;
         self.arrive(alloc, arrival)
     }
 
@@ -139,14 +143,13 @@ impl History {
         if place > self.budget {
             return Ok(false);
         }
-        match self.start.machine_at(alloc, place)? {
-            Some(machine) => {
-                self.machine = machine;
-                self.place = place;
-                Ok(true)
-            }
-            None => Ok(false),
+        let (machine, ran) = self.track.reach(alloc, place)?;
+        if ran.steps < place {
+            return Ok(false);
         }
+        self.machine = machine;
+        self.place = place;
+        Ok(true)
     }
 
     /// Goes to the first place with a count, where the run comes to one, and says whether it does.
@@ -162,7 +165,7 @@ impl History {
         ensures run { self.new ≡ record self.old { place = self.new.place } }
         ensures same { OnErr result (self.new ≡ self.old) }
     {
-        match first_with(alloc, &self.start, self.budget, count, value)? {
+        match first_with(alloc, self.track.start(), self.budget, count, value)? {
             Some(place) => {
                 let found = Found::Done;
                 let _ = self.arrive(alloc, Arrival { place, found })?;
@@ -179,7 +182,7 @@ impl History {
             (state_after (self.now.place + 1) self.now.start).bus) }
     {
         let steps = self.budget.min(self.place.saturating_add(1));
-        let ahead = self.start.machine_after(alloc, steps)?;
+        let ahead = self.track.machine_after(alloc, steps)?;
         stops.differing_watch(alloc, self.machine.bus(), ahead.bus())
     }
 
@@ -190,9 +193,17 @@ impl History {
             (state_after self.now.place self.now.start).bus) }
     {
         let behind = self
-            .start
+            .track
             .machine_after(alloc, self.place.saturating_sub(1))?;
         stops.differing_watch(alloc, behind.bus(), self.machine.bus())
+    }
+
+    // Goes to the end of the run.
+    fn go_to_end(&mut self, alloc: Global) -> Result<Found, AllocError> {
+        let (machine, ran) = self.track.reach(alloc, self.budget)?;
+        self.machine = machine;
+        self.place = ran.steps;
+        Ok(Found::End(ran.ending))
     }
 
     // Goes to where a search ended.
@@ -202,7 +213,8 @@ impl History {
         ensures moved { IfOk result (λ found. self.new ≡ record self.old { place = arrival.place }) }
         ensures same { OnErr result (self.new ≡ self.old) }
     {
-        self.machine = self.start.machine_behind(alloc, arrival.place)?;
+        let (machine, _) = self.track.reach(alloc, arrival.place)?;
+        self.machine = machine;
         self.place = arrival.place;
         Ok(arrival.found)
     }

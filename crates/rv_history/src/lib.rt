@@ -15,6 +15,7 @@ mod search_back;
 mod start;
 mod stepping;
 mod stops;
+mod track;
 
 pub use bounds::Bounds;
 pub use counts::Count;

@@ -9,8 +9,8 @@ ghost use Rattle.rv_history.specs.Stops.{is_halt};
 
 use crate::bounds::Bounds;
 use crate::found::{Arrival, Found};
-use crate::start::Start;
-use crate::stepping::{Stepped, step_watched};
+use crate::track::Track;
+use crate::stepping::{Stepped, step_beside, step_watched};
 use crate::stops::Stops;
 use rv_machine::{Ending, Machine};
 use std::alloc::{AllocError, Global};
@@ -27,7 +27,7 @@ pub(crate) struct Leg {
 /// The next stop on a leg. It takes the time of the run up to there.
 pub(crate) fn next_stop(
     alloc: Global,
-    start: &Start,
+    start: &Track,
     leg: Leg,
     stops: &Stops,
 ) -> Result<Arrival, AllocError>
@@ -36,7 +36,8 @@ pub(crate) fn next_stop(
     ensures { IfOk result
         (λ arrival. IsNextStop stops.now leg.bounds leg.budget (start_of start.now) leg.from arrival.place arrival.found) }
 {
-    let mut machine = start.machine_behind(alloc, leg.from)?;
+    let mut machine = start.machine_after(alloc, leg.from)?;
+    let mut watched = stops.watched_bytes(alloc, machine.bus())?;
     for place in leg.from..leg.budget {
         if is_halt_behind(stops, leg, &machine, place) {
             return Ok(Arrival {
@@ -44,7 +45,7 @@ pub(crate) fn next_stop(
                 found: Found::Break,
             });
         }
-        match step_watched(alloc, &mut machine, stops)? {
+        match step_beside(alloc, &mut machine, stops, &mut watched)? {
             Stepped::Ended(ending) => {
                 return Ok(Arrival {
                     place,
@@ -88,7 +89,7 @@ fn is_halt(stops: &Stops, bounds: Bounds, pc: u32) -> bool
 /// A step forward from a place. It takes the time of the run up to there.
 pub(crate) fn next_step(
     alloc: Global,
-    start: &Start,
+    start: &Track,
     budget: u32,
     from: u32,
     stops: &Stops,
@@ -103,7 +104,7 @@ pub(crate) fn next_step(
             found: Found::End(Ending::Budget),
         });
     }
-    let mut machine = start.machine_behind(alloc, from)?;
+    let mut machine = start.machine_after(alloc, from)?;
     match step_watched(alloc, &mut machine, stops)? {
         Stepped::Ended(ending) => Ok(Arrival {
             place: from,

@@ -7,15 +7,15 @@ ghost use Rattle.rv_history.specs.Moves.{IsStepBefore, IsStopBefore};
 ghost use Rattle.rv_history.specs.Starts.{start_of};
 
 use crate::found::{Arrival, Found};
-use crate::start::Start;
-use crate::stepping::{Stepped, step_watched};
+use crate::track::Track;
+use crate::stepping::{Stepped, step_beside, step_watched};
 use crate::stops::Stops;
 use std::alloc::{AllocError, Global};
 
 /// The stop before a place, whatever the budget within which the run comes there. It takes the time of the run up to there.
 pub(crate) fn stop_before(
     alloc: Global,
-    start: &Start,
+    start: &Track,
     from: u32,
     stops: &Stops,
 ) -> Result<Arrival, AllocError>
@@ -23,17 +23,37 @@ pub(crate) fn stop_before(
     ensures { IfOk result (λ arrival. (budget : ℕ) → from ≤ budget
         → IsStopBefore stops.now budget (start_of start.now) from arrival.place arrival.found) }
 {
-    let mut machine = start.machine(alloc)?;
-    let mut last = Arrival {
+    let none = Arrival {
         place: 0,
         found: Found::Begin,
     };
-    for place in 0..from {
-        let is_break = stops.has_break(machine.pc());
-        let stepped = step_watched(alloc, &mut machine, stops)?;
-        last = last_behind(last, place, is_break, stepped);
+    if stops.are_none() {
+        return Ok(none);
     }
-    Ok(last)
+    let mut behind = from;
+    'legs: while behind > 0 {
+        let begin = start.place_before(behind - 1);
+        let mut machine = start.machine_after(alloc, begin)?;
+        let mut watched = stops.watched_bytes(alloc, machine.bus())?;
+        let mut last = None;
+        for place in begin..behind {
+            let is_break = stops.has_break(machine.pc());
+            let stepped = step_beside(alloc, &mut machine, stops, &mut watched)?;
+            match stepped {
+                Stepped::Changed => last = Some(last_behind(none, place, is_break, stepped)),
+                Stepped::Quiet | Stepped::Ended(_) => {
+                    if is_break {
+                        last = Some(last_behind(none, place, is_break, stepped));
+                    }
+                }
+            }
+        }
+        if let Some(last) = last {
+            return Ok(last);
+        }
+        behind = begin;
+    }
+    Ok(none)
 }
 
 // The last stop behind the step at a place, once the stop before it is known.
@@ -62,7 +82,7 @@ fn last_behind(last: Arrival, place: u32, is_break: bool, stepped: Stepped) -> A
 /// A step backward from a place, whatever the budget within which the run comes there. It takes the time of the run up to there.
 pub(crate) fn step_before(
     alloc: Global,
-    start: &Start,
+    start: &Track,
     from: u32,
     stops: &Stops,
 ) -> Result<Arrival, AllocError>
@@ -77,7 +97,13 @@ pub(crate) fn step_before(
         });
     }
     let before = from - 1;
-    let mut machine = start.machine_behind(alloc, before)?;
+    if stops.are_none() {
+        return Ok(Arrival {
+            place: before,
+            found: Found::Done,
+        });
+    }
+    let mut machine = start.machine_after(alloc, before)?;
     match step_watched(alloc, &mut machine, stops)? {
         Stepped::Changed => Ok(Arrival {
             place: from,

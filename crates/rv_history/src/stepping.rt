@@ -27,14 +27,23 @@ pub(crate) fn step_watched(
 ) -> Result<Stepped, AllocError>
     ensures { IfOk result (IsStepped stops.now (state_of machine.old) (state_of machine.new)) }
 {
-    let before = stops.watched_bytes(alloc, machine.bus())?;
+    let mut watched = stops.watched_bytes(alloc, machine.bus())?;
+    step_beside(alloc, machine, stops, &mut watched)
+}
+
+/// The same, where the watched bytes are known, and are kept so.
+pub(crate) fn step_beside(
+    alloc: Global,
+    machine: &mut Machine,
+    stops: &Stops,
+    watched: &mut Vec<u8>,
+) -> Result<Stepped, AllocError> {
     if let Some(ending) = machine.step() {
         return Ok(Stepped::Ended(ending));
     }
-    let after = stops.watched_bytes(alloc, machine.bus())?;
-    if before.as_slice() == after.as_slice() {
-        Ok(Stepped::Quiet)
-    } else {
-        Ok(Stepped::Changed)
+    if stops.stand_as(machine.bus(), watched.as_slice()) {
+        return Ok(Stepped::Quiet);
     }
+    *watched = stops.watched_bytes(alloc, machine.bus())?;
+    Ok(Stepped::Changed)
 }

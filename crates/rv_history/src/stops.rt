@@ -25,6 +25,11 @@ pub struct Stops {
 impl Stops {
     ghost use Rattle.rv_history.specs.Stops.{first_differing, is_break, watched_bytes};
 
+    /// Whether there are none at all.
+    pub(crate) fn are_none(&self) -> bool {
+        self.breaks.as_slice().is_empty() && self.watches.as_slice().is_empty()
+    }
+
     /// Whether an address is a breakpoint.
     pub(crate) fn has_break(&self, pc: u32) -> bool
         ensures { result ≡ is_break self.now pc }
@@ -42,6 +47,22 @@ impl Stops {
             watch.push_bytes(&mut bytes, bus)?;
         }
         Ok(bytes)
+    }
+
+    /// Whether the watched bytes that stand in regions are these.
+    pub(crate) fn stand_as(&self, bus: &Bus, bytes: &[u8]) -> bool {
+        let mut rest = bytes;
+        for watch in self.watches.as_slice() {
+            for offset in 0..watch.count {
+                if let Some(byte) = bus.byte(watch.address + offset) {
+                    match rest.split_first() {
+                        Some((first, others)) if *first == byte => rest = others,
+                        _ => return false,
+                    }
+                }
+            }
+        }
+        true
     }
 
     /// The address of the first watch whose bytes differ between two buses.
