@@ -1,7 +1,10 @@
 mod Bytes
+mod Watched
 mod Reaching
+mod Standing
 mod Forward
 mod Backward
+mod Unstopped
 mod Arriving
 mod Counting
 mod Differing

@@ -1,7 +1,8 @@
 //! Addresses that a move stays in.
 
-ghost use Rattle.std.specs.Prelude.{◌≡◌};
+ghost use Rattle.std.specs.Prelude.{◌≡◌, ◌↔◌, IsTrue};
 ghost use Rattle.rv_history.specs.Stops.{is_outside};
+ghost use Rattle.rv_history.specs.declared.bounds.Bounds.TheVariants.{All};
 
 /// The addresses that a move forward stays in: it stops in front of an instruction at another one.
 #[derive(Clone, Copy)]
@@ -14,7 +15,9 @@ pub enum Bounds {
 
 impl Bounds {
     /// Whether they are all addresses.
-    pub(crate) fn are_all(self) -> bool {
+    pub(crate) fn are_all(self) -> bool
+        ensures { IsTrue result ↔ (self ≡ All) }
+    {
         match self {
             Bounds::All => true,
             Bounds::Within(..) => false,

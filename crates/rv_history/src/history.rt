@@ -10,14 +10,14 @@ use crate::found::{Arrival, Found};
 use crate::search::{Leg, next_step, next_stop};
 use crate::search_back::{step_before, stop_before};
 use crate::start::Start;
-use crate::track::Track;
 use crate::stops::Stops;
+use crate::track::Track;
 use rv_machine::Machine;
 use std::alloc::{AllocError, Global};
 use std::marker::Model;
 
-/// A place in the run from a start within a budget, and the machine there. Each move takes the time of the run up to where it begins
-/// and to where it ends, and no move changes the run.
+/// A place in the run from a start within a budget, and the machine there. No move changes the run, and what it answers does not depend
+/// on which states of the run are at hand.
 #[derive(Drop)]
 pub struct History {
     track: Track,
@@ -32,20 +32,20 @@ impl Model for History {
     ghost use Rattle.rv_history.specs.Places.{IsReached};
     ghost use Rattle.rv_history.specs.StandInside.{stand_code};
     ghost use Rattle.rv_history.specs.Stands.{Stand};
-    ghost use Rattle.rv_history.specs.Starts.{start_of};
 
     ghost Value = { Stand };
 
     ghost coded = { stand_code };
 
-    ghost view = { λ h. record { start = start_of h.start; budget = h.budget; place = h.place } };
+    ghost view = { λ h. record { start = h.track; budget = h.budget; place = h.place } };
 
-    ghost invariant = { λ h. IsReached (start_of h.start) h.place (state_of h.machine) × (h.place ≤ h.budget) };
+    ghost invariant = { λ h. IsReached h.track h.place (state_of h.machine) × (h.place ≤ h.budget) };
 }
 
 impl History {
     ghost use Rattle.rv_history.specs.Counts.{IsFirstWith, IsFound};
     ghost use Rattle.rv_history.specs.Moves.{IsNextStep, IsNextStop, IsStepBefore, IsStopBefore};
+    ghost use Rattle.rv_history.specs.Ends.{IsFoundEnd};
     ghost use Rattle.rv_history.specs.Places.{IsReached, last_place};
     ghost use Rattle.rv_history.specs.Starts.{start_of};
     ghost use Rattle.rv_history.specs.Stops.{first_differing};
@@ -90,14 +90,14 @@ impl History {
         ensures run { self.new ≡ record self.old { place = self.new.place } }
         ensures same { OnErr result (self.new ≡ self.old) }
     {
+        if bounds.are_all() && stops.are_none() {
+            return self.go_to_end(alloc);
+        }
         let leg = Leg {
             from: self.place,
             budget: self.budget,
             bounds,
         };
-        if leg.bounds.are_all() && stops.are_none() {
-            return self.go_to_end(alloc);
-        }
         let arrival = next_stop(alloc, &self.track, leg, stops)?;
         self.arrive(alloc, arrival)
     }
@@ -143,11 +143,11 @@ impl History {
         if place > self.budget {
             return Ok(false);
         }
-        let (machine, ran) = self.track.reach(alloc, place)?;
-        if ran.steps < place {
+        let (at, _) = self.track.reach(alloc, place)?;
+        if at.place < place {
             return Ok(false);
         }
-        self.machine = machine;
+        self.machine = at.machine;
         self.place = place;
         Ok(true)
     }
@@ -199,11 +199,15 @@ impl History {
     }
 
     // Goes to the end of the run.
-    fn go_to_end(&mut self, alloc: Global) -> Result<Found, AllocError> {
-        let (machine, ran) = self.track.reach(alloc, self.budget)?;
-        self.machine = machine;
-        self.place = ran.steps;
-        Ok(Found::End(ran.ending))
+    fn go_to_end(&mut self, alloc: Global) -> Result<Found, AllocError>
+        ensures end { IfOk result (λ found. IsFoundEnd self.old.budget self.old.start self.new.place found) }
+        ensures run { self.new ≡ record self.old { place = self.new.place } }
+        ensures same { OnErr result (self.new ≡ self.old) }
+    {
+        let (at, ending) = self.track.reach(alloc, self.budget)?;
+        self.machine = at.machine;
+        self.place = at.place;
+        Ok(Found::End(ending))
     }
 
     // Goes to where a search ended.
@@ -213,8 +217,8 @@ impl History {
         ensures moved { IfOk result (λ found. self.new ≡ record self.old { place = arrival.place }) }
         ensures same { OnErr result (self.new ≡ self.old) }
     {
-        let (machine, _) = self.track.reach(alloc, arrival.place)?;
-        self.machine = machine;
+        let (at, _) = self.track.reach(alloc, arrival.place)?;
+        self.machine = at.machine;
         self.place = arrival.place;
         Ok(arrival.found)
     }

@@ -4,14 +4,13 @@ ghost use Rattle.std.specs.Prelude.{◌≡◌, ◌≤◌, ◌&&◌, IfOk, nat_lt
 ghost use Rattle.rv_machine.specs.Machine.{state_of};
 ghost use Rattle.rv_machine.specs.Run.{run_of};
 ghost use Rattle.rv_history.specs.Moves.{IsNextStep, IsNextStop};
-ghost use Rattle.rv_history.specs.Starts.{start_of};
 ghost use Rattle.rv_history.specs.Stops.{is_halt};
 
 use crate::bounds::Bounds;
 use crate::found::{Arrival, Found};
-use crate::track::Track;
 use crate::stepping::{Stepped, step_beside, step_watched};
 use crate::stops::Stops;
+use crate::track::Track;
 use rv_machine::{Ending, Machine};
 use std::alloc::{AllocError, Global};
 
@@ -27,16 +26,16 @@ pub(crate) struct Leg {
 /// The next stop on a leg. It takes the time of the run up to there.
 pub(crate) fn next_stop(
     alloc: Global,
-    start: &Track,
+    track: &Track,
     leg: Leg,
     stops: &Stops,
 ) -> Result<Arrival, AllocError>
-    requires comes { (run_of leg.from (start_of start.now)).steps ≡ leg.from }
+    requires comes { (run_of leg.from track.now).steps ≡ leg.from }
     requires within { leg.from ≤ leg.budget }
     ensures { IfOk result
-        (λ arrival. IsNextStop stops.now leg.bounds leg.budget (start_of start.now) leg.from arrival.place arrival.found) }
+        (λ arrival. IsNextStop stops.now leg.bounds leg.budget track.now leg.from arrival.place arrival.found) }
 {
-    let mut machine = start.machine_after(alloc, leg.from)?;
+    let mut machine = track.machine_after(alloc, leg.from)?;
     let mut watched = stops.watched_bytes(alloc, machine.bus())?;
     for place in leg.from..leg.budget {
         if is_halt_behind(stops, leg, &machine, place) {
@@ -89,14 +88,14 @@ fn is_halt(stops: &Stops, bounds: Bounds, pc: u32) -> bool
 /// A step forward from a place. It takes the time of the run up to there.
 pub(crate) fn next_step(
     alloc: Global,
-    start: &Track,
+    track: &Track,
     budget: u32,
     from: u32,
     stops: &Stops,
 ) -> Result<Arrival, AllocError>
-    requires comes { (run_of from (start_of start.now)).steps ≡ from }
+    requires comes { (run_of from track.now).steps ≡ from }
     requires within { from ≤ budget }
-    ensures { IfOk result (λ arrival. IsNextStep stops.now budget (start_of start.now) from arrival.place arrival.found) }
+    ensures { IfOk result (λ arrival. IsNextStep stops.now budget track.now from arrival.place arrival.found) }
 {
     if from == budget {
         return Ok(Arrival {
@@ -104,7 +103,7 @@ pub(crate) fn next_step(
             found: Found::End(Ending::Budget),
         });
     }
-    let mut machine = start.machine_after(alloc, from)?;
+    let mut machine = track.machine_after(alloc, from)?;
     match step_watched(alloc, &mut machine, stops)? {
         Stepped::Ended(ending) => Ok(Arrival {
             place: from,

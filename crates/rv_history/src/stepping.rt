@@ -1,8 +1,9 @@
 //! A step, and whether it changes a watched byte.
 
-ghost use Rattle.std.specs.Prelude.{◌≡◌, IfOk};
+ghost use Rattle.std.specs.Prelude.{◌≡◌, IfOk, OnOk};
 ghost use Rattle.rv_machine.specs.Machine.{state_of};
 ghost use Rattle.rv_history.specs.Stepping.{IsStepped};
+ghost use Rattle.rv_history.specs.Stops.{watched_bytes};
 
 use crate::stops::Stops;
 use rv_machine::{Ending, Machine};
@@ -31,13 +32,17 @@ pub(crate) fn step_watched(
     step_beside(alloc, machine, stops, &mut watched)
 }
 
-/// The same, where the watched bytes are known, and are kept so.
+/// The same where the watched bytes are known, as they are again behind the step.
 pub(crate) fn step_beside(
     alloc: Global,
     machine: &mut Machine,
     stops: &Stops,
     watched: &mut Vec<u8>,
-) -> Result<Stepped, AllocError> {
+) -> Result<Stepped, AllocError>
+    requires { watched.old.items ≡ watched_bytes stops.now (state_of machine.old).bus }
+    ensures step { IfOk result (IsStepped stops.now (state_of machine.old) (state_of machine.new)) }
+    ensures known { OnOk result (watched.new.items ≡ watched_bytes stops.now (state_of machine.new).bus) }
+{
     if let Some(ending) = machine.step() {
         return Ok(Stepped::Ended(ending));
     }

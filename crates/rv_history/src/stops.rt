@@ -1,6 +1,6 @@
 //! Where a run is to stop.
 
-ghost use Rattle.std.specs.Prelude.{◌≡◌, ◌≤◌, ◌+◌, ◌^◌, ◌++◌, IfOk, OnOk};
+ghost use Rattle.std.specs.Prelude.{◌≡◌, ◌≤◌, ◌+◌, ◌^◌, ◌++◌, ◌↔◌, [], ℕ, List, IfOk, IfSome, IsTrue, MatchOption, OnOk, drop, length};
 
 use rv_base::Sequence;
 use rv_memory::Bus;
@@ -26,7 +26,9 @@ impl Stops {
     ghost use Rattle.rv_history.specs.Stops.{first_differing, is_break, watched_bytes};
 
     /// Whether there are none at all.
-    pub(crate) fn are_none(&self) -> bool {
+    pub(crate) fn are_none(&self) -> bool
+        ensures { IsTrue result ↔ ((self.now.breaks ≡ []) × (self.now.watches ≡ [])) }
+    {
         self.breaks.as_slice().is_empty() && self.watches.as_slice().is_empty()
     }
 
@@ -49,20 +51,19 @@ impl Stops {
         Ok(bytes)
     }
 
-    /// Whether the watched bytes that stand in regions are these.
-    pub(crate) fn stand_as(&self, bus: &Bus, bytes: &[u8]) -> bool {
-        let mut rest = bytes;
+    /// Whether the watched bytes that stand in regions are these. It takes no memory.
+    #[tactic(auto, unfolding(crate::specs::Stops::watched_bytes))]
+    pub(crate) fn stand_as(&self, bus: &Bus, bytes: &[u8]) -> bool
+        ensures { IsTrue result ↔ (watched_bytes self.now bus.now ≡ bytes.now) }
+    {
+        let mut seen = 0;
         for watch in self.watches.as_slice() {
-            for offset in 0..watch.count {
-                if let Some(byte) = bus.byte(watch.address + offset) {
-                    match rest.split_first() {
-                        Some((first, others)) if *first == byte => rest = others,
-                        _ => return false,
-                    }
-                }
+            match watch.seen_in(bus, bytes, seen) {
+                Some(more) => seen = more,
+                None => return false,
             }
         }
-        true
+        seen == bytes.len()
     }
 
     /// The address of the first watch whose bytes differ between two buses.
@@ -90,6 +91,26 @@ impl Stops {
 
 impl Watch {
     ghost use Rattle.rv_history.specs.Stops.{watch_bytes};
+
+    // Where the bytes that stand in regions end in others, if they stand there from a place on.
+    fn seen_in(&self, bus: &Bus, bytes: &[u8], from: usize) -> Option<usize>
+        requires { from ≤ length bytes.now }
+        ensures within { IfSome result (λ end. end ≤ length bytes.now) }
+        ensures bytes { MatchOption result
+            ((rest : List ℕ) → drop from bytes.now ≡ watch_bytes bus.now self.now ++ rest → ⊥)
+            (λ end. drop from bytes.now ≡ watch_bytes bus.now self.now ++ drop end bytes.now) }
+    {
+        let mut seen = from;
+        for offset in 0..self.count {
+            if let Some(byte) = bus.byte(self.address + offset) {
+                if seen == bytes.len() || bytes[seen] != byte {
+                    return None;
+                }
+                seen += 1;
+            }
+        }
+        Some(seen)
+    }
 
     // Appends the bytes that stand in regions.
     fn push_bytes(&self, bytes: &mut Vec<u8>, bus: &Bus) -> Result<(), AllocError>

@@ -1,166 +1,182 @@
 //! A run, with some of its states at hand.
 
-use crate::start::Start;
-use rv_machine::{Machine, Outcome};
-use std::alloc::{AllocError, Global};
+ghost use Rattle.std.specs.Prelude.{◌≡◌, ◌≤◌, ◌<◌, IfOk, IfSome};
+ghost use Rattle.rv_machine.specs.Machine.{state_of};
+ghost use Rattle.rv_machine.specs.Run.{run_of};
+ghost use Rattle.rv_trace.specs.Trace.{state_after};
 
-// A move forward keeps a state at each multiple of so many steps, at first.
+use crate::kept_states::KeptStates;
+use crate::machine_at::MachineAt;
+use crate::start::Start;
+use rv_machine::{Ending, Machine};
+use rv_memory::Bus;
+use std::alloc::{AllocError, Global};
+use std::marker::Model;
+
+// At first a state is kept at each multiple of so many steps.
 const INTERVAL: u32 = 1 << 22;
 
-// The most of them. With one more the interval doubles.
-const MOST: usize = 64;
-
-// So near in front of the place of a move a state is kept.
+// Where a move ends, a state is kept at most so many steps before.
 const NEAR: u32 = 1 << 16;
 
-// The most states on the way to the place of a move.
-const MOST_NEAR: usize = 10;
+// All that is kept has at most so many bytes.
+const ROOM: usize = 224 << 20;
 
-/// The state of the run at a place.
-#[derive(Drop)]
-struct KeptState {
-    place: u32,
-    machine: Machine,
-}
+// One in so many of the states is for the way to where the last moves ended.
+const NEAR_SHARE: usize = 8;
 
-/// A run from its start, with some of its states at hand, so that a move need not begin at the start. Which they are is never seen.
+// The bytes that a machine has for each byte of its regions, and at most beside them.
+const BYTES_OF_BYTE: usize = 3;
+const BYTES_BESIDE: usize = 1 << 18;
+
+/// A run from its start, with some of its states at hand, so that a move need not begin at the start: each is the state behind as many
+/// steps as its place says, and which they are is never seen.
 #[derive(Drop)]
 pub(crate) struct Track {
     start: Start,
     interval: u32,
-    coarse: Vec<KeptState>,
-    near: Vec<KeptState>,
+    // At multiples of the interval.
+    coarse: KeptStates,
+    // On the way to where the last moves ended, each half as far from there as the one before.
+    near: KeptStates,
+}
+
+impl Model for Track {
+    ghost use Rattle.std.specs.Prelude.{◌<◌};
+    ghost use Rattle.rv_machine.specs.State.{State};
+    ghost use Rattle.rv_history.specs.Kept.{AreStates};
+    ghost use Rattle.rv_history.specs.StandInside.{state_code};
+    ghost use Rattle.rv_history.specs.Starts.{start_of};
+
+    ghost Value = { State };
+
+    ghost coded = { state_code };
+
+    ghost view = { λ track. start_of track.start };
+
+    ghost invariant = { λ track. AreStates (start_of track.start) track.coarse
+        × (AreStates (start_of track.start) track.near × (0 < track.interval)) };
 }
 
 impl Track {
-    pub(crate) fn new(alloc: Global, start: Start) -> Track {
+    ghost use Rattle.rv_history.specs.Kept.{IsAt};
+    ghost use Rattle.rv_history.specs.Starts.{start_of};
+
+    /// With none at hand but the start.
+    pub(crate) fn new(alloc: Global, start: Start) -> Track
+        ensures { result ≡ start_of start }
+    {
+        let states = ROOM / machine_size(&start.bus);
+        let near = states / NEAR_SHARE;
         Track {
             start,
             interval: INTERVAL,
-            coarse: Vec::new(alloc),
-            near: Vec::new(alloc),
+            coarse: KeptStates::new(alloc, states - near),
+            near: KeptStates::new(alloc, near),
         }
     }
 
     /// Where it begins.
-    pub(crate) fn start(&self) -> &Start {
+    pub(crate) fn start(&self) -> &Start
+        ensures { start_of result.now ≡ self.now }
+    {
         &self.start
     }
 
-    /// The place of the last state that is at hand, up to a place: 0 where that is the start.
-    pub(crate) fn place_before(&self, place: u32) -> u32 {
-        match self.nearest(place) {
-            Some(kept) => kept.place,
-            None => 0,
+    /// The machine at the last state at hand up to a place.
+    pub(crate) fn before(&self, alloc: Global, place: u32) -> Result<MachineAt, AllocError>
+        ensures { IfOk result (λ at. IsAt self.now at × (at.place ≤ place)) }
+    {
+        if let Some(kept) = self.nearest(place) {
+            return kept.copied(alloc);
         }
+        let machine = self.start.machine(alloc)?;
+        Ok(MachineAt { place: 0, machine })
     }
 
     // The last state that is kept up to a place.
-    fn nearest(&self, place: u32) -> Option<&KeptState> {
-        let coarse = last_up_to(self.coarse.as_slice(), place);
-        let near = last_up_to(self.near.as_slice(), place);
-        match (coarse, near) {
-            (Some(one), Some(other)) => {
-                if one.place < other.place {
-                    Some(other)
-                } else {
-                    Some(one)
-                }
-            }
-            (Some(one), None) => Some(one),
-            (None, other) => other,
-        }
-    }
-
-    // The machine at the last state that is at hand up to a place, and its place.
-    fn machine_before(&self, alloc: Global, place: u32) -> Result<(Machine, u32), AllocError> {
-        match self.nearest(place) {
-            Some(kept) => Ok((kept.machine.copied(alloc)?, kept.place)),
-            None => Ok((self.start.machine(alloc)?, 0)),
+    fn nearest(&self, place: u32) -> Option<&MachineAt>
+        ensures { IfSome result (λ at. IsAt self.now at.now × (at.now.place ≤ place)) }
+    {
+        let Some(near) = self.near.last_up_to(place) else {
+            return self.coarse.last_up_to(place);
+        };
+        match self.coarse.last_up_to(place) {
+            Some(coarse) if near.place < coarse.place => Some(coarse),
+            _ => Some(near),
         }
     }
 
     /// The machine behind a number of steps, or at the end of the run if that comes before.
-    pub(crate) fn machine_after(&self, alloc: Global, steps: u32) -> Result<Machine, AllocError> {
-        let (mut machine, at) = self.machine_before(alloc, steps)?;
-        let _ = machine.run(steps - at);
-        Ok(machine)
+    pub(crate) fn machine_after(&self, alloc: Global, steps: u32) -> Result<Machine, AllocError>
+        ensures { IfOk result (λ machine. state_of machine ≡ state_after steps self.now) }
+    {
+        let mut at = self.before(alloc, steps)?;
+        let _ = at.go_to(steps);
+        Ok(at.machine)
     }
 
-    /// The same, and how the run went, with states that are kept on the way.
-    pub(crate) fn reach(
-        &mut self,
-        alloc: Global,
-        place: u32,
-    ) -> Result<(Machine, Outcome), AllocError> {
-        let (mut machine, mut at) = self.machine_before(alloc, place)?;
-        'coarse: while place - at >= self.interval - at % self.interval {
-            let stride = self.interval - at % self.interval;
-            let ran = machine.run(stride);
-            at += ran.steps;
-            if ran.steps < stride {
-                return Ok((machine, Outcome { ending: ran.ending, steps: at }));
+    /// The machine at a place, or at the end of the run if that comes before, and how a run up to the place ends. States are kept on the
+    /// way.
+    pub(crate) fn reach(&mut self, alloc: Global, place: u32) -> Result<(MachineAt, Ending), AllocError>
+        ensures run { IfOk result (λ reached. run_of place self.old
+            ≡ record { ending = reached.1; steps = reached.0.place; state = state_of reached.0.machine }) }
+        ensures same { self.new ≡ self.old }
+    {
+        let mut at = self.before(alloc, place)?;
+        while let Some(next) = self.next_kept(at.place, place) {
+            let _ = at.go_to(next);
+            if at.place < next {
+                break;
             }
-            self.keep_coarse(alloc, &machine, at)?;
+            self.keep(alloc, &at)?;
         }
-        'near: while place - at > NEAR {
-            let stride = (place - at) / 2;
-            let ran = machine.run(stride);
-            at += ran.steps;
-            if ran.steps < stride {
-                return Ok((machine, Outcome { ending: ran.ending, steps: at }));
-            }
-            self.keep_near(alloc, &machine, at)?;
-        }
-        let ran = machine.run(place - at);
-        Ok((machine, Outcome { ending: ran.ending, steps: at + ran.steps }))
+        let ending = at.go_to(place);
+        Ok((at, ending))
     }
 
-    fn keep_coarse(&mut self, alloc: Global, machine: &Machine, place: u32) -> Result<(), AllocError> {
-        if self.coarse.len() >= MOST {
-            self.thin(alloc)?;
+    // The next place on the way from one place to another where a state is to be kept.
+    fn next_kept(&self, at: u32, place: u32) -> Option<u32>
+        requires { at ≤ place }
+        ensures { IfSome result (λ next. (at < next) × (next ≤ place)) }
+    {
+        let left = place - at;
+        let stride = self.interval - at % self.interval;
+        if stride <= left {
+            return Some(at + stride);
         }
-        if place % self.interval == 0 {
-            let machine = machine.copied(alloc)?;
-            self.coarse.push(KeptState { place, machine })?;
+        if NEAR < left {
+            return Some(at + left / 2);
         }
-        Ok(())
+        None
     }
 
-    // Doubles the interval, and drops the states that do not stand at a multiple of it.
-    fn thin(&mut self, alloc: Global) -> Result<(), AllocError> {
-        self.interval = self.interval.saturating_mul(2);
-        let mut left = Vec::new(alloc);
-        let coarse = std::mem::replace(&mut self.coarse, Vec::new(alloc));
-        for kept in coarse {
-            if kept.place % self.interval == 0 {
-                left.push(kept)?;
-            }
+    // Keeps the state of a machine. Where there are too many at multiples of the interval, it doubles.
+    fn keep(&mut self, alloc: Global, at: &MachineAt) -> Result<(), AllocError>
+        requires { IsAt self.old at.now }
+        ensures { self.new ≡ self.old }
+    {
+        let kept = at.copied(alloc)?;
+        if self.coarse.is_full() {
+            self.interval = self.interval.saturating_mul(2);
+            self.coarse.keep_multiples(self.interval);
         }
-        self.coarse = left;
-        Ok(())
-    }
-
-    fn keep_near(&mut self, alloc: Global, machine: &Machine, place: u32) -> Result<(), AllocError> {
-        if self.near.len() >= MOST_NEAR {
-            let _oldest = self.near.remove(0);
+        if at.place % self.interval == 0 {
+            self.coarse.keep(kept)
+        } else {
+            self.near.keep(kept)
         }
-        let machine = machine.copied(alloc)?;
-        self.near.push(KeptState { place, machine })?;
-        Ok(())
     }
 }
 
-// The last of the states up to a place.
-fn last_up_to(states: &[KeptState], place: u32) -> Option<&KeptState> {
-    let mut last: Option<&KeptState> = None;
-    for kept in states {
-        if kept.place <= place {
-            last = match last {
-                Some(other) if other.place > kept.place => Some(other),
-                _ => Some(kept),
-            };
-        }
+// How many bytes a machine over a bus has, or more.
+fn machine_size(bus: &Bus) -> usize
+    ensures { 0 < result }
+{
+    let map = bus.map();
+    let mut size = BYTES_BESIDE;
+    for region in map.as_slice() {
+        size = size.saturating_add((region.size as usize).saturating_mul(BYTES_OF_BYTE));
     }
-    last
+    size.saturating_add(bus.script_left())
 }
