@@ -1,5 +1,5 @@
 -- The bytes of a watch, one address more.
-use Rattle.std.proofs.Common.{◌≡◌, ◌++◌, ◌∷◌, ◌+◌, ◌-◌, ◌<◌, ◌≤◌, ◌∙◌, [], ℕ, zero, suc, List, Option, Some, None, ap, append-nil, append_assoc, sym, refl, arith, add-zero, zero-add, drop, drop-cons, get_or, length, length-drop}
+use Rattle.std.proofs.Common.{◌≡◌, ◌++◌, ◌∷◌, ◌+◌, ◌-◌, ◌<◌, ◌≤◌, ◌∙◌, [], ℕ, zero, suc, List, Option, Some, None, ap, append-nil, append_assoc, sym, refl, arith, add-one, add-zero, zero-add, drop, drop-cons, get_or, length, length-drop}
 use Rattle.std.specs.Prelude.{◌≢◌}
 use Rattle.std.proofs.lemmas.List.{append_cancel_left}
 use Rattle.std.proofs.lemmas.List.Elements.{filter_map-append}
@@ -75,9 +75,9 @@ bytes_parts byte_of a n byte count within is =
     let before = filter_map byte_of (range_with_len a n) in (
       more,
       ap (λ k. filter_map byte_of (range_with_len a k)) (sym sum) ∙ ap (filter_map byte_of) (range_parts a (n + 1) left)
-      ∙ filter_map-append byte_of (range_with_len a (n + 1)) (range_with_len (a + (n + 1)) left)
-      ∙ ap (λ (bytes : List ℕ). bytes ++ more) (sym (bytes_more_some byte_of a n byte [] before is refl))
-      ∙ append_assoc before (byte ∷ []) more,
+          ∙ filter_map-append byte_of (range_with_len a (n + 1)) (range_with_len (a + (n + 1)) left)
+          ∙ ap (λ (bytes : List ℕ). bytes ++ more) (sym (bytes_more_some byte_of a n byte [] before is refl))
+          ∙ append_assoc before (byte ∷ []) more,
     )
 
 -- a byte that is not there
@@ -96,7 +96,13 @@ none_left whole from byte end behind same =
     let left = length-drop from whole in let count = ap length same in omega (arith, left, count)
 
 -- another one is
-pub other_left : (whole : List ℕ) (from byte : ℕ) → from < length whole → get_or whole from byte ≢ byte → (behind : List ℕ)
+pub other_left : (whole : List ℕ) (from byte : ℕ) → from < length whole → get_or whole from 0 ≢ byte → (behind : List ℕ)
     → drop from whole ≡ byte ∷ behind → ⊥
 other_left whole from byte within other behind same =
-    other (ap (λ (bytes : List ℕ). get_or bytes 0 byte) (sym (drop-cons whole from byte within) ∙ same))
+    other (ap (λ (bytes : List ℕ). get_or bytes 0 0) (sym (drop-cons whole from 0 within) ∙ same))
+
+-- the same one is
+pub same_left : (whole : List ℕ) (from byte : ℕ) → from < length whole → get_or whole from 0 ≡ byte
+    → drop from whole ≡ byte ∷ drop (from + 1) whole
+same_left whole from byte within is =
+    drop-cons whole from 0 within ∙ ap (λ k. k ∷ drop (suc from) whole) is ∙ ap (λ k. byte ∷ drop k whole) (sym (add-one from))

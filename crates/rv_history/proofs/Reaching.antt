@@ -137,6 +137,16 @@ within_budget (suc n) s = by_step s ((run_of (suc n) s).steps ≤ suc n)
     (λ t e. let first = steps_first n s t e in let rest = within_budget n t in omega arith)
     (λ e is. let none = steps_end n s e is in omega arith)
 
+-- so it comes to a place, if it completes as many steps
+pub ran_there : (start t : State) (place steps : ℕ) (ending : Ending)
+    → run_of place start ≡ record { ending = ending; steps = steps; state = t } → place ≤ steps → IsReached start place t
+ran_there start t place steps ending ran far =
+    let count = ap (λ r. r.steps) ran in
+    let few = within_budget place start in record {
+      completed = omega (arith, count, few, far);
+      same = sym (ap (λ r. r.state) ran);
+    }
+
 -- a step that completes within the budget is not the last
 pub goes_on : (budget place : ℕ) (start s t : State) → IsReached start place s → place < budget → step_of s ≡ Ok t
     → place < last_place budget start

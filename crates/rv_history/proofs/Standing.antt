@@ -1,24 +1,10 @@
--- Machines at places of a run.
-use Rattle.std.proofs.Common.{◌≡◌, ◌∙◌, ℕ, Bool, true, false, List, ap, subst, sym}
+-- Lists of states that are kept.
+use Rattle.std.proofs.Common.{◌≡◌, ℕ, Bool, true, false, List}
 use Rattle.std.specs.Prelude.{if◌then◌else◌}
 use Rattle.std.specs.List.{All, filter, insert}
 use Rattle.std.specs.List.Retain.{IsFiltered}
 use Rattle.std.proofs.lemmas.Fn.{filter_same}
 use Rattle.std.proofs.lemmas.List.Elements.{All-cons, All-filter, All-same}
-use Rattle.rv_machine.specs.Machine.{state_of}
-use Rattle.rv_machine.specs.Run.{run_of}
-use Rattle.rv_machine.specs.State.{State}
-use Rattle.rv_trace.specs.Trace.{state_after}
-use Rattle.rv_history.specs.Kept.{IsAt}
-use Rattle.rv_history.specs.declared.machine_at.MachineAt.{MachineAt}
-
--- a copy of a machine is at its place
-pub copy_at : (start : State) (at copy : MachineAt) → copy.place ≡ at.place → state_of copy.machine ≡ state_of at.machine
-    → IsAt start at → IsAt start copy
-copy_at start at copy place state is = record {
-  completed = subst (λ (k : ℕ). (run_of k start).steps ≡ k) (sym place) is.completed;
-  same = state ∙ is.same ∙ ap (λ k. state_after k start) (sym place);
-}
 
 -- what is kept of a list is as all of it is
 pub all_filtered : {X F : Type 0} (R : F → X → Bool → F → Type 0) (test : X → Bool) (f : F)

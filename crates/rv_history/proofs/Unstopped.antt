@@ -1,5 +1,6 @@
 -- Moves with no breakpoint and no watch.
-use Rattle.std.proofs.Common.{◌≡◌, ◌∙◌, ◌+◌, ◌<◌, ◌≤◌, ◌||◌, ℕ, List, [], false, ap, sym, subst, arith}
+use Rattle.std.proofs.Common.{◌≡◌, ◌∙◌, ◌+◌, ◌<◌, ◌≤◌, ◌||◌, ℕ, List, [], false, ap, sym, subst, arith, Result, Ok, Err}
+use Rattle.std.specs.Result.{IfOk}
 use Rattle.std.specs.List.{flat_map, list_any}
 use Rattle.std.specs.Prelude.{◌==◌}
 use Rattle.std.proofs.lemmas.Bool.{both_ways}
@@ -66,10 +67,17 @@ ends_everywhere stops budget from place start ending none order there =
       };
     }
 
-pub ends_unstopped : (stops : Stops) (within : Bounds) (budget from place : ℕ) (start : State) (told : Found) → AreNone stops
+ends_unstopped : (stops : Stops) (within : Bounds) (budget from place : ℕ) (start : State) (told : Found) → AreNone stops
     → within ≡ bounds.All → from ≤ last_place budget start → IsFoundEnd budget start place told
     → IsNextStop stops within budget start from place told
 ends_unstopped stops within budget from place start told none all order end =
     subst (λ (b : Bounds). IsNextStop stops b budget start from place told) (sym all)
     (subst (λ (f : Found). IsNextStop stops bounds.All budget start from place f) (sym end.told_is)
     (ends_everywhere stops budget from place start end.ending none order end.there))
+
+pub ends_told : {E : Type 0} (stops : Stops) (within : Bounds) (budget from place : ℕ) (start : State) (result : Result Found E)
+    → AreNone stops → within ≡ bounds.All → from ≤ last_place budget start → IfOk result (IsFoundEnd budget start place)
+    → IfOk result (IsNextStop stops within budget start from place)
+ends_told stops within budget from place start (Ok told) none all order end =
+    ends_unstopped stops within budget from place start told none all order end
+ends_told stops within budget from place start (Err error) none all order end = tt

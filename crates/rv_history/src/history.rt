@@ -90,14 +90,14 @@ impl History {
         ensures run { self.new ≡ record self.old { place = self.new.place } }
         ensures same { OnErr result (self.new ≡ self.old) }
     {
-        if bounds.are_all() && stops.are_none() {
-            return self.go_to_end(alloc);
-        }
         let leg = Leg {
             from: self.place,
             budget: self.budget,
             bounds,
         };
+        if bounds.are_all() && stops.are_none() {
+            return self.go_to_end(alloc);
+        }
         let arrival = next_stop(alloc, &self.track, leg, stops)?;
         self.arrive(alloc, arrival)
     }

@@ -18,7 +18,6 @@ pub(crate) struct KeptStates {
 impl Model for KeptStates {
     ghost use Rattle.std.specs.Prelude.{◌<◌, ◌≤◌, List, length};
     ghost use Rattle.rv_history.specs.declared.machine_at.MachineAt.{MachineAt};
-
     ghost use Rattle.rv_history.specs.StandInside.{state_code};
     ghost use Rattle.std.specs.Coded.{codes};
 

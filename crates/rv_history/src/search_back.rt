@@ -50,12 +50,7 @@ pub(crate) fn stop_before(
 }
 
 // The last stop up to a place, behind the last state at hand before it.
-fn search_part(
-    alloc: Global,
-    track: &Track,
-    end: u32,
-    stops: &Stops,
-) -> Result<Part, AllocError>
+fn search_part(alloc: Global, track: &Track, end: u32, stops: &Stops) -> Result<Part, AllocError>
     requires some { 0 < end }
     requires comes { (run_of end track.now).steps ≡ end }
     ensures begin { IfOk result (λ part. part.begin < end) }

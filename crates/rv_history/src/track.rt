@@ -27,6 +27,7 @@ const NEAR_SHARE: usize = 8;
 
 // The bytes that a machine has for each byte of its regions, and at most beside them.
 const BYTES_OF_BYTE: usize = 3;
+
 const BYTES_BESIDE: usize = 1 << 18;
 
 /// A run from its start, with some of its states at hand, so that a move need not begin at the start: each is the state behind as many
@@ -118,7 +119,11 @@ impl Track {
 
     /// The machine at a place, or at the end of the run if that comes before, and how a run up to the place ends. States are kept on the
     /// way.
-    pub(crate) fn reach(&mut self, alloc: Global, place: u32) -> Result<(MachineAt, Ending), AllocError>
+    pub(crate) fn reach(
+        &mut self,
+        alloc: Global,
+        place: u32,
+    ) -> Result<(MachineAt, Ending), AllocError>
         ensures run { IfOk result (λ reached. run_of place self.old
             ≡ record { ending = reached.1; steps = reached.0.place; state = state_of reached.0.machine }) }
         ensures same { self.new ≡ self.old }

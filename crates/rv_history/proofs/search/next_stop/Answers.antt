@@ -37,7 +37,7 @@ loop-place-preserved c =
     let did = rw c.in-Quiet.is at c.in_ok-ending.ensures.step in record {
       reached = next_place c.args.track.now (state_of c.loop-place.machine) (state_of c.step_beside.new.machine)
           c.loop-place.place c.loop-place.invariant.reached did.0;
-      watched = ?;
+      watched = c.in_ok-ending.ensures.known;
       quiet = quiet_more c.args.stops.now c.args.leg.bounds c.args.leg.budget c.args.leg.from c.loop-place.place c.args.track.now
           (state_of c.loop-place.machine) (state_of c.step_beside.new.machine) c.loop-place.invariant.reached (omega arith) did.0
           did.1 (sym c.is_halt_behind.ensures ∙ c.if-is_halt_behind.false) c.loop-place.invariant.quiet;
