@@ -17,7 +17,7 @@ use Rattle.rv_history.specs.declared.stops.Watch.{Watch}
 use Rattle.rv_history.specs.Ends.{IsFoundEnd}
 use Rattle.rv_history.specs.LastStop.{IsQuietAt}
 use Rattle.rv_history.specs.Moves.{IsEndAt, IsNextStop, IsStepBefore, IsStopBefore}
-use Rattle.rv_history.specs.Places.{IsHaltAt, last_place}
+use Rattle.rv_history.specs.Places.{IsChangeAt, IsHaltAt, last_place}
 use Rattle.rv_history.specs.Stops.{is_break, is_halt, watch_bytes, watched_bytes}
 use Rattle.rv_history.proofs.Backward.{begins_over}
 
@@ -28,24 +28,27 @@ AreNone stops = (stops.breaks ≡ []) × (stops.watches ≡ [])
 no_break : (stops : Stops) (pc : ℕ) → AreNone stops → is_break stops pc ≡ false
 no_break stops pc none = ap (λ (breaks : List ℕ). list_any (λ address. address == pc) breaks) none.0
 
-no_bytes : (stops : Stops) (bus : Contents) → AreNone stops → watched_bytes stops bus ≡ []
+no_bytes : (stops : Stops) (bus : Contents) → stops.watches ≡ [] → watched_bytes stops bus ≡ []
 unfolding watched_bytes
-no_bytes stops bus none = ap (λ (watches : List Watch). flat_map (watch_bytes bus) watches) none.1
+no_bytes stops bus none = ap (λ (watches : List Watch). flat_map (watch_bytes bus) watches) none
+
+no_change : (stops : Stops) (budget place : ℕ) (start : State) → stops.watches ≡ [] → IsChangeAt stops budget start place → ⊥
+no_change stops budget place start none change =
+    change.changes (no_bytes stops (state_after place start).bus none ∙ sym (no_bytes stops (state_after (place + 1) start).bus none))
 
 quiet_at : (stops : Stops) (budget place : ℕ) (start : State) → AreNone stops → IsQuietAt stops budget start place
 quiet_at stops budget place start none = record {
   no_break = λ is. both_ways (is_break stops (state_after place start).pc) (no_break stops (state_after place start).pc none) is;
-  no_change = λ change. change.changes (no_bytes stops (state_after place start).bus none
-      ∙ sym (no_bytes stops (state_after (place + 1) start).bus none));
+  no_change = no_change stops budget place start none.1;
 }
 
 pub begins_unstopped : (stops : Stops) (budget from : ℕ) (start : State) → AreNone stops
     → IsStopBefore stops budget start from 0 found.Begin
 begins_unstopped stops budget from start none = begins_over stops budget from start (λ j low high. quiet_at stops budget j start none)
 
-pub step_unstopped : (stops : Stops) (budget before from : ℕ) (start : State) → AreNone stops → from ≡ before + 1
+pub step_unwatched : (stops : Stops) (budget before from : ℕ) (start : State) → stops.watches ≡ [] → from ≡ before + 1
     → IsStepBefore stops budget start from before found.Done
-step_unstopped stops budget before from start none is = (is, (quiet_at stops budget before start none).no_change)
+step_unwatched stops budget before from start none is = (is, no_change stops budget before start none)
 
 no_halt : (stops : Stops) (place : ℕ) (start : State) → AreNone stops → IsHaltAt stops bounds.All start place → ⊥
 no_halt stops place start none is =
@@ -63,7 +66,7 @@ ends_everywhere stops budget from place start ending none order there =
       between = λ j low high. record {
         no_halt = λ below is. no_halt stops j start none is;
         no_end = omega arith;
-        no_change = (quiet_at stops budget j start none).no_change;
+        no_change = no_change stops budget j start none.1;
       };
     }
 

@@ -119,7 +119,7 @@ pub(crate) fn step_before(
         place: before,
         found: Found::Done,
     };
-    if stops.are_none() {
+    if stops.have_no_watch() {
         return Ok(done);
     }
     let mut machine = track.machine_after(alloc, before)?;

@@ -29,7 +29,14 @@ impl Stops {
     pub(crate) fn are_none(&self) -> bool
         ensures { IsTrue result ↔ ((self.now.breaks ≡ []) × (self.now.watches ≡ [])) }
     {
-        self.breaks.as_slice().is_empty() && self.watches.as_slice().is_empty()
+        self.breaks.as_slice().is_empty() && self.have_no_watch()
+    }
+
+    /// Whether no byte is watched.
+    pub(crate) fn have_no_watch(&self) -> bool
+        ensures { IsTrue result ↔ (self.now.watches ≡ []) }
+    {
+        self.watches.as_slice().is_empty()
     }
 
     /// Whether an address is a breakpoint.

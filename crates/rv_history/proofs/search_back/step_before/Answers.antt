@@ -3,13 +3,13 @@ use Rattle.rv_machine.specs.Machine.{state_of}
 use Rattle.rv_trace.proofs.Public.{completes}
 use Rattle.rv_history.specs.Places.{IsReached}
 use Rattle.rv_history.proofs.Backward.{completes_before, stays_behind_change, steps_back}
-use Rattle.rv_history.proofs.Unstopped.{step_unstopped}
+use Rattle.rv_history.proofs.Unstopped.{step_unwatched}
 use Rattle.rv_history.proofs.search_back.step_before.Goals as goal
 
-pub returns-then-are_none : goal.returns-then-are_none
-returns-then-are_none c = λ budget within.
-    step_unstopped c.args.stops.now budget (c.args.from - 1) c.args.from c.args.track.now (c.are_none.ensures.0 c.if-are_none.true)
-    (omega arith)
+pub returns-then-have_no_watch : goal.returns-then-have_no_watch
+returns-then-have_no_watch c = λ budget within.
+    step_unwatched c.args.stops.now budget (c.args.from - 1) c.args.from c.args.track.now
+    (c.have_no_watch.ensures.0 c.if-have_no_watch.true) (omega arith)
 
 pub returns-in-Changed : goal.returns-in-Changed
 returns-in-Changed c = λ budget within.
