@@ -1,8 +1,8 @@
 //! States of a run that are kept.
 
-ghost use Rattle.std.specs.Prelude.{◌≡◌, ◌≤◌, ◌<◌, [], IfSome, OnOk, length, nat_le};
+ghost use Rattle.std.specs.Prelude.{◌≡◌, ◌≤◌, ◌<◌, [], All, IfNone, IfSome};
 ghost use Rattle.rv_machine.specs.State.{State};
-ghost use Rattle.rv_history.specs.Kept.{AreStates, IsAt};
+ghost use Rattle.rv_history.specs.Kept.{AreStates, IsAt, IsLastUpTo};
 
 use crate::machine_at::MachineAt;
 use std::alloc::{AllocError, Global};
@@ -17,6 +17,7 @@ pub(crate) struct KeptStates {
 
 impl Model for KeptStates {
     ghost use Rattle.std.specs.Prelude.{◌<◌, ◌≤◌, List, length};
+    ghost use Rattle.rv_history.specs.Kept.{AreFalling};
     ghost use Rattle.rv_history.specs.declared.machine_at.MachineAt.{MachineAt};
     ghost use Rattle.rv_history.specs.StandInside.{state_code};
     ghost use Rattle.std.specs.Coded.{codes};
@@ -27,7 +28,7 @@ impl Model for KeptStates {
 
     ghost view = { λ kept. kept.items.items };
 
-    ghost invariant = { λ kept. (0 < kept.most) × (length kept.items.items ≤ kept.most) };
+    ghost invariant = { λ kept. (0 < kept.most) × ((length kept.items.items ≤ kept.most) × AreFalling kept.items.items) };
 }
 
 impl KeptStates {
@@ -48,8 +49,10 @@ impl KeptStates {
 
     /// The last state up to a place.
     pub(crate) fn last_up_to(&self, place: u32) -> Option<&MachineAt>
-        ensures { (start : State) → AreStates start self.now
-            → IfSome result (λ at. IsAt start at.now × (at.now.place ≤ place)) }
+        ensures state { (start : State) → AreStates start self.now → IfSome result (λ at. IsAt start at.now) }
+        ensures before { IfSome result (λ at. at.now.place ≤ place) }
+        ensures last { IfSome result (λ at. IsLastUpTo self.now place at.now.place) }
+        ensures none { IfNone result (All (λ other. place < other.place) self.now) }
     {
         for at in &self.items {
             if at.place <= place {

@@ -97,7 +97,8 @@ impl Track {
 
     // The last state that is kept up to a place.
     fn nearest(&self, place: u32) -> Option<&MachineAt>
-        ensures { IfSome result (λ at. IsAt self.now at.now × (at.now.place ≤ place)) }
+        ensures state { IfSome result (λ at. IsAt self.now at.now) }
+        ensures before { IfSome result (λ at. at.now.place ≤ place) }
     {
         let Some(near) = self.near.last_up_to(place) else {
             return self.coarse.last_up_to(place);
