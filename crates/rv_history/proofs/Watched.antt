@@ -1,5 +1,5 @@
 -- The bytes of several watches, one after another, in others.
-use Rattle.std.proofs.Common.{◌≡◌, ◌∙◌, ◌++◌, ◌∷◌, ◌+◌, ◌<◌, ◌≤◌, ◌↔◌, [], ℕ, List, ap, append-nil, append_assoc, arith, drop, eqb, get_or, length, length-append, length-drop, sym, take, true}
+use Rattle.std.proofs.Common.{◌≡◌, ◌∙◌, ◌++◌, ◌+◌, ◌<◌, ◌≤◌, ◌↔◌, [], ℕ, List, ap, append-nil, append_assoc, arith, drop, eqb, get_or, length, length-append, length-drop, sym, take, true}
 use Rattle.std.specs.List.{flat_map}
 use Rattle.std.proofs.lemmas.Bool.{eq-eqb, eqb-true}
 use Rattle.std.proofs.lemmas.Grind.{flat_map-append}

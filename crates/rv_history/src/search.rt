@@ -23,7 +23,7 @@ pub(crate) struct Leg {
     pub bounds: Bounds,
 }
 
-/// The next stop on a leg. It takes the time of the run up to there.
+/// The next stop on a leg, which it goes through step by step.
 pub(crate) fn next_stop(
     alloc: Global,
     track: &Track,
@@ -85,7 +85,7 @@ fn is_halt(stops: &Stops, bounds: Bounds, pc: u32) -> bool
     stops.has_break(pc) || bounds.is_outside(pc)
 }
 
-/// A step forward from a place. It takes the time of the run up to there.
+/// A step forward from a place.
 pub(crate) fn next_step(
     alloc: Global,
     track: &Track,

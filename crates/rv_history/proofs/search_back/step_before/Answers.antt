@@ -1,4 +1,4 @@
-use Rattle.std.proofs.Common.{◌-◌, ◌≡◌, arith, inl, inr, sym}
+use Rattle.std.proofs.Common.{◌-◌, arith, inl, inr, sym}
 use Rattle.rv_machine.specs.Machine.{state_of}
 use Rattle.rv_trace.proofs.Public.{completes}
 use Rattle.rv_history.specs.Places.{IsReached}
