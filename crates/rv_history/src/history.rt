@@ -95,6 +95,7 @@ impl History {
             budget: self.budget,
             bounds,
         };
+        // With nothing to look for on the way, the run goes at its full speed.
         if bounds.are_all() && stops.are_none() {
             return self.go_to_end(alloc);
         }
