@@ -6,6 +6,7 @@ _rvfleet_options() {
         'rvtest list') echo '--only --match --exclude --failed --partial --lenient --help' ;;
         'rvtest explain') echo '--last --budget --root --color --help' ;;
         'rvtest console') echo '--root --help' ;;
+        'rvtest gdb') echo '--root --help' ;;
         'rvtest check') echo '--root --help' ;;
         'rvtest accept') echo '--only --match --exclude --failed --partial --ends --check --workers --group --root --help' ;;
         'rvtest merge') echo '--report --junit --suite --lenient --help' ;;
@@ -32,7 +33,7 @@ _rvfleet_jobs() {
 
 # Whether the word is the second one of a command that takes a list and a job's name.
 _rvfleet_is_named() {
-    [[ " explain console " = *" ${COMP_WORDS[1]} "* && $COMP_CWORD -gt 2 && -f ${COMP_WORDS[COMP_CWORD - 1]} ]]
+    [[ " explain console gdb " = *" ${COMP_WORDS[1]} "* && $COMP_CWORD -gt 2 && -f ${COMP_WORDS[COMP_CWORD - 1]} ]]
 }
 
 # The words of which one is wanted behind another word: by the program, the place, and the word before.
@@ -44,7 +45,7 @@ _rvfleet_choices() {
 }
 
 _rvfleet() {
-    local word=$2 before=$3 commands='run list explain console check accept merge diff show counts help --version --help'
+    local word=$2 before=$3 commands='run list explain console gdb check accept merge diff show counts help --version --help'
     COMPREPLY=()
     [ "${1##*/}" = rvtest ] || commands='raw one run --help'
     if [ "$COMP_CWORD" = 1 ]; then

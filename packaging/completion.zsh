@@ -20,6 +20,7 @@ _rvfleet_behind_rvtest() {
         'list:Prints the names of the jobs that a run would run, one a line'
         'explain:Runs one job, and shows how it ended and came there'
         'console:Runs one job, and writes its console'\''s bytes to standard output'
+        'gdb:Shows the run of one job to gdb, forwards and backwards'
         'check:Says all that is wrong with a list and its files, and runs nothing'
         'accept:Runs jobs, and makes what they came to what is expected'
         'merge:Makes the whole report of the parts of one run'
@@ -80,6 +81,11 @@ _rvfleet_behind_rvtest() {
                 ':LIST:_files' \
                 ':NAME:_rvfleet_jobs' ;;
         console) _arguments \
+                '--root[Takes the paths in the list from this folder]:DIR:_directories' \
+                '--help[Print help]' \
+                ':LIST:_files' \
+                ':NAME:_rvfleet_jobs' ;;
+        gdb) _arguments \
                 '--root[Takes the paths in the list from this folder]:DIR:_directories' \
                 '--help[Print help]' \
                 ':LIST:_files' \

@@ -203,6 +203,10 @@ explain_app = with_color (with_rule (with_rule (with_rule (with_rule (app_of_lis
 abbrev pub console_app : App
 console_app = with_rule (with_rule (app_of_list (codes "console")) (word_rule (codes "name"))) (option_rule (codes "root"))
 
+-- gdb <LIST> <NAME> [--root <DIR>]
+abbrev pub gdb_app : App
+gdb_app = with_rule (with_rule (app_of_list (codes "gdb")) (word_rule (codes "name"))) (option_rule (codes "root"))
+
 -- check <LIST> [--root <DIR>]
 abbrev pub check_app : App
 check_app = with_rule (app_of_list (codes "check")) (option_rule (codes "root"))
@@ -245,7 +249,8 @@ abbrev pub with_runs : App → App
 with_runs app = with_subcommand (with_subcommand (with_subcommand app test_run_app.top) list_app.top) explain_app.top
 
 abbrev pub with_lists : App → App
-with_lists app = with_subcommand (with_subcommand (with_subcommand (with_runs app) console_app.top) check_app.top) accept_app.top
+with_lists app = with_subcommand (with_subcommand (with_subcommand (with_subcommand (with_runs app) console_app.top) gdb_app.top)
+    check_app.top) accept_app.top
 
 abbrev pub with_reports : App → App
 with_reports app = with_subcommand (with_subcommand (with_subcommand app merge_app.top)

@@ -103,8 +103,8 @@ pub record CountsWords : Type 0 where
   pub tables : List Text
   pub out : Option Text
 
--- to run jobs; to say which jobs a run of these words would run; to explain one; to write the console of one, whose paths are taken
--- from a folder; to say all that is wrong with a list, whose paths are taken from a
+-- to run jobs; to say which jobs a run of these words would run; to explain one; to write the console of one, or to show its run to
+-- gdb, whose paths are taken from a folder; to say all that is wrong with a list, whose paths are taken from a
 -- folder; to accept what runs came to; to merge parts; to compare two reports, with their steps or without, or by which jobs are slower; to show one; to add up tables of counts; to
 -- tell of something that is no command
 pub data Words : Type 0 where
@@ -112,6 +112,7 @@ pub data Words : Type 0 where
   names : RunWords → Words
   explain : ExplainWords → Words
   console : Text → Text → Option Text → Words
+  gdb : Text → Text → Option Text → Words
   check : Text → Option Text → Words
   accept : AcceptWords → Words
   merge : MergeWords → Words
@@ -180,6 +181,10 @@ abbrev pub console_request : List Row → Option Words
 console_request rows = option_and_then (λ list. option_map (λ name. console list name (first_of (codes "root") rows))
     (first_of (codes "name") rows)) (first_of (codes "list") rows)
 
+abbrev pub gdb_request : List Row → Option Words
+gdb_request rows = option_and_then (λ list. option_map (λ name. gdb list name (first_of (codes "root") rows))
+    (first_of (codes "name") rows)) (first_of (codes "list") rows)
+
 abbrev pub check_request : List Row → Option Words
 check_request rows = option_map (λ list. check list (first_of (codes "root") rows))
     (first_of (codes "list") rows)
@@ -246,6 +251,7 @@ subcommand_words name rows = if bytes_eq name (codes "run") then test_run_reques
     else if bytes_eq name (codes "list") then list_request rows
     else if bytes_eq name (codes "explain") then explain_request rows
     else if bytes_eq name (codes "console") then console_request rows
+    else if bytes_eq name (codes "gdb") then gdb_request rows
     else if bytes_eq name (codes "check") then check_request rows
     else if bytes_eq name (codes "accept") then accept_request rows
     else if bytes_eq name (codes "merge") then Some (merge_request rows)
@@ -544,6 +550,7 @@ asked_words (asked.Run value) = run (run_asked_words value)
 asked_words (asked.List value) = names (run_asked_words value)
 asked_words (asked.Explain value) = explain (explain_asked_words value)
 asked_words (asked.Console value) = console value.list.now value.name.now (borrowed_text value.root)
+asked_words (asked.Gdb value) = gdb value.list.now value.name.now (borrowed_text value.root)
 asked_words (asked.Check value) = check value.list.now (borrowed_text value.root)
 asked_words (asked.Accept value) = accept (accept_asked_words value)
 asked_words (asked.Merge value) = merge (merge_asked_words value)

@@ -1,7 +1,14 @@
+pub mod Fading
+pub mod Going
 pub mod Ends
 pub mod Tallies
 pub mod Counted
+pub mod Runs
+pub mod Learnt
+pub mod Blocks
+pub mod Finding
 pub mod Evens
+pub mod Counting
 pub mod Starts
 pub mod Lines
 pub mod OfJobs

@@ -1,2 +1,3 @@
 pub mod Coverage
+pub mod Blocks
 pub mod JobTables

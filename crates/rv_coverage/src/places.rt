@@ -1,6 +1,6 @@
 //! The table of the jobs at some places of a plan.
 
-ghost use Rattle.std.specs.Prelude.{◌+◌, ◌<◌, ◌≤◌, ◌^◌, ℕ, List, Result, IfOk, length, slice_index_or};
+ghost use Rattle.std.specs.Prelude.{◌+◌, ◌-◌, ◌*◌, ◌<◌, ◌≤◌, ◌^◌, ℕ, List, Result, IfOk, length, max, slice_index_or};
 ghost use Rattle.std.specs.declared.alloc.AllocError.{AllocError as Refused};
 ghost use Rattle.rv_counts.specs.declared.table.CountTable.{CountTable as Counted};
 ghost use Rattle.rv_counts.specs.Sum.{IsSum};
@@ -19,7 +19,7 @@ use std::thread::Threads;
 
 /// The table of the jobs of a batch: the sum of the tables of their runs, the same for every crew. Each job is run once more,
 /// by as many threads as the crew has, each of which takes an equal share of the places; it takes memory for two tables of each
-/// thread. No number of so few jobs reaches 2^64.
+/// thread, and 96 KiB for what a thread knows of code. No number of so few jobs reaches 2^64.
 pub fn count_places<R: Threads + Sync>(
     crew: &Crew<'_, R>,
     batch: &Batch<'_>,
@@ -41,10 +41,12 @@ pub fn count_places<R: Threads + Sync>(
     sum_of_all(alloc, tables.as_slice())
 }
 
-// How many places each of so many threads takes: one at least.
+// How many places each of so many threads takes: one at least, and no more than so many threads need for all.
 fn share_of(places: usize, workers: u32) -> usize
     requires { 0 < workers }
-    ensures { 0 < result }
+    ensures some { 0 < result }
+    ensures all { places ≤ result * workers }
+    ensures least { (result - 1) * workers < max places 1 }
 {
     places.div_ceil(workers as usize).max(1)
 }

@@ -34,6 +34,13 @@ misaligned branch | im | 9 | 00000363 | 80000000 1 0
 code that was stored | imc | 9 | 00000297 0052a423 X | 80000000 1 0, 80000004 1 0
 code that was stored, behind FENCE.I | imc | 99 | 00000297 0102a303 0062aa23 0000100f 00500513 00000000 X | \
     80000000 1 0, 80000004 1 0, 80000008 1 0, 8000000c 1 0, 80000010 1 0, 80000014 1 0, 80000018 1 0, 8000001c 1 0
+the budget ends in a block that is known | imc | 9 | 00300293 fff28293 00000013 fe029ce3 X | \
+    80000000 1 0, 80000004 3 0, 80000008 3 0, 8000000c 2 2
+a fault in a block that is known | imc | 99 | 00000297 0002a303 00000293 ff9ff06f | \
+    80000000 1 0, 80000004 2 0, 80000008 1 0, 8000000c 1 0
+code that is known, and another behind FENCE.I | imc | 99 | \
+    00000297 0182a303 00000013 0062a423 0000100f ff5ff06f 00000a63 X | 80000000 1 0, 80000004 1 0, 80000008 2 1, \
+    8000000c 1 0, 80000010 1 0, 80000014 1 0, 8000001c 1 0, 80000020 1 0
 counts come in the order of addresses | imc | 9 | 00c0006f X 00000013 ff5ff06f | \
     80000000 1 0, 80000004 1 0, 80000008 1 0, 8000000c 1 0, 80000010 1 0
 ";
@@ -78,7 +85,7 @@ fn check(alloc: Global, row: &str) -> Result<(), Fail> {
 
 #[test]
 fn runs_are_counted(rt: HostRuntime) -> Result<(), Fail> {
-    has_lines(RUNS, 20)?;
+    has_lines(RUNS, 23)?;
     for row in RUNS.lines() {
         check(rt.alloc(), row)?;
     }

@@ -2,6 +2,8 @@
 use Rattle.std.proofs.Common.{◌≡◌, ◌∙◌, ℕ, List, [], Option, Some, None, Result, Ok, Err, ap, option_map, refl, sym}
 use Rattle.std.specs.Prelude.{MatchOption}
 use Rattle.std.specs.Result.{result_ok}
+use Rattle.rv_calls.specs.declared.run.Calls.{Calls}
+use Rattle.rv_calls.specs.CallsLine.{calls_text}
 use Rattle.rv_elf.specs.declared.error.ImageError.{ImageError}
 use Rattle.rv_elf.specs.declared.image.Image.{Image}
 use Rattle.rv_elf.specs.declared.symbol_search.SymbolAt.{SymbolAt}
@@ -15,7 +17,7 @@ use Rattle.rv_rows.specs.Rows.{image_if_read}
 use Rattle.rv_trace.specs.declared.trace.Trace.{Trace}
 use Rattle.rv_trace.specs.Text.{trace_text}
 use Rattle.rv_job_text.specs.ImageSymbols.{signature_begin, signature_begin_in_image, symbol_in_file, symbol_in_image, value_if_defined}
-use Rattle.rv_job_text.specs.WayToEnd.{optional_trace_text, trace_text_in_file, trace_text_in_image}
+use Rattle.rv_job_text.specs.WayToEnd.{optional_calls_text, optional_trace_text, text_in_file, text_in_image}
 
 -- for the same set of instructions
 pub read_for : (one isa : Isa) (bytes : List ℕ) (image : Image) → one ≡ isa → image_of one bytes ≡ Ok image
@@ -60,21 +62,26 @@ module _ (isa : Isa) where
   no_names None = refl
   no_names (Some file) = refl
 
-  no_text : (r : Result Image ImageError) (file : List ℕ) (trace : Trace) (end : RowEnd) → result_ok r ≡ None
-      → trace_text_in_image r file trace end ≡ []
-  no_text (Ok image) file trace end e = cc
-  no_text (Err why) file trace end e = refl
+  no_text : (r : Result Image ImageError) (file : List ℕ) (text : Image → List ℕ → List ℕ) → result_ok r ≡ None
+      → text_in_image r file text ≡ []
+  no_text (Ok image) file text e = cc
+  no_text (Err why) file text e = refl
 
-  no_text_in_file : (file : Option (List ℕ)) (trace : Trace) (end : RowEnd) → image_if_read isa file ≡ None
-      → trace_text_in_file isa file trace end ≡ []
-  unfolding trace_text_in_file
-  no_text_in_file None trace end e = refl
-  no_text_in_file (Some file) trace end e = no_text (image_of isa file) file trace end e
+  no_text_in_file : (file : Option (List ℕ)) (text : Image → List ℕ → List ℕ) → image_if_read isa file ≡ None
+      → text_in_file isa file text ≡ []
+  unfolding text_in_file
+  no_text_in_file None text e = refl
+  no_text_in_file (Some file) text e = no_text (image_of isa file) file text e
 
   pub no_trace_text : (file : Option (List ℕ)) (end : RowEnd) (trace : Option Trace) → image_if_read isa file ≡ None
       → optional_trace_text isa file end trace ≡ []
   no_trace_text file end None e = refl
-  no_trace_text file end (Some trace) e = no_text_in_file file trace end e
+  no_trace_text file end (Some trace) e = no_text_in_file file (λ image bytes. trace_text image bytes trace end) e
+
+  pub no_calls_text : (file : Option (List ℕ)) (calls : Option Calls) → image_if_read isa file ≡ None
+      → optional_calls_text isa file calls ≡ []
+  no_calls_text file None e = refl
+  no_calls_text file (Some calls) e = no_text_in_file file (λ image bytes. calls_text image bytes calls) e
 
 -- ---- where it is one
 
@@ -91,8 +98,6 @@ module _ (isa : Isa) (file : Option (List ℕ)) (bytes : List ℕ) (image : Imag
   begin_in_read_file names =
       ap (λ f. signature_begin isa f (Some names)) there ∙ ap (λ r. signature_begin_in_image r bytes names) read
 
-  pub text_in_read_file : (trace : Trace) (end : RowEnd)
-      → trace_text_in_file isa file trace end ≡ trace_text image bytes trace end
-  unfolding trace_text_in_file
-  text_in_read_file trace end =
-      ap (λ f. trace_text_in_file isa f trace end) there ∙ ap (λ r. trace_text_in_image r bytes trace end) read
+  pub text_in_read_file : (text : Image → List ℕ → List ℕ) → text_in_file isa file text ≡ text image bytes
+  unfolding text_in_file
+  text_in_read_file text = ap (λ f. text_in_file isa f text) there ∙ ap (λ r. text_in_image r bytes text) read

@@ -1,6 +1,7 @@
 -- What a person is told of a job's row.
 use Rattle.std.specs.Prelude.{ℕ, List, [], ◌++◌, Option, Some, None, Bool, true, false}
 use Rattle.std.specs.Prelude.{if◌then◌else◌, slice_get}
+use Rattle.rv_calls.specs.Calls.{calls_in}
 use Rattle.rv_expect.specs.declared.unmet.Unmet.{Unmet}
 use Rattle.rv_expect.specs.Comparisons.{Sides}
 use Rattle.rv_expect.specs.UnmetInPlan.{sides_in, unmet_in}
@@ -23,7 +24,7 @@ use Rattle.rv_job_text.specs.declared.verbosity.Verbosity.TheVariants.{Quiet, Fa
 use Rattle.rv_job_text.specs.ImageSymbols.{signature_begin, fault_symbol}
 use Rattle.rv_job_text.specs.RefusalReasons.{ending_reason}
 use Rattle.rv_job_text.specs.BudgetUseLine.{budget_use_line}
-use Rattle.rv_job_text.specs.WayToEnd.{optional_trace_text}
+use Rattle.rv_job_text.specs.WayToEnd.{optional_calls_text, optional_trace_text}
 use Rattle.rv_job_text.specs.declared.way_to_end.WayToEnd.{WayToEnd}
 use Rattle.rv_trace.specs.Trace.{trace_in}
 
@@ -114,11 +115,17 @@ row_lines_at telling place row = row_lines_of_job telling row (slice_get telling
 
 -- ---- a job that is explained
 
--- every expectation, the end of the console, what is found of a used-up budget, and how the run came to its end
+-- the calls that have not returned where the run of a job ended, in a line, where there are any
+unfoldable pub calls_lines : Planned → Job → List ℕ
+calls_lines plan job = optional_calls_text job.isa (image_bytes plan job) (calls_in plan job)
+
+-- every expectation, the end of the console, what is found of a used-up budget, how the run came to its end, and the calls
+-- that have not returned there
 unfoldable pub run_explanation : Planned → Job → Row → WayToEnd → List ℕ
 run_explanation plan job row way =
     expectation_lines detail.All plan job row ++ (console_tail row.console
-    ++ (budget_use_line row.steps way.budget_use ++ way_to_end_lines plan job row way.last))
+    ++ (budget_use_line row.steps way.budget_use
+    ++ (way_to_end_lines plan job row way.last ++ calls_lines plan job)))
 
 abbrev pub explanation_if_run : Planned → Job → Row → WayToEnd → List ℕ
 explanation_if_run plan job row way =

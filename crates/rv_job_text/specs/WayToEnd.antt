@@ -4,20 +4,27 @@ use Rattle.rv_elf.specs.declared.error.ImageError.{ImageError}
 use Rattle.rv_elf.specs.declared.image.Image.{Image}
 use Rattle.rv_elf.specs.Image.{image_of}
 use Rattle.rv_isa.specs.declared.sets.Isa.{Isa}
+use Rattle.rv_calls.specs.declared.run.Calls.{Calls}
+use Rattle.rv_calls.specs.CallsLine.{calls_text}
 use Rattle.rv_rows.specs.declared_row.RowEnd.{RowEnd}
 use Rattle.rv_trace.specs.declared.trace.Trace.{Trace}
 use Rattle.rv_trace.specs.Text.{trace_text}
 
--- the text of a trace, in a file that can be read as an image
-abbrev pub trace_text_in_image : Result Image ImageError → List ℕ → Trace → RowEnd → List ℕ
-trace_text_in_image (Ok image) file trace end = trace_text image file trace end
-trace_text_in_image (Err why) file trace end = []
+-- a text with the symbols of a file, where it can be read as an image
+abbrev pub text_in_image : Result Image ImageError → List ℕ → (Image → List ℕ → List ℕ) → List ℕ
+text_in_image (Ok image) file text = text image file
+text_in_image (Err why) file text = []
 
-unfoldable pub trace_text_in_file : Isa → Option (List ℕ) → Trace → RowEnd → List ℕ
-trace_text_in_file isa None trace end = []
-trace_text_in_file isa (Some file) trace end = trace_text_in_image (image_of isa file) file trace end
+unfoldable pub text_in_file : Isa → Option (List ℕ) → (Image → List ℕ → List ℕ) → List ℕ
+text_in_file isa None text = []
+text_in_file isa (Some file) text = text_in_image (image_of isa file) file text
 
--- where there is a trace
+-- that of a trace, where there is one
 abbrev pub optional_trace_text : Isa → Option (List ℕ) → RowEnd → Option Trace → List ℕ
 optional_trace_text isa file end None = []
-optional_trace_text isa file end (Some trace) = trace_text_in_file isa file trace end
+optional_trace_text isa file end (Some trace) = text_in_file isa file (λ image bytes. trace_text image bytes trace end)
+
+-- that of calls, where a run has some
+abbrev pub optional_calls_text : Isa → Option (List ℕ) → Option Calls → List ℕ
+optional_calls_text isa file None = []
+optional_calls_text isa file (Some calls) = text_in_file isa file (λ image bytes. calls_text image bytes calls)

@@ -93,8 +93,8 @@ impl<'a> RowTelling<'a> {
     }
 
     /// Appends what explains the row of the job at a place, whatever the verbosity: its line, and where the job ran every
-    /// expectation, those that it does not meet first, the end of its console, what is found of a used-up budget, and how it came
-    /// to its end: the registers there, and so many of its last instructions.
+    /// expectation, those that it does not meet first, the end of its console, what is found of a used-up budget, how it came to
+    /// its end, with the registers there and so many of its last instructions, and the calls that have not returned there.
     #[tactic(auto, unfolding(crate::specs::Telling::explanation_text))]
     pub fn push_job_explanation(
         &self,
@@ -207,7 +207,8 @@ impl<'a> JobRow<'a> {
         }
     }
 
-    // Appends every expectation, the end of the console, what is found of a used-up budget, and how the run came to its end.
+    // Appends every expectation, the end of the console, what is found of a used-up budget, how the run came to its end, and
+    // the calls that have not returned there.
     #[tactic(auto, unfolding(crate::specs::Telling::run_explanation))]
     fn push_run_explanation(
         &self,
@@ -222,7 +223,8 @@ impl<'a> JobRow<'a> {
         self.push_expectation_lines(alloc, Detail::All, text)?;
         push_console_tail(text, self.row.console.as_slice())?;
         push_budget_use_line(text, self.row.steps, way.budget_use)?;
-        self.push_way_to_end(alloc, way.last, text)
+        self.push_way_to_end(alloc, way.last, text)?;
+        self.push_calls(alloc, text)
     }
 
     // Appends the expectations that are told of the run.

@@ -5,10 +5,11 @@ ghost use Rattle.rv_hang.specs.BudgetUse.{IsBudgetUseIn};
 ghost use Rattle.rv_jobs.specs.declared_job.Job.{Job as AJob};
 ghost use Rattle.rv_trace.specs.Trace.{job_at};
 ghost use Rattle.rv_job_text.specs.BudgetUseLine.{IsUseOfRow};
-ghost use Rattle.rv_job_text.specs.Telling.{way_to_end_lines};
+ghost use Rattle.rv_job_text.specs.Telling.{calls_lines, way_to_end_lines};
 
 use crate::job_file::JobFile;
 use crate::job_row::JobRow;
+use rv_calls::{calls_at_end, push_calls_text};
 use rv_hang::{BudgetUse, budget_use_of};
 use rv_jobs::Plan;
 use rv_rows::{Row, RowEnd};
@@ -73,6 +74,27 @@ impl<'a> JobRow<'a> {
         };
         match trace_job(alloc, &job, self.row.steps, last)? {
             Some(trace) => push_trace(alloc, text, &elf, &trace, self.row.ending),
+            None => Ok(()),
+        }
+    }
+
+    /// Appends the calls that have not returned where the run ended, if there are any. It is run once more, an instruction
+    /// at a time.
+    #[tactic(auto, unfolding(crate::specs::Telling::calls_lines))]
+    pub(crate) fn push_calls(&self, alloc: Global, text: &mut Vec<u8>) -> Result<(), AllocError>
+        ensures { OnOk result ((d : AJob) → text.new.items ≡ text.old.items
+            ++ calls_lines self.now.plan.now (job_at self.now.plan.now self.now.place d)) }
+    {
+        let Some(elf) = self.file.elf_file() else {
+            return Ok(());
+        };
+        let job = JobImage {
+            plan: self.plan,
+            place: self.place,
+            image: elf.image,
+        };
+        match calls_at_end(alloc, &job)? {
+            Some(calls) => push_calls_text(alloc, text, &elf, &calls),
             None => Ok(()),
         }
     }

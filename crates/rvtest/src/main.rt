@@ -29,7 +29,7 @@ fn main(rt: HostRuntime) -> ExitCode {
         progress: rt.stderr(),
     };
     let to = Destinations { files, out, errors };
-    let (_, status) = run_rvtest(&host, texts.as_slice(), to, terminals);
+    let (_, status) = run_rvtest(&host, texts.as_slice(), to, terminals, &mut rt.stdin());
     ExitCode::from(status)
 }
 

@@ -55,32 +55,32 @@ diff_stop_at known words old (Err failed) why read found unread =
     (λ is. inr (is.0, (record { bytes = old; found = read; of = is.1 }, inl (rw is.2 unread)))))
 
 -- a run that had jobs to run may be stopped by a failed write, and one that had none put nothing
-pub unshown_run : (known : Option FileContents) (words : RunAsked) (Untouched : Type 0)
-    → AreJobsToRun known words ⊎ Untouched → IsCommandStop known (asked.Run words) stop.WriteFailed ⊎ Untouched
-unshown_run known words Untouched =
+pub unshown_run : (known : Option FileContents) (is_terminal : Bool) (words : RunAsked) (Untouched : Type 0)
+    → AreJobsToRun known words ⊎ Untouched → IsCommandStop known is_terminal (asked.Run words) stop.WriteFailed ⊎ Untouched
+unshown_run known is_terminal words Untouched =
     ⊎_elim (λ found. inl (inr (inr (found, inl (inr (inr (inl refl))))))) inr
 
 -- so may an acceptance, a merge and what is shown of a report
-pub unshown_accept : (known : Option FileContents) (words : AcceptAsked) (status : ℕ) (before after : Said)
-    → IsAcceptedAt known words status before after → IsCommandStop known (asked.Accept words) stop.WriteFailed
-unshown_accept known words status before after done =
+pub unshown_accept : (known : Option FileContents) (is_terminal : Bool) (words : AcceptAsked) (status : ℕ) (before after : Said)
+    → IsAcceptedAt known words status before after → IsCommandStop known is_terminal (asked.Accept words) stop.WriteFailed
+unshown_accept known is_terminal words status before after done =
     inr (done.bytes, (done.read, (done.jobs, (done.listed, inr (inr (inl refl))))))
 
-pub unshown_merge : (known : Option FileContents) (words : MergeAsked) (status : ℕ) (before after : Said)
-    → IsMergedAt known words status before after → IsCommandStop known (asked.Merge words) stop.WriteFailed
-unshown_merge known words status before after done =
+pub unshown_merge : (known : Option FileContents) (is_terminal : Bool) (words : MergeAsked) (status : ℕ) (before after : Said)
+    → IsMergedAt known words status before after → IsCommandStop known is_terminal (asked.Merge words) stop.WriteFailed
+unshown_merge known is_terminal words status before after done =
     inr (done.texts, (done.read, inr (done.rows, (done.parts, inr (inl refl)))))
 
-pub unshown_report : (known : Option FileContents) (words : ShowAsked) (status : ℕ) (before after : Said)
-    → IsShownAt known words status before after → IsCommandStop known (asked.Show words) stop.WriteFailed
-unshown_report known words status before after done = inr (done.found, (done.read, inr (inl refl)))
+pub unshown_report : (known : Option FileContents) (is_terminal : Bool) (words : ShowAsked) (status : ℕ) (before after : Said)
+    → IsShownAt known words status before after → IsCommandStop known is_terminal (asked.Show words) stop.WriteFailed
+unshown_report known is_terminal words status before after done = inr (done.found, (done.read, inr (inl refl)))
 
 -- a sum of tables that goes to standard output may be stopped there, and one that goes to a file put nothing there
-pub unshown_sum : (known : Option FileContents) (words : CountsAsked) (status : ℕ) (before after : Said) (Untouched : Type 0)
+pub unshown_sum : (known : Option FileContents) (is_terminal : Bool) (words : CountsAsked) (status : ℕ) (before after : Said) (Untouched : Type 0)
     → IsSumPut known words status before after
     → (is_stdout (written_path (optional_text words.out)) ≡ true) ⊎ Untouched
-    → IsCommandStop known (asked.Counts words) stop.WriteFailed ⊎ Untouched
-unshown_sum known words status before after Untouched put =
+    → IsCommandStop known is_terminal (asked.Counts words) stop.WriteFailed ⊎ Untouched
+unshown_sum known is_terminal words status before after Untouched put =
     ⊎_elim (λ out. inl (inr (inr (
       put.sum,
       (

@@ -1,5 +1,5 @@
 -- What stops the program for its words.
-use Rattle.std.proofs.Common.{◌≡◌, ◌⊎◌, ◌∙◌, ℕ, List, [], MatchOption, Option, Some, None, Result, Ok, Err, IfErr, inl, inr, refl, subst, ⊎_elim}
+use Rattle.std.proofs.Common.{◌≡◌, ◌⊎◌, ◌∙◌, ℕ, Bool, List, [], MatchOption, Option, Some, None, Result, Ok, Err, IfErr, inl, inr, refl, subst, ⊎_elim}
 use Rattle.clap.specs.Kinds.{IsAmong}
 use Rattle.clap.specs.Words.{fault_of}
 use Rattle.clap.specs.declared.error.kind.ErrorKind.{ErrorKind}
@@ -28,19 +28,19 @@ by_option : {M : Type 0} (P : Option M → Type 0) (A : Type 0) (Q : M → Type 
 by_option P A Q none some None p = none p
 by_option P A Q none some (Some m) p = some m p
 
-help_stop : (known : Option FileContents) (words : List (List ℕ)) (before after : ℕ) (why : Stop) → AskForHelp words
-    → IsHelpStop before after why → IsStopFor known words why
-help_stop known words before after why asked is =
+help_stop : (known : Option FileContents) (is_terminal : Bool) (words : List (List ℕ)) (before after : ℕ) (why : Stop) → AskForHelp words
+    → IsHelpStop before after why → IsStopFor known is_terminal words why
+help_stop known is_terminal words before after why asked is =
     ⊎_elim (λ memory. inr (inl memory)) (λ failed. inr (inr (inl (asked, failed.0)))) is
 
 -- a fault of words stops the program by its kind
-stop_of_error : (known : Option FileContents) (words : List (List ℕ)) (told : WordsError) (before after : ℕ) (why : Stop)
+stop_of_error : (known : Option FileContents) (is_terminal : Bool) (words : List (List ℕ)) (told : WordsError) (before after : ℕ) (why : Stop)
     → IsToldOf (words_fault_kinds words) told
     → (fault_of test_app words ≡ [] → IsMisuseTold (words_misuse words) told)
-    → IsWordsErrorStop told before after why → IsStopFor known words why
-stop_of_error known words error.OutOfMemory before after why among misused is = inr (inl is)
-stop_of_error known words (error.Told fault text) before after why among misused is =
-    ⊎_elim (λ help. help_stop known words before after why (ask_for_help words fault among help.0) help.1)
+    → IsWordsErrorStop told before after why → IsStopFor known is_terminal words why
+stop_of_error known is_terminal words error.OutOfMemory before after why among misused is = inr (inl is)
+stop_of_error known is_terminal words (error.Told fault text) before after why among misused is =
+    ⊎_elim (λ help. help_stop known is_terminal words before after why (ask_for_help words fault among help.0) help.1)
     (λ other. inr (inr (inr (record {
       faulty = (fault, (among, other.0));
       refused = inr other.1.0;
@@ -49,10 +49,10 @@ stop_of_error known words (error.Told fault text) before after why among misused
           (λ misuse told. inr (other.1.0, (told.1.0, other.1.1 ∙ told.1.1))) (words_misuse words) (misused none);
     })))) is
 
-pub words_stop : (known : Option FileContents) (words : List (List ℕ)) (told : WordsError) (answer : Result ℕ Stop)
+pub words_stop : (known : Option FileContents) (is_terminal : Bool) (words : List (List ℕ)) (told : WordsError) (answer : Result ℕ Stop)
     (before after : ℕ) → IsToldOf (words_fault_kinds words) told
     → (fault_of test_app words ≡ [] → IsMisuseTold (words_misuse words) told)
-    → IfErr answer (IsWordsErrorStop told before after) → IfErr answer (IsStopFor known words)
-words_stop known words told (Ok status) before after among misused is = tt
-words_stop known words told (Err why) before after among misused is =
-    stop_of_error known words told before after why among misused is
+    → IfErr answer (IsWordsErrorStop told before after) → IfErr answer (IsStopFor known is_terminal words)
+words_stop known is_terminal words told (Ok status) before after among misused is = tt
+words_stop known is_terminal words told (Err why) before after among misused is =
+    stop_of_error known is_terminal words told before after why among misused is

@@ -1,5 +1,5 @@
 -- Why commands ended before their work was done.
-use Rattle.std.specs.Prelude.{◌≡◌, ◌⊎◌, ℕ, List, [], MatchOption, Option, None, Some, Ok}
+use Rattle.std.specs.Prelude.{◌≡◌, ◌⊎◌, ℕ, Bool, true, false, List, [], MatchOption, Option, None, Some, Ok}
 use Rattle.clap.specs.Kinds.{IsAmong}
 use Rattle.clap.specs.Words.{fault_of}
 use Rattle.clap.specs.declared.error.kind.ErrorKind.{ErrorKind as WordsFault}
@@ -13,6 +13,7 @@ use Rattle.rv_cli.specs.declared.rvtest.check.CheckAsked.{CheckAsked}
 use Rattle.rv_cli.specs.declared.rvtest.console.ConsoleAsked.{ConsoleAsked}
 use Rattle.rv_cli.specs.declared.rvtest.diff.DiffAsked.{DiffAsked}
 use Rattle.rv_cli.specs.declared.rvtest.explain.ExplainAsked.{ExplainAsked}
+use Rattle.rv_cli.specs.declared.rvtest.gdb.GdbAsked.{GdbAsked}
 use Rattle.rv_cli.specs.declared.rvtest.run.RunAsked.{RunAsked}
 use Rattle.rv_cli.specs.declared.rvtest.show.ShowAsked.{ShowAsked}
 use Rattle.rv_cli.specs.declared.rvtest.requests.Asked.{Asked}
@@ -21,6 +22,7 @@ use Rattle.rv_command.specs.Stops.{IsListFaultStop, IsListUnreadStop, IsRefusal,
 use Rattle.rv_command.specs.Texts.{IsReportReadAt, IsTextAt, optional_text}
 use Rattle.rv_command.specs.declared.stop.Stop.{Stop}
 use Rattle.rv_command.specs.declared.stop.Stop.TheVariants as stop
+use Rattle.rv_gdb.specs.declared.conversation.Broken.{Broken}
 use Rattle.rv_lists.specs.JobList.{job_list_of}
 use Rattle.rv_lists.specs.declared.job.Job.{Job}
 use Rattle.rv_report.specs.declared.partial.PartialReport.{PartialReport}
@@ -28,6 +30,7 @@ use Rattle.rvtest_app.specs.AcceptStops.{IsUnacceptedStop}
 use Rattle.rvtest_app.specs.Answers.{AskForHelp}
 use Rattle.rvtest_app.specs.Commands.{failure_rule}
 use Rattle.rvtest_app.specs.CountStops.{IsCountsStop}
+use Rattle.rvtest_app.specs.Debugging.{IsBrokenStop, IsNoGdbStop, IsUnopenedOfStop}
 use Rattle.rvtest_app.specs.HelpTopics.{IsNoTopicStop}
 use Rattle.rvtest_app.specs.MergeStops.{IsMergeStop}
 use Rattle.rvtest_app.specs.PutStops.{IsOutputStop}
@@ -53,6 +56,17 @@ IsExplainStop known words why = IsListUnreadStop known words.list.now why
 abbrev pub IsConsoleStop : Option FileContents → ConsoleAsked → Stop → Type 0
 IsConsoleStop known words why = IsListUnreadStop known words.list.now why
     ⊎ ((text : List ℕ) × (IsTextAt known words.list.now text × IsNoJobStop words.list.now text words.name.now why))
+
+-- `gdb`: the list was not read, it has no such job, or that job is refused; or memory was wanting, or standard input was not read
+abbrev pub IsUnopenedAtStop : Option FileContents → GdbAsked → Stop → Type 0
+IsUnopenedAtStop known words why = IsListUnreadStop known words.list.now why
+    ⊎ ((text : List ℕ) × (IsTextAt known words.list.now text
+    × (IsNoJobStop words.list.now text words.name.now why ⊎ IsUnopenedOfStop known words text why)))
+
+-- standard output is a terminal, or it is none, and the job was not shown, or not to the end
+abbrev pub IsGdbStop : Option FileContents → Bool → GdbAsked → Stop → Type 0
+IsGdbStop known is_terminal words why = ((is_terminal ≡ true) × IsNoGdbStop why)
+    ⊎ ((is_terminal ≡ false) × (IsUnopenedAtStop known words why ⊎ ((broken : Broken) × IsBrokenStop broken why)))
 
 -- a text is no list, or words choose no job of it
 abbrev pub IsNoChoiceStop : Option FileContents → RunAsked → List ℕ → Stop → Type 0
@@ -81,19 +95,20 @@ IsShowStop known words why = IsRequestedUnreadStop known words.partial words.rep
     ⊎ ((found : PartialReport) × (IsReportReadAt known words.partial words.report.now found
     × IsOutputStop None (optional_text words.junit) why))
 
--- what stopped a command; one that puts a text alone was stopped before, or the text was not put
-abbrev pub IsCommandStop : Option FileContents → Asked → Stop → Type 0
-IsCommandStop known (asked.Explain words) why = (why ≡ stop.WriteFailed) ⊎ IsExplainStop known words why
-IsCommandStop known (asked.List words) why = (why ≡ stop.WriteFailed) ⊎ IsListStop known words why
-IsCommandStop known (asked.Console words) why = (why ≡ stop.WriteFailed) ⊎ IsConsoleStop known words why
-IsCommandStop known (asked.Check words) why = (why ≡ stop.WriteFailed) ⊎ IsCheckStop known words why
-IsCommandStop known (asked.Diff words) why = (why ≡ stop.WriteFailed) ⊎ IsDiffAtStop known words why
-IsCommandStop known (asked.Help words) why = (why ≡ stop.WriteFailed) ⊎ IsNoTopicStop words.topic.now why
-IsCommandStop known (asked.Run words) why = IsRunStop known words why
-IsCommandStop known (asked.Accept words) why = IsAcceptStop known words why
-IsCommandStop known (asked.Merge words) why = IsMergeStop known words why
-IsCommandStop known (asked.Show words) why = IsShowStop known words why
-IsCommandStop known (asked.Counts words) why = IsCountsStop known words why
+-- what stopped a command, where standard output is a terminal or is none; one that puts a text alone was stopped before, or the text was not put
+abbrev pub IsCommandStop : Option FileContents → Bool → Asked → Stop → Type 0
+IsCommandStop known is_terminal (asked.Explain words) why = (why ≡ stop.WriteFailed) ⊎ IsExplainStop known words why
+IsCommandStop known is_terminal (asked.List words) why = (why ≡ stop.WriteFailed) ⊎ IsListStop known words why
+IsCommandStop known is_terminal (asked.Console words) why = (why ≡ stop.WriteFailed) ⊎ IsConsoleStop known words why
+IsCommandStop known is_terminal (asked.Gdb words) why = IsGdbStop known is_terminal words why
+IsCommandStop known is_terminal (asked.Check words) why = (why ≡ stop.WriteFailed) ⊎ IsCheckStop known words why
+IsCommandStop known is_terminal (asked.Diff words) why = (why ≡ stop.WriteFailed) ⊎ IsDiffAtStop known words why
+IsCommandStop known is_terminal (asked.Help words) why = (why ≡ stop.WriteFailed) ⊎ IsNoTopicStop words.topic.now why
+IsCommandStop known is_terminal (asked.Run words) why = IsRunStop known words why
+IsCommandStop known is_terminal (asked.Accept words) why = IsAcceptStop known words why
+IsCommandStop known is_terminal (asked.Merge words) why = IsMergeStop known words why
+IsCommandStop known is_terminal (asked.Show words) why = IsShowStop known words why
+IsCommandStop known is_terminal (asked.Counts words) why = IsCountsStop known words why
 
 -- words have a fault of some kind, which is not that they ask for help
 abbrev pub AreFaulty : List (List ℕ) → Type 0
@@ -116,7 +131,7 @@ IsWordsStop words why = (why ≡ stop.OutOfMemory)
     ⊎ ((AskForHelp words × (why ≡ stop.WriteFailed)) ⊎ IsFaultStop words why)
 
 -- what stopped the program
-abbrev pub IsStopFor : Option FileContents → List (List ℕ) → Stop → Type 0
-IsStopFor known words why =
-    ((asked : Asked) × ((words_request words ≡ Some (asked_words asked)) × IsCommandStop known asked why))
+abbrev pub IsStopFor : Option FileContents → Bool → List (List ℕ) → Stop → Type 0
+IsStopFor known is_terminal words why =
+    ((asked : Asked) × ((words_request words ≡ Some (asked_words asked)) × IsCommandStop known is_terminal asked why))
     ⊎ IsWordsStop words why

@@ -28,6 +28,7 @@ pub(crate) fn asked_colors(asked: &Asked<'_>, is_terminal: bool) -> Colors
         }
         Asked::List(_)
         | Asked::Console(_)
+        | Asked::Gdb(_)
         | Asked::Check(_)
         | Asked::Accept(_)
         | Asked::Merge(_)

@@ -23,6 +23,7 @@ mod explain;
 mod failed_lines;
 mod file_texts;
 mod findings;
+mod gdb;
 mod help;
 mod help_topic;
 mod host;

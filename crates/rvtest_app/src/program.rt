@@ -19,6 +19,7 @@ use crate::destinations::Destinations;
 use crate::diff::diff_reports;
 use crate::explain::explain_named_job;
 use crate::findings::put_findings;
+use crate::gdb::show_job_to_gdb;
 use crate::help::answer_words_error;
 use crate::help_topic::tell_topic;
 use crate::host::Host;
@@ -33,7 +34,7 @@ use rv_command::{REFUSED, Stop, put_end_message, put_message, put_stop_message};
 use rv_files::{Closable, Inputs, Outputs};
 use rv_rows::{Sink, SinkFailed};
 use std::convert::AsStr;
-use std::io::{self, ErrorKind, Write};
+use std::io::{self, ErrorKind, Read, Write};
 use std::marker::Brand;
 use std::sync::Wait;
 use std::thread::Threads;
@@ -49,28 +50,31 @@ pub fn run_rvtest<
     O: Closable + Drop + Send,
     E: Sink + Drop + Send,
     P: Write + Drop + Send,
+    I: Read,
 >(
     host: &Host<'_, R, D>,
     words: &'a [T],
     to: Destinations<F, O, E>,
     terminals: Terminals<P>,
+    input: &mut I,
 ) -> (Destinations<F, O, E>, u8)
 where
     F::File: Send,
     ensures low { O.closed result.0.out ≡ false → result.1 ≤ 3 }
     // A status of 0 or 1 says that all went out, to standard output in the colours that are asked for.
-    ensures answered { result.1 ≤ 1 → IsAnswered (D.contents host.now.inputs.now) (map T.text words.entry.now)
-        terminals.is_out_colored result.1
+    ensures answered { result.1 ≤ 1 → IsAnswered (D.contents host.now.inputs.now) (I.remaining input.old)
+        terminals.is_out_terminal terminals.is_out_colored (map T.text words.entry.now) result.1
         (said F.placed O.taken E.taken E.failed to) (said F.placed O.taken E.taken E.failed result.0) }
     // Any other status says that the command ended before its work was done, and that this was told last; but a reader that closed
     // standard output is told nothing.
-    ensures ended { IsAnswered (D.contents host.now.inputs.now) (map T.text words.entry.now)
-        terminals.is_out_colored result.1
+    ensures ended { IsAnswered (D.contents host.now.inputs.now) (I.remaining input.old)
+        terminals.is_out_terminal terminals.is_out_colored (map T.text words.entry.now) result.1
         (said F.placed O.taken E.taken E.failed to) (said F.placed O.taken E.taken E.failed result.0)
-        ⊎ IsStopTold (O.closed result.0.out) (IsStopFor (D.contents host.now.inputs.now) (map T.text words.entry.now))
+        ⊎ IsStopTold (O.closed result.0.out)
+        (IsStopFor (D.contents host.now.inputs.now) terminals.is_out_terminal (map T.text words.entry.now))
         result.1 (said F.placed O.taken E.taken E.failed result.0) }
 {
-    let (mut to, answer) = answer_words(host, words, to, terminals);
+    let (mut to, answer) = answer_words(host, words, to, terminals, input);
     match answer {
         Ok(status) => (to, status),
         Err(stop) => {
@@ -90,22 +94,27 @@ fn answer_words<
     O: Sink + Drop + Send,
     E: Sink + Drop + Send,
     P: Write + Drop + Send,
+    I: Read,
 >(
     host: &Host<'_, R, D>,
     words: &'a [T],
     to: Destinations<F, O, E>,
     terminals: Terminals<P>,
+    input: &mut I,
 ) -> (Destinations<F, O, E>, Result<u8, Stop>)
 where
     F::File: Send,
     ensures low { IfOk result.1 (λ status. status ≤ 2) }
-    ensures answered { IfOk result.1 (λ status. IsAnswered (D.contents host.now.inputs.now)
-        (map T.text words.entry.now) terminals.is_out_colored status
+    ensures answered { IfOk result.1 (λ status. IsAnswered (D.contents host.now.inputs.now) (I.remaining input.old)
+        terminals.is_out_terminal terminals.is_out_colored (map T.text words.entry.now) status
         (said F.placed O.taken E.taken E.failed to) (said F.placed O.taken E.taken E.failed result.0)) }
-    ensures stopped { IfErr result.1 (IsStopFor (D.contents host.now.inputs.now) (map T.text words.entry.now)) }
+    ensures stopped { IfErr result.1 (IsStopFor (D.contents host.now.inputs.now) terminals.is_out_terminal
+        (map T.text words.entry.now)) }
 {
     match read_words(host.alloc, words) {
-        Ok(Some(asked)) => { run_in_colors::<Brand, R, D, F, O, E, P>(host, asked, to, terminals) }
+        Ok(Some(asked)) => {
+            run_in_colors::<Brand, R, D, F, O, E, P, I>(host, asked, to, terminals, input)
+        }
         Ok(None) => (to, Ok(REFUSED)),
         Err(error) => {
             let mut to = to;
@@ -124,21 +133,23 @@ fn run_in_colors<
     O: Sink + Drop + Send,
     E: Sink + Drop + Send,
     P: Write + Drop + Send,
+    I: Read,
 >(
     host: &Host<'_, R, D>,
     asked: Asked<'_>,
     to: Destinations<F, O, E>,
     terminals: Terminals<P>,
+    input: &mut I,
 ) -> (Destinations<F, O, E>, Result<u8, Stop>)
 where
     F::File: Send,
     requires colors { asked_colors asked terminals.is_out_colored ≡ J.colors }
     requires before { O.taken to.out ≡ J.before }
     ensures low { IfOk result.1 (λ status. status ≤ 2) }
-    ensures done { IfOk result.1 (λ status. IsDoneInColors (D.contents host.now.inputs.now) asked.entry
-        terminals.is_out_colored status
+    ensures done { IfOk result.1 (λ status. IsDoneInColors (D.contents host.now.inputs.now) (I.remaining input.old)
+        terminals.is_out_terminal terminals.is_out_colored asked.entry status
         (said F.placed O.taken E.taken E.failed to) (said F.placed O.taken E.taken E.failed result.0)) }
-    ensures stopped { IfErr result.1 (IsCommandStop (D.contents host.now.inputs.now) asked.entry) }
+    ensures stopped { IfErr result.1 (IsCommandStop (D.contents host.now.inputs.now) terminals.is_out_terminal asked.entry) }
     // Whatever comes of it, standard output took results in their colours, and behind them at most the first bytes of a mark.
     ensures shown { (plain : Option (List ℕ)) × IsOutInPart (asked_colors asked.entry terminals.is_out_colored)
         (O.taken to.out) plain (O.taken result.0.out) }
@@ -147,7 +158,7 @@ where
     let Destinations { files, out, errors } = to;
     let out = ColorSink::<J, O>::new(out, colors);
     let to = Destinations { files, out, errors };
-    let (to, answer) = run_subcommand(host, asked, to, terminals);
+    let (to, answer) = run_subcommand(host, asked, to, terminals, input);
     let Destinations { files, out, errors } = to;
     let (out, whole) = out.finish();
     let to = Destinations { files, out, errors };
@@ -174,21 +185,25 @@ fn run_subcommand<
     O: Sink + Drop + Send,
     E: Sink + Drop + Send,
     P: Write + Drop + Send,
+    I: Read,
 >(
     host: &Host<'_, R, D>,
     asked: Asked<'_>,
     to: Destinations<F, O, E>,
     terminals: Terminals<P>,
+    input: &mut I,
 ) -> (Destinations<F, O, E>, Result<u8, Stop>)
 where
     F::File: Send,
     ensures low { IfOk result.1 (λ status. status ≤ 2) }
-    ensures done { IfOk result.1 (λ status. IsDone (D.contents host.now.inputs.now) asked.entry status
+    ensures done { IfOk result.1 (λ status. IsDone (D.contents host.now.inputs.now) (I.remaining input.old)
+        terminals.is_out_terminal asked.entry status
         (said F.placed O.taken E.taken E.failed to) (said F.placed O.taken E.taken E.failed result.0)) }
     // A command that could not have been stopped by a failed put put nothing.
-    ensures untouched { IfOk result.1 (λ _. IsCommandStop (D.contents host.now.inputs.now) asked.entry Stop.WriteFailed
+    ensures untouched { IfOk result.1 (λ _.
+        IsCommandStop (D.contents host.now.inputs.now) terminals.is_out_terminal asked.entry Stop.WriteFailed
         ⊎ (result.0.out ≡ to.out)) }
-    ensures stopped { IfErr result.1 (IsCommandStop (D.contents host.now.inputs.now) asked.entry) }
+    ensures stopped { IfErr result.1 (IsCommandStop (D.contents host.now.inputs.now) terminals.is_out_terminal asked.entry) }
 {
     let (inputs, alloc) = (host.inputs, host.alloc);
     let mut to = to;
@@ -199,6 +214,9 @@ where
         }
         Asked::List(asked) => list_chosen_jobs(inputs, alloc, &asked, &mut to),
         Asked::Console(asked) => put_job_console(inputs, alloc, asked, &mut to),
+        Asked::Gdb(asked) => {
+            show_job_to_gdb(host, asked, terminals.is_out_terminal, input, &mut to)
+        }
         Asked::Check(asked) => put_findings(&mut to.out, check_list(inputs, alloc, asked)),
         Asked::Accept(asked) => accept_runs(host, &asked, &mut to),
         Asked::Merge(asked) => merge_reports(inputs, alloc, &asked, &mut to),

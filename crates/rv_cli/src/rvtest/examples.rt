@@ -44,6 +44,15 @@ Status:
   2  The words, the list or the name is refused
   3  The system failed: memory or a file";
 
+pub(crate) const GDB: &str = "\
+Examples:
+  gdb-multiarch -ex 'target remote | rvtest gdb tests.toml uart-echo'
+
+Status:
+  0  gdb ended the session, or sends no more
+  2  The words, the list or the name is refused, or the job is
+  3  The system failed: memory, a file or a stream";
+
 pub(crate) const CHECK: &str = "\
 Examples:
   rvtest check tests.toml

@@ -14,6 +14,7 @@ use crate::rvtest::console::{ConsoleAsked, console_request};
 use crate::rvtest::counts::{CountsAsked, counts_request};
 use crate::rvtest::diff::{DiffAsked, diff_request};
 use crate::rvtest::explain::{ExplainAsked, explain_request};
+use crate::rvtest::gdb::{GdbAsked, gdb_request};
 use crate::rvtest::help::{HelpAsked, help_request};
 use crate::rvtest::list::list_request;
 use crate::rvtest::merge::{MergeAsked, merge_request};
@@ -35,6 +36,8 @@ pub enum Asked<'a> {
     Explain(ExplainAsked<'a>),
     /// To run one job, and to write its console.
     Console(ConsoleAsked<'a>),
+    /// To show the run of one job to gdb.
+    Gdb(GdbAsked<'a>),
     /// To say all that is wrong with a list, and to run nothing.
     Check(CheckAsked<'a>),
     /// To make what runs came to what is expected of them.
@@ -101,6 +104,7 @@ fn subcommand_request<'a>(
         "list" => list_request(alloc, values),
         "explain" => explain_request(alloc, values),
         "console" => Ok(console_request(values)),
+        "gdb" => Ok(gdb_request(values)),
         "check" => Ok(check_request(values)),
         "accept" => accept_request(alloc, values),
         "merge" => merge_request(alloc, values),

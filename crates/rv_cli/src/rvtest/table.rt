@@ -6,8 +6,8 @@ use crate::rvtest::examples;
 use rv_base::limits::{MOST_BUDGET, MOST_JOBS, MOST_WORKERS};
 
 /// The commands of `rvtest`, in the order in which help names them.
-pub(crate) const COMMANDS: [Subcommand<'static>; 11] = [
-    RUN, LIST, EXPLAIN, CONSOLE, CHECK, ACCEPT, MERGE, DIFF, SHOW, COUNTS, HELP,
+pub(crate) const COMMANDS: [Subcommand<'static>; 12] = [
+    RUN, LIST, EXPLAIN, CONSOLE, GDB, CHECK, ACCEPT, MERGE, DIFF, SHOW, COUNTS, HELP,
 ];
 
 pub(crate) const RUN: Subcommand<'static> = Subcommand {
@@ -87,6 +87,17 @@ const CONSOLE: Subcommand<'static> = Subcommand {
     name: "console",
     about: "Runs one job, and writes its console's bytes to standard output",
     after: examples::CONSOLE,
+    arguments: &[
+        Argument::Word("list", "LIST", LIST_PATH),
+        Argument::Word("name", "NAME", NAME),
+        Argument::Option("root", "DIR", ROOT),
+    ],
+};
+
+const GDB: Subcommand<'static> = Subcommand {
+    name: "gdb",
+    about: "Shows the run of one job to gdb, forwards and backwards",
+    after: examples::GDB,
     arguments: &[
         Argument::Word("list", "LIST", LIST_PATH),
         Argument::Word("name", "NAME", NAME),

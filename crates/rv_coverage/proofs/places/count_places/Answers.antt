@@ -16,7 +16,7 @@ returns g c =
     let same = c.as_slice.ensures.value in
     let long = c.as_slice.ensures.len ∙ c.in_ok-tables.ensures.len in
     IfOk-weaker c.sum_of_all.result (AllSumTo results) (IsTableOfPlaces plan places)
-    (λ t added. all_shares plan places c.share_of-share.result results t c.share_of-share.ensures long
+    (λ t added. all_shares plan places c.share_of-share.result results t c.share_of-share.ensures.some long
     (λ n u lt is.
     let k = (c.in_ok-tables.ensures.each n (Ok u) (let e = ap length same in omega (arith, lt, e))).1 in
     let there = ap (λ (rs : List (Result CountTable AllocError)). get_or rs n (Ok u)) (sym same) ∙ is in

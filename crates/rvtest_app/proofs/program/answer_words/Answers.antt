@@ -11,5 +11,5 @@ returns-in-Ok-Some-clause-stopped g c =
 
 pub returns-in-Err-clause-stopped : goal.returns-in-Err-clause-stopped
 returns-in-Err-clause-stopped g c =
-    words_stop (g.D.Inputs.contents c.args.host.now.inputs.now) (map g.T.AsStr.text c.args.words.now) _ _ _ _
+    words_stop (g.D.Inputs.contents c.args.host.now.inputs.now) c.args.terminals.is_out_terminal (map g.T.AsStr.text c.args.words.now) _ _ _ _
     c.in-Err.ensures.kinds c.in-Err.ensures.misused c.answer_words_error-answer.ensures.stopped

@@ -1,8 +1,9 @@
-use Rattle.std.proofs.Common.{inl, refl}
+use Rattle.std.proofs.Common.{inl, inr, refl}
+use Rattle.rv_gdb.specs.declared.conversation.Broken.TheVariants as cause
 use Rattle.rvtest_app.proofs.Results.{IfOk-from, IfOk-map}
 use Rattle.rvtest_app.proofs.StopLemmas.{put_or_found, unshown_accept, unshown_merge, unshown_report, unshown_run, unshown_sum}
 use Rattle.rvtest_app.proofs.program.run_subcommand.Goals as goal
-use Rattle.rvtest_app.proofs.program.run_subcommand.Goals.{in-Explain, in-List, in-Console, in-Check, in-Accept, in-Merge, in-Diff, in-Show, in-Counts, in-Help}
+use Rattle.rvtest_app.proofs.program.run_subcommand.Goals.{in-Explain, in-List, in-Console, in-Gdb, in-Check, in-Accept, in-Merge, in-Diff, in-Show, in-Counts, in-Help}
 
 pub returns-in-Run-clause-stopped : goal.returns-in-Run-clause-stopped
 returns-in-Run-clause-stopped g c =
@@ -12,7 +13,7 @@ pub returns-in-Run-clause-untouched : goal.returns-in-Run-clause-untouched
 returns-in-Run-clause-untouched g c =
     rw c.in-Run.is
     (IfOk-map c.run_requested_jobs.result.1 _ _
-    (λ status was. unshown_run (g.D.Inputs.contents c.args.host.now.inputs.now) _ _ was) c.run_requested_jobs.ensures.untouched)
+    (λ status was. unshown_run (g.D.Inputs.contents c.args.host.now.inputs.now) c.args.terminals.is_out_terminal _ _ was) c.run_requested_jobs.ensures.untouched)
 
 pub returns-clause-stopped : goal.returns-clause-stopped
 returns-clause-stopped g c = elim c.match-asked.branch [
@@ -26,6 +27,7 @@ returns-clause-stopped g c = elim c.match-asked.branch [
       w.put_findings-answer-in-Check.ensures.stopped)
   | in-List w ↦ rw (w.answer-is, w.in-List.is) w.list_chosen_jobs-answer.ensures.stopped
   | in-Console w ↦ rw (w.answer-is, w.in-Console.is) w.put_job_console-answer.ensures.stopped
+  | in-Gdb w ↦ rw (w.answer-is, w.in-Gdb.is) w.show_job_to_gdb-answer.ensures.stopped
   | in-Accept w ↦ rw (w.answer-is, w.in-Accept.is) w.accept_runs-answer.ensures.stopped
   | in-Merge w ↦ rw (w.answer-is, w.in-Merge.is) w.merge_reports-answer.ensures.stopped
   | in-Diff w ↦
@@ -45,23 +47,27 @@ returns-clause-untouched g c = elim c.match-asked.branch [
   | in-Check w ↦ rw (w.answer-is, w.in-Check.is) (IfOk-from w.put_findings-answer-in-Check.result _ (inl (inl refl)))
   | in-List w ↦ rw (w.answer-is, w.in-List.is) (IfOk-from w.list_chosen_jobs-answer.result _ (inl (inl refl)))
   | in-Console w ↦ rw (w.answer-is, w.in-Console.is) (IfOk-from w.put_job_console-answer.result _ (inl (inl refl)))
+  | in-Gdb w ↦
+      rw (w.answer-is, w.in-Gdb.is)
+      (IfOk-map w.show_job_to_gdb-answer.result _ _ (λ status done. inl (inr (done.spoken, inr (cause.Unput, refl))))
+      w.show_job_to_gdb-answer.ensures.answered)
   | in-Accept w ↦
       rw (w.answer-is, w.in-Accept.is)
-      (IfOk-map w.accept_runs-answer.result _ _ (λ status done. inl (unshown_accept _ _ status _ _ done))
+      (IfOk-map w.accept_runs-answer.result _ _ (λ status done. inl (unshown_accept _ c.args.terminals.is_out_terminal _ status _ _ done))
       w.accept_runs-answer.ensures.accepted)
   | in-Merge w ↦
       rw (w.answer-is, w.in-Merge.is)
-      (IfOk-map w.merge_reports-answer.result _ _ (λ status done. inl (unshown_merge _ _ status _ _ done))
+      (IfOk-map w.merge_reports-answer.result _ _ (λ status done. inl (unshown_merge _ c.args.terminals.is_out_terminal _ status _ _ done))
       w.merge_reports-answer.ensures.merged)
   | in-Diff w ↦ rw (w.answer-is, w.in-Diff.is) (IfOk-from w.diff_reports-answer.result _ (inl (inl refl)))
   | in-Show w ↦
       rw (w.answer-is, w.in-Show.is)
-      (IfOk-map w.show_report-answer.result _ _ (λ status done. inl (unshown_report _ _ status _ _ done))
+      (IfOk-map w.show_report-answer.result _ _ (λ status done. inl (unshown_report _ c.args.terminals.is_out_terminal _ status _ _ done))
       w.show_report-answer.ensures.shown)
   | in-Counts w ↦
       rw (w.answer-is, w.to-is, w.in-Counts.is)
       (IfOk-map w.put_sum_of_tables-answer.result _ _
-      (λ status put. unshown_sum _ _ status _ _ _ put w.put_sum_of_tables-answer.ensures.untouched)
+      (λ status put. unshown_sum _ c.args.terminals.is_out_terminal _ status _ _ _ put w.put_sum_of_tables-answer.ensures.untouched)
       w.put_sum_of_tables-answer.ensures.put)
   | in-Help w ↦ rw (w.answer-is, w.in-Help.is) (IfOk-from w.put_findings-answer-in-Help.result _ (inl (inl refl)))
 ]

@@ -31,5 +31,8 @@ returns-in-help c = rw c.in-help.is (c.help_request.ensures, refl)
 pub returns-in-list : goal.returns-in-list
 returns-in-list c = rw c.in-list.is c.list_request.ensures
 
+pub returns-in-gdb : goal.returns-in-gdb
+returns-in-gdb c = rw c.in-gdb.is (c.gdb_request.ensures, refl)
+
 pub returns-in-console : goal.returns-in-console
 returns-in-console c = rw c.in-console.is (c.console_request.ensures, refl)

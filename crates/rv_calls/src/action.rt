@@ -1,0 +1,75 @@
+//! What an instruction does to the stack of calls.
+
+ghost use Rattle.std.specs.Prelude.{◌≡◌, ◌==◌, option_and_then};
+ghost use Rattle.rv_trace.specs.Code.{instr_of};
+ghost use Rattle.rv_calls.specs.Stack.{instr_action, is_link, jalr_action, op_action, pushes_frame};
+
+use rv_isa::Op;
+use rv_trace::{Code, instr_of};
+
+/// What an instruction hints to a return-address stack (ISA manual, table 2.1).
+#[derive(Clone, Copy)]
+pub enum StackAction {
+    /// Nothing.
+    Keep,
+    /// It calls.
+    Push,
+    /// It returns.
+    Pop,
+    /// It returns, and then it calls, as a switch between coroutines does.
+    PopThenPush,
+}
+
+impl StackAction {
+    /// Whether it calls.
+    pub(crate) fn pushes_frame(self) -> bool
+        ensures { result ≡ pushes_frame self }
+    {
+        match self {
+            StackAction::Push | StackAction::PopThenPush => true,
+            StackAction::Keep | StackAction::Pop => false,
+        }
+    }
+}
+
+/// What the instruction of a code does; nothing where there is none.
+pub fn action_of_code(code: Option<Code>) -> StackAction
+    ensures { result ≡ instr_action (option_and_then instr_of code) }
+{
+    let Some(code) = code else {
+        return StackAction::Keep;
+    };
+    match instr_of(code) {
+        Some(instr) => op_action(instr.op, instr.rd, instr.rs1),
+        None => StackAction::Keep,
+    }
+}
+
+fn op_action(op: Op, rd: u8, rs1: u8) -> StackAction
+    ensures { result ≡ op_action op rd rs1 }
+{
+    match op {
+        Op::Jal if is_link(rd) => StackAction::Push,
+        Op::Jalr => jalr_action(rd, rs1),
+        _ => StackAction::Keep,
+    }
+}
+
+fn jalr_action(rd: u8, rs1: u8) -> StackAction
+    ensures { result ≡ jalr_action (is_link rd) (is_link rs1) (rd == rs1) }
+{
+    match (is_link(rd), is_link(rs1)) {
+        (false, false) => StackAction::Keep,
+        (false, true) => StackAction::Pop,
+        (true, false) => StackAction::Push,
+        (true, true) if rd == rs1 => StackAction::Push,
+        (true, true) => StackAction::PopThenPush,
+    }
+}
+
+// Whether a register holds return addresses by the standard's calling convention: x1, and x5 as the alternate one.
+fn is_link(register: u8) -> bool
+    ensures { result ≡ is_link register }
+{
+    register == 1 || register == 5
+}

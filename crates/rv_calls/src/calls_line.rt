@@ -1,0 +1,156 @@
+//! The line of the calls that have not returned.
+
+ghost use Rattle.std.specs.Prelude.{◌≡◌, ◌==◌, ◌++◌, ◌-◌, ◌≤◌, OnOk, length, reverse, take, option_map};
+ghost use Rattle.std.specs.List.{flat_map};
+ghost use Rattle.rv_elf.specs.SymbolSearch.{symbol_at};
+ghost use Rattle.rv_calls.specs.CallsLine.{call_text, calls_line, calls_text, more_text, most_told, place_text};
+ghost use Rattle.rv_calls.specs.CallsLine.{places_text, rest_text, symbol_or_address};
+
+use crate::frames::{Frame, Frames};
+use crate::run::Calls;
+use rv_elf::{SymbolAt, symbol_at};
+use rv_text::{Span, push_spans, push_symbol, push_text, push_word_digits};
+use rv_trace::ElfFile;
+use std::alloc::{AllocError, Global};
+
+/// How many calls are told at most: with the place of the end there are 32.
+const MOST_TOLD: usize = 31;
+
+/// Appends the line of the calls that have not returned where a run ended, where there are any: the place of the end, and
+/// that of each call, the innermost first, at most 32 places and how many calls more there are. A place has the symbol of
+/// the job's file, or else its address.
+pub fn push_calls_text(
+    alloc: Global,
+    bytes: &mut Vec<u8>,
+    elf: &ElfFile<'_>,
+    calls: &Calls,
+) -> Result<(), AllocError>
+    ensures { OnOk result (bytes.new.items ≡ bytes.old.items
+        ++ calls_text elf.now.image.now elf.now.bytes.now calls.now) }
+{
+    if calls.frames.as_slice().is_empty() {
+        return Ok(());
+    }
+    push_calls_line(alloc, bytes, elf, calls.pc, &calls.frames)
+}
+
+#[tactic(auto, unfolding(crate::specs::CallsLine::calls_line))]
+fn push_calls_line(
+    alloc: Global,
+    bytes: &mut Vec<u8>,
+    elf: &ElfFile<'_>,
+    pc: u32,
+    frames: &Frames,
+) -> Result<(), AllocError>
+    ensures { OnOk result (bytes.new.items ≡ bytes.old.items
+        ++ calls_line elf.now.image.now elf.now.bytes.now pc frames.now) }
+{
+    push_text(bytes, "     calls: ")?;
+    push_places(alloc, bytes, elf, pc, frames.as_slice())?;
+    push_text(bytes, "\n")
+}
+
+// The pc, and the calls behind it.
+#[tactic(auto, unfolding(crate::specs::CallsLine::places_text))]
+fn push_places(
+    alloc: Global,
+    bytes: &mut Vec<u8>,
+    elf: &ElfFile<'_>,
+    pc: u32,
+    frames: &[Frame],
+) -> Result<(), AllocError>
+    ensures { OnOk result (bytes.new.items ≡ bytes.old.items
+        ++ places_text elf.now.image.now elf.now.bytes.now pc frames.now) }
+{
+    push_place(alloc, bytes, elf, pc)?;
+    push_calls(alloc, bytes, elf, frames)?;
+    push_rest(bytes, frames)
+}
+
+// The innermost calls, as many as are told.
+fn push_calls(
+    alloc: Global,
+    bytes: &mut Vec<u8>,
+    elf: &ElfFile<'_>,
+    frames: &[Frame],
+) -> Result<(), AllocError>
+    ensures { OnOk result (bytes.new.items ≡ bytes.old.items
+        ++ flat_map (call_text elf.now.image.now elf.now.bytes.now) (take most_told (reverse frames.now))) }
+{
+    for n in 0..frames.len().min(MOST_TOLD) {
+        push_call(alloc, bytes, elf, frames[frames.len() - 1 - n])?;
+    }
+    Ok(())
+}
+
+fn push_call(
+    alloc: Global,
+    bytes: &mut Vec<u8>,
+    elf: &ElfFile<'_>,
+    frame: Frame,
+) -> Result<(), AllocError>
+    ensures { OnOk result (bytes.new.items ≡ bytes.old.items
+        ++ call_text elf.now.image.now elf.now.bytes.now frame) }
+{
+    push_text(bytes, " <- ")?;
+    push_place(alloc, bytes, elf, frame.call)
+}
+
+fn push_place(
+    alloc: Global,
+    bytes: &mut Vec<u8>,
+    elf: &ElfFile<'_>,
+    address: u32,
+) -> Result<(), AllocError>
+    ensures { OnOk result (bytes.new.items ≡ bytes.old.items
+        ++ place_text elf.now.image.now elf.now.bytes.now address) }
+{
+    push_symbol_or_address(alloc, bytes, symbol_of(elf, address), address)
+}
+
+fn symbol_of<'a>(elf: &ElfFile<'a>, address: u32) -> Option<SymbolAt<'a>>
+    ensures { option_map (λ s. (s.name.now, s.offset)) result
+        ≡ symbol_at elf.now.image.now elf.now.bytes.now address }
+{
+    symbol_at(elf.image, elf.bytes, address)
+}
+
+fn push_symbol_or_address(
+    alloc: Global,
+    bytes: &mut Vec<u8>,
+    place: Option<SymbolAt<'_>>,
+    address: u32,
+) -> Result<(), AllocError>
+    ensures { OnOk result (bytes.new.items ≡ bytes.old.items
+        ++ symbol_or_address (option_map (λ s. (s.name.now, s.offset)) place.entry) address) }
+{
+    match place {
+        Some(symbol) => push_symbol(alloc, bytes, symbol),
+        None => push_word_digits(bytes, address),
+    }
+}
+
+// How many calls are not told.
+fn push_rest(bytes: &mut Vec<u8>, frames: &[Frame]) -> Result<(), AllocError>
+    ensures { OnOk result (bytes.new.items ≡ bytes.old.items ++ rest_text frames.now) }
+{
+    push_more(bytes, frames.len().saturating_sub(MOST_TOLD))
+}
+
+// How many calls more there are, where there are any.
+#[tactic(auto, unfolding(crate::specs::CallsLine::more_text))]
+fn push_more(bytes: &mut Vec<u8>, count: usize) -> Result<(), AllocError>
+    ensures { OnOk result (bytes.new.items ≡ bytes.old.items ++ more_text count) }
+{
+    if count == 0 {
+        return Ok(());
+    }
+    push_spans(
+        bytes,
+        &[
+            Span::Text(" <- "),
+            Span::Number(count as u64),
+            Span::Text(" more"),
+        ],
+    )
+}

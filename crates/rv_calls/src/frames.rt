@@ -1,0 +1,96 @@
+//! Frames, and what a transfer of control does to them.
+
+ghost use Rattle.std.specs.Prelude.{◌≡◌, ◌==◌, ◌≤◌, not, nat_le, OnOk, length};
+ghost use Rattle.rv_calls.specs.Stack.{after_transfer, depth_above, depth_after_return, depth_left, depth_up_to_return, frame_of, most_frames};
+
+use crate::action::StackAction;
+use crate::transfer::Transfer;
+use rv_base::Sequence;
+use std::alloc::AllocError;
+
+/// A call that has not returned.
+#[derive(Clone, Copy)]
+pub struct Frame {
+    /// The address behind the call.
+    pub return_address: u32,
+    /// The stack pointer x2 at the call.
+    pub sp: u32,
+    /// The address of the instruction that called.
+    pub call: u32,
+}
+
+/// Frames, the innermost last, of which contracts see their list.
+pub type Frames = Sequence<Frame>;
+
+/// How many frames are kept at most: a call above them is a jump.
+pub const MOST_FRAMES: usize = 4096;
+
+/// Does to frames what a transfer of control does: it pops, and then it pushes.
+#[tactic(auto, unfolding(crate::specs::Stack::after_transfer))]
+pub fn pass_control(frames: &mut Vec<Frame>, transfer: Transfer) -> Result<(), AllocError>
+    ensures { OnOk result (frames.new.items ≡ after_transfer frames.old.items transfer) }
+{
+    let left = depth_left(frames.as_slice(), transfer);
+    frames.truncate(left);
+    if transfer.action.pushes_frame() && frames.len() < MOST_FRAMES {
+        frames.push(frame_of(transfer))?;
+    }
+    Ok(())
+}
+
+// The frame of a call.
+fn frame_of(transfer: Transfer) -> Frame
+    ensures { result ≡ frame_of transfer }
+{
+    Frame {
+        return_address: transfer.behind,
+        sp: transfer.sp,
+        call: transfer.from,
+    }
+}
+
+// How many frames a transfer leaves where it pops any.
+fn depth_left(frames: &[Frame], transfer: Transfer) -> usize
+    ensures { result ≡ depth_left transfer.action transfer.to transfer.sp frames.now }
+{
+    match transfer.action {
+        StackAction::Pop | StackAction::PopThenPush => {
+            depth_after_return(frames, transfer.to, transfer.sp)
+        }
+        StackAction::Keep | StackAction::Push => frames.len(),
+    }
+}
+
+// How many frames a return to an address leaves.
+fn depth_after_return(frames: &[Frame], to: u32, sp: u32) -> usize
+    ensures { result ≡ depth_after_return to sp frames.now }
+{
+    let depth = depth_up_to_return(frames, to);
+    if depth == 0 {
+        depth_above(frames, sp)
+    } else {
+        depth - 1
+    }
+}
+
+// How many frames there are up to the topmost one that returns to an address, which is one of them; 0 where none does.
+fn depth_up_to_return(frames: &[Frame], to: u32) -> usize
+    ensures { result ≡ depth_up_to_return to frames.now }
+{
+    let mut depth = frames.len();
+    while 0 < depth && frames[depth - 1].return_address != to {
+        depth -= 1;
+    }
+    depth
+}
+
+// How many frames there are without those at the top whose stack pointer is not above this one.
+fn depth_above(frames: &[Frame], sp: u32) -> usize
+    ensures { result ≡ depth_above sp frames.now }
+{
+    let mut depth = frames.len();
+    while 0 < depth && frames[depth - 1].sp <= sp {
+        depth -= 1;
+    }
+    depth
+}

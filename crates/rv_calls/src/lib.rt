@@ -1,0 +1,20 @@
+//! The calls of a run that have not returned where it ended.
+//!
+//! A job is run once more, an instruction at a time. What each instruction does to the stack of calls is what the ISA manual
+//! says that it hints to a return-address stack ([`StackAction`]). [`calls_at_end`] answers the [`Calls`] that are left, and
+//! [`push_calls_text`] appends the line of them, with the symbols of the job's file.
+#![tactic(auto)]
+
+mod action;
+mod calls_line;
+mod frames;
+mod law;
+mod run;
+mod transfer;
+
+pub use action::{StackAction, action_of_code};
+pub use calls_line::push_calls_text;
+pub use frames::{Frame, Frames, MOST_FRAMES, pass_control};
+pub use law::frames_are_few;
+pub use run::{Calls, calls_at_end, calls_of_run};
+pub use transfer::Transfer;

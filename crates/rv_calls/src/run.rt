@@ -1,0 +1,69 @@
+//! The calls at the end of a run.
+
+ghost use Rattle.std.specs.Prelude.{◌≡◌, IfOk, OnOk};
+ghost use Rattle.rv_jobs.specs.declared_job.Job.{Job as AJob};
+ghost use Rattle.rv_machine.specs.Machine.{state_of};
+ghost use Rattle.rv_trace.specs.Trace.{job_at, state_after};
+ghost use Rattle.rv_calls.specs.Calls.{calls_in, calls_of_run, frames_of_run};
+
+use crate::frames::{Frame, Frames, pass_control};
+use crate::transfer::next_transfer;
+use rv_machine::Machine;
+use rv_rows::machine_at;
+use rv_trace::JobImage;
+use std::alloc::{AllocError, Global};
+
+/// Where a run ended, and the calls that have not returned there.
+#[derive(Drop)]
+pub struct Calls {
+    /// The pc at the end.
+    pub pc: u32,
+    pub frames: Frames,
+}
+
+/// The calls at the end of a machine's run of at most so many steps, which begins with none. It takes the time of that run
+/// and more, and memory for at most [`MOST_FRAMES`](crate::MOST_FRAMES) frames.
+pub fn calls_of_run(alloc: Global, machine: Machine, budget: u32) -> Result<Calls, AllocError>
+    ensures { IfOk result (λ calls. calls ≡ calls_of_run budget (state_of machine)) }
+{
+    let mut machine = machine;
+    let frames = frames_of_run(alloc, &mut machine, budget)?;
+    Ok(Calls {
+        pc: machine.pc(),
+        frames: Frames::new(frames),
+    })
+}
+
+// The frames of a run, which is done.
+fn frames_of_run(
+    alloc: Global,
+    machine: &mut Machine,
+    budget: u32,
+) -> Result<Vec<Frame>, AllocError>
+    ensures frames { IfOk result (λ frames. frames.items ≡ frames_of_run budget (state_of machine.old)) }
+    ensures end { OnOk result (state_of machine.new ≡ state_after budget (state_of machine.old)) }
+{
+    let mut frames = Vec::new(alloc);
+    'steps: for _ in 0..budget {
+        let Some(transfer) = next_transfer(machine) else {
+            break;
+        };
+        pass_control(&mut frames, transfer)?;
+    }
+    Ok(frames)
+}
+
+/// The calls at the end of the run of a job within its budget; nothing where the job is refused. The job is run once more.
+#[tactic(auto, unfolding(crate::specs::Calls::calls_in))]
+pub fn calls_at_end(alloc: Global, job: &JobImage<'_>) -> Result<Option<Calls>, AllocError>
+    ensures { IfOk result (λ calls. (d : AJob) → calls
+        ≡ calls_in job.now.plan.now (job_at job.now.plan.now job.now.place d)) }
+{
+    match machine_at(alloc, job.plan, job.place, job.image)? {
+        Ok(machine) => {
+            let budget = job.plan.job(job.place).budget;
+            Ok(Some(calls_of_run(alloc, machine, budget)?))
+        }
+        Err(_) => Ok(None),
+    }
+}

@@ -1,0 +1,124 @@
+//! Frames at the end of runs, by the lines of a table: a program, its budget and its frames.
+use rv_calls::calls_of_run;
+use rv_isa::Isa;
+use rv_machine::Machine;
+use rv_memory::{Bus, Map, Misaligned, Region};
+use samples::{agree, cell_of, has_lines, numbers};
+use std::alloc::{AllocError, Global};
+use std::test::Fail;
+
+const BASE: u32 = 0x8000_0000;
+
+// Each program stands from 80000000 on, x2 is 0 at first, and `X` is the exit call. Frames were found by hand, the innermost
+// last: where it was called, where it returns to, and x2 at the call. label | set | budget | program | frames.
+const RUNS: &str = "\
+no call | imc | 9 | X |
+call | imc | 9 | 008000ef 00000013 X | 80000000 80000004 00000000
+call that is not run | imc | 0 | 008000ef 00000013 X |
+call without a link | imc | 9 | 0080006f 00000013 X |
+call by a register that is no link | imc | 9 | 0080036f 00000013 X |
+call to where no memory is | imc | 9 | 000000e7 | 80000000 80000004 00000000
+call that faults | im | 9 | 002000ef |
+call that returned | imc | 9 | 010000ef X 00000013 00008067 |
+call in front of its return | imc | 1 | 010000ef X 00000013 00008067 | 80000000 80000004 00000000
+compressed call | imc | 1 | 2029 X 8082 | 80000000 80000002 00000000
+compressed return | imc | 9 | 2029 X 8082 |
+recursion | imc | 99 | \
+    80001137 00200513 00c000ef X ff010113 fe050ae3 fff50513 ff5ff0ef | 80000008 8000000c 80001000, 80000020 80000024 80000ff0, 80000020 80000024 80000fe0
+recursion whose innermost call returned | imc | 99 | \
+    80001137 00200513 00c000ef X ff010113 00050863 fff50513 ff5ff0ef fe9ff06f 01010113 00008067 | 80000008 8000000c 80001000, 80000020 80000024 80000ff0
+longjmp to the root | imc | 99 | 80001137 014000ef 00051463 014000ef X 00008313 00008067 ff010113 004000ef 80001137 00030093 00100513 00008067 |
+longjmp to a function that was called | imc | 99 | \
+    80001137 00c000ef X ff010113 010000ef fe0518e3 010000ef 00000013 00008313 00008067 ff010113 01010113 00030093 00100513 00008067 | 80000004 80000008 80001000
+tail call | imc | 2 | 010000ef X 00000013 0080006f 00000013 00008067 | 80000000 80000004 00000000
+return of a tail call | imc | 9 | 010000ef X 00000013 0080006f 00000013 00008067 |
+tail call by a register | imc | 3 | 80000337 00c000ef X 01430067 00008067 | 80000004 80000008 00000000
+return of a tail call by a register | imc | 9 | 80000337 00c000ef X 01430067 00008067 |
+save-restore, in the saving | imc | 3 | \
+    00c000ef X 008002ef 00c0006f ff010113 00028067 01010113 00008067 | 80000000 80000004 00000000, 8000000c 80000010 00000000
+save-restore, behind the saving | imc | 4 | 00c000ef X 008002ef 00c0006f ff010113 00028067 01010113 00008067 | 80000000 80000004 00000000
+save-restore, returned | imc | 99 | 00c000ef X 008002ef 00c0006f ff010113 00028067 01010113 00008067 |
+call by the link that it writes | imc | 9 | 800000b7 010080e7 X X | 80000004 80000008 00000000
+switch by both links | imc | 9 | 00c000ef X 000082e7 | 8000000c 80000010 00000000
+two tasks, the second with the lower stack | imc | 99 | \
+    80001137 80000337 03c30313 800003b7 40038393 00c000ef 008000ef 00000013 00008413 00030093 00040313 00010413 00038113 00040393 00008067 fe5ff0ef X | 80000018 8000001c 80001000
+two tasks, in the second | imc | 14 | \
+    80001137 80000337 03c30313 800003b7 40038393 00c000ef 008000ef 00000013 00008413 00030093 00040313 00010413 00038113 00040393 00008067 fe5ff0ef X | 80000014 80000018 80001000, 8000003c 80000040 80000400
+two tasks, the second with the higher stack | imc | 99 | \
+    80001137 80000337 03c30313 800013b7 40038393 00c000ef 008000ef 00000013 00008413 00030093 00040313 00010413 00038113 00040393 00008067 fe5ff0ef X |
+two tasks, behind the first switch to the higher stack | imc | 13 | \
+    80001137 80000337 03c30313 800013b7 40038393 00c000ef 008000ef 00000013 00008413 00030093 00040313 00010413 00038113 00040393 00008067 fe5ff0ef X |
+";
+
+// Endless recursion: JAL to itself, with x1 as the link. budget | frames.
+const DEPTHS: &str = "\
+1 | 1
+4095 | 4095
+4096 | 4096
+4097 | 4096
+9000 | 4096
+";
+
+fn machine_of(alloc: Global, isa: Isa, program: &str) -> Result<Machine, Fail> {
+    let map = Map::of(&[Region {
+        base: BASE,
+        size: 0x1000,
+        writable: true,
+    }])?;
+    let mut bus = Bus::new(alloc, map, Vec::new(alloc), Misaligned::Fault)?;
+    let bytes = numbers(alloc, program)?;
+    if bytes.len() > 0x1000 || !bus.map().in_one(BASE, bytes.len() as u32) {
+        return Err("a place".into());
+    }
+    bus.place(BASE, &bytes);
+    Ok(Machine::new(alloc, bus, BASE, isa)?)
+}
+
+// The frames at the end of a run, as a row tells them.
+fn told(alloc: Global, machine: Machine, budget: u32) -> Result<String, AllocError> {
+    let mut text = String::new(alloc);
+    let calls = calls_of_run(alloc, machine, budget)?;
+    for frame in calls.frames.as_slice() {
+        let comma = if text.is_empty() { "" } else { ", " };
+        let (call, return_address, sp) = (frame.call, frame.return_address, frame.sp);
+        write!(text, "{comma}{call:08x} {return_address:08x} {sp:08x}")?;
+    }
+    Ok(text)
+}
+
+fn check(alloc: Global, row: &str) -> Result<(), Fail> {
+    let isa = if cell_of(row, 1) == "im" {
+        Isa::Im
+    } else {
+        Isa::Imc
+    };
+    let budget = cell_of(row, 2).parse::<u32>()?;
+    let machine = machine_of(alloc, isa, cell_of(row, 3))?;
+    agree(row, told(alloc, machine, budget)?.as_str(), cell_of(row, 4))
+}
+
+fn check_depth(alloc: Global, row: &str) -> Result<(), Fail> {
+    let machine = machine_of(alloc, Isa::Imc, "000000ef")?;
+    let calls = calls_of_run(alloc, machine, cell_of(row, 0).parse::<u32>()?)?;
+    let mut depth = String::new(alloc);
+    write!(depth, "{}", calls.frames.as_slice().len())?;
+    agree(row, depth.as_str(), cell_of(row, 1))
+}
+
+#[test]
+fn frames_are_left_by_calls_that_have_not_returned(rt: HostRuntime) -> Result<(), Fail> {
+    has_lines(RUNS, 28)?;
+    for row in RUNS.lines() {
+        check(rt.alloc(), row)?;
+    }
+    Ok(())
+}
+
+#[test]
+fn frames_are_bounded(rt: HostRuntime) -> Result<(), Fail> {
+    has_lines(DEPTHS, 5)?;
+    for row in DEPTHS.lines() {
+        check_depth(rt.alloc(), row)?;
+    }
+    Ok(())
+}

@@ -1,0 +1,29 @@
+//! The words of `gdb`.
+
+ghost use Rattle.clap.specs.Words.{found_of, rows_of};
+ghost use Rattle.rv_cli.specs.RvtestWords.{AsksFor, gdb_request};
+
+use crate::rvtest::requests::Asked;
+use crate::values::text_value;
+use clap::ArgMatches;
+
+/// The job whose run is to be shown to gdb.
+#[derive(Clone, Copy)]
+pub struct GdbAsked<'a> {
+    /// Path of the job list.
+    pub list: &'a str,
+    /// The job's name.
+    pub name: &'a str,
+    /// The folder from which the paths in the list are taken.
+    pub root: Option<&'a str>,
+}
+
+/// What the values of `gdb` ask for.
+pub(crate) fn gdb_request<'a>(values: &ArgMatches<'a>) -> Option<Asked<'a>>
+    ensures { AsksFor (gdb_request (rows_of (found_of values.now))) result }
+{
+    let list = text_value(values, "list")?;
+    let name = text_value(values, "name")?;
+    let root = text_value(values, "root");
+    Some(Asked::Gdb(GdbAsked { list, name, root }))
+}

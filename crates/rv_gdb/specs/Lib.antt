@@ -1,0 +1,2 @@
+pub mod JobSessions
+pub mod Conversing

@@ -1,0 +1,90 @@
+//! The session over the run of a job.
+
+ghost use Rattle.std.specs.Prelude.{◌≡◌, ◌<◌, IfOk, MatchOption, Some, false, is_ok, length, option_map};
+ghost use Rattle.rv_jobs.specs.declared_job.Job.{Job as AJob};
+ghost use Rattle.rv_gdb.specs.JobSessions.{IsSessionOf, image_bytes};
+ghost use Rattle.rv_rows.specs.Rows.{image_if_read, image_in, start_in};
+ghost use Rattle.rv_trace.specs.Trace.{job_at};
+
+use rv_base::Bytes;
+use rv_elf::{Image, ImageError, read_image};
+use rv_history::Start;
+use rv_isa::Isa;
+use rv_jobs::{Kept, Plan};
+use rv_rows::machine_at;
+use rv_session::{Program, Session};
+use std::alloc::{AllocError, Global};
+
+/// The session over the run of the job at a place, before gdb says anything; nothing where the job is refused. The path is the one
+/// by which gdb is to know the job's image.
+pub fn session_at(
+    alloc: Global,
+    plan: &Plan,
+    place: usize,
+    path: Bytes,
+) -> Result<Option<Session>, AllocError>
+    requires { place < length plan.now.jobs }
+    ensures { IfOk result (λ found. (d : AJob) → MatchOption found
+        (is_ok (start_in plan.now.answers (job_at plan.now place d)) ≡ false)
+        (IsSessionOf plan.now.answers (job_at plan.now place d) path)) }
+{
+    let job = plan.job(place);
+    let Some(bytes) = image_bytes(plan, place) else {
+        return Ok(None);
+    };
+    let Some(image) = image_of_bytes(alloc, job.isa, bytes)? else {
+        return Ok(None);
+    };
+    let copy = Bytes::new(Vec::from_slice(alloc, bytes)?);
+    let program = Program { path, image: copy };
+    session_over_image(alloc, plan, place, &image, program)
+}
+
+fn image_bytes(plan: &Plan, place: usize) -> Option<&[u8]>
+    requires { place < length plan.now.jobs }
+    ensures { (d : AJob) → option_map (λ bytes. bytes.now) result
+        ≡ image_bytes plan.now.answers (job_at plan.now place d) }
+{
+    match plan.image(place) {
+        Kept::Content(bytes) => Some(bytes.as_slice()),
+        Kept::Unreadable | Kept::TooLong => None,
+    }
+}
+
+// The image that bytes are read as, where they are one.
+fn image_of_bytes(alloc: Global, isa: Isa, bytes: &[u8]) -> Result<Option<Image>, AllocError>
+    ensures { IfOk result (λ image. image ≡ image_if_read isa (Some bytes.now)) }
+{
+    match read_image(alloc, bytes, isa) {
+        Ok(image) => Ok(Some(image)),
+        Err(ImageError::OutOfMemory) => Err(AllocError),
+        Err(_) => Ok(None),
+    }
+}
+
+// The session over the image that the job's file was read as.
+fn session_over_image(
+    alloc: Global,
+    plan: &Plan,
+    place: usize,
+    image: &Image,
+    program: Program,
+) -> Result<Option<Session>, AllocError>
+    requires place { place < length plan.now.jobs }
+    requires image { (d : AJob) → image_in plan.now.answers (job_at plan.now place d) ≡ Some image.now }
+    requires bytes { (d : AJob) → image_bytes plan.now.answers (job_at plan.now place d) ≡ Some program.image }
+    ensures { IfOk result (λ found. (d : AJob) → MatchOption found
+        (is_ok (start_in plan.now.answers (job_at plan.now place d)) ≡ false)
+        (IsSessionOf plan.now.answers (job_at plan.now place d) program.path)) }
+{
+    let job = plan.job(place);
+    let (entry, isa) = (image.entry, job.isa);
+    match machine_at(alloc, plan, place, image)? {
+        Ok(machine) => {
+            let bus = machine.into_bus();
+            let start = Start { bus, entry, isa };
+            Ok(Some(Session::new(alloc, start, job.budget, program)?))
+        }
+        Err(_) => Ok(None),
+    }
+}

@@ -1,0 +1,165 @@
+-- Searches backward.
+use Rattle.std.proofs.Common.{◌≡◌, ◌∙◌, ◌+◌, ◌<◌, ◌≤◌, ℕ, Bool, true, false, Ok, ap, sym, refl, subst, arith, inl, inr}
+use Rattle.std.specs.Prelude.{◌≢◌}
+use Rattle.std.proofs.lemmas.Bool.{both_ways, cases_eq}
+use Rattle.rv_machine.specs.Run.{run_of, step_of}
+use Rattle.rv_machine.specs.State.{State}
+use Rattle.rv_trace.specs.Trace.{state_after}
+use Rattle.rv_trace.proofs.Public.{each_completes}
+use Rattle.rv_history.specs.declared.found.Arrival.{Arrival}
+use Rattle.rv_history.specs.declared.found.Found.{Found}
+use Rattle.rv_history.specs.declared.found.Found.TheVariants as found
+use Rattle.rv_history.specs.declared.stepping.Stepped.{Stepped}
+use Rattle.rv_history.specs.declared.stepping.Stepped.TheVariants as stepped
+use Rattle.rv_history.specs.declared.stops.Stops.{Stops}
+use Rattle.rv_history.specs.LastStop.{last_at, last_behind}
+use Rattle.rv_history.specs.Moves.{GoesOnBack, IsChangeBefore, IsStepBefore, IsStopBefore, MeetsBack}
+use Rattle.rv_history.specs.Places.{IsBreakAt, IsChangeAt, IsReached, last_place}
+use Rattle.rv_history.specs.Stepping.{IsStepped}
+use Rattle.rv_history.specs.Stops.{is_break, watched_bytes}
+use Rattle.rv_history.proofs.Reaching.{next_place}
+use Rattle.rv_history.proofs.Forward.{change_at, no_change_at}
+
+-- the stop before, as it is kept
+abbrev pub IsLastStop : Stops → ℕ → State → ℕ → Arrival → Type 0
+IsLastStop stops budget start from last = IsStopBefore stops budget start from last.place last.found
+
+-- a change is behind one place alone
+change_before : (stops : Stops) (budget place : ℕ) (start : State) → IsChangeBefore stops budget start (place + 1)
+    → IsChangeAt stops budget start place
+change_before stops budget place start change =
+    let same : change.before ≡ place = let is = change.place_is in omega arith in
+    subst (λ (k : ℕ). IsChangeAt stops budget start k) same change.change
+
+-- at the start there is nothing before
+pub begins : (stops : Stops) (budget : ℕ) (start : State) → IsStopBefore stops budget start 0 0 found.Begin
+begins stops budget start = record {
+  order = omega arith;
+  meets = (refl, λ below. absurd (omega arith));
+  between = λ j low high. absurd (omega arith);
+}
+
+-- no break up to a place, and none at it
+no_break_later : (stops : Stops) (from place : ℕ) (start : State) → place ≤ from → (IsBreakAt stops start from → ⊥)
+    → (place < from → IsBreakAt stops start place → ⊥) → IsBreakAt stops start place → ⊥
+no_break_later stops from place start order absent before is =
+    elim (cases_eq place from) [
+      | inl here ↦ absent (subst (λ (k : ℕ). IsBreakAt stops start k) here is)
+      | inr other ↦ before (omega arith) is
+    ]
+
+-- what a move meets, it meets from a place later, if there is no break where it began
+meets_later : (stops : Stops) (budget from place : ℕ) (start : State) (found : Found) → place ≤ from
+    → (IsBreakAt stops start from → ⊥) → MeetsBack stops budget start from place found
+    → MeetsBack stops budget start (from + 1) place found
+meets_later stops budget from place start found.Break order absent meets = (omega arith, meets.1)
+meets_later stops budget from place start found.Change order absent meets =
+    (meets.0, λ below is. no_break_later stops from place start order absent meets.1 is)
+meets_later stops budget from place start found.Begin order absent meets =
+    (meets.0, λ below is. no_break_later stops from place start order absent meets.1 is)
+meets_later stops budget from place start (found.End ending) order absent meets = meets
+meets_later stops budget from place start found.Done order absent meets = meets
+
+goes_later : (stops : Stops) (budget from j : ℕ) (start : State) → j ≤ from → (IsBreakAt stops start from → ⊥)
+    → GoesOnBack stops budget start from j → GoesOnBack stops budget start (from + 1) j
+goes_later stops budget from j start order absent goes = record {
+  no_break = λ below is. no_break_later stops from j start order absent goes.no_break is;
+  no_change = goes.no_change;
+}
+
+-- the place behind a step that changes nothing
+goes_there : (stops : Stops) (budget from : ℕ) (start : State) → (IsChangeAt stops budget start from → ⊥)
+    → GoesOnBack stops budget start (from + 1) (from + 1)
+goes_there stops budget from start none = record {
+  no_break = λ below. absurd (omega arith);
+  no_change = λ change. none (change_before stops budget from start change);
+}
+
+-- behind a step that changes nothing, at whose place there is no breakpoint
+last_stays : (stops : Stops) (budget from : ℕ) (start : State) (last : Arrival) → (IsBreakAt stops start from → ⊥)
+    → (IsChangeAt stops budget start from → ⊥) → IsLastStop stops budget start from last
+    → IsLastStop stops budget start (from + 1) last
+last_stays stops budget from start last absent none stop = record {
+  order = let order = stop.order in omega arith;
+  meets = meets_later stops budget from last.place start last.found stop.order absent stop.meets;
+  between = λ j low high. elim (cases_eq j (from + 1)) [
+    | inl there ↦ rw there (goes_there stops budget from start none)
+    | inr other ↦ goes_later stops budget from j start (omega arith) absent (stop.between j low (omega arith))
+  ];
+}
+
+-- the same where there is one
+last_breaks : (stops : Stops) (budget from : ℕ) (start : State) → IsBreakAt stops start from
+    → (IsChangeAt stops budget start from → ⊥) → IsStopBefore stops budget start (from + 1) from found.Break
+last_breaks stops budget from start is none = record {
+  order = omega arith;
+  meets = (omega arith, is);
+  between = λ j low high.
+      let there : j ≡ from + 1 = omega arith in
+      rw there (goes_there stops budget from start none);
+}
+
+-- behind a step that changes something
+last_changes : (stops : Stops) (budget from : ℕ) (start : State) → IsChangeAt stops budget start from
+    → IsStopBefore stops budget start (from + 1) (from + 1) found.Change
+last_changes stops budget from start change = record {
+  order = omega arith;
+  meets = (record { before = from; place_is = refl; change = change }, λ below. absurd (omega arith));
+  between = λ j low high. absurd (omega arith);
+}
+
+-- with a breakpoint or without one
+last_quiet : (stops : Stops) (budget from : ℕ) (start s : State) (last : Arrival) (is : Bool) → IsReached start from s
+    → is ≡ is_break stops s.pc → (IsChangeAt stops budget start from → ⊥) → IsLastStop stops budget start from last
+    → IsLastStop stops budget start (from + 1) (last_at last from is)
+last_quiet stops budget from start s last true reached told none stop =
+    last_breaks stops budget from start (ap (λ (t : State). is_break stops t.pc) (sym reached.same) ∙ sym told) none
+last_quiet stops budget from start s last false reached told none stop =
+    last_stays stops budget from start last
+    (λ is. both_ways (is_break stops s.pc) (sym told) (ap (λ (t : State). is_break stops t.pc) reached.same ∙ is)) none stop
+
+-- behind a step of any kind
+pub last_more : (stops : Stops) (budget from : ℕ) (start s t : State) (last : Arrival) (is : Bool) (kind : Stepped)
+    → IsReached start from s → from < last_place budget start → is ≡ is_break stops s.pc → IsStepped stops s t kind
+    → from < budget → IsLastStop stops budget start from last → IsLastStop stops budget start (from + 1) (last_behind last from is kind)
+last_more stops budget from start s t last is stepped.Changed reached goes told did within stop =
+    last_changes stops budget from start (change_at stops budget from start s t reached within did.0 did.1)
+last_more stops budget from start s t last is stepped.Quiet reached goes told did within stop =
+    last_quiet stops budget from start s last is reached told (no_change_at stops budget from start s t reached did.0 did.1) stop
+last_more stops budget from start s t last is (stepped.Ended ending) reached goes told did within stop =
+    let ok = ap step_of reached.same ∙ each_completes budget from start goes in absurd (cc (sym did, ok))
+
+-- the machine behind a step that completes
+pub stepped_place : (stops : Stops) (budget from : ℕ) (start s t : State) (kind : Stepped) → IsReached start from s
+    → from < last_place budget start → IsStepped stops s t kind → IsReached start (from + 1) t
+stepped_place stops budget from start s t stepped.Changed reached goes did = next_place start s t from reached did.0
+stepped_place stops budget from start s t stepped.Quiet reached goes did = next_place start s t from reached did.0
+stepped_place stops budget from start s t (stepped.Ended ending) reached goes did =
+    let ok = ap step_of reached.same ∙ each_completes budget from start goes in absurd (cc (sym did, ok))
+
+-- ---- one step back
+
+pub steps_back : (stops : Stops) (budget before from : ℕ) (start s t : State) → from ≡ before + 1 → IsReached start before s
+    → step_of s ≡ Ok t → watched_bytes stops s.bus ≡ watched_bytes stops t.bus → IsStepBefore stops budget start from before found.Done
+steps_back stops budget before from start s t is reached e same =
+    (is, no_change_at stops budget before start s t reached e same)
+
+pub stays_behind_change : (stops : Stops) (budget before from : ℕ) (start s t : State) → from ≡ before + 1 → before < budget
+    → IsReached start before s → step_of s ≡ Ok t → watched_bytes stops s.bus ≢ watched_bytes stops t.bus
+    → IsStepBefore stops budget start from from found.Change
+stays_behind_change stops budget before from start s t is within reached e differ =
+    (refl, record { before = before; place_is = is; change = change_at stops budget before start s t reached within e differ })
+
+-- the step in front of a place that the run comes to completes
+pub completes_before : (before from : ℕ) (start s : State) → from ≡ before + 1 → (run_of from start).steps ≡ from
+    → IsReached start before s → step_of s ≡ Ok (state_after (before + 1) start)
+completes_before before from start s is there reached =
+    ap step_of reached.same ∙ each_completes from before start (omega arith)
+
+pub back_within : (stops : Stops) (budget from place : ℕ) (start : State) (found : Found)
+    → IsStepBefore stops budget start from place found → place ≤ from
+back_within stops budget from place start found.Done stop = let is = stop.0 in omega arith
+back_within stops budget from place start found.Change stop = let is = stop.0 in omega arith
+back_within stops budget from place start found.Begin stop = let is = stop.0 in omega arith
+back_within stops budget from place start found.Break stop = absurd stop
+back_within stops budget from place start (found.End ending) stop = absurd stop

@@ -1,0 +1,146 @@
+-- Searches forward.
+use Rattle.std.proofs.Common.{◌≡◌, ◌∙◌, ◌+◌, ◌<◌, ◌≤◌, ℕ, true, false, ◌&&◌, Ok, Err, ap, sym, refl, subst, arith, ltb, inl, inr}
+use Rattle.std.specs.Prelude.{◌≢◌}
+use Rattle.std.proofs.lemmas.Bool.{and_from, and_parts, both_ways, cases_eq, lt-ltb, ltb-true}
+use Rattle.rv_machine.specs.declared.ending.Ending.{Ending}
+use Rattle.rv_machine.specs.declared.ending.Ending.TheVariants.{Budget}
+use Rattle.rv_machine.specs.Run.{run_of, step_of}
+use Rattle.rv_machine.specs.State.{State}
+use Rattle.rv_history.specs.declared.bounds.Bounds.{Bounds}
+use Rattle.rv_history.specs.declared.found.Found.TheVariants as found
+use Rattle.rv_history.specs.declared.stops.Stops.{Stops}
+use Rattle.rv_history.specs.Moves.{GoesOnAhead, IsNextStep, IsNextStop}
+use Rattle.rv_history.specs.Places.{IsChangeAt, IsHaltAt, IsReached, last_place}
+use Rattle.rv_history.specs.Stops.{is_halt, watched_bytes}
+use Rattle.rv_history.proofs.Reaching.{comes_within, ends_by_budget, ends_here, goes_on, next_place}
+
+-- ---- at one place
+
+-- a machine at a place tells whether a move stops there
+no_halt_at : (stops : Stops) (bounds : Bounds) (start s : State) (from place : ℕ) → IsReached start place s
+    → (ltb from place && is_halt stops bounds s.pc) ≡ false → from < place → IsHaltAt stops bounds start place → ⊥
+no_halt_at stops bounds start s from place reached absent behind is =
+    let here : is_halt stops bounds s.pc ≡ true = ap (λ (t : State). is_halt stops bounds t.pc) reached.same ∙ is in
+    both_ways (ltb from place && is_halt stops bounds s.pc) absent (and_from (ltb from place) (is_halt stops bounds s.pc) (lt-ltb from place behind) here)
+
+halt_at : (stops : Stops) (bounds : Bounds) (start s : State) (from place : ℕ) → IsReached start place s
+    → (ltb from place && is_halt stops bounds s.pc) ≡ true → (from < place) × IsHaltAt stops bounds start place
+halt_at stops bounds start s from place reached is =
+    let parts = and_parts (ltb from place) (is_halt stops bounds s.pc) is in
+    (ltb-true from place parts.0, ap (λ (t : State). is_halt stops bounds t.pc) (sym reached.same) ∙ parts.1)
+
+-- a step that changes a watched byte
+pub change_at : (stops : Stops) (budget place : ℕ) (start s t : State) → IsReached start place s → place < budget → step_of s ≡ Ok t
+    → watched_bytes stops s.bus ≢ watched_bytes stops t.bus → IsChangeAt stops budget start place
+change_at stops budget place start s t reached within e differ =
+    let next = next_place start s t place reached e in record {
+      completes = goes_on budget place start s t reached within e;
+      changes = λ same. differ (ap (λ (u : State). watched_bytes stops u.bus) reached.same ∙ same
+          ∙ ap (λ (u : State). watched_bytes stops u.bus) (sym next.same));
+    }
+
+-- a step that changes none
+pub no_change_at : (stops : Stops) (budget place : ℕ) (start s t : State) → IsReached start place s → step_of s ≡ Ok t
+    → watched_bytes stops s.bus ≡ watched_bytes stops t.bus → IsChangeAt stops budget start place → ⊥
+no_change_at stops budget place start s t reached e same change =
+    let next = next_place start s t place reached e in
+    change.changes (ap (λ (u : State). watched_bytes stops u.bus) (sym reached.same) ∙ same
+    ∙ ap (λ (u : State). watched_bytes stops u.bus) next.same)
+
+-- ---- the search
+
+-- what is known of the places up to one
+abbrev pub QuietUpTo : Stops → Bounds → ℕ → State → ℕ → ℕ → Type 0
+QuietUpTo stops bounds budget start from place = (j : ℕ) → from ≤ j → j < place → GoesOnAhead stops bounds budget start from j
+
+pub quiet_more : (stops : Stops) (bounds : Bounds) (budget from place : ℕ) (start s t : State) → IsReached start place s → place < budget
+    → step_of s ≡ Ok t → watched_bytes stops s.bus ≡ watched_bytes stops t.bus → (ltb from place && is_halt stops bounds s.pc) ≡ false
+    → QuietUpTo stops bounds budget start from place → QuietUpTo stops bounds budget start from (place + 1)
+quiet_more stops bounds budget from place start s t reached within e same absent quiet j low high =
+    elim (cases_eq j place) [
+      | inl here ↦ rw here (record {
+        no_halt = no_halt_at stops bounds start s from place reached absent;
+        no_end = goes_on budget place start s t reached within e;
+        no_change = no_change_at stops budget place start s t reached e same;
+      })
+      | inr other ↦ quiet j low (omega arith)
+    ]
+
+pub stops_by_break : (stops : Stops) (bounds : Bounds) (budget from place : ℕ) (start s : State) → IsReached start place s → from ≤ place
+    → place ≤ budget → (ltb from place && is_halt stops bounds s.pc) ≡ true → QuietUpTo stops bounds budget start from place
+    → IsNextStop stops bounds budget start from place found.Break
+stops_by_break stops bounds budget from place start s reached low within is quiet = record {
+  order = low;
+  within = comes_within budget place start reached.completed within;
+  meets = halt_at stops bounds start s from place reached is;
+  between = quiet;
+}
+
+pub stops_by_change : (stops : Stops) (bounds : Bounds) (budget from place : ℕ) (start s t : State) → IsReached start place s → from ≤ place
+    → place < budget → step_of s ≡ Ok t → watched_bytes stops s.bus ≢ watched_bytes stops t.bus
+    → (ltb from place && is_halt stops bounds s.pc) ≡ false → QuietUpTo stops bounds budget start from place
+    → IsNextStop stops bounds budget start from place found.Change
+stops_by_change stops bounds budget from place start s t reached low within e differ absent quiet = record {
+  order = low;
+  within = comes_within budget place start reached.completed (omega arith);
+  meets = (change_at stops budget place start s t reached within e differ, no_halt_at stops bounds start s from place reached absent);
+  between = quiet;
+}
+
+pub stops_by_end : (stops : Stops) (bounds : Bounds) (budget from place : ℕ) (start s : State) (ending : Ending) → IsReached start place s
+    → from ≤ place → place < budget → step_of s ≡ Err ending → (ltb from place && is_halt stops bounds s.pc) ≡ false
+    → QuietUpTo stops bounds budget start from place → IsNextStop stops bounds budget start from place (found.End ending)
+stops_by_end stops bounds budget from place start s ending reached low within e absent quiet = record {
+  order = low;
+  within = comes_within budget place start reached.completed (omega arith);
+  meets = (ends_here budget place start s ending reached within e, no_halt_at stops bounds start s from place reached absent);
+  between = quiet;
+}
+
+-- at the budget, where no step is left
+at_budget : (stops : Stops) (bounds : Bounds) (budget from place : ℕ) (start s : State) → place ≡ budget → IsReached start place s
+    → QuietUpTo stops bounds budget start from place → IsReached start budget s × QuietUpTo stops bounds budget start from budget
+at_budget stops bounds budget from place start s end reached quiet = (
+  subst (λ (k : ℕ). IsReached start k s) end reached,
+  subst (λ (k : ℕ). QuietUpTo stops bounds budget start from k) end quiet,
+)
+
+pub breaks_at_budget : (stops : Stops) (bounds : Bounds) (budget from place : ℕ) (start s : State) → IsReached start place s → from ≤ budget
+    → place ≡ budget → (ltb from budget && is_halt stops bounds s.pc) ≡ true → QuietUpTo stops bounds budget start from place
+    → IsNextStop stops bounds budget start from budget found.Break
+breaks_at_budget stops bounds budget from place start s reached low end is quiet =
+    let there = at_budget stops bounds budget from place start s end reached quiet in
+    stops_by_break stops bounds budget from budget start s there.0 low (omega arith) is there.1
+
+pub stops_by_budget : (stops : Stops) (bounds : Bounds) (budget from place : ℕ) (start s : State) → IsReached start place s → from ≤ budget
+    → place ≡ budget → (ltb from budget && is_halt stops bounds s.pc) ≡ false → QuietUpTo stops bounds budget start from place
+    → IsNextStop stops bounds budget start from budget (found.End Budget)
+stops_by_budget stops bounds budget from place start s reached low end absent quiet =
+    let there = at_budget stops bounds budget from place start s end reached quiet in record {
+      order = low;
+      within = comes_within budget budget start there.0.completed (omega arith);
+      meets = (ends_by_budget budget start there.0.completed, no_halt_at stops bounds start s from budget there.0 absent);
+      between = there.1;
+    }
+
+-- ---- one step
+
+pub step_done : (stops : Stops) (budget from : ℕ) (start s t : State) → IsReached start from s → from < budget → step_of s ≡ Ok t
+    → watched_bytes stops s.bus ≡ watched_bytes stops t.bus → IsNextStep stops budget start from (from + 1) found.Done
+step_done stops budget from start s t reached within e same =
+    (refl, goes_on budget from start s t reached within e, no_change_at stops budget from start s t reached e same)
+
+pub step_changes : (stops : Stops) (budget from : ℕ) (start s t : State) → IsReached start from s → from < budget
+    → step_of s ≡ Ok t → watched_bytes stops s.bus ≢ watched_bytes stops t.bus → IsNextStep stops budget start from from found.Change
+step_changes stops budget from start s t reached within e differ = (refl, change_at stops budget from start s t reached within e differ)
+
+pub step_ends : (stops : Stops) (budget from : ℕ) (start s : State) (ending : Ending) → IsReached start from s → from < budget
+    → step_of s ≡ Err ending → IsNextStep stops budget start from from (found.End ending)
+step_ends stops budget from start s ending reached within e = (refl, ends_here budget from start s ending reached within e)
+
+pub step_by_budget : (stops : Stops) (budget from : ℕ) (start : State) → from ≡ budget → (run_of from start).steps ≡ from
+    → IsNextStep stops budget start from from (found.End Budget)
+step_by_budget stops budget from start end there =
+    let End : ℕ → Type 0 = λ k. (k ≡ last_place budget start) × (Budget ≡ (run_of budget start).ending) in
+    let all : (run_of budget start).steps ≡ budget = subst (λ (k : ℕ). (run_of k start).steps ≡ k) end there in
+    (refl, subst End (sym end) (ends_by_budget budget start all))

@@ -1,0 +1,129 @@
+-- Places that a run comes to.
+use Rattle.std.proofs.Common.{◌≡◌, ◌∙◌, ◌+◌, ◌-◌, ◌<◌, ◌≤◌, ℕ, zero, suc, Ok, Err, ap, sym, refl, arith, zero-add, add-one}
+use Rattle.rv_machine.specs.declared.ending.Ending.{Ending}
+use Rattle.rv_machine.specs.declared.ending.Ending.TheVariants.{Budget}
+use Rattle.rv_machine.specs.Run.{Ran, go_on, run_of, step_of}
+use Rattle.rv_machine.specs.State.{State}
+use Rattle.rv_trace.specs.Trace.{state_after}
+use Rattle.rv_trace.proofs.Public.{after_more, after_none, completes, steps_more}
+use Rattle.rv_history.specs.Places.{IsReached, last_place}
+
+-- ---- one step
+
+run_goes_on : (n : ℕ) (s t : State) → step_of s ≡ Ok t → run_of (suc n) s ≡ go_on (Ok t) s (λ u. run_of n u)
+unfolding run_of
+run_goes_on n s t e = ap (λ r. go_on r s (λ u. run_of n u)) e
+
+run_ends : (n : ℕ) (s : State) (e : Ending) → step_of s ≡ Err e
+    → run_of (suc n) s ≡ record { ending = e; steps = 0; state = s }
+unfolding run_of
+run_ends n s e is = ap (λ r. go_on r s (λ u. run_of n u)) is
+
+run_none : (s : State) → run_of 0 s ≡ record { ending = Budget; steps = 0; state = s }
+unfolding run_of
+run_none s = refl
+
+pub by_step : (s : State) (P : Type 0) → ((t : State) → step_of s ≡ Ok t → P) → ((e : Ending) → step_of s ≡ Err e → P) → P
+by_step s P ok err = elim (step_of s) as (λ r. step_of s ≡ r → P) [ Ok t ↦ ok t | Err e ↦ err e ] refl
+
+one_steps : (s t : State) → step_of s ≡ Ok t → (run_of 1 s).steps ≡ 1
+one_steps s t e = ap (λ r. r.steps) (run_goes_on 0 s t e) ∙ ap (λ (r : Ran). r.steps + 1) (run_none t)
+
+one_state : (s t : State) → step_of s ≡ Ok t → state_after 1 s ≡ t
+one_state s t e = ap (λ r. r.state) (run_goes_on 0 s t e) ∙ ap (λ (r : Ran). r.state) (run_none t)
+
+-- ---- endings
+
+steps_first : (n : ℕ) (s t : State) → step_of s ≡ Ok t → (run_of (suc n) s).steps ≡ suc (run_of n t).steps
+steps_first n s t e = ap (λ r. r.steps) (run_goes_on n s t e) ∙ add-one (run_of n t).steps
+
+steps_end : (n : ℕ) (s : State) (e : Ending) → step_of s ≡ Err e → (run_of (suc n) s).steps ≡ 0
+steps_end n s e is = ap (λ r. r.steps) (run_ends n s e is)
+
+ending_first : (n : ℕ) (s t : State) → step_of s ≡ Ok t → (run_of (suc n) s).ending ≡ (run_of n t).ending
+ending_first n s t e = ap (λ r. r.ending) (run_goes_on n s t e)
+
+pub state_first : (n : ℕ) (s t : State) → step_of s ≡ Ok t → state_after (suc n) s ≡ state_after n t
+state_first n s t e = ap (λ r. r.state) (run_goes_on n s t e)
+
+pub state_end : (n : ℕ) (s : State) (e : Ending) → step_of s ≡ Err e → state_after (suc n) s ≡ s
+state_end n s e is = ap (λ r. r.state) (run_ends n s e is)
+
+-- the ending of a run is that of the steps behind those that complete
+ending_more : (m n : ℕ) (s : State) → (run_of m s).steps ≡ m → (run_of (m + n) s).ending ≡ (run_of n (state_after m s)).ending
+ending_more zero n s h = ap (λ k. (run_of k s).ending) (zero-add n) ∙ ap (λ u. (run_of n u).ending) (sym (after_none s))
+ending_more (suc m) n s h = by_step s ((run_of (suc m + n) s).ending ≡ (run_of n (state_after (suc m) s)).ending)
+    (λ t e. let first = steps_first m s t e in let rest : (run_of m t).steps ≡ m = omega arith in
+    let sum : suc m + n ≡ suc (m + n) = omega arith in
+    ap (λ k. (run_of k s).ending) sum ∙ ending_first (m + n) s t e ∙ ending_more m n t rest
+    ∙ ap (λ u. (run_of n u).ending) (sym (state_first m s t e)))
+    (λ e is. let none = steps_end m s e is in absurd (omega arith))
+
+-- a run that completes as many steps as its budget has used it up
+all_used : (n : ℕ) (s : State) → (run_of n s).steps ≡ n → (run_of n s).ending ≡ Budget
+all_used zero s h = ap (λ r. r.ending) (run_none s)
+all_used (suc n) s h = by_step s ((run_of (suc n) s).ending ≡ Budget)
+    (λ t e. let first = steps_first n s t e in ending_first n s t e ∙ all_used n t (omega arith))
+    (λ e is. let none = steps_end n s e is in absurd (omega arith))
+
+-- ---- places
+
+pub at_start : (start s : State) → s ≡ start → IsReached start 0 s
+at_start start s is = record { completed = ap (λ r. r.steps) (run_none start); same = is ∙ sym (after_none start) }
+
+pub next_place : (start s t : State) (place : ℕ) → IsReached start place s → step_of s ≡ Ok t → IsReached start (place + 1) t
+next_place start s t place reached e =
+    let here : step_of (state_after place start) ≡ Ok t = ap step_of (sym reached.same) ∙ e in
+    let more = steps_more place 1 start reached.completed in
+    let one = one_steps (state_after place start) t here in record {
+      completed = omega arith;
+      same = sym (after_more place 1 start reached.completed ∙ one_state (state_after place start) t here);
+    }
+
+-- the run comes to a place within its budget
+pub comes_within : (budget place : ℕ) (start : State) → (run_of place start).steps ≡ place → place ≤ budget
+    → place ≤ last_place budget start
+comes_within budget place start h within =
+    let rest = budget - place in
+    let sum : place + rest ≡ budget = omega arith in
+    let more = steps_more place rest start h in
+    let same = ap (λ k. (run_of k start).steps) sum in
+    omega arith
+
+pub comes : (budget place : ℕ) (start : State) → place ≤ last_place budget start → (run_of place start).steps ≡ place
+comes budget place start within = completes budget place start within
+
+-- a run completes no more steps than its budget has
+pub within_budget : (n : ℕ) (s : State) → (run_of n s).steps ≤ n
+within_budget zero s = let none = ap (λ r. r.steps) (run_none s) in omega arith
+within_budget (suc n) s = by_step s ((run_of (suc n) s).steps ≤ suc n)
+    (λ t e. let first = steps_first n s t e in let rest = within_budget n t in omega arith)
+    (λ e is. let none = steps_end n s e is in omega arith)
+
+-- a step that completes within the budget is not the last
+pub goes_on : (budget place : ℕ) (start s t : State) → IsReached start place s → place < budget → step_of s ≡ Ok t
+    → place < last_place budget start
+goes_on budget place start s t reached within e =
+    let next = next_place start s t place reached e in
+    let there = comes_within budget (place + 1) start next.completed (omega arith) in
+    omega arith
+
+-- a step that does not complete ends the run there
+pub ends_here : (budget place : ℕ) (start s : State) (ending : Ending) → IsReached start place s → place < budget
+    → step_of s ≡ Err ending → (place ≡ last_place budget start) × (ending ≡ (run_of budget start).ending)
+ends_here budget place start s ending reached within e =
+    let here : step_of (state_after place start) ≡ Err ending = ap step_of (sym reached.same) ∙ e in
+    let rest = budget - (place + 1) in
+    let sum : place + suc rest ≡ budget = omega arith in
+    let more = steps_more place (suc rest) start reached.completed in
+    let none = steps_end rest (state_after place start) ending here in
+    let same = ap (λ k. (run_of k start).steps) sum in
+    let end = ap (λ r. r.ending) (run_ends rest (state_after place start) ending here) in (
+      omega arith,
+      sym (sym (ap (λ k. (run_of k start).ending) sum) ∙ ending_more place (suc rest) start reached.completed ∙ end),
+    )
+
+-- a run that comes to its budget ends there
+pub ends_by_budget : (budget : ℕ) (start : State) → (run_of budget start).steps ≡ budget
+    → (budget ≡ last_place budget start) × (Budget ≡ (run_of budget start).ending)
+ends_by_budget budget start h = (sym h, sym (all_used budget start h))

@@ -1,0 +1,24 @@
+use Rattle.std.proofs.Common.{◌≤◌, arith}
+use Rattle.rv_history.specs.Moves.{IsStepBefore}
+use Rattle.rv_history.specs.Places.{last_place}
+use Rattle.rv_history.specs.Starts.{start_of}
+use Rattle.rv_history.proofs.Arriving.{arrived}
+use Rattle.rv_history.proofs.Backward.{back_within}
+use Rattle.rv_history.proofs.Reaching.{comes_within}
+use Rattle.rv_history.proofs.history.History.step_back.Goals as goal
+
+pub arrive-requires : goal.arrive-requires
+arrive-requires c =
+    let here = c.self.inside in
+    let start = start_of here.start in
+    let near = back_within c.args.stops.now here.budget here.place c.in_ok-arrival.arrival.place start c.in_ok-arrival.arrival.found
+    (c.in_ok-arrival.ensures here.budget c.self.invariant.1) in
+    let there : here.place ≤ last_place here.budget start =
+    comes_within here.budget here.place start c.self.invariant.0.completed c.self.invariant.1 in
+    rw (← c.self.view_is) (omega arith)
+
+pub returns-clause-step : goal.returns-clause-step
+returns-clause-step c =
+    arrived (IsStepBefore c.args.stops.now c.args.self.now.budget c.args.self.now.start c.args.self.now.place) c.arrive.result
+    c.in_ok-arrival.arrival.place c.in_ok-arrival.arrival.found c.args.self.now c.arrive.new.self c.arrive.ensures.found
+    c.arrive.ensures.moved (rw (← c.self.view_is) (c.in_ok-arrival.ensures c.self.inside.budget c.self.invariant.1))

@@ -1,0 +1,10 @@
+pub mod Stops
+pub mod Starts
+pub mod Stepping
+pub mod LastStop
+pub mod Places
+pub mod Moves
+pub mod Counts
+pub mod Stands
+pub mod StandInside
+pub mod Printing

@@ -1,0 +1,87 @@
+-- Where the moves of a debugger stop, in a run within a budget.
+use Rattle.std.specs.Prelude.{ℕ, ◌≡◌, ◌+◌, ◌<◌, ◌≤◌}
+use Rattle.rv_machine.specs.Run.{run_of}
+use Rattle.rv_machine.specs.State.{State}
+use Rattle.rv_machine.specs.declared.ending.Ending.{Ending}
+use Rattle.rv_history.specs.Places.{IsBreakAt, IsChangeAt, IsHaltAt, last_place}
+use Rattle.rv_history.specs.declared.bounds.Bounds.{Bounds}
+use Rattle.rv_history.specs.declared.found.Found.{Found}
+use Rattle.rv_history.specs.declared.found.Found.TheVariants as found
+use Rattle.rv_history.specs.declared.stops.Stops.{Stops}
+
+-- the run ends at a place in this way
+abbrev pub IsEndAt : ℕ → State → ℕ → Ending → Type 0
+IsEndAt budget start place ending = (place ≡ last_place budget start) × (ending ≡ (run_of budget start).ending)
+
+-- ---- forwards
+
+-- What a move forward from a place meets at this one: a breakpoint or an address outside the bounds first, but not where it began,
+-- then the end, then a change by the step in front of which it stands.
+abbrev pub MeetsAhead : Stops → Bounds → ℕ → State → ℕ → ℕ → Found → Type 0
+MeetsAhead stops bounds budget start from place found.Break = (from < place) × IsHaltAt stops bounds start place
+MeetsAhead stops bounds budget start from place (found.End ending) =
+    IsEndAt budget start place ending × (from < place → IsHaltAt stops bounds start place → ⊥)
+MeetsAhead stops bounds budget start from place found.Change =
+    IsChangeAt stops budget start place × (from < place → IsHaltAt stops bounds start place → ⊥)
+MeetsAhead stops bounds budget start from place found.Done = ⊥
+MeetsAhead stops bounds budget start from place found.Begin = ⊥
+
+-- it meets nothing there
+pub record GoesOnAhead (stops : Stops) (bounds : Bounds) (budget : ℕ) (start : State) (from place : ℕ) : Type 0 where
+  pub no_halt : from < place → IsHaltAt stops bounds start place → ⊥
+  pub no_end : place < last_place budget start
+  pub no_change : IsChangeAt stops budget start place → ⊥
+
+-- the next stop from a place on: the first place from there on where anything is met
+pub record IsNextStop (stops : Stops) (bounds : Bounds) (budget : ℕ) (start : State) (from place : ℕ) (found : Found) : Type 0 where
+  pub order : from ≤ place
+  pub within : place ≤ last_place budget start
+  pub meets : MeetsAhead stops bounds budget start from place found
+  pub between : (j : ℕ) → from ≤ j → j < place → GoesOnAhead stops bounds budget start from j
+
+-- a step forward: it stays at the end, and in front of a change
+abbrev pub IsNextStep : Stops → ℕ → State → ℕ → ℕ → Found → Type 0
+IsNextStep stops budget start from place found.Done =
+    (place ≡ from + 1) × (from < last_place budget start) × (IsChangeAt stops budget start from → ⊥)
+IsNextStep stops budget start from place (found.End ending) = (place ≡ from) × IsEndAt budget start from ending
+IsNextStep stops budget start from place found.Change = (place ≡ from) × IsChangeAt stops budget start from
+IsNextStep stops budget start from place found.Break = ⊥
+IsNextStep stops budget start from place found.Begin = ⊥
+
+-- ---- backwards
+
+-- a change by the step behind which a place stands
+pub record IsChangeBefore (stops : Stops) (budget : ℕ) (start : State) (place : ℕ) : Type 0 where
+  pub before : ℕ
+  pub place_is : place ≡ before + 1
+  pub change : IsChangeAt stops budget start before
+
+-- What a move backward from a place meets at this one: a break first, but not where it began, then a change by the step before;
+-- at 0 it is at the beginning.
+abbrev pub MeetsBack : Stops → ℕ → State → ℕ → ℕ → Found → Type 0
+MeetsBack stops budget start from place found.Break = (place < from) × IsBreakAt stops start place
+MeetsBack stops budget start from place found.Change =
+    IsChangeBefore stops budget start place × (place < from → IsBreakAt stops start place → ⊥)
+MeetsBack stops budget start from place found.Begin = (place ≡ 0) × (place < from → IsBreakAt stops start place → ⊥)
+MeetsBack stops budget start from place (found.End ending) = ⊥
+MeetsBack stops budget start from place found.Done = ⊥
+
+-- it meets nothing there
+pub record GoesOnBack (stops : Stops) (budget : ℕ) (start : State) (from place : ℕ) : Type 0 where
+  pub no_break : place < from → IsBreakAt stops start place → ⊥
+  pub no_change : IsChangeBefore stops budget start place → ⊥
+
+-- the stop before a place: the last place up to there where anything is met
+pub record IsStopBefore (stops : Stops) (budget : ℕ) (start : State) (from place : ℕ) (found : Found) : Type 0 where
+  pub order : place ≤ from
+  pub meets : MeetsBack stops budget start from place found
+  pub between : (j : ℕ) → place < j → j ≤ from → GoesOnBack stops budget start from j
+
+-- a step backward: it stays at the beginning, and behind a change
+abbrev pub IsStepBefore : Stops → ℕ → State → ℕ → ℕ → Found → Type 0
+IsStepBefore stops budget start from place found.Done =
+    (from ≡ place + 1) × (IsChangeAt stops budget start place → ⊥)
+IsStepBefore stops budget start from place found.Change = (place ≡ from) × IsChangeBefore stops budget start from
+IsStepBefore stops budget start from place found.Begin = (place ≡ 0) × (from ≡ 0)
+IsStepBefore stops budget start from place found.Break = ⊥
+IsStepBefore stops budget start from place (found.End ending) = ⊥

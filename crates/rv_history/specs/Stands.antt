@@ -1,0 +1,9 @@
+-- What callers see of a history.
+use Rattle.std.specs.Prelude.{ℕ}
+use Rattle.rv_machine.specs.State.{State}
+
+-- the place at which a history of a run stands: the run from a start within a budget
+pub record Stand : Type 0 where
+  pub start : State
+  pub budget : ℕ
+  pub place : ℕ

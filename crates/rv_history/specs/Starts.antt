@@ -1,0 +1,6 @@
+-- The state at a start.
+use Rattle.rv_machine.specs.State.{State, at_reset}
+use Rattle.rv_history.specs.declared.start.Start.{Start}
+
+abbrev pub start_of : Start → State
+start_of start = at_reset start.bus start.entry start.isa

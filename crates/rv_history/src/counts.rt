@@ -1,0 +1,54 @@
+//! Counts that a run comes to.
+
+ghost use Rattle.std.specs.Prelude.{◌≡◌, ◌≤◌, IfOk};
+ghost use Rattle.rv_history.specs.Counts.{IsFound, count_in};
+ghost use Rattle.rv_history.specs.Starts.{start_of};
+
+use crate::start::Start;
+use rv_memory::Bus;
+use std::alloc::{AllocError, Global};
+
+/// What is counted in a run.
+#[derive(Clone, Copy)]
+pub enum Count {
+    /// The bytes that are printed.
+    Printed,
+    /// The bytes of the script that are taken.
+    Taken,
+}
+
+/// The first place with a count, if the run comes to one. It takes the time of the run up to there.
+pub(crate) fn first_with(
+    alloc: Global,
+    start: &Start,
+    budget: u32,
+    count: Count,
+    value: u32,
+) -> Result<Option<u32>, AllocError>
+    ensures { IfOk result (IsFound count value budget (start_of start.now)) }
+{
+    let mut machine = start.machine(alloc)?;
+    let script = start.bus.script_left();
+    for place in 0..budget {
+        if count_in(count, script, machine.bus()) == value as usize {
+            return Ok(Some(place));
+        }
+        if machine.step().is_some() {
+            return Ok(None);
+        }
+    }
+    if count_in(count, script, machine.bus()) == value as usize {
+        return Ok(Some(budget));
+    }
+    Ok(None)
+}
+
+// A count in a bus, whose script was so long at the start.
+fn count_in(count: Count, script: usize, bus: &Bus) -> usize
+    ensures { result ≡ count_in count script bus.now }
+{
+    match count {
+        Count::Printed => bus.console().len(),
+        Count::Taken => script.saturating_sub(bus.script_left()),
+    }
+}

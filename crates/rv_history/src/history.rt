@@ -1,0 +1,209 @@
+//! A place in a run, and the moves from it.
+
+ghost use Rattle.std.specs.Prelude.{◌≡◌, ◌+◌, ◌-◌, ◌<◌, ◌≤◌, ◌↔◌, IfOk, IsTrue, MatchBool, OnErr, if◌then◌else◌};
+ghost use Rattle.rv_machine.specs.Machine.{state_of};
+ghost use Rattle.rv_trace.specs.Trace.{state_after};
+
+use crate::bounds::Bounds;
+use crate::counts::{Count, first_with};
+use crate::found::{Arrival, Found};
+use crate::search::{Leg, next_step, next_stop};
+use crate::search_back::{step_before, stop_before};
+use crate::start::Start;
+use crate::stops::Stops;
+use rv_machine::Machine;
+use std::alloc::{AllocError, Global};
+use std::marker::Model;
+
+/// A place in the run from a start within a budget, and the machine there. Each move takes the time of the run up to where it begins
+/// and to where it ends, and no move changes the run.
+#[derive(Drop)]
+pub struct History {
+    start: Start,
+    budget: u32,
+    place: u32,
+    machine: Machine,
+}
+
+impl Model for History {
+    ghost use Rattle.std.specs.Prelude.{◌≤◌};
+    ghost use Rattle.rv_machine.specs.Machine.{state_of};
+    ghost use Rattle.rv_history.specs.Places.{IsReached};
+    ghost use Rattle.rv_history.specs.StandInside.{stand_code};
+    ghost use Rattle.rv_history.specs.Stands.{Stand};
+    ghost use Rattle.rv_history.specs.Starts.{start_of};
+
+    ghost Value = { Stand };
+
+    ghost coded = { stand_code };
+
+    ghost view = { λ h. record { start = start_of h.start; budget = h.budget; place = h.place } };
+
+    ghost invariant = { λ h. IsReached (start_of h.start) h.place (state_of h.machine) × (h.place ≤ h.budget) };
+}
+
+impl History {
+    ghost use Rattle.rv_history.specs.Counts.{IsFirstWith, IsFound};
+    ghost use Rattle.rv_history.specs.Moves.{IsNextStep, IsNextStop, IsStepBefore, IsStopBefore};
+    ghost use Rattle.rv_history.specs.Places.{IsReached, last_place};
+    ghost use Rattle.rv_history.specs.Starts.{start_of};
+    ghost use Rattle.rv_history.specs.Stops.{first_differing};
+
+    /// At the start of a run.
+    pub fn new(alloc: Global, start: Start, budget: u32) -> Result<History, AllocError>
+        ensures { IfOk result (λ history. history ≡ record { start = start_of start; budget = budget; place = 0 }) }
+    {
+        let machine = start.machine(alloc)?;
+        Ok(History {
+            start,
+            budget,
+            place: 0,
+            machine,
+        })
+    }
+
+    /// How many steps are done.
+    pub fn place(&self) -> u32
+        ensures value { result ≡ self.now.place }
+        ensures within { result ≤ last_place self.now.budget self.now.start }
+    {
+        self.place
+    }
+
+    /// The machine as it stands here.
+    pub fn machine(&self) -> &Machine
+        ensures { state_of result.now ≡ state_after self.now.place self.now.start }
+    {
+        &self.machine
+    }
+
+    /// Goes to the next stop, which may be an end of the run. It does not stop at a breakpoint where it stands, and it may begin
+    /// outside the bounds.
+    pub fn go_on(
+        &mut self,
+        alloc: Global,
+        stops: &Stops,
+        bounds: Bounds,
+    ) -> Result<Found, AllocError>
+        ensures stop { IfOk result (IsNextStop stops.now bounds self.old.budget self.old.start self.old.place self.new.place) }
+        ensures run { self.new ≡ record self.old { place = self.new.place } }
+        ensures same { OnErr result (self.new ≡ self.old) }
+    {
+        let leg = Leg {
+            from: self.place,
+            budget: self.budget,
+            bounds,
+        };
+        let arrival = next_stop(alloc, &self.start, leg, stops)?;
+        self.arrive(alloc, arrival)
+    }
+
+    /// Goes a step on, unless that is an end or would change a watched byte.
+    pub fn step(&mut self, alloc: Global, stops: &Stops) -> Result<Found, AllocError>
+        ensures step { IfOk result (IsNextStep stops.now self.old.budget self.old.start self.old.place self.new.place) }
+        ensures run { self.new ≡ record self.old { place = self.new.place } }
+        ensures same { OnErr result (self.new ≡ self.old) }
+    {
+        let arrival = next_step(alloc, &self.start, self.budget, self.place, stops)?;
+        self.arrive(alloc, arrival)
+    }
+
+    /// Goes back to the stop before, or to the start.
+    pub fn go_back(&mut self, alloc: Global, stops: &Stops) -> Result<Found, AllocError>
+        ensures stop { IfOk result (IsStopBefore stops.now self.old.budget self.old.start self.old.place self.new.place) }
+        ensures run { self.new ≡ record self.old { place = self.new.place } }
+        ensures same { OnErr result (self.new ≡ self.old) }
+    {
+        let arrival = stop_before(alloc, &self.start, self.place, stops)?;
+        self.arrive(alloc, arrival)
+    }
+
+    /// Goes a step back, unless it stands at the start or behind a change of a watched byte.
+    pub fn step_back(&mut self, alloc: Global, stops: &Stops) -> Result<Found, AllocError>
+        ensures step { IfOk result (IsStepBefore stops.now self.old.budget self.old.start self.old.place self.new.place) }
+        ensures run { self.new ≡ record self.old { place = self.new.place } }
+        ensures same { OnErr result (self.new ≡ self.old) }
+    {
+        let arrival = step_before(alloc, &self.start, self.place, stops)?;
+        self.arrive(alloc, arrival)
+    }
+
+    /// Goes to a place, where the run comes there, and says whether it does.
+    pub fn seek(&mut self, alloc: Global, place: u32) -> Result<bool, AllocError>
+        ensures granted { IfOk result
+            (λ granted. IsTrue granted ↔ (place ≤ last_place self.old.budget self.old.start)) }
+        ensures moved { IfOk result
+            (λ granted. self.new ≡ (if granted then record self.old { place = place } else self.old)) }
+        ensures same { OnErr result (self.new ≡ self.old) }
+    {
+        if place > self.budget {
+            return Ok(false);
+        }
+        match self.start.machine_at(alloc, place)? {
+            Some(machine) => {
+                self.machine = machine;
+                self.place = place;
+                Ok(true)
+            }
+            None => Ok(false),
+        }
+    }
+
+    /// Goes to the first place with a count, where the run comes to one, and says whether it does.
+    pub fn seek_count(
+        &mut self,
+        alloc: Global,
+        count: Count,
+        value: u32,
+    ) -> Result<bool, AllocError>
+        ensures granted { IfOk result (λ granted. MatchBool granted
+            (IsFirstWith count value self.old.budget self.old.start self.new.place)
+            (IsFound count value self.old.budget self.old.start None × (self.new ≡ self.old))) }
+        ensures run { self.new ≡ record self.old { place = self.new.place } }
+        ensures same { OnErr result (self.new ≡ self.old) }
+    {
+        match first_with(alloc, &self.start, self.budget, count, value)? {
+            Some(place) => {
+                let found = Found::Done;
+                let _ = self.arrive(alloc, Arrival { place, found })?;
+                Ok(true)
+            }
+            None => Ok(false),
+        }
+    }
+
+    /// The address of the first watch whose bytes the step in front changes, if it completes within the budget and changes any.
+    pub fn watch_ahead(&self, alloc: Global, stops: &Stops) -> Result<Option<u32>, AllocError>
+        ensures { self.now.place < last_place self.now.budget self.now.start → IfOk result
+            (λ found. found ≡ first_differing stops.now.watches (state_after self.now.place self.now.start).bus
+            (state_after (self.now.place + 1) self.now.start).bus) }
+    {
+        let steps = self.budget.min(self.place.saturating_add(1));
+        let ahead = self.start.machine_after(alloc, steps)?;
+        stops.differing_watch(alloc, self.machine.bus(), ahead.bus())
+    }
+
+    /// The address of the first watch whose bytes the step behind changes, if it changes any.
+    pub fn watch_behind(&self, alloc: Global, stops: &Stops) -> Result<Option<u32>, AllocError>
+        ensures { IfOk result
+            (λ found. found ≡ first_differing stops.now.watches (state_after (self.now.place - 1) self.now.start).bus
+            (state_after self.now.place self.now.start).bus) }
+    {
+        let behind = self
+            .start
+            .machine_after(alloc, self.place.saturating_sub(1))?;
+        stops.differing_watch(alloc, behind.bus(), self.machine.bus())
+    }
+
+    // Goes to where a search ended.
+    fn arrive(&mut self, alloc: Global, arrival: Arrival) -> Result<Found, AllocError>
+        requires { arrival.place ≤ last_place self.old.budget self.old.start }
+        ensures found { IfOk result (λ found. found ≡ arrival.found) }
+        ensures moved { IfOk result (λ found. self.new ≡ record self.old { place = arrival.place }) }
+        ensures same { OnErr result (self.new ≡ self.old) }
+    {
+        self.machine = self.start.machine_behind(alloc, arrival.place)?;
+        self.place = arrival.place;
+        Ok(arrival.found)
+    }
+}

@@ -1,0 +1,121 @@
+//! Searches forward in a run.
+
+ghost use Rattle.std.specs.Prelude.{◌≡◌, ◌≤◌, ◌&&◌, IfOk, nat_lt};
+ghost use Rattle.rv_machine.specs.Machine.{state_of};
+ghost use Rattle.rv_machine.specs.Run.{run_of};
+ghost use Rattle.rv_history.specs.Moves.{IsNextStep, IsNextStop};
+ghost use Rattle.rv_history.specs.Starts.{start_of};
+ghost use Rattle.rv_history.specs.Stops.{is_halt};
+
+use crate::bounds::Bounds;
+use crate::found::{Arrival, Found};
+use crate::start::Start;
+use crate::stepping::{Stepped, step_watched};
+use crate::stops::Stops;
+use rv_machine::{Ending, Machine};
+use std::alloc::{AllocError, Global};
+
+/// What a move forward goes through.
+#[derive(Clone, Copy)]
+pub(crate) struct Leg {
+    /// The place where it begins.
+    pub from: u32,
+    pub budget: u32,
+    pub bounds: Bounds,
+}
+
+/// The next stop on a leg. It takes the time of the run up to there.
+pub(crate) fn next_stop(
+    alloc: Global,
+    start: &Start,
+    leg: Leg,
+    stops: &Stops,
+) -> Result<Arrival, AllocError>
+    requires comes { (run_of leg.from (start_of start.now)).steps ≡ leg.from }
+    requires within { leg.from ≤ leg.budget }
+    ensures { IfOk result
+        (λ arrival. IsNextStop stops.now leg.bounds leg.budget (start_of start.now) leg.from arrival.place arrival.found) }
+{
+    let mut machine = start.machine_behind(alloc, leg.from)?;
+    for place in leg.from..leg.budget {
+        if is_halt_behind(stops, leg, &machine, place) {
+            return Ok(Arrival {
+                place,
+                found: Found::Break,
+            });
+        }
+        match step_watched(alloc, &mut machine, stops)? {
+            Stepped::Ended(ending) => {
+                return Ok(Arrival {
+                    place,
+                    found: Found::End(ending),
+                });
+            }
+            Stepped::Changed => {
+                return Ok(Arrival {
+                    place,
+                    found: Found::Change,
+                });
+            }
+            Stepped::Quiet => {}
+        }
+    }
+    if is_halt_behind(stops, leg, &machine, leg.budget) {
+        return Ok(Arrival {
+            place: leg.budget,
+            found: Found::Break,
+        });
+    }
+    Ok(Arrival {
+        place: leg.budget,
+        found: Found::End(Ending::Budget),
+    })
+}
+
+// Whether a machine at a place stands at a breakpoint or outside the bounds, and behind the place where the move began.
+fn is_halt_behind(stops: &Stops, leg: Leg, machine: &Machine, place: u32) -> bool
+    ensures { result ≡ (nat_lt leg.from place && is_halt stops.now leg.bounds (state_of machine.now).pc) }
+{
+    leg.from < place && is_halt(stops, leg.bounds, machine.pc())
+}
+
+fn is_halt(stops: &Stops, bounds: Bounds, pc: u32) -> bool
+    ensures { result ≡ is_halt stops.now bounds pc }
+{
+    stops.has_break(pc) || bounds.is_outside(pc)
+}
+
+/// A step forward from a place. It takes the time of the run up to there.
+pub(crate) fn next_step(
+    alloc: Global,
+    start: &Start,
+    budget: u32,
+    from: u32,
+    stops: &Stops,
+) -> Result<Arrival, AllocError>
+    requires comes { (run_of from (start_of start.now)).steps ≡ from }
+    requires within { from ≤ budget }
+    ensures { IfOk result (λ arrival. IsNextStep stops.now budget (start_of start.now) from arrival.place arrival.found) }
+{
+    if from == budget {
+        return Ok(Arrival {
+            place: from,
+            found: Found::End(Ending::Budget),
+        });
+    }
+    let mut machine = start.machine_behind(alloc, from)?;
+    match step_watched(alloc, &mut machine, stops)? {
+        Stepped::Ended(ending) => Ok(Arrival {
+            place: from,
+            found: Found::End(ending),
+        }),
+        Stepped::Changed => Ok(Arrival {
+            place: from,
+            found: Found::Change,
+        }),
+        Stepped::Quiet => Ok(Arrival {
+            place: from + 1,
+            found: Found::Done,
+        }),
+    }
+}

@@ -1,0 +1,84 @@
+//! Where a run is to stop.
+
+ghost use Rattle.std.specs.Prelude.{◌≡◌, ◌≤◌, ◌+◌, ◌^◌, ◌++◌, IfOk, OnOk};
+
+use rv_base::Sequence;
+use rv_memory::Bus;
+use std::alloc::{AllocError, Global};
+
+/// Bytes whose changes are watched. None of them is past the end of the addresses.
+#[derive(Clone, Copy)]
+pub struct Watch {
+    pub address: u32,
+    pub count: u32,
+    pub ghost within: { address + count ≤ 2 ^ 32 },
+}
+
+/// Where a run is to stop: in front of the instructions at some addresses, and where a step changes a watched byte. Bytes in no
+/// region are never changed.
+#[derive(Drop)]
+pub struct Stops {
+    pub breaks: Sequence<u32>,
+    pub watches: Sequence<Watch>,
+}
+
+impl Stops {
+    ghost use Rattle.rv_history.specs.Stops.{first_differing, is_break, watched_bytes};
+
+    /// Whether an address is a breakpoint.
+    pub(crate) fn has_break(&self, pc: u32) -> bool
+        ensures { result ≡ is_break self.now pc }
+    {
+        self.breaks.as_slice().contains(&pc)
+    }
+
+    /// The watched bytes that stand in regions, in their order.
+    #[tactic(auto, unfolding(crate::specs::Stops::watched_bytes))]
+    pub(crate) fn watched_bytes(&self, alloc: Global, bus: &Bus) -> Result<Vec<u8>, AllocError>
+        ensures { IfOk result (λ bytes. bytes.items ≡ watched_bytes self.now bus.now) }
+    {
+        let mut bytes = Vec::new(alloc);
+        for watch in self.watches.as_slice() {
+            watch.push_bytes(&mut bytes, bus)?;
+        }
+        Ok(bytes)
+    }
+
+    /// The address of the first watch whose bytes differ between two buses.
+    #[tactic(auto, using(crate::proofs::Differing::differing_at), unfolding(crate::specs::Stops::first_differing))]
+    pub(crate) fn differing_watch(
+        &self,
+        alloc: Global,
+        one: &Bus,
+        other: &Bus,
+    ) -> Result<Option<u32>, AllocError>
+        ensures { IfOk result (λ found. found ≡ first_differing self.now.watches one.now other.now) }
+    {
+        for watch in self.watches.as_slice() {
+            let mut here = Vec::new(alloc);
+            watch.push_bytes(&mut here, one)?;
+            let mut there = Vec::new(alloc);
+            watch.push_bytes(&mut there, other)?;
+            if here.as_slice() != there.as_slice() {
+                return Ok(Some(watch.address));
+            }
+        }
+        Ok(None)
+    }
+}
+
+impl Watch {
+    ghost use Rattle.rv_history.specs.Stops.{watch_bytes};
+
+    // Appends the bytes that stand in regions.
+    fn push_bytes(&self, bytes: &mut Vec<u8>, bus: &Bus) -> Result<(), AllocError>
+        ensures { OnOk result (bytes.new.items ≡ bytes.old.items ++ watch_bytes bus.now self.now) }
+    {
+        for offset in 0..self.count {
+            if let Some(byte) = bus.byte(self.address + offset) {
+                bytes.push(byte)?;
+            }
+        }
+        Ok(())
+    }
+}

@@ -1,0 +1,137 @@
+//! Moves among the places of a run, by the lines of a table.
+use rv_base::Sequence;
+use rv_history::{Bounds, Found, History, Start, Stops, Watch};
+use rv_isa::Isa;
+use rv_machine::Ending;
+use rv_memory::{Bus, Map, Misaligned};
+use samples::{agree, cell_of, has_lines, hex_of, numbers};
+use std::alloc::{AllocError, Global};
+use std::test::Fail;
+
+// x5 is 80000100, and x6 counts from 3 down: the store at 8000000c is the steps 3, 6 and 9, with 3, 2 and 1. The exit call is the
+// step 13, which does not complete.
+const CODE: &str = "00000297 10028293 00300313 0062a023 fff30313 fe031ce3 X";
+
+// What stands at each place: the low byte of the pc is 00 04 08, then three times 0c 10 14, then 18 and 1c.
+// label | budget | breaks and watches | dialogue
+const MOVES: &str = "\
+forward to the end | 100 | b8000000c | go_on = 3 break; go_on = 6 break; go_on = 9 break; go_on = 13 exit 0; go_on = 13 exit 0; step = 13 exit 0
+back to the start | 100 | b8000000c | seek 13 = yes 13; go_back = 9 break; go_back = 6 break; go_back = 3 break; go_back = 0 begin; step_back = 0 begin
+a watch forward | 100 | w80000100,4 | go_on = 3 change; step = 3 change; go_on = 3 change; seek 4 = yes 4; go_on = 6 change; seek 7 = yes 7; step = 8 done
+a watch back | 100 | w80000100,4 | seek 13 = yes 13; go_back = 10 change; step_back = 10 change; seek 9 = yes 9; go_back = 7 change; seek 6 = yes 6; go_back = 4 change
+a byte that stays | 100 | w80000101,3 | go_on = 13 exit 0; go_back = 0 begin
+bytes in no region | 100 | w0,10000 | go_on = 13 exit 0
+a break before a watch | 100 | b80000010 w80000100,4 | seek 13 = yes 13; go_back = 10 break; go_back = 10 change; seek 5 = yes 5; go_on = 6 change
+steps | 100 | b80000004 | step = 1 done; step = 2 done; step_back = 1 done; step_back = 0 done; step_back = 0 begin
+seeks | 100 | b80000004 | seek 14 = no 0; seek 13 = yes 13; seek 100 = no 13; seek 101 = no 13; seek 2 = yes 2
+the budget | 5 | b80000014 | go_on = 5 break; go_on = 5 budget; step = 5 budget; step_back = 4 done; seek 6 = no 4
+no budget | 0 | b80000000 | go_on = 0 budget; go_back = 0 begin; seek 1 = no 0
+";
+
+fn push_stop(breaks: &mut Vec<u32>, watches: &mut Vec<Watch>, text: &str) -> Result<(), Fail> {
+    if let Some(address) = text.strip_prefix('b') {
+        breaks.push(hex_of(address)?)?;
+        return Ok(());
+    }
+    let text = text.strip_prefix('w').ok_or("a break or a watch")?;
+    let (address, count) = text.split_once(',').ok_or("an address and a count")?;
+    let (address, count) = (hex_of(address)?, hex_of(count)?);
+    if u64::from(address) + u64::from(count) > 1 << 32 {
+        return Err("a watch".into());
+    }
+    watches.push(Watch { address, count })?;
+    Ok(())
+}
+
+fn stops_of(alloc: Global, text: &str) -> Result<Stops, Fail> {
+    let mut breaks = Vec::new(alloc);
+    let mut watches = Vec::new(alloc);
+    for stop in text.split(' ') {
+        push_stop(&mut breaks, &mut watches, stop)?;
+    }
+    Ok(Stops {
+        breaks: Sequence::new(breaks),
+        watches: Sequence::new(watches),
+    })
+}
+
+fn history_of(alloc: Global, budget: u32) -> Result<History, Fail> {
+    let mut bus = Bus::new(
+        alloc,
+        Map::default_map(),
+        Vec::new(alloc),
+        Misaligned::Fault,
+    )?;
+    let code = numbers(alloc, CODE)?;
+    if code.len() > 0x100 || !bus.map().in_one(0x8000_0000, code.len() as u32) {
+        return Err("a place".into());
+    }
+    bus.place(0x8000_0000, &code);
+    let start = Start {
+        bus,
+        entry: 0x8000_0000,
+        isa: Isa::Imc,
+    };
+    Ok(History::new(alloc, start, budget)?)
+}
+
+fn found_text(alloc: Global, found: Found) -> Result<String, AllocError> {
+    match found {
+        Found::Done => String::from_str(alloc, "done"),
+        Found::Break => String::from_str(alloc, "break"),
+        Found::Change => String::from_str(alloc, "change"),
+        Found::Begin => String::from_str(alloc, "begin"),
+        Found::End(Ending::Exit(code)) => format!(in alloc; "exit {code}"),
+        Found::End(Ending::Budget) => String::from_str(alloc, "budget"),
+        Found::End(Ending::Fault(..)) => String::from_str(alloc, "fault"),
+    }
+}
+
+fn moved(alloc: Global, history: &mut History, stops: &Stops, asked: &str) -> Result<String, Fail> {
+    if let Some(place) = asked.strip_prefix("seek ") {
+        let granted = history.seek(alloc, place.parse()?)?;
+        let told = if granted { "yes" } else { "no" };
+        return Ok(format!(in alloc; "{told} {}", history.place())?);
+    }
+    let found = match asked {
+        "go_on" => history.go_on(alloc, stops, Bounds::All)?,
+        "go_back" => history.go_back(alloc, stops)?,
+        "step" => history.step(alloc, stops)?,
+        "step_back" => history.step_back(alloc, stops)?,
+        _ => return Err("a move".into()),
+    };
+    let told = found_text(alloc, found)?;
+    Ok(format!(in alloc; "{} {told}", history.place())?)
+}
+
+fn check_moves(alloc: Global, line: &str) -> Result<(), Fail> {
+    let stops = stops_of(alloc, cell_of(line, 2))?;
+    let mut history = history_of(alloc, cell_of(line, 1).parse()?)?;
+    for part in cell_of(line, 3).split("; ") {
+        let (asked, wanted) = part.split_once(" = ").ok_or("a move and an answer")?;
+        let met = moved(alloc, &mut history, &stops, asked)?;
+        agree(line, met.as_str(), wanted)?;
+    }
+    Ok(())
+}
+
+#[test]
+fn moves_stop(rt: HostRuntime) -> Result<(), Fail> {
+    has_lines(MOVES, 11)?;
+    for line in MOVES.lines() {
+        check_moves(rt.alloc(), line)?;
+    }
+    Ok(())
+}
+
+// The machine is the one at the place.
+#[test]
+fn registers_are_of_the_place(rt: HostRuntime) -> Result<(), Fail> {
+    let alloc = rt.alloc();
+    let mut history = history_of(alloc, 100)?;
+    for (place, x6) in [(2, 0), (3, 3), (5, 2), (13, 0), (8, 1)] {
+        assert!(rt; history.seek(alloc, place)?);
+        assert_eq!(rt; history.machine().reg(6), x6, "at {place}");
+    }
+    Ok(())
+}

@@ -1,0 +1,11 @@
+pub mod Escapes
+pub mod Sums
+pub mod Frames
+pub mod Numbers
+pub mod Requests
+pub mod Packets
+pub mod Grammar
+pub mod Replies
+pub mod Readback
+pub mod Stops
+pub mod Shown

@@ -1,0 +1,34 @@
+//! gdb's remote protocol, as bytes that come and bytes that go. Nothing here runs, reads a file or waits.
+//!
+//! A [`Reader`] takes bytes in any cuts and says what it heard ([`Heard`]): bodies with their sums, acknowledgements, Ctrl-C.
+//! [`push_frame`] frames a body. The other functions `push_..` append the bodies of replies.
+#![tactic(auto)]
+
+mod arguments;
+mod escapes;
+mod frame;
+mod law;
+mod number;
+mod packets;
+mod parse;
+mod reader;
+mod registers;
+mod reply;
+mod request;
+mod stop;
+mod sum;
+mod target;
+
+pub use escapes::{push_data, push_escaped};
+pub use frame::{Heard, Sum, push_frame};
+pub use law::{
+    cuts_are_not_heard, framed_bodies_are_read_back, heard_texts_were_sent, packets_are_read,
+    parts_fit, sent_texts_are_heard, stops_tell_the_ending,
+};
+pub use parse::parse_request;
+pub use reader::Reader;
+pub use registers::{push_memory, push_printed, push_register, push_registers};
+pub use reply::{fixed_reply, push_part, refusal_text};
+pub use request::{Move, Part, Range, Refusal, Register, Request, Trap};
+pub use stop::{Stop, push_stop};
+pub use target::TARGET;

@@ -1,0 +1,235 @@
+-- What goes out, and the session behind it, are determined by the session and by the bytes that come.
+use Rattle.std.proofs.Common.{◌≡◌, ◌∙◌, ◌++◌, ◌∷◌, ◌+◌, ◌≤◌, ◌^◌, ◌&&◌, [], ℕ, List, Bool, true, false, Some, None, ap, refl, subst, sym}
+use Rattle.std.specs.Prelude.{Option, Result, Ok, Err, ◌==◌}
+use Rattle.std.proofs.lemmas.Bool.{and_parts, eqb-true}
+use Rattle.std.proofs.Math.Bridge.{le_prop}
+use Rattle.rv_history.specs.declared.counts.Count.{Count}
+use Rattle.rv_history.specs.declared.counts.Count.TheVariants as count
+use Rattle.rv_history.specs.declared.found.Found.{Found}
+use Rattle.rv_history.specs.declared.bounds.Bounds.TheVariants as bounds
+use Rattle.rv_history.specs.declared.stops.Stops.{Stops}
+use Rattle.rv_history.specs.declared.stops.Watch.{Watch}
+use Rattle.rv_history.proofs.Public.{one_first_with, one_next_step, one_next_stop, one_step_before, one_stop_before}
+use Rattle.rv_machine.specs.State.{State}
+use Rattle.rv_memory.specs.Bus.{Contents}
+use Rattle.rv_remote.specs.Frames.{frame_behind, heard_at}
+use Rattle.rv_remote.specs.Packets.{request_of}
+use Rattle.rv_remote.specs.Stops.{stop_text}
+use Rattle.rv_remote.specs.declared.frame.Heard.{Heard}
+use Rattle.rv_remote.specs.declared.frame.Heard.TheVariants as heard
+use Rattle.rv_remote.specs.declared.request.Move.{Move}
+use Rattle.rv_remote.specs.declared.request.Move.TheVariants as move
+use Rattle.rv_remote.specs.declared.request.Range.{Range}
+use Rattle.rv_remote.specs.declared.request.Refusal.{Refusal}
+use Rattle.rv_remote.specs.declared.request.Refusal.TheVariants as refusal
+use Rattle.rv_remote.specs.declared.request.Register.{Register}
+use Rattle.rv_remote.specs.declared.request.Register.TheVariants as reg
+use Rattle.rv_remote.specs.declared.request.Request.{Request}
+use Rattle.rv_remote.specs.declared.request.Request.TheVariants as ask
+use Rattle.rv_remote.specs.declared.request.Trap.{Trap}
+use Rattle.rv_remote.specs.declared.request.Trap.TheVariants as trap
+use Rattle.rv_session.specs.Answers.{IsAnswered, IsSet, IsSought, IsSoughtAs, IsTrapAsked, IsWritten}
+use Rattle.rv_session.specs.Heard.{IsByteFed, IsFed, IsJudged, IsRespondedTo, IsResponse, IsResponseUnless, IsTaken, acknowledgement, byte_first, is_wrong, no_bytes, packets_of, with_sent}
+use Rattle.rv_session.specs.Moved.{IsGone, IsMoved, printed_on, shown_on, stop_of}
+use Rattle.rv_session.specs.Replies.{granted_if, printing}
+use Rattle.rv_session.specs.Sessions.{at_place, state_at}
+use Rattle.rv_session.specs.Traps.{IsAdded, IsAddedUnless, IsTrapped, is_on, is_set, trap_refusal}
+use Rattle.rv_session.specs.declared.reply.Reply.{Reply}
+use Rattle.rv_session.specs.declared.session.Session.{Session}
+
+-- ---- moves
+
+gone_one : (asked : Move) (stops : Stops) (budget from p q : ℕ) (start : State) (one other : Found)
+    → IsGone asked stops budget start from p one → IsGone asked stops budget start from q other → (p ≡ q) × (one ≡ other)
+gone_one move.Continue stops budget from p q start one other first second =
+    one_next_stop stops bounds.All budget from p q start one other first second
+gone_one move.Step stops budget from p q start one other first second =
+    one_next_step stops budget from p q start one other first second
+gone_one (move.StepWithin low high) stops budget from p q start one other first second =
+    one_next_stop stops (bounds.Within low high) budget from p q start one other first second
+gone_one move.ContinueBack stops budget from p q start one other first second =
+    one_stop_before stops budget from p q start one other first second
+gone_one move.StepBack stops budget from p q start one other first second =
+    one_step_before stops budget from p q start one other first second
+
+moved_one : (session one other : Session) (asked : Move) (reply again : Reply) → IsMoved session asked reply one
+    → IsMoved session asked again other → (reply ≡ again) × (one ≡ other)
+moved_one session one other asked reply again first second =
+    let same = gone_one asked session.stops session.history.budget session.history.place first.place second.place
+    session.history.start first.found second.found first.gone second.gone in
+    let said : ℕ → Found → Reply = λ place found.
+    printing (printed_on session asked (state_at session place)) (stop_text (stop_of session asked place found)) in
+    let stands : ℕ → Found → Session = λ place found. record session {
+      history = record session.history { place = place };
+      shown = shown_on session asked (state_at session place);
+      last = stop_of session asked place found;
+    } in (
+      first.reply_is ∙ ap (λ (k : ℕ). said k first.found) same.0 ∙ ap (said second.place) same.1 ∙ sym second.reply_is,
+      first.next_is ∙ ap (λ (k : ℕ). stands k first.found) same.0 ∙ ap (stands second.place) same.1 ∙ sym second.next_is,
+    )
+
+-- ---- seeks
+
+sought_as_one : (session one other : Session) (count : Count) (value : ℕ) (grants again : Bool)
+    → IsSoughtAs grants session count value one → IsSoughtAs again session count value other
+    → (grants ≡ again) × (one.history.place ≡ other.history.place)
+sought_as_one session one other count value true true first second = (
+  refl,
+  one_first_with count value session.history.budget
+      one.history.place other.history.place session.history.start first second,
+)
+sought_as_one session one other count value true false first second =
+    absurd (second.0 one.history.place first.within first.there)
+sought_as_one session one other count value false true first second =
+    absurd (first.0 other.history.place second.within second.there)
+sought_as_one session one other count value false false first second =
+    (refl, ap (λ (s : Session). s.history.place) (first.1 ∙ sym second.1))
+
+sought_one : (session one other : Session) (count : Count) (value : ℕ) (reply again : Reply)
+    → IsSought session count value reply one → IsSought session count value again other → (reply ≡ again) × (one ≡ other)
+sought_one session one other count value reply again first second =
+    let same = sought_as_one session one other count value first.is_granted second.is_granted first.sought second.sought in (
+      first.reply_is ∙ ap (λ (is : Bool). granted_if is refusal.NotReached) same.0 ∙ sym second.reply_is,
+      first.run ∙ ap (at_place session) same.1 ∙ sym second.run,
+    )
+
+written_one : (session one other : Session) (register : Register) (value : ℕ) (reply again : Reply)
+    → IsWritten session register value reply one → IsWritten session register value again other → (reply ≡ again) × (one ≡ other)
+written_one session one other (reg.Hart number) value reply again first second =
+    (first.0 ∙ sym second.0, first.1 ∙ sym second.1)
+written_one session one other reg.Steps value reply again first second = (first.0 ∙ sym second.0, first.1 ∙ sym second.1)
+written_one session one other reg.Printed value reply again first second =
+    sought_one session one other count.Printed value reply again first second
+written_one session one other reg.Taken value reply again first second =
+    sought_one session one other count.Taken value reply again first second
+
+-- ---- traps
+
+-- watches of the same bytes are the same
+watch_made : (address count : ℕ) → address + count ≤ 2 ^ 32 → Watch
+watch_made address count within = record { address = address; count = count; within = within }
+
+watch_with : (address count : ℕ) (one other : address + count ≤ 2 ^ 32) → watch_made address count one ≡ watch_made address count other
+unfolding watch_made
+watch_with address count one other =
+    ap (λ (within : address + count ≤ 2 ^ 32). watch_made address count within) (le_prop one other)
+
+watch_of : (a : Watch) (address count : ℕ) (within : address + count ≤ 2 ^ 32) → a.address ≡ address → a.count ≡ count
+    → a ≡ watch_made address count within
+unfolding watch_made
+watch_of a address count within at long =
+    subst (λ (n : ℕ). (w : n + count ≤ 2 ^ 32) → a ≡ watch_made n count w) at
+    (subst (λ (m : ℕ). (w : a.address + m ≤ 2 ^ 32) → a ≡ watch_made a.address m w) long
+    (λ w. watch_with a.address a.count a.within w)) within
+
+watch_one : (range : Range) (one other : Watch) → is_on range one ≡ true → is_on range other ≡ true → one ≡ other
+unfolding watch_made
+watch_one range one other first second =
+    let here = and_parts (one.address == range.address) (one.count == range.count) first in
+    let there = and_parts (other.address == range.address) (other.count == range.count) second in
+    watch_of one other.address other.count other.within
+    (eqb-true one.address range.address here.0 ∙ sym (eqb-true other.address range.address there.0))
+    (eqb-true one.count range.count here.1 ∙ sym (eqb-true other.count range.count there.1))
+
+stops_one : (one other : Stops) → one.breaks ≡ other.breaks → one.watches ≡ other.watches → one ≡ other
+stops_one one other breaks watches = λ i. record { breaks = breaks i; watches = watches i }
+
+added_one : (stops one other : Stops) (place : Trap) → IsAdded stops place one → IsAdded stops place other → one ≡ other
+added_one stops one other (trap.Break address) first second =
+    stops_one one other (first.0 ∙ sym second.0) (first.1 ∙ sym second.1)
+added_one stops one other (trap.Watch range) first second =
+    stops_one one other (first.0 ∙ sym second.0)
+    (first.1.next_is
+    ∙ ap (λ (watch : Watch). stops.watches ++ watch ∷ []) (watch_one range first.1.watch second.1.watch first.1.on second.1.on)
+    ∙ sym second.1.next_is)
+
+added_unless_one : (stops one other : Stops) (place : Trap) (is : Bool) → IsAddedUnless is stops place one
+    → IsAddedUnless is stops place other → one ≡ other
+added_unless_one stops one other place true first second = first ∙ sym second
+added_unless_one stops one other place false first second = added_one stops one other place first second
+
+trapped_one : (stops : Stops) (bus : Contents) (place : Trap) (one other : Result Stops Refusal) → IsTrapped stops bus place one
+    → IsTrapped stops bus place other → one ≡ other
+trapped_one stops bus place (Ok one) (Ok other) first second =
+    ap (λ (s : Stops). Ok s) (added_unless_one stops one other place (is_set stops place) first.1 second.1)
+trapped_one stops bus place (Ok one) (Err other) first second =
+    let none : trap_refusal stops bus place ≡ None = first.0 in absurd (cc (none, second))
+trapped_one stops bus place (Err one) (Ok other) first second =
+    let none : trap_refusal stops bus place ≡ None = second.0 in absurd (cc (none, first))
+trapped_one stops bus place (Err one) (Err other) first second = cc (first, second)
+
+set_one : (session one other : Session) (outcome : Result Stops Refusal) (reply again : Reply) → IsSet session outcome reply one
+    → IsSet session outcome again other → (reply ≡ again) × (one ≡ other)
+set_one session one other (Ok stops) reply again first second = (first.0 ∙ sym second.0, first.1 ∙ sym second.1)
+set_one session one other (Err refusal) reply again first second = (first.0 ∙ sym second.0, first.1 ∙ sym second.1)
+
+trap_one : (session one other : Session) (place : Trap) (reply again : Reply) → IsTrapAsked session place reply one
+    → IsTrapAsked session place again other → (reply ≡ again) × (one ≡ other)
+trap_one session one other place reply again first second =
+    let same = trapped_one session.stops (state_at session session.history.place).bus place first.outcome second.outcome
+    first.trapped second.trapped in
+    set_one session one other second.outcome reply again
+    (subst (λ (o : Result Stops Refusal). IsSet session o reply one) same first.set) second.set
+
+-- ---- answers
+
+answered_one : (session one other : Session) (request : Request) (reply again : Reply) → IsAnswered session request reply one
+    → IsAnswered session request again other → (reply ≡ again) × (one ≡ other)
+answered_one session one other (ask.Move asked) reply again first second =
+    moved_one session one other asked reply again first second
+answered_one session one other (ask.WriteRegister register value) reply again first second =
+    written_one session one other register value reply again first second
+answered_one session one other (ask.Set place) reply again first second =
+    trap_one session one other place reply again first second
+answered_one session one other request reply again first second = (first.0 ∙ sym second.0, first.1 ∙ sym second.1)
+
+taken_one : (session one other : Session) (body out more : List ℕ) → IsTaken session body out one
+    → IsTaken session body more other → (out ≡ more) × (one ≡ other)
+taken_one session one other body out more first second =
+    let same = answered_one session first.behind second.behind (request_of body) first.reply second.reply
+    first.answered second.answered in (
+      first.out_is ∙ ap (λ (reply : Reply). acknowledgement session ++ packets_of reply) same.0 ∙ sym second.out_is,
+      first.next_is ∙ ap (with_sent first.behind) same.0 ∙ ap (λ (s : Session). with_sent s second.reply) same.1
+          ∙ sym second.next_is,
+    )
+
+judged_one : (session one other : Session) (again : Bool) (body out more : List ℕ) → IsJudged session again body out one
+    → IsJudged session again body more other → (out ≡ more) × (one ≡ other)
+judged_one session one other true body out more first second = (first.0 ∙ sym second.0, first.1 ∙ sym second.1)
+judged_one session one other false body out more first second = taken_one session one other body out more first second
+
+response_one : (session one other : Session) (heard : Heard) (out more : List ℕ) → IsResponse session heard out one
+    → IsResponse session heard more other → (out ≡ more) × (one ≡ other)
+response_one session one other (heard.Packet body sum) out more first second =
+    judged_one session one other (session.acknowledges && is_wrong sum) body out more first second
+response_one session one other heard.Interrupt out more first second = (first.0 ∙ sym second.0, first.1 ∙ sym second.1)
+response_one session one other heard.Arrived out more first second = (first.0 ∙ sym second.0, first.1 ∙ sym second.1)
+response_one session one other heard.Again out more first second = (first.0 ∙ sym second.0, first.1 ∙ sym second.1)
+response_one session one other heard.TooLong out more first second = (first.0 ∙ sym second.0, first.1 ∙ sym second.1)
+
+unless_one : (session one other : Session) (over : Bool) (heard : Heard) (out more : List ℕ)
+    → IsResponseUnless over session heard out one → IsResponseUnless over session heard more other → (out ≡ more) × (one ≡ other)
+unless_one session one other true heard out more first second = (first.0 ∙ sym second.0, first.1 ∙ sym second.1)
+unless_one session one other false heard out more first second = response_one session one other heard out more first second
+
+responded_one : (session one other : Session) (heard : Option Heard) (out more : List ℕ) → IsRespondedTo session heard out one
+    → IsRespondedTo session heard more other → (out ≡ more) × (one ≡ other)
+responded_one session one other None out more first second = (first.0 ∙ sym second.0, first.1 ∙ sym second.1)
+responded_one session one other (Some heard) out more first second =
+    unless_one session one other session.is_over heard out more first second
+
+byte_one : (session one other : Session) (byte : ℕ) (out more : List ℕ) → IsByteFed session byte out one
+    → IsByteFed session byte more other → (out ≡ more) × (one ≡ other)
+byte_one session one other byte out more first second =
+    responded_one (record session { reader = frame_behind session.reader byte }) one other (heard_at session.reader byte) out more
+    first second
+
+pub fed_one : (session one other : Session) (bytes out more : List ℕ) → IsFed session bytes out one
+    → IsFed session bytes more other → (out ≡ more) × (one ≡ other)
+fed_one session one other bytes out more (no_bytes same) (no_bytes again) = (refl, refl)
+fed_one session one other bytes out more (byte_first same between last byte rest told sent first later)
+    (byte_first again middle end again_byte again_rest said shown second further) =
+    let here = byte_one session between middle byte told said first second in
+    let there = fed_one between one other rest sent shown later
+    (subst (λ (s : Session). IsFed s rest shown other) (sym here.1) further) in
+    (ap (λ (front : List ℕ). front ++ sent) here.0 ∙ ap (λ (behind : List ℕ). said ++ behind) there.0, there.1)

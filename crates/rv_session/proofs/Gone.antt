@@ -1,0 +1,87 @@
+-- Moves, and the stops that are told.
+use Rattle.std.proofs.Common.{◌≡◌, ◌∙◌, ◌<◌, ℕ, true, ap, arith, subst, sym}
+use Rattle.std.proofs.lemmas.Bool.{false≢true}
+use Rattle.rv_history.specs.Moves.{IsNextStep, MeetsAhead}
+use Rattle.rv_history.specs.Places.{last_place}
+use Rattle.rv_history.specs.declared.bounds.Bounds.{Bounds}
+use Rattle.rv_history.specs.declared.bounds.Bounds.TheVariants as bounds
+use Rattle.rv_history.specs.declared.found.Found.{Found}
+use Rattle.rv_history.specs.declared.found.Found.TheVariants as found
+use Rattle.rv_history.specs.declared.stops.Stops.{Stops}
+use Rattle.rv_machine.specs.State.{State}
+use Rattle.rv_remote.specs.Stops.{stop_text}
+use Rattle.rv_remote.specs.declared.request.Move.{Move}
+use Rattle.rv_remote.specs.declared.request.Move.TheVariants as move
+use Rattle.rv_remote.specs.declared.stop.Stop.{Stop}
+use Rattle.rv_session.specs.Moved.{CanTell, IsGone, IsMoved, is_forward, printed_on, shown_on, stop_of}
+use Rattle.rv_session.specs.Replies.{printing}
+use Rattle.rv_session.specs.Sessions.{at_place, here, state_at}
+use Rattle.rv_session.specs.declared.reply.Reply.{Reply}
+use Rattle.rv_session.specs.declared.session.Session.{Session}
+
+changes_within : (stops : Stops) (limits : Bounds) (budget from place : ℕ) (start : State) (what : Found)
+    → MeetsAhead stops limits budget start from place what → what ≡ found.Change → place < last_place budget start
+changes_within stops limits budget from place start what meets is =
+    let change = subst (λ (f : Found). MeetsAhead stops limits budget start from place f) is meets in change.0.completes
+
+step_changes_within : (stops : Stops) (budget from place : ℕ) (start : State) (what : Found)
+    → IsNextStep stops budget start from place what → what ≡ found.Change → place < last_place budget start
+step_changes_within stops budget from place start what meets is =
+    let change = subst (λ (f : Found). IsNextStep stops budget start from place f) is meets in
+    let same = change.0 in
+    let completes = change.1.completes in
+    omega arith
+
+-- a change that a move forward finds is by a step that completes
+gone_within : (asked : Move) (stops : Stops) (budget from place : ℕ) (start : State) (what : Found)
+    → IsGone asked stops budget start from place what → what ≡ found.Change → is_forward asked ≡ true
+    → place < last_place budget start
+gone_within move.Continue stops budget from place start what gone is forward =
+    changes_within stops bounds.All budget from place start what gone.meets is
+gone_within move.Step stops budget from place start what gone is forward =
+    step_changes_within stops budget from place start what gone is
+gone_within (move.StepWithin low high) stops budget from place start what gone is forward =
+    changes_within stops (bounds.Within low high) budget from place start what gone.meets is
+gone_within move.ContinueBack stops budget from place start what gone is forward = absurd (false≢true forward)
+gone_within move.StepBack stops budget from place start what gone is forward = absurd (false≢true forward)
+
+pub can_tell : (session between : Session) (asked : Move) (found : Found) → between ≡ at_place session between.history.place
+    → IsGone asked session.stops session.history.budget session.history.start session.history.place between.history.place found
+    → CanTell between asked found
+can_tell session between asked found same gone is forward =
+    let within = gone_within asked session.stops session.history.budget session.history.place between.history.place
+    session.history.start found gone is forward in
+    let budget : between.history.budget ≡ session.history.budget = ap (λ (s : Session). s.history.budget) same in
+    let start : between.history.start ≡ session.history.start = ap (λ (s : Session). s.history.start) same in
+    subst (λ (s : State). between.history.place < last_place between.history.budget s) (sym start)
+    (subst (λ (b : ℕ). between.history.place < last_place b session.history.start) (sym budget) within)
+
+moved_at : (session next : Session) (asked : Move) (reply : Reply) (place : ℕ) (found : Found) (told : Stop)
+    → IsGone asked session.stops session.history.budget session.history.start session.history.place place found
+    → told ≡ stop_of (at_place session place) asked place found
+    → reply ≡ printing (printed_on session asked (state_at session place)) (stop_text told)
+    → next ≡ record (at_place session place) { shown = shown_on session asked (state_at session place); last = told }
+    → IsMoved session asked reply next
+moved_at session next asked reply place found told gone is said stands = record {
+  place = place;
+  found = found;
+  gone = gone;
+  reply_is = said ∙ ap (λ (stop : Stop). printing (printed_on session asked (state_at session place)) (stop_text stop)) is;
+  next_is = stands ∙ ap (λ (stop : Stop). record (at_place session place) {
+    shown = shown_on session asked (state_at session place);
+    last = stop;
+  }) is;
+}
+
+pub moved : (session between next : Session) (asked : Move) (reply : Reply) (found : Found) (told : Stop)
+    → between ≡ at_place session between.history.place
+    → IsGone asked session.stops session.history.budget session.history.start session.history.place between.history.place found
+    → told ≡ stop_of between asked between.history.place found
+    → reply ≡ printing (printed_on between asked (here between)) (stop_text told)
+    → next ≡ record between { shown = shown_on between asked (here between); last = told } → IsMoved session asked reply next
+moved session between next asked reply found told same gone =
+    let place = between.history.place in
+    subst (λ (b : Session). told ≡ stop_of b asked place found
+    → reply ≡ printing (printed_on b asked (state_at b place)) (stop_text told)
+    → next ≡ record b { shown = shown_on b asked (state_at b place); last = told } → IsMoved session asked reply next)
+    (sym same) (moved_at session next asked reply place found told gone)

@@ -1,0 +1,15 @@
+use Rattle.std.proofs.Common.{◌≡◌, ◌∙◌, ◌++◌, ℕ, List, ap, append_assoc, codes, rules, sym}
+use Rattle.std.specs.Fmt.{decimal}
+use Rattle.rv_session.specs.Answers.{taken_here}
+use Rattle.rv_session.proofs.session.Session.input_text.Goals as goal
+
+four : (a b c d : List ℕ) → a ++ (b ++ (c ++ d)) ≡ ((a ++ b) ++ c) ++ d
+four a b c d = sym (append_assoc a b (c ++ d)) ∙ sym (append_assoc (a ++ b) c d)
+
+pub returns : goal.returns
+returns c =
+    let script = decimal c.args.self.now.script in
+    let last = script ++ codes " bytes are taken\n" in
+    let told : c.into_bytes.result.items ≡ decimal c.taken-taken.result ++ (codes " of " ++ last) = search rules in
+    told ∙ ap (λ (taken : ℕ). decimal taken ++ (codes " of " ++ last)) c.taken-taken.ensures
+    ∙ four (decimal (taken_here c.args.self.now)) (codes " of ") script (codes " bytes are taken\n")

@@ -1,0 +1,12 @@
+use Rattle.rv_session.proofs.Appending.{both_if}
+use Rattle.rv_session.proofs.Gone.{can_tell, moved}
+use Rattle.rv_session.proofs.session.Session.move_as.Goals as goal
+
+pub stop_of-requires : goal.stop_of-requires
+stop_of-requires c =
+    can_tell c.args.self.now c.go.new.self c.args.asked c.in_ok-found.found c.go.ensures.same c.in_ok-found.ensures.gone
+
+pub returns : goal.returns
+returns c = both_if _ _ _ c.tell.result c.tell.ensures.reply c.tell.ensures.next
+    (λ reply said stands. moved c.args.self.now c.go.new.self c.tell.new.self c.args.asked reply c.in_ok-found.found
+    c.in_ok-stop.stop c.go.ensures.same c.in_ok-found.ensures.gone c.in_ok-stop.ensures said stands)

@@ -1,0 +1,184 @@
+-- What a session answers to each request, and how it stands behind it.
+use Rattle.std.specs.Prelude.{ℕ, List, [], ◌∷◌, ◌++◌, ◌≡◌, ◌-◌, ◌==◌, ◌||◌, Bool, true, false, None, Result, Ok, Err, codes, if◌then◌else◌, drop, length, min, nat_le, nat_lt, take, unwrap_or}
+use Rattle.std.specs.Fmt.{decimal}
+use Rattle.std.specs.Int.{w32, to_be_bytes}
+use Rattle.std.specs.List.{flat_map}
+use Rattle.std.specs.Str.{bytes_eq}
+use Rattle.hex.specs.Hex.{encode_lower}
+use Rattle.rv_history.specs.Counts.{IsFirstWith, IsFound}
+use Rattle.rv_history.specs.Places.{last_place}
+use Rattle.rv_history.specs.declared.counts.Count.{Count}
+use Rattle.rv_history.specs.declared.counts.Count.TheVariants as count
+use Rattle.rv_history.specs.declared.stops.Stops.{Stops}
+use Rattle.rv_machine.specs.State.{register}
+use Rattle.rv_remote.specs.Replies.{fixed_reply, part_text}
+use Rattle.rv_remote.specs.Shown.{register_text, registers_text}
+use Rattle.rv_remote.specs.Stops.{stop_text}
+use Rattle.rv_remote.specs.declared.request.Part.{Part}
+use Rattle.rv_remote.specs.declared.request.Refusal.{Refusal}
+use Rattle.rv_remote.specs.declared.request.Refusal.TheVariants as refusal
+use Rattle.rv_remote.specs.declared.request.Register.{Register}
+use Rattle.rv_remote.specs.declared.request.Register.TheVariants as reg
+use Rattle.rv_remote.specs.declared.request.Request.{Request}
+use Rattle.rv_remote.specs.declared.request.Request.TheVariants as ask
+use Rattle.rv_remote.specs.declared.request.Trap.{Trap}
+use Rattle.rv_remote.specs.declared.stop.Stop.TheVariants as stop
+use Rattle.rv_remote.specs.declared.target.TheConstants.{TARGET}
+use Rattle.rv_session.specs.Memory.{bytes_from, stand_at}
+use Rattle.rv_session.specs.Moved.{IsMoved}
+use Rattle.rv_session.specs.Replies.{granted, granted_if, printing, refused, saying}
+use Rattle.rv_session.specs.Sessions.{at_place, here}
+use Rattle.rv_session.specs.Traps.{IsTrapped, without_trap}
+use Rattle.rv_session.specs.declared.monitor.TheConstants.{HELP}
+use Rattle.rv_session.specs.declared.reply.Reply.{Reply}
+use Rattle.rv_session.specs.declared.session.Session.{Session}
+
+-- ---- what is shown of the state
+
+-- a count as four bytes show it
+abbrev pub shown_count : ℕ → ℕ
+shown_count count = min count 4294967295
+
+-- how many bytes of the script are taken
+abbrev pub taken_here : Session → ℕ
+taken_here session = session.script - length (here session).bus.script
+
+-- x0 to x31, and the pc behind them
+abbrev pub hart_value : Session → ℕ → ℕ
+hart_value session number = if nat_lt number 32 then register (here session) number else (here session).pc
+
+-- the value of a register of the target's description
+abbrev pub value_of : Session → Register → ℕ
+value_of session (reg.Hart number) = hart_value session number
+value_of session reg.Steps = session.history.place
+value_of session reg.Printed = shown_count (length (here session).bus.output)
+value_of session reg.Taken = shown_count (taken_here session)
+
+abbrev pub registers_here : Session → List ℕ
+registers_here session = registers_text (here session).registers (here session).pc
+
+-- `E01` where not one byte is there
+abbrev pub memory_reply : List ℕ → Reply
+memory_reply bytes = if length bytes == 0 then refused refusal.Failed else saying (encode_lower bytes)
+
+-- `F`, a count of eight digits and `;`
+abbrev pub counted : ℕ → List ℕ
+counted number = codes "F" ++ (encode_lower (to_be_bytes w32 number) ++ codes ";")
+
+abbrev pub most_file_part : ℕ
+most_file_part = 8180
+
+abbrev pub file_part : List ℕ → Part → List ℕ
+file_part image part = take (min most_file_part part.count) (drop part.offset image)
+
+abbrev pub file_reply : List ℕ → Reply
+file_reply bytes = saying (counted (length bytes) ++ bytes)
+
+-- the words of gdb's `struct stat`: the mode is the third, a file that may be read, and the size the ninth
+abbrev pub stat_words : ℕ → List ℕ
+stat_words size = 0 ∷ 0 ∷ 0x8124 ∷ 0 ∷ 0 ∷ 0 ∷ 0 ∷ 0 ∷ size ∷ 0 ∷ 0 ∷ 0 ∷ 0 ∷ 0 ∷ 0 ∷ 0 ∷ []
+
+abbrev pub size_reply : ℕ → Reply
+size_reply size = saying (counted 64 ++ flat_map (to_be_bytes w32) (stat_words (shown_count size)))
+
+-- what every session says; what is not known is the empty reply
+abbrev pub fixed_answer : Request → Reply
+fixed_answer request = saying (unwrap_or (fixed_reply request) [])
+
+-- the reply to a request that changes nothing of the session
+abbrev pub shown_reply : Session → Request → Reply
+shown_reply session ask.LastStop = saying (stop_text session.last)
+shown_reply session ask.Registers = saying (registers_here session)
+shown_reply session (ask.Register register) = saying (register_text (value_of session register))
+shown_reply session (ask.ReadMemory range) = memory_reply (bytes_from (here session).bus range)
+shown_reply session (ask.Description part) = saying (part_text TARGET.now part)
+shown_reply session (ask.ImagePath part) = saying (part_text session.program.path part)
+shown_reply session (ask.OpenFile path) =
+    if bytes_eq session.program.path path then saying (codes "F5") else refused refusal.OtherFile
+shown_reply session ask.FileSize = size_reply (length session.program.image)
+shown_reply session (ask.ReadFile part) = file_reply (file_part session.program.image part)
+shown_reply session (ask.WriteRegisters bytes) =
+    granted_if (bytes_eq (registers_here session) (encode_lower bytes)) refusal.WouldChange
+shown_reply session (ask.WriteMemory address bytes) =
+    granted_if (stand_at (here session).bus address bytes) refusal.WouldChange
+shown_reply session request = fixed_answer request
+
+-- ---- commands
+
+-- the commands that go to the start of the run
+abbrev pub is_reset : List ℕ → Bool
+is_reset text = bytes_eq text (codes "reset") || bytes_eq text (codes "reset halt")
+
+-- what the other commands print
+abbrev pub command_text : Session → List ℕ → List ℕ
+command_text session text =
+    if bytes_eq text (codes "when") then decimal session.history.place ++ codes " steps are done\n"
+    else if bytes_eq text (codes "console") then (here session).bus.output
+    else if bytes_eq text (codes "input") then
+    decimal (taken_here session) ++ codes " of " ++ decimal session.script ++ codes " bytes are taken\n"
+    else HELP.now
+
+-- ---- what changes the session
+
+-- the first place with a count, or no place has it
+abbrev pub IsSoughtAs : Bool → Session → Count → ℕ → Session → Type 0
+IsSoughtAs true session count value next =
+    IsFirstWith count value session.history.budget session.history.start next.history.place
+IsSoughtAs false session count value next =
+    IsFound count value session.history.budget session.history.start None × (next ≡ session)
+
+-- a seek of a count: granted where the run comes to it
+pub record IsSought (session : Session) (count : Count) (value : ℕ) (reply : Reply) (next : Session) : Type 0 where
+  pub is_granted : Bool
+  pub reply_is : reply ≡ granted_if is_granted refusal.NotReached
+  pub sought : IsSoughtAs is_granted session count value next
+  pub run : next ≡ at_place session next.history.place
+
+-- the places that the run comes to are granted
+abbrev pub IsPlaceSought : Session → ℕ → Reply → Session → Type 0
+IsPlaceSought session place reply next =
+    (reply ≡ granted_if (nat_le place (last_place session.history.budget session.history.start)) refusal.NotReached)
+    × (next ≡ (if nat_le place (last_place session.history.budget session.history.start) then at_place session place else session))
+
+-- a register of the hart is granted its own value alone; a count of the run is a seek
+abbrev pub IsWritten : Session → Register → ℕ → Reply → Session → Type 0
+IsWritten session (reg.Hart number) value reply next =
+    (reply ≡ granted_if (value_of session (reg.Hart number) == value) refusal.WouldChange) × (next ≡ session)
+IsWritten session reg.Steps value reply next = IsPlaceSought session value reply next
+IsWritten session reg.Printed value reply next = IsSought session count.Printed value reply next
+IsWritten session reg.Taken value reply next = IsSought session count.Taken value reply next
+
+-- set, which it may be already, or refused
+abbrev pub IsSet : Session → Result Stops Refusal → Reply → Session → Type 0
+IsSet session (Ok stops) reply next = (reply ≡ granted) × (next ≡ record session { stops = stops })
+IsSet session (Err refusal) reply next = (reply ≡ refused refusal) × (next ≡ session)
+
+-- what trapping gives, and the session behind it
+pub record IsTrapAsked (session : Session) (place : Trap) (reply : Reply) (next : Session) : Type 0 where
+  pub outcome : Result Stops Refusal
+  pub trapped : IsTrapped session.stops (here session).bus place outcome
+  pub set : IsSet session outcome reply next
+
+-- a command of `monitor`: what it prints, and `OK`
+abbrev pub command_reply : Session → List ℕ → Reply
+command_reply session text = if is_reset text then granted else printing (command_text session text) (codes "OK")
+
+abbrev pub IsCommanded : Session → List ℕ → Reply → Session → Type 0
+IsCommanded session text reply next =
+    (reply ≡ command_reply session text) × (next ≡ (if is_reset text then at_place session 0 else session))
+
+-- what a session answers, and how it stands behind the answer
+abbrev pub IsAnswered : Session → Request → Reply → Session → Type 0
+IsAnswered session (ask.Move asked) reply next = IsMoved session asked reply next
+IsAnswered session (ask.WriteRegister register value) reply next = IsWritten session register value reply next
+IsAnswered session (ask.Set place) reply next = IsTrapAsked session place reply next
+IsAnswered session (ask.Clear place) reply next =
+    (reply ≡ granted) × (next ≡ record session { stops = without_trap session.stops place })
+IsAnswered session (ask.Command text) reply next = IsCommanded session text reply next
+IsAnswered session ask.Restart reply next =
+    (reply ≡ saying (stop_text stop.Here)) × (next ≡ record (at_place session 0) { last = stop.Here })
+IsAnswered session ask.NoAcknowledgements reply next = (reply ≡ granted) × (next ≡ record session { acknowledges = false })
+IsAnswered session ask.Detach reply next = (reply ≡ granted) × (next ≡ record session { is_over = true })
+IsAnswered session ask.Kill reply next =
+    (reply ≡ record { printed = []; body = None }) × (next ≡ record session { is_over = true })
+IsAnswered session request reply next = (reply ≡ shown_reply session request) × (next ≡ session)

@@ -1,0 +1,19 @@
+-- What gdb is told of the run's end.
+use Rattle.rv_history.specs.declared.found.Found.{Found}
+use Rattle.rv_history.specs.declared.found.Found.TheVariants as found
+use Rattle.rv_machine.specs.declared.ending.Ending.{Ending}
+use Rattle.rv_machine.specs.declared.ending.Ending.TheVariants as ending
+use Rattle.rv_remote.specs.Stops.{Exited, NoEnding, Told, UsedUp, told_by_fault}
+
+abbrev pub told_by_ending : Ending → Told
+told_by_ending (ending.Exit code) = Exited
+told_by_ending (ending.Fault kind pc value) = told_by_fault kind
+told_by_ending ending.Budget = UsedUp
+
+-- what a move finds tells an ending where it is one
+abbrev pub told_by_found : Found → Told
+told_by_found (found.End ending) = told_by_ending ending
+told_by_found found.Done = NoEnding
+told_by_found found.Break = NoEnding
+told_by_found found.Change = NoEnding
+told_by_found found.Begin = NoEnding

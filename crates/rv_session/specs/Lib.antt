@@ -1,0 +1,9 @@
+pub mod Replies
+pub mod Memory
+pub mod Sessions
+pub mod Traps
+pub mod Moved
+pub mod Answers
+pub mod Heard
+pub mod Console
+pub mod Endings

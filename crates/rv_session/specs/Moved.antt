@@ -1,0 +1,90 @@
+-- Moves in the run, and the stops that are told of them.
+use Rattle.std.specs.Prelude.{ℕ, List, [], ◌≡◌, ◌+◌, ◌-◌, ◌<◌, Bool, true, false, Option, Some, None, drop, if◌then◌else◌, length, max}
+use Rattle.rv_history.specs.Moves.{IsNextStep, IsNextStop, IsStepBefore, IsStopBefore}
+use Rattle.rv_history.specs.Places.{last_place}
+use Rattle.rv_history.specs.Stops.{first_differing}
+use Rattle.rv_history.specs.declared.bounds.Bounds.TheVariants as bounds
+use Rattle.rv_history.specs.declared.found.Found.{Found}
+use Rattle.rv_history.specs.declared.found.Found.TheVariants as found
+use Rattle.rv_history.specs.declared.stops.Stops.{Stops}
+use Rattle.rv_machine.specs.State.{State}
+use Rattle.rv_machine.specs.declared.ending.Ending.{Ending}
+use Rattle.rv_machine.specs.declared.ending.Ending.TheVariants as ending
+use Rattle.rv_remote.specs.Stops.{stop_text}
+use Rattle.rv_remote.specs.declared.request.Move.{Move}
+use Rattle.rv_remote.specs.declared.request.Move.TheVariants as move
+use Rattle.rv_remote.specs.declared.stop.Stop.{Stop}
+use Rattle.rv_remote.specs.declared.stop.Stop.TheVariants as stop
+use Rattle.rv_session.specs.Replies.{printing}
+use Rattle.rv_session.specs.Sessions.{state_at}
+use Rattle.rv_session.specs.declared.reply.Reply.{Reply}
+use Rattle.rv_session.specs.declared.session.Session.{Session}
+
+abbrev pub is_forward : Move → Bool
+is_forward move.Continue = true
+is_forward move.Step = true
+is_forward (move.StepWithin low high) = true
+is_forward move.ContinueBack = false
+is_forward move.StepBack = false
+
+-- where a move comes to, and what it finds there
+abbrev pub IsGone : Move → Stops → ℕ → State → ℕ → ℕ → Found → Type 0
+IsGone move.Continue stops budget start from place found = IsNextStop stops bounds.All budget start from place found
+IsGone move.Step stops budget start from place found = IsNextStep stops budget start from place found
+IsGone (move.StepWithin low high) stops budget start from place found =
+    IsNextStop stops (bounds.Within low high) budget start from place found
+IsGone move.ContinueBack stops budget start from place found = IsStopBefore stops budget start from place found
+IsGone move.StepBack stops budget start from place found = IsStepBefore stops budget start from place found
+
+-- how an ending is told
+abbrev pub end_stop : Ending → Stop
+end_stop (ending.Exit code) = stop.Exit
+end_stop (ending.Fault kind pc value) = stop.Fault kind
+end_stop ending.Budget = stop.Budget
+
+-- the watch that is told
+abbrev pub watch_told : Option ℕ → Stop
+watch_told (Some address) = stop.Watch address
+watch_told None = stop.Here
+
+-- the first watch whose bytes differ between two places
+abbrev pub watch_between : Session → ℕ → ℕ → Option ℕ
+watch_between session one other =
+    first_differing session.stops.watches (state_at session one).bus (state_at session other).bus
+
+-- the first watch that a step changes: the step in front, or on the way back the step behind
+abbrev pub watch_stop : Session → Move → ℕ → Stop
+watch_stop session asked place = watch_told
+    (if is_forward asked then watch_between session place (place + 1) else watch_between session (place - 1) place)
+
+-- a change in front of a place is by a step that completes
+abbrev pub CanTell : Session → Move → Found → Type 0
+CanTell session asked what = what ≡ found.Change → is_forward asked ≡ true
+    → session.history.place < last_place session.history.budget session.history.start
+
+-- how what is found is told
+abbrev pub stop_of : Session → Move → ℕ → Found → Stop
+stop_of session asked place found.Done = stop.Here
+stop_of session asked place found.Break = stop.Here
+stop_of session asked place found.Change = watch_stop session asked place
+stop_of session asked place (found.End ending) = end_stop ending
+stop_of session asked place found.Begin = stop.Beginning
+
+-- the printed bytes that go out in front of the stop: on a move forward those that did not go out before
+abbrev pub printed_on : Session → Move → State → List ℕ
+printed_on session asked s = if is_forward asked then drop session.shown s.bus.output else []
+
+abbrev pub shown_on : Session → Move → State → ℕ
+shown_on session asked s = if is_forward asked then max session.shown (length s.bus.output) else session.shown
+
+-- a session moved, and what it says
+pub record IsMoved (session : Session) (asked : Move) (reply : Reply) (next : Session) : Type 0 where
+  pub place : ℕ
+  pub found : Found
+  pub gone : IsGone asked session.stops session.history.budget session.history.start session.history.place place found
+  pub reply_is : reply ≡ printing (printed_on session asked (state_at session place)) (stop_text (stop_of session asked place found))
+  pub next_is : next ≡ record session {
+    history = record session.history { place = place };
+    shown = shown_on session asked (state_at session place);
+    last = stop_of session asked place found;
+  }

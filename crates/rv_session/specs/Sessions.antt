@@ -1,0 +1,44 @@
+-- A session, and what it shows of its run.
+use Rattle.std.specs.Prelude.{ℕ, [], ◌≡◌, true, false, length}
+use Rattle.rv_history.specs.Starts.{start_of}
+use Rattle.rv_history.specs.declared.start.Start.{Start}
+use Rattle.rv_machine.specs.State.{State}
+use Rattle.rv_remote.specs.Frames.{between}
+use Rattle.rv_remote.specs.declared.stop.Stop.TheVariants as stop
+use Rattle.rv_trace.specs.Trace.{state_after}
+use Rattle.rv_session.specs.declared.program.Program.{Program}
+use Rattle.rv_session.specs.declared.session.Session.{Session}
+
+-- at the start of a run, before gdb says anything
+abbrev pub at_first : Start → ℕ → Program → Session
+at_first start budget program = record {
+  reader = between;
+  history = record { start = start_of start; budget = budget; place = 0 };
+  program = program;
+  script = length start.bus.script;
+  stops = record { breaks = []; watches = [] };
+  acknowledges = true;
+  shown = 0;
+  last = stop.Here;
+  sent = [];
+  is_over = false;
+}
+
+-- the state at a place of the session's run
+abbrev pub state_at : Session → ℕ → State
+state_at session place = state_after place session.history.start
+
+-- the state at its own place
+abbrev pub here : Session → State
+here session = state_at session session.history.place
+
+-- it stands at another place of its run
+abbrev pub at_place : Session → ℕ → Session
+at_place session place = record session { history = record session.history { place = place } }
+
+-- One session comes of another by whatever is fed: the run is the same.
+pub record IsSameRun (session next : Session) : Type 0 where
+  pub start_is : next.history.start ≡ session.history.start
+  pub budget_is : next.history.budget ≡ session.history.budget
+  pub program_is : next.program ≡ session.program
+  pub script_is : next.script ≡ session.script

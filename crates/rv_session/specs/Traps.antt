@@ -1,0 +1,71 @@
+-- Where a run is to stop, as gdb sets and clears it: breakpoints are a set by address, watches a set by address and length.
+use Rattle.std.specs.Prelude.{ℕ, List, [], ◌∷◌, ◌++◌, ◌≡◌, ◌+◌, ◌==◌, ◌&&◌, Bool, true, false, Option, Some, None, Result, Ok, Err, if◌then◌else◌, is_some, length, nat_le, not}
+use Rattle.std.specs.FinMap as fin
+use Rattle.std.specs.List.{filter, list_any, range_with_len}
+use Rattle.rv_history.specs.declared.stops.Stops.{Stops}
+use Rattle.rv_history.specs.declared.stops.Watch.{Watch}
+use Rattle.rv_memory.specs.Bus.{Contents}
+use Rattle.rv_remote.specs.declared.request.Range.{Range}
+use Rattle.rv_remote.specs.declared.request.Refusal.{Refusal}
+use Rattle.rv_remote.specs.declared.request.Refusal.TheVariants as refusal
+use Rattle.rv_remote.specs.declared.request.Trap.{Trap}
+use Rattle.rv_remote.specs.declared.request.Trap.TheVariants as trap
+
+-- the most breakpoints and watches, together
+abbrev pub most_traps : ℕ
+most_traps = 1024
+
+abbrev pub is_on : Range → Watch → Bool
+is_on range watch = watch.address == range.address && watch.count == range.count
+
+-- the trap is set already
+abbrev pub is_set : Stops → Trap → Bool
+is_set stops (trap.Break address) = list_any (λ other. other == address) stops.breaks
+is_set stops (trap.Watch range) = list_any (is_on range) stops.watches
+
+-- one of the bytes stands in a region
+abbrev pub has_byte : Contents → Range → Bool
+has_byte bus range = list_any (λ address. is_some (fin.get bus.memory address)) (range_with_len range.address range.count)
+
+-- it can be watched
+abbrev pub can_be_set : Contents → Trap → Bool
+can_be_set bus (trap.Break address) = true
+can_be_set bus (trap.Watch range) = nat_le (range.address + range.count) 4294967296 && has_byte bus range
+
+abbrev pub is_full : Stops → Bool
+is_full stops = nat_le most_traps (length stops.breaks + length stops.watches)
+
+-- why it is not set, if it is not
+abbrev pub trap_refusal : Stops → Contents → Trap → Option Refusal
+trap_refusal stops bus place =
+    if not (can_be_set bus place) then Some refusal.Malformed
+    else if is_set stops place then None
+    else if is_full stops then Some refusal.TooManyTraps else None
+
+abbrev pub without_trap : Stops → Trap → Stops
+without_trap stops (trap.Break address) =
+    record { breaks = filter (λ other. not (other == address)) stops.breaks; watches = stops.watches }
+without_trap stops (trap.Watch range) =
+    record { breaks = stops.breaks; watches = filter (λ watch. not (is_on range watch)) stops.watches }
+
+-- one more watch, at the end
+pub record IsWatchAdded (watches : List Watch) (range : Range) (next : List Watch) : Type 0 where
+  pub watch : Watch
+  pub next_is : next ≡ watches ++ watch ∷ []
+  pub on : is_on range watch ≡ true
+
+-- one more trap, at the end of its kind
+abbrev pub IsAdded : Stops → Trap → Stops → Type 0
+IsAdded stops (trap.Break address) next = (next.breaks ≡ stops.breaks ++ address ∷ []) × (next.watches ≡ stops.watches)
+IsAdded stops (trap.Watch range) next = (next.breaks ≡ stops.breaks) × IsWatchAdded stops.watches range next.watches
+
+-- a trap that is set already adds nothing
+abbrev pub IsAddedUnless : Bool → Stops → Trap → Stops → Type 0
+IsAddedUnless true stops place next = next ≡ stops
+IsAddedUnless false stops place next = IsAdded stops place next
+
+-- the stops with a trap, or why it is not set
+abbrev pub IsTrapped : Stops → Contents → Trap → Result Stops Refusal → Type 0
+IsTrapped stops bus place (Ok next) = (trap_refusal stops bus place ≡ None)
+    × IsAddedUnless (is_set stops place) stops place next
+IsTrapped stops bus place (Err refusal) = trap_refusal stops bus place ≡ Some refusal

@@ -1,0 +1,149 @@
+//! What a session answers to each request.
+
+ghost use Rattle.std.specs.Prelude.{◌≡◌, [], IfOk, None, false, true};
+ghost use Rattle.rv_remote.specs.Replies.{part_text};
+ghost use Rattle.rv_remote.specs.Stops.{stop_text};
+ghost use Rattle.rv_remote.specs.declared.stop.Stop.TheVariants as stop;
+ghost use Rattle.rv_session.specs.Answers.{IsAnswered, IsTrapAsked, fixed_answer, shown_reply};
+ghost use Rattle.rv_session.specs.Replies.{granted, saying};
+ghost use Rattle.rv_session.specs.Sessions.{at_place};
+ghost use Rattle.rv_session.specs.Traps.{without_trap};
+
+use crate::reply::Reply;
+use crate::session::Session;
+use crate::traps::{with_trap, without_trap};
+use rv_base::Bytes;
+use rv_remote::{Part, Request, Stop, TARGET, Trap, fixed_reply, push_part, push_stop};
+use std::alloc::{AllocError, Global};
+
+impl Session {
+    /// Answers a request.
+    pub(crate) fn answer(&mut self, alloc: Global, request: &Request) -> Result<Reply, AllocError>
+        ensures { IfOk result (λ reply. IsAnswered self.old request.now reply self.new) }
+    {
+        match request {
+            Request::WriteRegister(register, value) => {
+                self.write_register(alloc, *register, *value)
+            }
+            Request::Set(trap) => self.set(alloc, *trap),
+            Request::Clear(trap) => self.clear(alloc, *trap),
+            Request::Move(asked) => self.move_as(alloc, *asked),
+            Request::Command(text) => self.command(alloc, text.as_slice()),
+            Request::Restart => self.restart(alloc),
+            Request::NoAcknowledgements => self.end_acknowledgements(alloc),
+            Request::Detach => self.detach(alloc),
+            Request::Kill => Ok(self.end(alloc)),
+            _ => self.look(alloc, request),
+        }
+    }
+
+    // The answer to what changes nothing of the session.
+    fn look(&self, alloc: Global, request: &Request) -> Result<Reply, AllocError>
+        ensures { IfOk result (λ reply. reply ≡ shown_reply self.now request.now) }
+    {
+        match request {
+            Request::LastStop => self.last_stop(alloc),
+            Request::Registers => self.registers(alloc),
+            Request::Register(register) => self.register(alloc, *register),
+            Request::ReadMemory(range) => self.memory(alloc, *range),
+            Request::WriteRegisters(bytes) => self.write_registers(alloc, bytes.as_slice()),
+            Request::WriteMemory(address, bytes) => {
+                self.write_memory(alloc, *address, bytes.as_slice())
+            }
+            Request::Description(part) => part_of(alloc, TARGET.as_bytes(), *part),
+            Request::ImagePath(part) => part_of(alloc, self.program.path.as_slice(), *part),
+            Request::OpenFile(path) => self.open_file(alloc, path.as_slice()),
+            Request::FileSize => self.file_size(alloc),
+            Request::ReadFile(part) => self.read_file(alloc, *part),
+            _ => fixed(alloc, request),
+        }
+    }
+
+    // `?`
+    fn last_stop(&self, alloc: Global) -> Result<Reply, AllocError>
+        ensures { IfOk result (λ reply. reply ≡ saying (stop_text self.now.last)) }
+    {
+        let mut body = Vec::new(alloc);
+        push_stop(&mut body, self.last)?;
+        Ok(Reply::saying(alloc, body))
+    }
+
+    // `Z`
+    fn set(&mut self, alloc: Global, trap: Trap) -> Result<Reply, AllocError>
+        ensures { IfOk result (λ reply. IsTrapAsked self.old trap reply self.new) }
+    {
+        match with_trap(alloc, &self.stops, self.history.machine().bus(), trap)? {
+            Ok(stops) => {
+                let reply = Reply::granted(alloc)?;
+                self.stops = stops;
+                Ok(reply)
+            }
+            Err(refusal) => Reply::refusing(alloc, refusal),
+        }
+    }
+
+    // `z`
+    fn clear(&mut self, alloc: Global, trap: Trap) -> Result<Reply, AllocError>
+        ensures { IfOk result (λ reply. (reply ≡ granted)
+            × (self.new ≡ record self.old { stops = without_trap self.old.stops trap })) }
+    {
+        let reply = Reply::granted(alloc)?;
+        self.stops = without_trap(alloc, &self.stops, trap)?;
+        Ok(reply)
+    }
+
+    // `vRun`: from the start of the run again.
+    fn restart(&mut self, alloc: Global) -> Result<Reply, AllocError>
+        ensures { IfOk result (λ reply. (reply ≡ saying (stop_text stop.Here))
+            × (self.new ≡ record (at_place self.old 0) { last = stop.Here })) }
+    {
+        self.go_to_start(alloc)?;
+        self.last = Stop::Here;
+        self.last_stop(alloc)
+    }
+
+    // `QStartNoAckMode`: its own packet was acknowledged.
+    fn end_acknowledgements(&mut self, alloc: Global) -> Result<Reply, AllocError>
+        ensures { IfOk result (λ reply. (reply ≡ granted) × (self.new ≡ record self.old { acknowledges = false })) }
+    {
+        let reply = Reply::granted(alloc)?;
+        self.acknowledges = false;
+        Ok(reply)
+    }
+
+    // `D`
+    fn detach(&mut self, alloc: Global) -> Result<Reply, AllocError>
+        ensures { IfOk result (λ reply. (reply ≡ granted) × (self.new ≡ record self.old { is_over = true })) }
+    {
+        let reply = Reply::granted(alloc)?;
+        self.is_over = true;
+        Ok(reply)
+    }
+
+    // `k`
+    fn end(&mut self, alloc: Global) -> Reply
+        ensures reply { result ≡ record { printed = []; body = None } }
+        ensures next { self.new ≡ record self.old { is_over = true } }
+    {
+        self.is_over = true;
+        Reply {
+            printed: Bytes::new(Vec::new(alloc)),
+            body: None,
+        }
+    }
+}
+
+// The reply that is the same in every session.
+fn fixed(alloc: Global, request: &Request) -> Result<Reply, AllocError>
+    ensures { IfOk result (λ reply. reply ≡ fixed_answer request.now) }
+{
+    Reply::telling(alloc, fixed_reply(request).unwrap_or(""))
+}
+
+fn part_of(alloc: Global, text: &[u8], part: Part) -> Result<Reply, AllocError>
+    ensures { IfOk result (λ reply. reply ≡ saying (part_text text.now part)) }
+{
+    let mut body = Vec::new(alloc);
+    push_part(&mut body, text, part)?;
+    Ok(Reply::saying(alloc, body))
+}

@@ -1,0 +1,114 @@
+//! The image, as gdb asks for it: a file of one path, which is open as 5.
+
+ghost use Rattle.std.specs.Prelude.{◌≡◌, ◌≤◌, ◌++◌, IfOk, OnOk, codes, if◌then◌else◌, length};
+ghost use Rattle.std.specs.Int.{w32, to_be_bytes};
+ghost use Rattle.std.specs.List.{flat_map};
+ghost use Rattle.std.specs.Str.{bytes_eq};
+ghost use Rattle.rv_remote.specs.declared.request.Refusal.TheVariants as refusal;
+ghost use Rattle.rv_session.specs.Answers.{counted, file_part, file_reply, size_reply, stat_words};
+ghost use Rattle.rv_session.specs.Replies.{refused, saying};
+
+use crate::reading::{are_same, shown_count};
+use crate::reply::Reply;
+use crate::session::Session;
+use rv_remote::{Part, Refusal};
+use std::alloc::{AllocError, Global};
+
+/// The most bytes of a part, each of which may have to be escaped.
+const MOST_PART: usize = 8180;
+
+/// The bytes of gdb's `struct stat`.
+const STAT_BYTES: u32 = 64;
+
+/// A file that may be read, in its `st_mode`.
+const READABLE_FILE: u32 = 0x8124;
+
+impl Session {
+    // `vFile:open:`
+    pub(crate) fn open_file(&self, alloc: Global, path: &[u8]) -> Result<Reply, AllocError>
+        ensures { IfOk result (λ reply. reply
+            ≡ (if bytes_eq self.now.program.path path.now then saying (codes "F5") else refused refusal.OtherFile)) }
+    {
+        if are_same(self.program.path.as_slice(), path) {
+            Reply::telling(alloc, "F5")
+        } else {
+            Reply::refusing(alloc, Refusal::OtherFile)
+        }
+    }
+
+    // `vFile:fstat:5`: words of four bytes, the high one first; all but the mode and the size is 0.
+    pub(crate) fn file_size(&self, alloc: Global) -> Result<Reply, AllocError>
+        ensures { IfOk result (λ reply. reply ≡ size_reply (length self.now.program.image)) }
+    {
+        let size = shown_count(self.program.image.as_slice().len());
+        let mut body = Vec::new(alloc);
+        push_count(&mut body, STAT_BYTES)?;
+        push_words(&mut body, &stat_words(size))?;
+        Ok(Reply::saying(alloc, body))
+    }
+
+    // `vFile:pread:5,`
+    pub(crate) fn read_file(&self, alloc: Global, part: Part) -> Result<Reply, AllocError>
+        ensures { IfOk result (λ reply. reply ≡ file_reply (file_part self.now.program.image part)) }
+    {
+        let bytes = file_part(self.program.image.as_slice(), part);
+        let mut body = Vec::new(alloc);
+        push_count(&mut body, bytes.len() as u32)?;
+        body.extend_from_slice(bytes)?;
+        Ok(Reply::saying(alloc, body))
+    }
+}
+
+fn file_part(image: &[u8], part: Part) -> &[u8]
+    ensures bytes { result.now ≡ file_part image.now part }
+    ensures short { length result.now ≤ 8180 }
+{
+    let rest = &image[image.len().min(part.offset as usize)..];
+    let count = MOST_PART.min(part.count as usize);
+    &rest[..rest.len().min(count)]
+}
+
+// The words of gdb's `struct stat`: the mode is the third, and the size the ninth.
+fn stat_words(size: u32) -> [u32; 16]
+    ensures { result ≡ stat_words size }
+{
+    [
+        0,
+        0,
+        READABLE_FILE,
+        0,
+        0,
+        0,
+        0,
+        0,
+        size,
+        0,
+        0,
+        0,
+        0,
+        0,
+        0,
+        0,
+    ]
+}
+
+fn push_words(body: &mut Vec<u8>, words: &[u32]) -> Result<(), AllocError>
+    ensures { OnOk result (body.new.items ≡ body.old.items ++ flat_map (to_be_bytes w32) words.now) }
+{
+    for word in words {
+        body.extend_from_slice(word.to_be_bytes().as_slice())?;
+    }
+    Ok(())
+}
+
+// `F`, a count and `;`
+fn push_count(body: &mut Vec<u8>, count: u32) -> Result<(), AllocError>
+    ensures { OnOk result (body.new.items ≡ body.old.items ++ counted count) }
+{
+    let mut digits = [0u8; 8];
+    hex::encode_to_slice(count.to_be_bytes().as_slice(), &mut digits).unwrap();
+    body.push(b'F')?;
+    body.extend_from_slice(&digits)?;
+    body.push(b';')?;
+    Ok(())
+}

@@ -1,0 +1,188 @@
+//! What is heard from gdb, and the packets that go out.
+
+ghost use Rattle.std.specs.Prelude.{◌≡◌, ◌++◌, ◌&&◌, IfOk, OnOk, Some};
+ghost use Rattle.rv_remote.specs.Sums.{framed};
+ghost use Rattle.rv_session.specs.Heard.{IsAppended, IsByteFed, IsFed, IsJudged, IsRespondedTo, IsTaken, acknowledgement, is_wrong, packets_of, printed_packet, printed_packets, printed_part, sent_again, with_sent};
+ghost use Rattle.rv_session.specs.Replies.{refused};
+ghost use Rattle.rv_session.specs.Sessions.{IsSameRun};
+ghost use Rattle.rv_remote.specs.declared.request.Refusal.TheVariants as refusal;
+
+use crate::reply::Reply;
+use crate::session::Session;
+use rv_base::Bytes;
+use rv_remote::{Heard, Refusal, Sum, parse_request, push_frame, push_printed};
+use std::alloc::{AllocError, Global};
+
+/// The most printed bytes of a packet, two digits each.
+const MOST_PRINTED: usize = 8184;
+
+impl Session {
+    /// Hears bytes of gdb, in any cuts, and gives the bytes that go out. A move runs to its end within the call. After an error the
+    /// session is to be given up.
+    pub fn feed(&mut self, alloc: Global, bytes: &[u8]) -> Result<Vec<u8>, AllocError>
+        ensures fed { IfOk result (λ out. IsFed self.old bytes.now out.items self.new) }
+        ensures run { OnOk result (IsSameRun self.old self.new) }
+    {
+        let mut out = Vec::new(alloc);
+        for byte in bytes {
+            self.hear_byte(alloc, &mut out, *byte)?;
+        }
+        Ok(out)
+    }
+
+    fn hear_byte(&mut self, alloc: Global, out: &mut Vec<u8>, byte: u8) -> Result<(), AllocError>
+        ensures { OnOk result (IsAppended out.old.items out.new.items (λ told. IsByteFed self.old byte told self.new)) }
+    {
+        match self.reader.take(alloc, byte)? {
+            Some(heard) => self.respond(alloc, out, &heard),
+            None => Ok(()),
+        }
+    }
+
+    // Appends what goes out for what is heard. Ctrl-C finds no move under way.
+    fn respond(&mut self, alloc: Global, out: &mut Vec<u8>, heard: &Heard) -> Result<(), AllocError>
+        ensures { OnOk result (IsAppended out.old.items out.new.items
+            (λ told. IsRespondedTo self.old (Some heard.now) told self.new)) }
+    {
+        if self.is_over {
+            return Ok(());
+        }
+        match heard {
+            Heard::Interrupt => Ok(()),
+            Heard::Arrived => Ok(()),
+            Heard::Again => self.send_again(out),
+            Heard::TooLong => self.refuse_long(alloc, out),
+            Heard::Packet(body, sum) => self.take_packet(alloc, out, body.as_slice(), *sum),
+        }
+    }
+
+    // Sends the last packet again.
+    fn send_again(&self, out: &mut Vec<u8>) -> Result<(), AllocError>
+        ensures { OnOk result (out.new.items ≡ out.old.items ++ sent_again self.now) }
+    {
+        if self.acknowledges {
+            out.extend_from_slice(self.sent.as_slice())?;
+        }
+        Ok(())
+    }
+
+    fn refuse_long(&mut self, alloc: Global, out: &mut Vec<u8>) -> Result<(), AllocError>
+        ensures out { OnOk result (out.new.items
+            ≡ out.old.items ++ (acknowledgement self.old ++ packets_of (refused refusal.TooLong))) }
+        ensures next { OnOk result (self.new ≡ with_sent self.old (refused refusal.TooLong)) }
+    {
+        self.acknowledge(out)?;
+        let reply = Reply::refusing(alloc, Refusal::TooLong)?;
+        self.send(alloc, out, &reply)
+    }
+
+    // A packet. Without acknowledgements its sum is not looked at.
+    fn take_packet(
+        &mut self,
+        alloc: Global,
+        out: &mut Vec<u8>,
+        body: &[u8],
+        sum: Sum,
+    ) -> Result<(), AllocError>
+        ensures { OnOk result (IsAppended out.old.items out.new.items
+            (λ told. IsJudged self.old (self.old.acknowledges && is_wrong sum) body.now told self.new)) }
+    {
+        if self.is_refused(sum) {
+            out.push(b'-')?;
+            return Ok(());
+        }
+        self.take_body(alloc, out, body)
+    }
+
+    // Whether a packet is to be sent again.
+    fn is_refused(&self, sum: Sum) -> bool
+        ensures { result ≡ (self.now.acknowledges && is_wrong sum) }
+    {
+        self.acknowledges && is_wrong(sum)
+    }
+
+    // A packet that is acknowledged.
+    fn take_body(&mut self, alloc: Global, out: &mut Vec<u8>, body: &[u8]) -> Result<(), AllocError>
+        ensures { OnOk result (IsAppended out.old.items out.new.items (λ told. IsTaken self.old body.now told self.new)) }
+    {
+        self.acknowledge(out)?;
+        let request = parse_request(alloc, body)?;
+        let reply = self.answer(alloc, &request)?;
+        self.send(alloc, out, &reply)
+    }
+
+    fn acknowledge(&self, out: &mut Vec<u8>) -> Result<(), AllocError>
+        ensures { OnOk result (out.new.items ≡ out.old.items ++ acknowledgement self.now) }
+    {
+        if self.acknowledges {
+            out.push(b'+')?;
+        }
+        Ok(())
+    }
+
+    // Appends a reply's packets, and keeps the last one.
+    fn send(&mut self, alloc: Global, out: &mut Vec<u8>, reply: &Reply) -> Result<(), AllocError>
+        ensures out { OnOk result (out.new.items ≡ out.old.items ++ packets_of reply.now) }
+        ensures next { OnOk result (self.new ≡ with_sent self.old reply.now) }
+    {
+        push_printed_packets(alloc, out, reply.printed.as_slice())?;
+        match &reply.body {
+            Some(body) => self.send_body(alloc, out, body.as_slice()),
+            None => Ok(()),
+        }
+    }
+
+    // Appends a body's packet, and keeps it.
+    fn send_body(&mut self, alloc: Global, out: &mut Vec<u8>, body: &[u8]) -> Result<(), AllocError>
+        ensures out { OnOk result (out.new.items ≡ out.old.items ++ framed body.now) }
+        ensures next { OnOk result (self.new ≡ record self.old { sent = framed body.now }) }
+    {
+        let mut packet = Vec::new(alloc);
+        push_frame(alloc, &mut packet, body)?;
+        out.extend_from_slice(packet.as_slice())?;
+        self.sent = Bytes::new(packet);
+        Ok(())
+    }
+}
+
+fn is_wrong(sum: Sum) -> bool
+    ensures { result ≡ is_wrong sum }
+{
+    match sum {
+        Sum::Right => false,
+        Sum::Wrong => true,
+    }
+}
+
+#[tactic(auto, unfolding(crate::specs::Heard::printed_packets))]
+fn push_printed_packets(alloc: Global, out: &mut Vec<u8>, printed: &[u8]) -> Result<(), AllocError>
+    ensures { OnOk result (out.new.items ≡ out.old.items ++ printed_packets printed.now) }
+{
+    let packets = (printed.len() + (MOST_PRINTED - 1)) / MOST_PRINTED;
+    for number in 0..packets {
+        push_printed_packet(alloc, out, printed, number)?;
+    }
+    Ok(())
+}
+
+// Appends the packet of a number.
+fn push_printed_packet(
+    alloc: Global,
+    out: &mut Vec<u8>,
+    printed: &[u8],
+    number: usize,
+) -> Result<(), AllocError>
+    ensures { OnOk result (out.new.items ≡ out.old.items ++ printed_packet printed.now number) }
+{
+    let mut body = Vec::new(alloc);
+    push_printed(alloc, &mut body, printed_part(printed, number))?;
+    push_frame(alloc, out, body.as_slice())
+}
+
+fn printed_part(printed: &[u8], number: usize) -> &[u8]
+    ensures { result.now ≡ printed_part printed.now number }
+{
+    let from = printed.len().min(number.saturating_mul(MOST_PRINTED));
+    let rest = &printed[from..];
+    &rest[..rest.len().min(MOST_PRINTED)]
+}

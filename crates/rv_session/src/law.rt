@@ -1,0 +1,35 @@
+//! Laws of sessions, with nothing to run.
+
+ghost use Rattle.std.specs.Prelude.{◌≡◌, ◌++◌, ℕ, List};
+ghost use Rattle.rv_remote.specs.Stops.{told_by};
+ghost use Rattle.rv_remote.specs.declared.request.Move.{Move};
+ghost use Rattle.rv_session.specs.Console.{HasShown};
+ghost use Rattle.rv_session.specs.Endings.{told_by_found};
+ghost use Rattle.rv_session.specs.Heard.{IsFed};
+ghost use Rattle.rv_session.specs.Moved.{IsMoved};
+ghost use Rattle.rv_session.specs.declared.reply.Reply.{Reply};
+ghost use Rattle.rv_session.specs.declared.session.Session.{Session};
+
+/// What goes out for bytes that come in two reads goes out for the same bytes in one.
+pub fn cuts_are_not_seen()
+    ensures { (session between next : Session) (front rest out more : List ℕ) → IsFed session front out between
+        → IsFed between rest more next → IsFed session (front ++ rest) (out ++ more) next }
+{}
+
+/// What goes out, and the session behind it, are determined by the session and by the bytes that come.
+pub fn answers_are_determined()
+    ensures { (session one other : Session) (bytes out more : List ℕ) → IsFed session bytes out one
+        → IsFed session bytes more other → (out ≡ more) × (one ≡ other) }
+{}
+
+/// The printed bytes that go out in front of stops are the first ones that the run prints, in their order and each once.
+pub fn printed_bytes_go_out_once()
+    ensures { (session next : Session) (asked : Move) (reply : Reply) (shown : List ℕ) → HasShown session shown
+        → IsMoved session asked reply next → HasShown next (shown ++ reply.printed) }
+{}
+
+/// The stop that a move tells is the run's ending where the move comes to it, and no ending elsewhere.
+pub fn ends_are_told()
+    ensures { (session next : Session) (asked : Move) (reply : Reply) (moved : IsMoved session asked reply next)
+        → told_by next.last ≡ told_by_found moved.found }
+{}

@@ -1,0 +1,65 @@
+//! The commands behind `monitor`: their texts go out as printed bytes in front of an `OK`.
+
+ghost use Rattle.std.specs.Prelude.{◌≡◌, ◌++◌, IfOk, codes};
+ghost use Rattle.std.specs.Fmt.{decimal};
+ghost use Rattle.rv_session.specs.Answers.{IsCommanded, command_text, is_reset, taken_here};
+
+use crate::reading::are_same;
+use crate::reply::Reply;
+use crate::session::Session;
+use std::alloc::{AllocError, Global};
+
+/// What `monitor help`, and every command that is not known, prints.
+const HELP: &str =
+    "when: the steps that are done\nconsole: what is printed up to here\ninput: how much of the script is taken\nreset, reset halt: to the start of the run\n";
+
+impl Session {
+    // `qRcmd,`
+    pub(crate) fn command(&mut self, alloc: Global, text: &[u8]) -> Result<Reply, AllocError>
+        ensures { IfOk result (λ reply. IsCommanded self.old text.now reply self.new) }
+    {
+        if is_reset(text) {
+            self.go_to_start(alloc)?;
+            return Reply::granted(alloc);
+        }
+        let printed = self.command_text(alloc, text)?;
+        Reply::printing(alloc, printed)
+    }
+
+    // What a command prints that is no reset.
+    fn command_text(&self, alloc: Global, text: &[u8]) -> Result<Vec<u8>, AllocError>
+        ensures { IfOk result (λ printed. printed.items ≡ command_text self.now text.now) }
+    {
+        if are_same(text, b"when") {
+            self.steps_text(alloc)
+        } else if are_same(text, b"console") {
+            Vec::from_slice(alloc, self.history.machine().bus().console())
+        } else if are_same(text, b"input") {
+            self.input_text(alloc)
+        } else {
+            Vec::from_slice(alloc, HELP.as_bytes())
+        }
+    }
+
+    fn steps_text(&self, alloc: Global) -> Result<Vec<u8>, AllocError>
+        ensures { IfOk result (λ text. text.items ≡ decimal self.now.history.place ++ codes " steps are done\n") }
+    {
+        let text = format!(in alloc; "{} steps are done\n", self.history.place())?;
+        Ok(text.into_bytes())
+    }
+
+    fn input_text(&self, alloc: Global) -> Result<Vec<u8>, AllocError>
+        ensures { IfOk result (λ text. text.items
+            ≡ decimal (taken_here self.now) ++ codes " of " ++ decimal self.now.script ++ codes " bytes are taken\n") }
+    {
+        let taken = self.taken();
+        let text = format!(in alloc; "{taken} of {} bytes are taken\n", self.script)?;
+        Ok(text.into_bytes())
+    }
+}
+
+fn is_reset(text: &[u8]) -> bool
+    ensures { result ≡ is_reset text.now }
+{
+    are_same(text, b"reset") || are_same(text, b"reset halt")
+}

@@ -1,0 +1,128 @@
+//! Moves in the run, and the stops that are told of them.
+
+ghost use Rattle.std.specs.Prelude.{◌≡◌, IfOk, OnOk};
+ghost use Rattle.rv_history.specs.declared.found.Found.TheVariants as found;
+ghost use Rattle.rv_remote.specs.Stops.{stop_text};
+ghost use Rattle.rv_session.specs.Moved.{CanTell, IsGone, IsMoved, end_stop, is_forward, printed_on, shown_on, stop_of, watch_stop, watch_told};
+ghost use Rattle.rv_session.specs.Replies.{printing};
+ghost use Rattle.rv_session.specs.Sessions.{at_place, here};
+
+use crate::reply::Reply;
+use crate::session::Session;
+use rv_base::Bytes;
+use rv_history::{Bounds, Found};
+use rv_machine::Ending;
+use rv_remote::{Move, Stop, push_stop};
+use std::alloc::{AllocError, Global};
+
+impl Session {
+    // `vCont;`, `c`, `s`, `bc`, `bs`: moves, and tells the stop.
+    pub(crate) fn move_as(&mut self, alloc: Global, asked: Move) -> Result<Reply, AllocError>
+        ensures { IfOk result (λ reply. IsMoved self.old asked reply self.new) }
+    {
+        let found = self.go(alloc, asked)?;
+        let stop = self.stop_of(alloc, asked, found)?;
+        self.tell(alloc, asked, stop)
+    }
+
+    fn go(&mut self, alloc: Global, asked: Move) -> Result<Found, AllocError>
+        ensures gone { IfOk result (IsGone asked self.old.stops self.old.history.budget self.old.history.start
+            self.old.history.place self.new.history.place) }
+        ensures same { self.new ≡ at_place self.old self.new.history.place }
+    {
+        match asked {
+            Move::Continue => self.history.go_on(alloc, &self.stops, Bounds::All),
+            Move::Step => self.history.step(alloc, &self.stops),
+            Move::StepWithin(low, high) => {
+                let bounds = Bounds::Within(low, high);
+                self.history.go_on(alloc, &self.stops, bounds)
+            }
+            Move::ContinueBack => self.history.go_back(alloc, &self.stops),
+            Move::StepBack => self.history.step_back(alloc, &self.stops),
+        }
+    }
+
+    fn stop_of(&self, alloc: Global, asked: Move, found: Found) -> Result<Stop, AllocError>
+        requires { CanTell self.now asked found }
+        ensures { IfOk result (λ stop. stop ≡ stop_of self.now asked self.now.history.place found) }
+    {
+        match found {
+            Found::Done | Found::Break => Ok(Stop::Here),
+            Found::Begin => Ok(Stop::Beginning),
+            Found::End(ending) => Ok(end_stop(ending)),
+            Found::Change => self.watch_stop(alloc, asked),
+        }
+    }
+
+    // The first watch that is changed: by the step in front, or on the way back by the step behind.
+    fn watch_stop(&self, alloc: Global, asked: Move) -> Result<Stop, AllocError>
+        requires { CanTell self.now asked found.Change }
+        ensures { IfOk result (λ stop. stop ≡ watch_stop self.now asked self.now.history.place) }
+    {
+        if is_forward(asked) {
+            let ahead = self.history.watch_ahead(alloc, &self.stops)?;
+            Ok(watch_told(ahead))
+        } else {
+            let behind = self.history.watch_behind(alloc, &self.stops)?;
+            Ok(watch_told(behind))
+        }
+    }
+
+    // Says a stop, and what is printed up to it.
+    fn tell(&mut self, alloc: Global, asked: Move, stop: Stop) -> Result<Reply, AllocError>
+        ensures reply { IfOk result
+            (λ reply. reply ≡ printing (printed_on self.old asked (here self.old)) (stop_text stop)) }
+        ensures next { OnOk result (self.new ≡ record self.old { shown = shown_on self.old asked (here self.old); last = stop }) }
+    {
+        let mut body = Vec::new(alloc);
+        push_stop(&mut body, stop)?;
+        let printed = self.show(alloc, asked)?;
+        self.last = stop;
+        Ok(Reply {
+            printed: Bytes::new(printed),
+            body: Some(Bytes::new(body)),
+        })
+    }
+
+    // The printed bytes that did not go out yet, once a move forward comes to them.
+    fn show(&mut self, alloc: Global, asked: Move) -> Result<Vec<u8>, AllocError>
+        ensures printed { IfOk result (λ printed. printed.items ≡ printed_on self.old asked (here self.old)) }
+        ensures shown { IfOk result (λ printed. self.new ≡ record self.old { shown = shown_on self.old asked (here self.old) }) }
+    {
+        if !is_forward(asked) {
+            return Ok(Vec::new(alloc));
+        }
+        let console = self.history.machine().bus().console();
+        let printed = Vec::from_slice(alloc, &console[self.shown.min(console.len())..])?;
+        self.shown = self.shown.max(console.len());
+        Ok(printed)
+    }
+}
+
+fn is_forward(asked: Move) -> bool
+    ensures { result ≡ is_forward asked }
+{
+    match asked {
+        Move::Continue | Move::Step | Move::StepWithin(..) => true,
+        Move::ContinueBack | Move::StepBack => false,
+    }
+}
+
+fn watch_told(address: Option<u32>) -> Stop
+    ensures { result ≡ watch_told address }
+{
+    match address {
+        Some(address) => Stop::Watch(address),
+        None => Stop::Here,
+    }
+}
+
+fn end_stop(ending: Ending) -> Stop
+    ensures { result ≡ end_stop ending }
+{
+    match ending {
+        Ending::Exit(_) => Stop::Exit,
+        Ending::Budget => Stop::Budget,
+        Ending::Fault(kind, _, _) => Stop::Fault(kind),
+    }
+}

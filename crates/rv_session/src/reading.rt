@@ -1,0 +1,121 @@
+//! Registers and memory as they stand at the session's place.
+
+ghost use Rattle.std.specs.Prelude.{◌≡◌, IfOk};
+ghost use Rattle.std.specs.Str.{bytes_eq};
+ghost use Rattle.rv_remote.specs.Shown.{register_text};
+ghost use Rattle.rv_session.specs.Answers.{hart_value, memory_reply, registers_here, shown_count, taken_here, value_of};
+ghost use Rattle.rv_session.specs.Memory.{bytes_asked, bytes_from};
+ghost use Rattle.rv_session.specs.Replies.{saying};
+ghost use Rattle.rv_session.specs.Sessions.{here};
+
+use crate::reply::Reply;
+use crate::session::Session;
+use rv_memory::Bus;
+use rv_remote::{Range, Refusal, Register, push_memory, push_register, push_registers};
+use std::alloc::{AllocError, Global};
+
+/// The most bytes of memory in a reply, two digits each.
+const MOST_BYTES: u32 = 8184;
+
+impl Session {
+    // `g`
+    pub(crate) fn registers(&self, alloc: Global) -> Result<Reply, AllocError>
+        ensures { IfOk result (λ reply. reply ≡ saying (registers_here self.now)) }
+    {
+        let machine = self.history.machine();
+        let mut body = Vec::new(alloc);
+        push_registers(&mut body, &machine.registers(), machine.pc())?;
+        Ok(Reply::saying(alloc, body))
+    }
+
+    // `p`
+    pub(crate) fn register(&self, alloc: Global, register: Register) -> Result<Reply, AllocError>
+        ensures { IfOk result (λ reply. reply ≡ saying (register_text (value_of self.now register))) }
+    {
+        let mut body = Vec::new(alloc);
+        push_register(&mut body, self.value(register))?;
+        Ok(Reply::saying(alloc, body))
+    }
+
+    // The value of a register. What is no register of the hart is shown as the pc.
+    pub(crate) fn value(&self, register: Register) -> u32
+        ensures { result ≡ value_of self.now register }
+    {
+        match register {
+            Register::Hart(number) => self.hart_value(number),
+            Register::Steps => self.history.place(),
+            Register::Printed => shown_count(self.history.machine().bus().console().len()),
+            Register::Taken => shown_count(self.taken()),
+        }
+    }
+
+    fn hart_value(&self, number: u32) -> u32
+        ensures { result ≡ hart_value self.now number }
+    {
+        let machine = self.history.machine();
+        if number < 32 {
+            machine.reg(number as u8)
+        } else {
+            machine.pc()
+        }
+    }
+
+    /// How many bytes of the script are taken.
+    pub(crate) fn taken(&self) -> usize
+        ensures { result ≡ taken_here self.now }
+    {
+        let left = self.history.machine().bus().script_left();
+        self.script.saturating_sub(left)
+    }
+
+    // `m`: as many bytes as stand in regions, one behind the other.
+    pub(crate) fn memory(&self, alloc: Global, range: Range) -> Result<Reply, AllocError>
+        ensures { IfOk result (λ reply. reply ≡ memory_reply (bytes_from (here self.now).bus range)) }
+    {
+        let bytes = bytes_from(alloc, self.history.machine().bus(), range)?;
+        if bytes.as_slice().is_empty() {
+            return Reply::refusing(alloc, Refusal::Failed);
+        }
+        let mut body = Vec::new(alloc);
+        push_memory(alloc, &mut body, bytes.as_slice())?;
+        Ok(Reply::saying(alloc, body))
+    }
+}
+
+/// Whether two texts are the same.
+pub(crate) fn are_same(one: &[u8], other: &[u8]) -> bool
+    ensures { result ≡ bytes_eq one.now other.now }
+{
+    one == other
+}
+
+/// A count as four bytes show it.
+pub(crate) fn shown_count(count: usize) -> u32
+    ensures { result ≡ shown_count count }
+{
+    count.min(u32::MAX as usize) as u32
+}
+
+// How many bytes of a range are looked at: as many as fit a reply, and none past the last address.
+fn bytes_asked(range: Range) -> u32
+    ensures { result ≡ bytes_asked range }
+{
+    let room = (1u64 << 32) - u64::from(range.address);
+    let count = range.count.min(MOST_BYTES);
+    u64::from(count).min(room) as u32
+}
+
+// The bytes from an address on, up to the first that stands in no region.
+fn bytes_from(alloc: Global, bus: &Bus, range: Range) -> Result<Vec<u8>, AllocError>
+    ensures { IfOk result (λ bytes. bytes.items ≡ bytes_from bus.now range) }
+{
+    let count = bytes_asked(range);
+    let mut bytes = Vec::new(alloc);
+    for offset in 0..count {
+        match bus.byte(range.address + offset) {
+            Some(byte) => bytes.push(byte)?,
+            None => return Ok(bytes),
+        }
+    }
+    Ok(bytes)
+}

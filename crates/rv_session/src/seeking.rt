@@ -1,0 +1,42 @@
+//! Seeks: gdb writes one of the run's counts, and the session goes to the first place with it.
+
+ghost use Rattle.std.specs.Prelude.{◌≡◌, IfOk, OnOk};
+ghost use Rattle.rv_session.specs.Answers.{IsPlaceSought, IsSought};
+ghost use Rattle.rv_session.specs.Sessions.{at_place};
+
+use crate::reply::Reply;
+use crate::session::Session;
+use rv_history::Count;
+use rv_remote::Refusal;
+use std::alloc::{AllocError, Global};
+
+impl Session {
+    /// To the start of the run.
+    pub(crate) fn go_to_start(&mut self, alloc: Global) -> Result<(), AllocError>
+        ensures { OnOk result (self.new ≡ at_place self.old 0) }
+    {
+        let _is_granted = self.history.seek(alloc, 0)?;
+        Ok(())
+    }
+
+    /// `P21=`: to a place.
+    pub(crate) fn seek_place(&mut self, alloc: Global, place: u32) -> Result<Reply, AllocError>
+        ensures { IfOk result (λ reply. IsPlaceSought self.old place reply self.new) }
+    {
+        let granted = self.history.seek(alloc, place)?;
+        Reply::granted_if(alloc, granted, Refusal::NotReached)
+    }
+
+    /// `P22=` and `P23=`: to the first place with a count.
+    pub(crate) fn seek_count(
+        &mut self,
+        alloc: Global,
+        count: Count,
+        value: u32,
+    ) -> Result<Reply, AllocError>
+        ensures { IfOk result (λ reply. IsSought self.old count value reply self.new) }
+    {
+        let granted = self.history.seek_count(alloc, count, value)?;
+        Reply::granted_if(alloc, granted, Refusal::NotReached)
+    }
+}

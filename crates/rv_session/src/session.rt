@@ -1,0 +1,76 @@
+//! A session with gdb.
+
+ghost use Rattle.std.specs.Prelude.{◌≡◌, ◌≤◌, IfOk};
+ghost use Rattle.rv_history.specs.Places.{last_place};
+ghost use Rattle.rv_session.specs.Sessions.{at_first};
+
+use crate::program::Program;
+use rv_base::{Bytes, Sequence};
+use rv_history::{History, Start, Stops};
+use rv_remote::{Reader, Stop};
+use std::alloc::{AllocError, Global};
+
+/// A session with gdb over the run from a start within a budget.
+#[derive(Drop)]
+pub struct Session {
+    pub(crate) reader: Reader,
+    pub(crate) history: History,
+    pub(crate) program: Program,
+    /// How many bytes the script has.
+    pub(crate) script: usize,
+    pub(crate) stops: Stops,
+    /// Whether each packet is acknowledged.
+    pub(crate) acknowledges: bool,
+    /// How many of the printed bytes went out.
+    pub(crate) shown: usize,
+    /// The last stop.
+    pub(crate) last: Stop,
+    /// The last packet that went out.
+    pub(crate) sent: Bytes,
+    pub(crate) is_over: bool,
+}
+
+impl Session {
+    /// A session at the start of a run, before gdb says anything.
+    pub fn new(
+        alloc: Global,
+        start: Start,
+        budget: u32,
+        program: Program,
+    ) -> Result<Session, AllocError>
+        ensures { IfOk result (λ session. session ≡ at_first start budget program) }
+    {
+        let script = start.bus.script_left();
+        let history = History::new(alloc, start, budget)?;
+        Ok(Session {
+            reader: Reader::new(alloc),
+            history,
+            program,
+            script,
+            stops: Stops {
+                breaks: Sequence::new(Vec::new(alloc)),
+                watches: Sequence::new(Vec::new(alloc)),
+            },
+            acknowledges: true,
+            shown: 0,
+            last: Stop::Here,
+            sent: Bytes::new(Vec::new(alloc)),
+            is_over: false,
+        })
+    }
+
+    /// How many steps of the run are done.
+    pub fn place(&self) -> u32
+        ensures value { result ≡ self.now.history.place }
+        ensures within { result ≤ last_place self.now.history.budget self.now.history.start }
+    {
+        self.history.place()
+    }
+
+    /// Whether gdb ended the session. Nothing is answered from then on.
+    pub fn is_over(&self) -> bool
+        ensures { result ≡ self.now.is_over }
+    {
+        self.is_over
+    }
+}

@@ -1,0 +1,180 @@
+//! Where a run is to stop, as gdb sets and clears it.
+
+ghost use Rattle.std.specs.Prelude.{◌≡◌, ◌≤◌, ◌+◌, ◌^◌, IfOk};
+ghost use Rattle.rv_session.specs.Traps.{IsTrapped, has_byte, is_full, is_on, is_set, without_trap};
+ghost use Rattle.rv_memory.specs.Bus.{Contents};
+ghost use Rattle.rv_remote.specs.declared.request.Trap.TheVariants as trap;
+
+use rv_base::Sequence;
+use rv_history::{Stops, Watch};
+use rv_memory::Bus;
+use rv_remote::{Range, Refusal, Trap};
+use std::alloc::{AllocError, Global};
+
+/// The most breakpoints and watches, together.
+const MOST_TRAPS: usize = 1024;
+
+/// The stops with one more, which may stand there already, or why it is not set.
+pub(crate) fn with_trap(
+    alloc: Global,
+    stops: &Stops,
+    bus: &Bus,
+    trap: Trap,
+) -> Result<Result<Stops, Refusal>, AllocError>
+    ensures { IfOk result (IsTrapped stops.now bus.now trap) }
+{
+    match trap {
+        Trap::Break(address) => with_break(alloc, stops, address),
+        Trap::Watch(range) => with_watch(alloc, stops, bus, range),
+    }
+}
+
+/// The stops without one, which need not stand there.
+pub(crate) fn without_trap(alloc: Global, stops: &Stops, trap: Trap) -> Result<Stops, AllocError>
+    ensures { IfOk result (λ next. next ≡ without_trap stops.now trap) }
+{
+    match trap {
+        Trap::Break(address) => without_break(alloc, stops, address),
+        Trap::Watch(range) => without_watch(alloc, stops, range),
+    }
+}
+
+fn is_full(stops: &Stops) -> bool
+    ensures { result ≡ is_full stops.now }
+{
+    let breaks = stops.breaks.as_slice().len();
+    let watches = stops.watches.as_slice().len();
+    breaks + watches >= MOST_TRAPS
+}
+
+fn with_break(
+    alloc: Global,
+    stops: &Stops,
+    address: u32,
+) -> Result<Result<Stops, Refusal>, AllocError>
+    ensures { (bus : Contents) → IfOk result (IsTrapped stops.now bus (trap.Break address)) }
+{
+    if has_break(stops, address) {
+        let same = copied(alloc, stops)?;
+        return Ok(Ok(same));
+    }
+    if is_full(stops) {
+        return Ok(Err(Refusal::TooManyTraps));
+    }
+    let mut breaks = Vec::from_slice(alloc, stops.breaks.as_slice())?;
+    breaks.push(address)?;
+    let watches = Vec::from_slice(alloc, stops.watches.as_slice())?;
+    Ok(Ok(stops_of(breaks, watches)))
+}
+
+fn with_watch(
+    alloc: Global,
+    stops: &Stops,
+    bus: &Bus,
+    range: Range,
+) -> Result<Result<Stops, Refusal>, AllocError>
+    ensures { IfOk result (IsTrapped stops.now bus.now (trap.Watch range)) }
+{
+    let end = u64::from(range.address) + u64::from(range.count);
+    if end > 1 << 32 {
+        return Ok(Err(Refusal::Malformed));
+    }
+    if !has_byte(bus, range) {
+        return Ok(Err(Refusal::Malformed));
+    }
+    if has_watch(stops, range) {
+        let same = copied(alloc, stops)?;
+        return Ok(Ok(same));
+    }
+    if is_full(stops) {
+        return Ok(Err(Refusal::TooManyTraps));
+    }
+    let mut watches = Vec::from_slice(alloc, stops.watches.as_slice())?;
+    watches.push(Watch {
+        address: range.address,
+        count: range.count,
+    })?;
+    let breaks = Vec::from_slice(alloc, stops.breaks.as_slice())?;
+    Ok(Ok(stops_of(breaks, watches)))
+}
+
+fn without_break(alloc: Global, stops: &Stops, address: u32) -> Result<Stops, AllocError>
+    ensures { IfOk result (λ next. next ≡ without_trap stops.now (trap.Break address)) }
+{
+    let breaks = stops
+        .breaks
+        .as_slice()
+        .iter()
+        .copied()
+        .filter(|other| *other != address)
+        .collect(alloc)?;
+    let watches = Vec::from_slice(alloc, stops.watches.as_slice())?;
+    Ok(stops_of(breaks, watches))
+}
+
+fn without_watch(alloc: Global, stops: &Stops, range: Range) -> Result<Stops, AllocError>
+    ensures { IfOk result (λ next. next ≡ without_trap stops.now (trap.Watch range)) }
+{
+    let watches = stops
+        .watches
+        .as_slice()
+        .iter()
+        .copied()
+        .filter(|watch| !is_on(watch, range))
+        .collect(alloc)?;
+    let breaks = Vec::from_slice(alloc, stops.breaks.as_slice())?;
+    Ok(stops_of(breaks, watches))
+}
+
+fn has_break(stops: &Stops, address: u32) -> bool
+    ensures { result ≡ is_set stops.now (trap.Break address) }
+{
+    stops.breaks.as_slice().contains(&address)
+}
+
+fn has_watch(stops: &Stops, range: Range) -> bool
+    ensures { result ≡ is_set stops.now (trap.Watch range) }
+{
+    stops
+        .watches
+        .as_slice()
+        .iter()
+        .any(|watch| is_on(watch, range))
+}
+
+fn copied(alloc: Global, stops: &Stops) -> Result<Stops, AllocError>
+    ensures { IfOk result (λ next. next ≡ stops.now) }
+{
+    let breaks = Vec::from_slice(alloc, stops.breaks.as_slice())?;
+    let watches = Vec::from_slice(alloc, stops.watches.as_slice())?;
+    Ok(stops_of(breaks, watches))
+}
+
+// Whether a watch is that of a range.
+fn is_on(watch: &Watch, range: Range) -> bool
+    ensures { result ≡ is_on range watch.now }
+{
+    watch.address == range.address && watch.count == range.count
+}
+
+// Whether one of the bytes stands in a region.
+fn has_byte(bus: &Bus, range: Range) -> bool
+    requires { range.address + range.count ≤ 2 ^ 32 }
+    ensures { result ≡ has_byte bus.now range }
+{
+    for offset in 0..range.count {
+        if bus.byte(range.address + offset).is_some() {
+            return true;
+        }
+    }
+    false
+}
+
+fn stops_of(breaks: Vec<u32>, watches: Vec<Watch>) -> Stops
+    ensures { result ≡ record { breaks = breaks.items; watches = watches.items } }
+{
+    Stops {
+        breaks: Sequence::new(breaks),
+        watches: Sequence::new(watches),
+    }
+}

@@ -1,0 +1,100 @@
+//! Writes, which are granted where they change nothing.
+
+ghost use Rattle.std.specs.Prelude.{◌≡◌, ◌&&◌, IfOk, nat_lt};
+ghost use Rattle.std.specs.FinMap as fin;
+ghost use Rattle.std.specs.Str.{bytes_eq};
+ghost use Rattle.hex.specs.Hex.{encode_lower};
+ghost use Rattle.rv_remote.specs.declared.request.Refusal.TheVariants as refusal;
+ghost use Rattle.rv_session.specs.Answers.{IsWritten, registers_here};
+ghost use Rattle.rv_session.specs.Memory.{end_of_addresses, is_byte, stand_at};
+ghost use Rattle.rv_session.specs.Replies.{granted_if};
+ghost use Rattle.rv_session.specs.Sessions.{here};
+
+use crate::reading::are_same;
+use crate::reply::Reply;
+use crate::session::Session;
+use rv_history::Count;
+use rv_memory::Bus;
+use rv_remote::{Refusal, Register, push_memory, push_registers};
+use std::alloc::{AllocError, Global};
+
+/// One past the last address.
+const END_OF_ADDRESSES: u64 = 0x1_0000_0000;
+
+impl Session {
+    // `G`
+    pub(crate) fn write_registers(&self, alloc: Global, bytes: &[u8]) -> Result<Reply, AllocError>
+        ensures { IfOk result (λ reply. reply
+            ≡ granted_if (bytes_eq (registers_here self.now) (encode_lower bytes.now)) refusal.WouldChange) }
+    {
+        let machine = self.history.machine();
+        let mut here = Vec::new(alloc);
+        push_registers(&mut here, &machine.registers(), machine.pc())?;
+        let mut asked = Vec::new(alloc);
+        push_memory(alloc, &mut asked, bytes)?;
+        let same = are_same(here.as_slice(), asked.as_slice());
+        Reply::granted_if(alloc, same, Refusal::WouldChange)
+    }
+
+    // `P`: a register of the hart, or a seek by one of the run's counts.
+    pub(crate) fn write_register(
+        &mut self,
+        alloc: Global,
+        register: Register,
+        value: u32,
+    ) -> Result<Reply, AllocError>
+        ensures { IfOk result (λ reply. IsWritten self.old register value reply self.new) }
+    {
+        match register {
+            Register::Hart(_) => {
+                let same = self.value(register) == value;
+                Reply::granted_if(alloc, same, Refusal::WouldChange)
+            }
+            Register::Steps => self.seek_place(alloc, value),
+            Register::Printed => self.seek_count(alloc, Count::Printed, value),
+            Register::Taken => self.seek_count(alloc, Count::Taken, value),
+        }
+    }
+
+    // `M` and `X`
+    pub(crate) fn write_memory(
+        &self,
+        alloc: Global,
+        address: u32,
+        bytes: &[u8],
+    ) -> Result<Reply, AllocError>
+        ensures { IfOk result (λ reply. reply
+            ≡ granted_if (stand_at (here self.now).bus address bytes.now) refusal.WouldChange) }
+    {
+        let same = stand_at(self.history.machine().bus(), address, bytes);
+        Reply::granted_if(alloc, same, Refusal::WouldChange)
+    }
+}
+
+// Whether these bytes stand at an address and behind it, none of them past the last address.
+fn stand_at(bus: &Bus, address: u32, bytes: &[u8]) -> bool
+    ensures { result ≡ stand_at bus.now address bytes.now }
+{
+    for (offset, byte) in bytes.iter().enumerate() {
+        if !stands_at(bus, u64::from(address) + offset as u64, *byte) {
+            return false;
+        }
+    }
+    true
+}
+
+// Whether a byte stands at an address, which may be past the last.
+fn stands_at(bus: &Bus, address: u64, byte: u8) -> bool
+    ensures { result ≡ (nat_lt address end_of_addresses && is_byte (fin.get bus.now.memory address) byte) }
+{
+    address < END_OF_ADDRESSES && is_byte(bus.byte(address as u32), byte)
+}
+
+fn is_byte(found: Option<u8>, byte: u8) -> bool
+    ensures { result ≡ is_byte found byte }
+{
+    match found {
+        Some(other) => other == byte,
+        None => false,
+    }
+}

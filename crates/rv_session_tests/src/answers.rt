@@ -1,0 +1,166 @@
+//! Requests and answers, by the lines of a table.
+use rv_base::Bytes;
+use rv_history::Start;
+use rv_isa::Isa;
+use rv_memory::{Bus, Map, Misaligned, Region};
+use rv_remote::push_frame;
+use rv_session::{Program, Session};
+use samples::{agree, cell_of, has_lines, numbers};
+use std::alloc::Global;
+use std::test::Fail;
+
+// x5 is 80000100, and x6 counts from 3 down: the store at 8000000c is the steps 3, 6 and 9, with 3, 2 and 1. The exit call is the
+// step 13, which does not complete.
+const LOOP: &str = "00000297 10028293 00300313 0062a023 fff30313 fe031ce3 X";
+
+// The bodies of requests and of their answers, in a session without acknowledgements that is at the start. The script is `hi`.
+// label | code | budget | dialogue
+const ANSWERS: &str = "\
+what the stub can do | LOOP | 100 | qSupported:xmlRegisters=i386 > PacketSize=4000;QStartNoAckMode+;ReverseStep+;ReverseContinue+;qXfer:features:read+;qXfer:exec-file:read+
+threads | LOOP | 100 | qC > QC1 / qfThreadInfo > m1 / qsThreadInfo > l / Hg1 > OK / qAttached > 0
+not known | LOOP | 100 | qHostInfo > empty / vMustReplyEmpty > empty / Z9,0,4 > empty / qC > QC1
+the first stop | LOOP | 100 | ? > T05
+registers | LOOP | 100 | p20 > 00000080 / p21 > 00000000 / p0 > 00000000 / s > T05 / p20 > 04000080 / p5 > 00000080 / p21 > 01000000 / p24 > E01
+memory | LOOP | 100 | m80000000,4 > 97020000 / m80000ffe,8 > 0000 / m0,4 > E01 / m10000000,4 > E01 / m80000000,0 > E01 / mffffffff,9 > E01 / m > E01
+breakpoints forward | LOOP | 100 | Z0,8000000c,4 > OK / c > T05 / p21 > 03000000 / c > T05 / p21 > 06000000 / z0,8000000c,4 > OK / c > T05replaylog:end; / p21 > 0d000000 / s > T05replaylog:end;
+breakpoints backward | LOOP | 100 | c > T05replaylog:end; / Z1,8000000c,4 > OK / bc > T05 / p21 > 09000000 / bs > T05 / p21 > 08000000 / z1,8000000c,4 > OK / bc > T05replaylog:begin; / bs > T05replaylog:begin; / ? > T05replaylog:begin;
+a watch forward | LOOP | 100 | Z2,80000100,4 > OK / c > T05watch:80000100; / p21 > 03000000 / s > T05watch:80000100; / z2,80000100,4 > OK / s > T05 / Z2,80000100,4 > OK / c > T05watch:80000100; / p21 > 06000000
+a watch backward | LOOP | 100 | c > T05replaylog:end; / Z2,80000100,4 > OK / bc > T05watch:80000100; / p21 > 0a000000 / bs > T05watch:80000100; / z2,80000100,4 > OK / bs > T05 / p21 > 09000000
+the right watch | LOOP | 100 | Z2,80000200,4 > OK / Z2,80000100,1 > OK / c > T05watch:80000100;
+a range | LOOP | 100 | vCont;r80000000,8000000c:1;c > T05 / p21 > 03000000 / vCont;r8000000c,80000018 > T05 / p21 > 0c000000 / p20 > 18000080
+a range with a break | LOOP | 100 | Z0,80000008,4 > OK / vCont;r80000000,8000000c > T05 / p21 > 02000000
+the budget | LOOP | 5 | vCont;c > T18 / p21 > 05000000 / s > T18 / bs > T05 / p21 > 04000000
+seeks | LOOP | 100 | P21=03000000 > OK / p20 > 0c000080 / P21=0e000000 > E.the run does not come there / p21 > 03000000 / P22=00000000 > OK / p21 > 00000000 / P23=01000000 > E.the run does not come there
+writes | LOOP | 100 | P0=00000000 > OK / P0=01000000 > E.the run is what it is: the debugger does not change it / M80000000,2:9702 > OK / M80000000,2:9703 > E.the run is what it is: the debugger does not change it / M0,1:00 > E.the run is what it is: the debugger does not change it / X80000000,0: > OK / c80000000 > E.the run is what it is: the debugger does not change it
+bad input | LOOP | 100 | P0 > E.malformed / P63=00000000 > E.malformed / M80000000,2:97 > E.malformed / Z0 > E.malformed / Z2,80000100,0 > E.malformed / Z2,0,4 > E.malformed / vCont; > E.malformed / qRcmd,7 > E01 / qXfer:features:read:other.xml:0,4 > E00 / qXfer:features:read:target.xml:0 > E01 / qXfer:features:read:target.xml:ffff,4 > l
+the image | LOOP | 100 | qXfer:exec-file:read:1:0,100 > la.elf / vFile:setfs:0 > F0 / vFile:open:612e656c66,0,0 > F5 / vFile:open:612e656c,0,0 > F-1,2 / vFile:pread:5,2,1 > F00000002;LF / vFile:pread:5,9,3 > F00000001;! / vFile:close:5 > F0 / vFile:close:6 > F-1,2
+from the start | LOOP | 100 | s > T05 / vRun > T05 / p21 > 00000000
+monitor reset | LOOP | 100 | s > T05 / qRcmd,72657365742068616c74 > OK / p21 > 00000000
+the end | LOOP | 100 | D > OK / g > nothing / ? > nothing
+printed bytes go out once | 100002b7 04100313 0062a023 0062a023 X | 100 | s > T05 / s > T05 / s > O41 & T05 / bs > T05 / s > T05 / c > O41 & T05replaylog:end; / p22 > 02000000 / bc > T05replaylog:begin; / p22 > 00000000 / c > T05replaylog:end;
+to a printed byte | 100002b7 04100313 0062a023 0062a023 X | 100 | P22=01000000 > OK / p21 > 03000000 / bs > T05 / p22 > 00000000 / p20 > 08000080 / P22=02000000 > OK / p21 > 04000000 / P22=03000000 > E.the run does not come there / qRcmd,636f6e736f6c65 > O4141 & OK / qRcmd,7768656e > O342073746570732061726520646f6e650a & OK
+to a byte of the script | 100002b7 0002a383 0002a383 X | 100 | P23=01000000 > OK / p21 > 02000000 / p7 > 68000000 / qRcmd,696e707574 > O31206f662032206279746573206172652074616b656e0a & OK / P23=02000000 > OK / p7 > 69000000 / P23=03000000 > E.the run does not come there
+a breakpoint of the program | 00100073 | 100 | c > T06 / p21 > 00000000 / s > T06
+no instruction | 00000297 00000000 | 100 | c > T04 / p21 > 01000000 / bc > T05replaylog:begin;
+a misaligned load | 00000297 0012a383 | 100 | c > T0a / p20 > 04000080
+a call of nothing | 000000e7 | 100 | c > T0b / p20 > 00000000 / bs > T05 / p20 > 00000080
+a store into nothing | 00602023 | 100 | c > T0b
+a call that there is not | 00000073 | 100 | c > T0c
+";
+
+// What LLDB 19 sends first, and what it was answered, as they were recorded.
+const LLDB: &str = "\
++ > nothing
+$QStartNoAckMode#b0 > +$OK#9a
++ > nothing
+$qSupported:xmlRegisters=i386,arm,mips,arc;multiprocess+;fork-events+;vfork-events+#2e > $PacketSize=4000;QStartNoAckMode+;ReverseStep+;ReverseContinue+;qXfer:features:read+;qXfer:exec-file:read+#38
+$QThreadSuffixSupported#e4 > $#00
+$QListThreadsInStopReply#21 > $#00
+$qHostInfo#9b > $#00
+$vCont?#49 > $vCont;c;C;s;S;r#0f
+$qVAttachOrWaitSupported#38 > $#00
+$QEnableErrorStrings#8c > $#00
+$qProcessInfo#dc > $#00
+$qC#b4 > $QC1#c5
+$?#3f > $T05#b9
+$qfThreadInfo#bb > $m1#9e
+$qsThreadInfo#c8 > $l#6c
+$Hg1#e0 > $OK#9a
+$p0#a0 > $00000000#80
+$qOffsets#4b > $#00
+$qStructuredDataPlugins#02 > $#00
+$qSymbol::#5b > $#00
+";
+
+fn bus_of(alloc: Global, code: &str) -> Result<Bus, Fail> {
+    let memory = Region {
+        base: 0x8000_0000,
+        size: 0x1000,
+        writable: true,
+    };
+    let map = Map::of(&[memory]).map_err(|_| "a map")?;
+    let script = Vec::from_slice(alloc, b"hi")?;
+    let mut bus = Bus::new(alloc, map, script, Misaligned::Fault)?;
+    let code = numbers(alloc, if code == "LOOP" { LOOP } else { code })?;
+    if code.len() > 0x100 || !bus.map().in_one(0x8000_0000, code.len() as u32) {
+        return Err("a place".into());
+    }
+    bus.place(0x8000_0000, &code);
+    Ok(bus)
+}
+
+fn session_of(alloc: Global, code: &str, budget: u32) -> Result<Session, Fail> {
+    let start = Start {
+        bus: bus_of(alloc, code)?,
+        entry: 0x8000_0000,
+        isa: Isa::Imc,
+    };
+    let program = Program {
+        path: Bytes::new(Vec::from_slice(alloc, b"a.elf")?),
+        image: Bytes::new(Vec::from_slice(alloc, b"ELF!")?),
+    };
+    Ok(Session::new(alloc, start, budget, program)?)
+}
+
+// What goes out for the bytes of gdb.
+fn answered(alloc: Global, session: &mut Session, heard: &[u8]) -> Result<String, Fail> {
+    let sent = session.feed(alloc, heard)?;
+    let text = std::str::from_utf8(sent.as_slice())?;
+    Ok(String::from_str(alloc, text)?)
+}
+
+// Bodies in their frames: `empty` is a body of no bytes, and `nothing` is no body.
+fn framed(alloc: Global, bodies: &str) -> Result<Vec<u8>, Fail> {
+    let mut out = Vec::new(alloc);
+    for body in bodies.split(" & ") {
+        match body {
+            "nothing" => {}
+            "empty" => push_frame(alloc, &mut out, b"")?,
+            _ => push_frame(alloc, &mut out, body.as_bytes())?,
+        }
+    }
+    Ok(out)
+}
+
+fn check_answers(alloc: Global, line: &str) -> Result<(), Fail> {
+    let mut session = session_of(alloc, cell_of(line, 1), cell_of(line, 2).parse()?)?;
+    let met = answered(alloc, &mut session, b"+$QStartNoAckMode#b0")?;
+    agree(line, met.as_str(), "+$OK#9a")?;
+    for part in cell_of(line, 3).split(" / ") {
+        let (asked, wanted) = part.split_once(" > ").ok_or("a request and an answer")?;
+        let packet = framed(alloc, asked)?;
+        let met = answered(alloc, &mut session, packet.as_slice())?;
+        let wanted = framed(alloc, wanted)?;
+        agree(line, met.as_str(), std::str::from_utf8(wanted.as_slice())?)?;
+    }
+    Ok(())
+}
+
+#[test]
+fn requests_are_answered(rt: HostRuntime) -> Result<(), Fail> {
+    has_lines(ANSWERS, 30)?;
+    for line in ANSWERS.lines() {
+        check_answers(rt.alloc(), line)?;
+    }
+    Ok(())
+}
+
+// The same whatever cuts the bytes come in.
+#[test]
+fn a_recorded_session_is_replayed(rt: HostRuntime) -> Result<(), Fail> {
+    let alloc = rt.alloc();
+    let mut session = session_of(alloc, "LOOP", 100)?;
+    let mut cut = session_of(alloc, "LOOP", 100)?;
+    for line in LLDB.lines() {
+        let (heard, wanted) = line.split_once(" > ").ok_or("a line of a recording")?;
+        let wanted = if wanted == "nothing" { "" } else { wanted };
+        let met = answered(alloc, &mut session, heard.as_bytes())?;
+        agree(line, met.as_str(), wanted)?;
+        let mut met = String::new(alloc);
+        for byte in heard.as_bytes() {
+            met.push_str(answered(alloc, &mut cut, &[*byte])?.as_str())?;
+        }
+        agree(line, met.as_str(), wanted)?;
+    }
+    Ok(())
+}

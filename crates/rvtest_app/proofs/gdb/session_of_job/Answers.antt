@@ -1,0 +1,26 @@
+use Rattle.std.proofs.Common.{◌∙◌, ap, inr, length, rules}
+use Rattle.rvtest_app.proofs.gdb.session_of_job.Goals as goal
+
+pub returns-in-Some-clause-opened : goal.returns-in-Some-clause-opened
+returns-in-Some-clause-opened g c =
+    let gathered = c.in_ok-plan.ensures in record {
+      plan = c.in_ok-plan.plan;
+      listed = gathered.jobs;
+      paths = search rules;
+      kept = rw (c.new-store.ensures.inputs, c.new-store.ensures.folder) at gathered.kept;
+      over = λ d. rw c.in-Some.is at (c.in_ok-session.ensures d);
+    }
+
+pub returns-clause-stopped : goal.returns-clause-stopped
+returns-clause-stopped g c =
+    let gathered = c.in_ok-plan.ensures in
+    inr (record {
+      plan = c.in_ok-plan.plan;
+      listed = gathered.jobs;
+      paths = search rules;
+      kept = rw (c.new-store.ensures.inputs, c.new-store.ensures.folder) at gathered.kept;
+      unread = c.unread_paths.result.now;
+      noted = ap length c.unread_paths.ensures ∙ (rw c.new-store.ensures.nothing at gathered.faults);
+      refused = λ d. rw c.in-None.is at (c.in_ok-session.ensures d);
+      told = c.refused_job_stop.ensures;
+    })

@@ -1,0 +1,21 @@
+use Rattle.std.proofs.Common.{inl, inr, ⊎_elim}
+use Rattle.std.proofs.lemmas.Result.{err_from_is_err_and}
+use Rattle.rvtest_app.proofs.StopLemmas.{IfErr-map}
+use Rattle.rvtest_app.proofs.gdb.session_of_text.Goals as goal
+
+pub returns-in_err-named-clause-stopped : goal.returns-in_err-named-clause-stopped
+returns-in_err-named-clause-stopped g c =
+    let is = err_from_is_err_and c.from_residual.result c.from_residual.ensures.1 in
+    rw (is.1, is.2) (inl c.in_err-named.ensures.stopped)
+
+pub returns-clause-stopped : goal.returns-clause-stopped
+returns-clause-stopped g c =
+    IfErr-map c.session_of_job.result _ _
+    (λ why. ⊎_elim (λ memory. inl (inl (inl memory)))
+    (λ refused. inr (record {
+      jobs = c.in_ok-named.named.jobs;
+      listed = c.in_ok-named.ensures.listed;
+      place = c.in_ok-named.named.place;
+      first = c.in_ok-named.ensures.first;
+      refused = refused;
+    }))) c.session_of_job.ensures.stopped

@@ -1,0 +1,106 @@
+-- What `gdb` answers gdb, of a job.
+use Rattle.std.specs.Prelude.{◌≡◌, ◌⊎◌, ℕ, Bool, List, [], ◌∷◌, Option, Ok, codes, false, is_ok, slice_index_or}
+use Rattle.std.specs.Io.KnownBytes.{Consumes}
+use Rattle.std.specs.declared.io.ErrorKind.{ErrorKind}
+use Rattle.rv_base.specs.Files.{FileContents}
+use Rattle.rv_cli.specs.declared.rvtest.gdb.GdbAsked.{GdbAsked}
+use Rattle.rv_command.specs.Messages.{path_message}
+use Rattle.rv_command.specs.Stops.{IsStop, IsSystemStop}
+use Rattle.rv_command.specs.Texts.{IsTextAt, optional_text}
+use Rattle.rv_command.specs.declared.stop.Stop.{Stop}
+use Rattle.rv_command.specs.declared.stop.Stop.TheVariants as stop
+use Rattle.rv_expect.specs.Judgement.{judging_by_rule}
+use Rattle.rv_expect.specs.declared.passing.Rule.TheVariants.{Strict}
+use Rattle.rv_files.specs.UnreadPaths.{contents_below, resolved_path}
+use Rattle.rv_files.specs.declared.noting_store.Unread.{Unread}
+use Rattle.rv_gdb.specs.Conversing.{IsEnded}
+use Rattle.rv_gdb.specs.declared.conversation.Broken.{Broken}
+use Rattle.rv_gdb.specs.declared.conversation.Broken.TheVariants as broken
+use Rattle.rv_gdb.specs.JobSessions.{IsSessionOf}
+use Rattle.rv_job_text.specs.Telling.{row_line}
+use Rattle.rv_jobs.specs.Plans.{AreKept, Planned, jobs_needed_for, paths_of, paths_used}
+use Rattle.rv_lists.specs.JobList.{job_list_of}
+use Rattle.rv_lists.specs.declared.job.Job.{Job}
+use Rattle.rv_rows.specs.Rows.{row_of, start_in}
+use Rattle.rv_session.specs.Heard.{IsFed}
+use Rattle.rv_session.specs.declared.session.Session.{Session}
+use Rattle.rvtest_app.specs.Reports.{AreNotesOf, IsFirstNamed}
+use Rattle.rvtest_app.specs.Said.{IsOnlyPut, Said}
+
+-- the session is over the run of the job at a place, whose image's path is taken from a folder, over answers for the paths that its
+-- row needs, which agree with what stands there
+pub record IsJobOpened (known : Option FileContents) (root : Option (List ℕ)) (jobs : List Job) (place : ℕ) (session : Session)
+    : Type 0 where
+  pub plan : Planned
+  pub listed : plan.jobs ≡ jobs
+  pub paths : paths_of plan.answers ≡ paths_used (jobs_needed_for jobs (place ∷ []))
+  pub kept : AreKept known plan.answers
+  pub over : (d : Job) → IsSessionOf plan.answers (slice_index_or plan.jobs place d)
+      (resolved_path root (slice_index_or plan.jobs place d).image) session
+
+-- the same of the first job of a name in the list that a text is
+pub record IsOpenedOf (known : Option FileContents) (words : GdbAsked) (bytes : List ℕ) (session : Session) : Type 0 where
+  pub jobs : List Job
+  pub listed : job_list_of bytes ≡ Ok jobs
+  pub place : ℕ
+  pub first : IsFirstNamed jobs words.name.now place
+  pub of_job : IsJobOpened (contents_below (optional_text words.root) known) (optional_text words.root) jobs place session
+
+-- the same of the list at the path that words name
+pub record IsOpenedAt (known : Option FileContents) (words : GdbAsked) (session : Session) : Type 0 where
+  pub bytes : List ℕ
+  pub read : IsTextAt known words.list.now bytes
+  pub of_list : IsOpenedOf known words bytes session
+
+-- bytes of standard input were read, up to the end of the session or of the bytes, and what the session answers to them went to
+-- standard output, which is no terminal, and nothing else did
+pub record IsGdbAnswered (known : Option FileContents) (is_terminal : Bool) (words : GdbAsked) (input rest : Option (List ℕ))
+    (status : ℕ) (before after : Said) : Type 0 where
+  pub spoken : is_terminal ≡ false
+  pub first : Session
+  pub opened : IsOpenedAt known words first
+  pub heard : List ℕ
+  pub read : Consumes input rest heard
+  pub told : List ℕ
+  pub last : Session
+  pub fed : IsFed first heard told last
+  pub ended : IsEnded last rest
+  pub put : IsOnlyPut told before after
+  pub done : status ≡ 0
+
+-- ---- why it is stopped
+
+-- a terminal stands in gdb's place: it is said how gdb starts the command
+abbrev pub IsNoGdbStop : Stop → Type 0
+IsNoGdbStop why = IsStop 2 (path_message (codes "standard output")
+    (codes "it is a terminal, not gdb; run gdb-multiarch -ex 'target remote | rvtest gdb LIST NAME'")) why
+
+-- a job is refused, as its line says
+pub record IsRefusedJobStop (known : Option FileContents) (jobs : List Job) (place : ℕ) (why : Stop) : Type 0 where
+  pub plan : Planned
+  pub listed : plan.jobs ≡ jobs
+  pub paths : paths_of plan.answers ≡ paths_used (jobs_needed_for jobs (place ∷ []))
+  pub kept : AreKept known plan.answers
+  pub unread : List Unread
+  pub noted : AreNotesOf plan.answers unread
+  pub refused : (d : Job) → is_ok (start_in plan.answers (slice_index_or plan.jobs place d)) ≡ false
+  pub told : (d : Job) → IsStop 2 (row_line plan unread (judging_by_rule Strict) (slice_index_or plan.jobs place d)
+      (row_of plan (slice_index_or plan.jobs place d))) why
+
+-- memory was wanting, or the job at a place is refused
+abbrev pub IsUnopenedStop : Option FileContents → List Job → ℕ → Stop → Type 0
+IsUnopenedStop known jobs place why = (why ≡ stop.OutOfMemory) ⊎ IsRefusedJobStop known jobs place why
+
+-- the first job of a name in the list that a text is was not shown
+pub record IsUnopenedOfStop (known : Option FileContents) (words : GdbAsked) (bytes : List ℕ) (why : Stop) : Type 0 where
+  pub jobs : List Job
+  pub listed : job_list_of bytes ≡ Ok jobs
+  pub place : ℕ
+  pub first : IsFirstNamed jobs words.name.now place
+  pub refused : IsRefusedJobStop (contents_below (optional_text words.root) known) jobs place why
+
+-- what broke off the session: memory was wanting; standard input was not read, for a reason of the system's; or a put failed
+abbrev pub IsBrokenStop : Broken → Stop → Type 0
+IsBrokenStop broken.OutOfMemory why = why ≡ stop.OutOfMemory
+IsBrokenStop (broken.Unread reason) why = IsSystemStop (codes "standard input") reason why
+IsBrokenStop broken.Unput why = why ≡ stop.WriteFailed

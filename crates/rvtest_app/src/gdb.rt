@@ -1,0 +1,199 @@
+//! The command `gdb`.
+
+ghost use Rattle.std.specs.Prelude.{◌≡◌, ◌<◌, ◌⊎◌, IfErr, IfOk, MatchOption, false, is_ok, length, slice_index_or};
+ghost use Rattle.rv_lists.specs.declared.job.Job.{Job as AJob};
+ghost use Rattle.rv_command.specs.Stops.{IsStop};
+ghost use Rattle.rv_command.specs.Texts.{optional_text};
+ghost use Rattle.rv_expect.specs.Judgement.{judging_by_rule};
+ghost use Rattle.rv_expect.specs.declared.passing.Rule.TheVariants.{Strict};
+ghost use Rattle.rv_files.specs.UnreadPaths.{contents_below, resolved_path};
+ghost use Rattle.rv_gdb.specs.JobSessions.{IsSessionOf};
+ghost use Rattle.rv_job_text.specs.Telling.{row_line};
+ghost use Rattle.rv_rows.specs.Rows.{row_of, start_in};
+ghost use Rattle.rvtest_app.specs.CommandStops.{IsGdbStop, IsNoJobStop, IsUnopenedAtStop};
+ghost use Rattle.rvtest_app.specs.Debugging.{IsBrokenStop, IsGdbAnswered, IsJobOpened, IsNoGdbStop, IsOpenedAt, IsOpenedOf, IsUnopenedOfStop, IsUnopenedStop};
+ghost use Rattle.rvtest_app.specs.Said.{said};
+
+use crate::destinations::Destinations;
+use crate::host::Host;
+use crate::named_job::{NamedJob, find_named_job};
+use rv_base::Bytes;
+use rv_cli::rvtest::GdbAsked;
+use rv_command::{DONE, Stop, file_error_stop, path_message, read_list_text};
+use rv_expect::{Judge, Rule};
+use rv_files::{FileError, Inputs, NotingStore, Outputs, Unread};
+use rv_gdb::{Broken, converse, session_at};
+use rv_job_text::{RowTelling, Verbosity};
+use rv_jobs::{Plan, gather_places};
+use rv_rows::{Sink, row_at};
+use rv_session::Session;
+use std::alloc::{AllocError, Global};
+use std::io::Read;
+use std::path::Path;
+
+/// Shows the run of the job of a name to gdb, whose bytes the reader has, and puts the replies to standard output, until gdb ends the
+/// session or sends no more. The status is 0. Where standard output is a terminal nobody there would understand them.
+pub(crate) fn show_job_to_gdb<
+    R,
+    D: Inputs,
+    I: Read,
+    F: Outputs + Drop,
+    O: Sink + Drop,
+    E: Sink + Drop,
+>(
+    host: &Host<'_, R, D>,
+    asked: GdbAsked<'_>,
+    is_terminal: bool,
+    input: &mut I,
+    to: &mut Destinations<F, O, E>,
+) -> Result<u8, Stop>
+    ensures answered { IfOk result (λ status. IsGdbAnswered (D.contents host.now.inputs.now) is_terminal asked.entry
+        (I.remaining input.old) (I.remaining input.new) status
+        (said F.placed O.taken E.taken E.failed to.old) (said F.placed O.taken E.taken E.failed to.new)) }
+    ensures done { IfOk result (λ status. status ≡ 0) }
+    ensures stopped { IfErr result (IsGdbStop (D.contents host.now.inputs.now) is_terminal asked.entry) }
+{
+    let alloc = host.alloc;
+    if is_terminal {
+        return Err(no_gdb_stop(alloc));
+    }
+    let mut session = session_of_named_job(host.inputs, alloc, asked)?;
+    match converse(alloc, &mut session, input, &mut to.out) {
+        Ok(()) => Ok(DONE),
+        Err(broken) => Err(broken_stop(alloc, broken)),
+    }
+}
+
+// It is said how gdb starts the command.
+fn no_gdb_stop(alloc: Global) -> Stop
+    ensures { IsNoGdbStop result }
+{
+    let how =
+        "it is a terminal, not gdb; run gdb-multiarch -ex 'target remote | rvtest gdb LIST NAME'";
+    Stop::of_refusal(path_message(alloc, "standard output", how))
+}
+
+// Why the session with gdb was broken off.
+fn broken_stop(alloc: Global, broken: Broken) -> Stop
+    ensures { IsBrokenStop broken result }
+{
+    match broken {
+        Broken::OutOfMemory => Stop::OutOfMemory,
+        Broken::Unput => Stop::WriteFailed,
+        Broken::Unread(reason) => {
+            file_error_stop(alloc, "standard input", FileError::Failed(reason))
+        }
+    }
+}
+
+// The session over the run of the job of a name, before gdb says anything.
+fn session_of_named_job<D: Inputs>(
+    inputs: &D,
+    alloc: Global,
+    asked: GdbAsked<'_>,
+) -> Result<Session, Stop>
+    ensures opened { IfOk result (IsOpenedAt (D.contents inputs.now) asked.entry) }
+    ensures stopped { IfErr result (IsUnopenedAtStop (D.contents inputs.now) asked.entry) }
+{
+    let text = read_list_text(inputs, alloc, asked.list)?;
+    session_of_text(inputs, alloc, asked, text.as_slice())
+}
+
+// The same of the list's text.
+fn session_of_text<D: Inputs>(
+    inputs: &D,
+    alloc: Global,
+    asked: GdbAsked<'_>,
+    text: &[u8],
+) -> Result<Session, Stop>
+    ensures opened { IfOk result (IsOpenedOf (D.contents inputs.now) asked.entry text.now) }
+    ensures stopped { IfErr result (λ why. IsNoJobStop asked.entry.list.now text.now asked.entry.name.now why
+        ⊎ IsUnopenedOfStop (D.contents inputs.now) asked.entry text.now why) }
+{
+    let named = find_named_job(alloc, asked.list, asked.name, text)?;
+    session_of_job(inputs, alloc, asked, named)
+}
+
+// The same of the job at the place that was found.
+fn session_of_job<D: Inputs>(
+    inputs: &D,
+    alloc: Global,
+    asked: GdbAsked<'_>,
+    named: NamedJob,
+) -> Result<Session, Stop>
+    requires { named.place < length named.jobs }
+    ensures opened { IfOk result (IsJobOpened (contents_below (optional_text asked.entry.root) (D.contents inputs.now))
+        (optional_text asked.entry.root) named.jobs named.place) }
+    ensures stopped { IfErr result (IsUnopenedStop (contents_below (optional_text asked.entry.root) (D.contents inputs.now))
+        named.jobs named.place) }
+{
+    let NamedJob { jobs, place } = named;
+    let places = vec![in alloc; place; 1]?;
+    let mut store = NotingStore::new(inputs, alloc, asked.root);
+    let plan = gather_places(alloc, jobs, places, &mut store)?;
+    match session_over_plan(alloc, &plan, place, asked.root)? {
+        Some(session) => Ok(session),
+        None => Err(refused_job_stop(alloc, &plan, store.unread_paths(), place)),
+    }
+}
+
+// The session over the run of the job at a place of a plan, whose image's path is taken from a folder; nothing where the job is refused.
+fn session_over_plan(
+    alloc: Global,
+    plan: &Plan,
+    place: usize,
+    root: Option<&str>,
+) -> Result<Option<Session>, AllocError>
+    requires { place < length plan.now.jobs }
+    ensures { IfOk result (λ found. (d : AJob) → MatchOption found
+        (is_ok (start_in plan.now.answers (slice_index_or plan.now.jobs place d)) ≡ false)
+        (IsSessionOf plan.now.answers (slice_index_or plan.now.jobs place d)
+        (resolved_path (optional_text root.entry) (slice_index_or plan.now.jobs place d).image))) }
+{
+    let path = resolved_path(alloc, root, plan.job(place).image.as_str())?;
+    session_at(alloc, plan, place, path)
+}
+
+// Where the file of a path in a list is.
+fn resolved_path(alloc: Global, root: Option<&str>, path: &str) -> Result<Bytes, AllocError>
+    ensures { IfOk result (λ place. place ≡ resolved_path (optional_text root.entry) path.now) }
+{
+    let place = match root {
+        Some(folder) => Path::new(folder).join(alloc, path)?,
+        None => return Ok(Bytes::new(Vec::from_slice(alloc, path.as_bytes())?)),
+    };
+    Ok(Bytes::new(Vec::from_slice(alloc, place.as_str().as_bytes())?))
+}
+
+// The job at a place is refused, as its line says.
+fn refused_job_stop(alloc: Global, plan: &Plan, unread: &[Unread], place: usize) -> Stop
+    requires { place < length plan.now.jobs }
+    ensures { (d : AJob) → IsStop 2 (row_line plan.now unread.now (judging_by_rule Strict)
+        (slice_index_or plan.now.jobs place d) (row_of plan.now (slice_index_or plan.now.jobs place d))) result }
+{
+    Stop::of_refusal(row_line(alloc, plan, unread, place))
+}
+
+// The line of the job at a place.
+fn row_line(
+    alloc: Global,
+    plan: &Plan,
+    unread: &[Unread],
+    place: usize,
+) -> Result<Vec<u8>, AllocError>
+    requires { place < length plan.now.jobs }
+    ensures { IfOk result (λ line. (d : AJob) → line.items ≡ row_line plan.now unread.now (judging_by_rule Strict)
+        (slice_index_or plan.now.jobs place d) (row_of plan.now (slice_index_or plan.now.jobs place d))) }
+{
+    let row = row_at(alloc, plan, place)?;
+    let telling = RowTelling {
+        plan,
+        unread,
+        judge: Judge::by_rule(Rule::Strict),
+        verbosity: Verbosity::All,
+        last: None,
+    };
+    let mut line = Vec::new(alloc);
+    telling.push_lone_row_line(alloc, place, &row, &mut line)?;
+    Ok(line)
+}
