@@ -1,0 +1,4 @@
+pub mod Functions
+pub mod Codes
+pub mod Cover
+pub mod Steps

@@ -1,0 +1,30 @@
+//! The functions of an image, each address once.
+
+ghost use Rattle.std.specs.Prelude.{◌≡◌, IfOk, map};
+ghost use Rattle.rv_elf.specs.Functions.{functions};
+ghost use Rattle.rv_elf.specs.Image.{IsImageOf};
+ghost use Rattle.rv_cover.specs.Functions.{IsEachOnce, named};
+
+use rv_elf::{Function, Image, functions};
+use std::alloc::{AllocError, Global};
+
+/// The functions of an image by address: of those at one address the first in the table of symbols.
+pub fn functions_by_address<'a>(
+    alloc: Global,
+    image: &Image,
+    file: &'a [u8],
+) -> Result<Vec<Function<'a>>, AllocError>
+    requires image { IsImageOf file.now image.now }
+    ensures { IfOk result (λ found. IsEachOnce (functions image.now file.now) (map named found.items)) }
+{
+    each_address_once(functions(alloc, image, file)?)
+}
+
+/// Functions by address: of those at one address the first.
+pub fn each_address_once(mut functions: Vec<Function<'_>>) -> Result<Vec<Function<'_>>, AllocError>
+    ensures { IfOk result (λ found. IsEachOnce (map named functions.items) (map named found.items)) }
+{
+    functions.sort_by_key(|function| function.address)?;
+    functions.dedup_by_key(|function| function.address);
+    Ok(functions)
+}
