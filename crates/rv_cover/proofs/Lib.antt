@@ -1,0 +1,4 @@
+pub mod Parts
+pub mod Codes
+pub mod Ran
+pub mod Summing

@@ -22,7 +22,7 @@ pub fn functions_by_address<'a>(
 
 /// Functions by address: of those at one address the first.
 pub fn each_address_once(mut functions: Vec<Function<'_>>) -> Result<Vec<Function<'_>>, AllocError>
-    ensures { IfOk result (λ found. IsEachOnce (map named functions.items) (map named found.items)) }
+    ensures { IfOk result (λ found. IsEachOnce (map named functions.entry.items) (map named found.items)) }
 {
     functions.sort_by_key(|function| function.address)?;
     functions.dedup_by_key(|function| function.address);

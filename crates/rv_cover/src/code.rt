@@ -1,6 +1,6 @@
 //! What ran of the code of a function.
 
-ghost use Rattle.std.specs.Prelude.{◌≡◌, ◌<◌, ◌+◌, ◌^◌, ◌∷◌, [], length};
+ghost use Rattle.std.specs.Prelude.{◌≡◌, ◌≤◌, ◌∷◌, [], drop, length, true};
 ghost use Rattle.rv_counts.specs.Table.{rise_from};
 ghost use Rattle.rv_trace.specs.Code.{size_of_code};
 ghost use Rattle.rv_cover.specs.Codes.{codes_from, front_code, front_half};
@@ -23,7 +23,7 @@ pub(crate) fn amounts_of_code(address: u32, code: &[u8], counts: &[AddressCounts
     while let Some(code) = front_code(rest) {
         amounts = amounts.plus(amounts_at(address, code, counts));
         address = address.wrapping_add(code_length(code) as u32);
-        rest = &rest[code_length(code)..];
+        rest = bytes_behind(rest, code);
     }
     amounts
 }
@@ -70,6 +70,14 @@ fn front_half(bytes: &[u8]) -> Option<u16>
         [low, high, ..] => Some(u16::from(*low) + 0x100 * u16::from(*high)),
         _ => None,
     }
+}
+
+// The bytes behind the code at the front.
+fn bytes_behind(bytes: &[u8], code: Code) -> &[u8]
+    requires { size_of_code code ≤ length bytes.now }
+    ensures { result.now ≡ drop (size_of_code code) bytes.now }
+{
+    &bytes[code_length(code)..]
 }
 
 fn code_length(code: Code) -> usize

@@ -1,6 +1,6 @@
 //! What ran of functions.
 
-ghost use Rattle.std.specs.Prelude.{◌≡◌, ◌<◌, ◌^◌, IfOk, map};
+ghost use Rattle.std.specs.Prelude.{◌≡◌, ◌<◌, ◌^◌, IfOk, map, true};
 ghost use Rattle.std.specs.List.{count_by, flat_map};
 ghost use Rattle.rv_counts.specs.Table.{rise_from};
 ghost use Rattle.rv_cover.specs.Codes.{codes_of};
