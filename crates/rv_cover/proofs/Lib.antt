@@ -2,3 +2,4 @@ pub mod Parts
 pub mod Codes
 pub mod Ran
 pub mod Summing
+pub mod Once

@@ -3,9 +3,9 @@ use Rattle.std.proofs.Common.{◌≡◌, ◌∙◌, ◌==◌, ◌+◌, ◌<◌, 
 use Rattle.std.specs.List.{AllByRecursion, list_any}
 use Rattle.std.proofs.lemmas.Bool.Decides.{nat_tests}
 use Rattle.rv_counts.specs.declared.table.AddressCounts.{AddressCounts}
-use Rattle.rv_counts.specs.Table.{IsCounted, begun_at}
+use Rattle.rv_counts.specs.Table.{AreCounts, IsCounted, begun_at}
 use Rattle.rv_elf.specs.Functions.{Named}
-use Rattle.rv_cover.specs.Cover.{HasNotBegun, has_run}
+use Rattle.rv_cover.specs.Cover.{HasNotBegun, has_run, never_run}
 use Rattle.rv_cover.specs.Functions.{address_of, bytes_of}
 
 abbrev pub is_within : ℕ → ℕ → AddressCounts → Bool
@@ -41,17 +41,45 @@ none_within from behind (c ∷ cs) each h =
 -- ---- those that pass a test
 
 module _ {X : Type 0} (p : X → Bool) where
-  pub passes : (xs : List X) (x : X) → Contains (filter p xs) x → Contains xs x × (p x ≡ true)
-  passes [] x h = absurd (let l = h.1.0 in omega (arith, l))
+  later : (y : X) (ys : List X) (x : X) → Contains ys x → Contains (y ∷ ys) x
+  later y ys x (k, l, e) = (suc k, omega arith, e)
+
+  first_or_later : (y : X) (ys zs : List X) (x : X) → p y ≡ true → (Contains zs x → Contains ys x × (p x ≡ true)) → Contains (y ∷ zs) x
+      → Contains (y ∷ ys) x × (p x ≡ true)
+  first_or_later y ys zs x t h (zero, l, e) = ((zero, omega arith, e), subst (λ z. p z ≡ true) e t)
+  first_or_later y ys zs x t h (suc k, l, e) = let r = h (k, omega arith, e) in (later y ys x r.0, r.1)
+
+  passes : (xs : List X) (x : X) → Contains (filter p xs) x → Contains xs x × (p x ≡ true)
+  passes [] x (k, l, e) = absurd (omega arith)
   passes (y ∷ ys) x h = elim (p y)
       as (λ b. p y ≡ b → Contains (cond b (y ∷ filter p ys) (filter p ys)) x → Contains (y ∷ ys) x × (p x ≡ true)) [
-        | true ↦ λ e k. first e k
-        | false ↦ λ e k. let r = passes ys x k in (later r.0, r.1)
+        | true ↦ λ t k. first_or_later y ys (filter p ys) x t (passes ys x) k
+        | false ↦ λ t k. let r = passes ys x k in (later y ys x r.0, r.1)
       ] refl h
-    where
-      later : Contains ys x → Contains (y ∷ ys) x
-      later k = (suc k.0, ((let l = k.1.0 in omega (arith, l)), k.1.1))
 
-      first : p y ≡ true → Contains (y ∷ filter p ys) x → Contains (y ∷ ys) x × (p x ≡ true)
-      first e (zero, k) = ((zero, (omega arith, k.1)), subst (λ z. p z ≡ true) k.1 e)
-      first e (suc n, k) = let r = passes ys x (n, ((let l = k.0 in omega (arith, l)), k.1)) in (later r.0, r.1)
+  kept_first : (y : X) (ys : List X) (x : X) → y ≡ x → (b : Bool) → b ≡ true → Contains (cond b (y ∷ ys) ys) x
+  kept_first y ys x e true t = (zero, omega arith, e)
+  kept_first y ys x e false t = cc
+
+  kept_later : (y : X) (ys : List X) (x : X) → Contains ys x → (b : Bool) → Contains (cond b (y ∷ ys) ys) x
+  kept_later y ys x h true = later y ys x h
+  kept_later y ys x h false = h
+
+  kept : (xs : List X) (x : X) → Contains xs x → p x ≡ true → Contains (filter p xs) x
+  kept [] x (k, l, e) t = absurd (omega arith)
+  kept (y ∷ ys) x (zero, l, e) t = kept_first y (filter p ys) x e (p y) (subst (λ z. p z ≡ true) (sym e) t)
+  kept (y ∷ ys) x (suc k, l, e) t = kept_later y (filter p ys) x (kept ys x (k, omega arith, e) t) (p y)
+
+negated : (b : Bool) → not b ≡ true → b ≡ false
+negated true e = cc
+negated false e = refl
+
+pub never_run_has_not_begun : (counts : List AddressCounts) (fs : List Named) (f : Named) → AreCounts counts
+    → Contains (never_run counts fs) f ↔ (Contains fs f × HasNotBegun counts f)
+never_run_has_not_begun counts fs f good = (
+  λ h.
+      let r = passes (λ (g : Named). not (has_run counts g)) fs f h in
+      (r.0, not_begun (address_of f) (address_of f + length (bytes_of f)) counts (negated (has_run counts f) r.1)),
+  λ h. kept (λ (g : Named). not (has_run counts g)) fs f h.0
+      (ap not (none_within (address_of f) (address_of f + length (bytes_of f)) counts good.each h.1)),
+)
