@@ -3,3 +3,4 @@ pub mod Codes
 pub mod Ran
 pub mod Summing
 pub mod Once
+pub mod Bounds
