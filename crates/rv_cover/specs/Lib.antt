@@ -2,3 +2,4 @@ pub mod Functions
 pub mod Codes
 pub mod Cover
 pub mod Steps
+pub mod Text

@@ -1,6 +1,9 @@
 //! Functions that a person counted.
 
-use crate::{CodeAmounts, cover_of_functions, each_address_once, never_run};
+use crate::{
+    CodeAmounts, cover_of_functions, each_address_once, never_run, push_cover_head,
+    push_image_line, push_never_run_line,
+};
 use rv_counts::AddressCounts;
 use rv_elf::Function;
 use std::alloc::{AllocError, Global};
@@ -57,10 +60,15 @@ fn names(alloc: Global, functions: &[Function<'_>]) -> Result<Vec<u8>, AllocErro
     Ok(names)
 }
 
-#[test]
-fn functions_are_counted(rt: HostRuntime) -> Result<(), Fail> {
-    let alloc = rt.alloc();
-    let counts = [
+// As the lines of an image show it.
+const TEXT: &str =
+    "   functions run        instructions run  branches both ways   one way     never  image
+     2 of      4          6 of        10                   2         2         1  build/a.elf
+never run: last, idle
+";
+
+fn counts() -> [AddressCounts; 7] {
+    [
         count(0x8000_0000, 1, 0),
         count(0x8000_0004, 3, 0),
         count(0x8000_0008, 3, 2),
@@ -68,7 +76,13 @@ fn functions_are_counted(rt: HostRuntime) -> Result<(), Fail> {
         count(0x8000_0024, 5, 0),
         count(0x8000_0028, 2, 1),
         count(0x8000_0042, 1, 0),
-    ];
+    ]
+}
+
+#[test]
+fn functions_are_counted(rt: HostRuntime) -> Result<(), Fail> {
+    let alloc = rt.alloc();
+    let counts = counts();
     let functions = functions(alloc)?;
     let found = names(alloc, functions.as_slice())?;
     if found.as_slice() != b"main choose last idle ".as_slice() {
@@ -94,6 +108,24 @@ fn functions_are_counted(rt: HostRuntime) -> Result<(), Fail> {
     };
     if amounts.code != expected {
         return Err("how much of their code".into());
+    }
+    Ok(())
+}
+
+#[test]
+fn amounts_are_shown(rt: HostRuntime) -> Result<(), Fail> {
+    let alloc = rt.alloc();
+    let counts = counts();
+    let functions = functions(alloc)?;
+    let amounts = cover_of_functions(functions.as_slice(), &counts);
+    let idle = never_run(alloc, functions.as_slice(), &counts)?;
+    let mut text = Vec::new(alloc);
+    push_cover_head(&mut text)?;
+    push_image_line(alloc, &mut text, b"build/a.elf".as_slice(), &amounts)?;
+    push_never_run_line(&mut text, idle.as_slice())?;
+    push_never_run_line(&mut text, &[])?;
+    if text.as_slice() != TEXT.as_bytes() {
+        return Err("the text".into());
     }
     Ok(())
 }
