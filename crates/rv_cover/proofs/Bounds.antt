@@ -1,5 +1,5 @@
 -- How many bytes functions have together.
-use Rattle.std.proofs.Common.{◌≡◌, ◌∙◌, ◌+◌, ◌-◌, ◌*◌, ◌/◌, ◌^◌, ◌<◌, ◌≤◌, ◌==◌, ℕ, zero, suc, Bool, true, false, cond, List, [], ◌∷◌, Option, Some, None, IfSome, drop, find, length, map, option_and_then, option_map, sum_by, take, refl, sym, ap, subst, arith}
+use Rattle.std.proofs.Common.{◌≡◌, ◌∙◌, ◌+◌, ◌-◌, ◌*◌, ◌/◌, ◌^◌, ◌<◌, ◌≤◌, ◌==◌, ℕ, zero, suc, true, false, cond, List, [], ◌∷◌, Option, Some, None, IfSome, drop, find, length, map, option_and_then, option_map, sum_by, take, refl, ap, arith}
 use Rattle.std.specs.Prelude.{is_ok}
 use Rattle.std.specs.List.{cons_option, dedup, dedup_from, filter_map}
 use Rattle.std.specs.List.Sorted.{IsPermutation}

@@ -1,5 +1,5 @@
 -- Sorted by address, and each address once: at each address the first stays the first.
-use Rattle.std.proofs.Common.{◌≡◌, ◌∙◌, ◌==◌, ◌+◌, ◌<◌, ◌≤◌, ◌&&◌, ℕ, zero, suc, Bool, true, false, cond, not, List, [], ◌∷◌, Option, Some, None, eqb, ltb, find, filter, get_or, length, map, option_map, refl, sym, ap, subst, arith}
+use Rattle.std.proofs.Common.{◌≡◌, ◌∙◌, ◌==◌, ◌+◌, ◌&&◌, ℕ, Bool, true, false, cond, not, List, [], ◌∷◌, Option, Some, None, eqb, ltb, find, filter, map, option_map, refl, sym, ap, subst, arith}
 use Rattle.std.specs.List.{dedup, dedup_from}
 use Rattle.std.specs.List.Sorted.{IsSorted, IsSortedByKey, IsStableByKey, IsStrictlyIncreasing, ties}
 use Rattle.std.specs.Ordering.{is_lt, nat_cmp}

@@ -39,7 +39,7 @@ went_both_ways counts p = nat_lt 0 (taken_at p.0 counts) && nat_lt (taken_at p.0
 
 -- conditional branches that were seen both ways, one way, and never
 abbrev pub is_branch_both_ways : List AddressCounts → Placed → Bool
-is_branch_both_ways counts p = is_branch_code p.1 && (has_begun counts p && went_both_ways counts p)
+is_branch_both_ways counts p = is_branch_code p.1 && went_both_ways counts p
 
 abbrev pub is_branch_one_way : List AddressCounts → Placed → Bool
 is_branch_one_way counts p = is_branch_code p.1 && (has_begun counts p && not (went_both_ways counts p))

@@ -43,7 +43,7 @@ fn amounts_at(address: u32, code: Code, counts: &[AddressCounts]) -> CodeAmounts
     CodeAmounts {
         instructions: 1,
         instructions_run: u64::from(has_begun),
-        branches_both_ways: u64::from(is_branch && has_begun && both_ways),
+        branches_both_ways: u64::from(is_branch && both_ways),
         branches_one_way: u64::from(is_branch && has_begun && !both_ways),
         branches_never: u64::from(is_branch && !has_begun),
     }

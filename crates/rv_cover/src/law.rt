@@ -1,6 +1,6 @@
 //! What it says that a function never ran.
 
-ghost use Rattle.std.specs.Prelude.{◌≡◌, ◌↔◌, List};
+ghost use Rattle.std.specs.Prelude.{◌↔◌, List};
 ghost use Rattle.std.specs.List.{Contains};
 ghost use Rattle.rv_counts.specs.declared.table.AddressCounts.{AddressCounts as Counts};
 ghost use Rattle.rv_counts.specs.Table.{AreCounts};

@@ -1,5 +1,5 @@
 -- Each call of either closure answers an address.
-use Rattle.std.proofs.Common.{◌≡◌, ◌==◌, rules}
+use Rattle.std.proofs.Common.{◌≡◌, rules}
 use Rattle.std.proofs.lemmas.Fn.{always_returns_same, dedup_same}
 use Rattle.rv_cover.proofs.Bounds.{fewer_bytes}
 use Rattle.rv_cover.proofs.Once.{each_once, is_same, starts}

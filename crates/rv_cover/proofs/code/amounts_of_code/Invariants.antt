@@ -1,5 +1,5 @@
 -- What is counted so far and what the rest has are together what all has.
-use Rattle.std.proofs.Common.{◌≡◌, ◌≤◌, length}
+use Rattle.std.proofs.Common.{◌≡◌, length}
 use Rattle.rv_cover.specs.Codes.{codes_from}
 use Rattle.rv_cover.specs.Cover.{amounts_of_codes}
 use Rattle.rv_cover.specs.Steps.{plus}
