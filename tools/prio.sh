@@ -1,20 +1,23 @@
 #!/bin/bash
+# niceness is of threads: each is set by itself
 while true; do
-  for p in $(pgrep -f "bin/rattle |/program|valgrind"); do
+  for p in $(pgrep -f "bin/rattle|/program|valgrind|clang"); do
     d=$(readlink /proc/$p/cwd 2>/dev/null) || continue
+    # a compiler has a folder of its own: its caller's counts
+    case "$d" in /work/*) ;; *) q=$(awk '{print $4}' /proc/$p/stat 2>/dev/null); e=$(readlink /proc/$q/cwd 2>/dev/null); case "$e" in /work/w/*) d=$e;; esac;; esac
     case "$d" in
-      /work/w/gate/crates/rvtest*) n=-12;;
-      /work/w/gate*) n=$(cat /work/notes/nice.gate 2>/dev/null || echo 4);;
+      /tmp/rt-copy-*) r=${d#/tmp/rt-copy-}; r=${r%%-*}; if grep -qx "$r" /work/notes/mine 2>/dev/null; then n=0; else n=$(cat /work/notes/nice.helpers); fi;;
+      /work/w/gate*) n=$(cat /work/notes/nice.gate 2>/dev/null || echo 3);;
+      /work/w/e57*) n=$(cat /work/notes/nice.e57 2>/dev/null || echo 0);;
+      /work/w/land*) n=-5;;
       /tmp/rt-edits-*|/tmp/rt-edit-*) n=$(cat /work/notes/nice.edit 2>/dev/null || echo 6);;
-      /tmp/rt-plant-*) n=2;;
-      /tmp/tmp*) n=-8;;
-      /work/w/plant*) n=0;;
-      /work/w/next*|/work/w/try-next*|/work/w/land*) n=-5;;
-      /work/w/c62*|/work/w/k62*|/work/w/g61*) n=18;;
-      *) n=18;;
+      *) n=$(cat /work/notes/nice.helpers 2>/dev/null || echo 8);;
     esac
-    c=$(ps -o ni= -p $p | tr -d ' ')
-    [ "$c" != "$n" ] && renice -n $n -p $p >/dev/null 2>&1
+    for t in /proc/$p/task/*; do
+      t=${t##*/}
+      c=$(awk '{print $19}' /proc/$p/task/$t/stat 2>/dev/null)
+      [ -n "$c" ] && [ "$c" != "$n" ] && renice -n $n -p $t >/dev/null 2>&1
+    done
   done
-  sleep 6
+  sleep 4
 done

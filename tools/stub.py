@@ -1,8 +1,8 @@
 import re,os,sys,shutil,subprocess
-SRC='/work/w/int'; DST='/work/w/try-int'
+SRC=os.environ['SRC']; DST=os.environ['DST']; CRATE=os.environ['CRATE']
 # args: targets file
 keep=set(sys.argv[1:])   # rvtest_app functions kept, e.g. run::ListRun::put_counts
-exec(open('/work/notes/stub/deps.py').read())
+exec(open('/work/tools2/deps.py').read())
 def match(s,i,rust):
     # s[i]=='{' ; returns index past the matching brace
     d=0; n=len(s)
@@ -86,7 +86,7 @@ def do(crate):
                 while k>=0 and (pre[k].strip().startswith('#[') or pre[k].strip().startswith('//')):
                     att.append(pre[k].strip()); k-=1
                 if any('cycle' in a or 'test' in a or a.startswith('#[no_mangle') for a in att if a.startswith('#[')): continue
-                if crate=='rvtest_app' and '::'.join(q) in keep: continue
+                if crate==CRATE and '::'.join(q) in keep: continue
                 # find body
                 i=m.end(); prev=i
                 body=None
@@ -116,8 +116,8 @@ def do(crate):
             open(path,'w').write(''.join(out))
 shutil.rmtree(DST,ignore_errors=True)
 os.makedirs(DST+'/crates')
-for c in repo+['rvtest_app']:
+for c in repo+[CRATE]:
     shutil.copytree(f'{SRC}/crates/{c}',f'{DST}/crates/{c}',ignore=shutil.ignore_patterns('out','must-fail'))
 shutil.copy(SRC+'/crates.txt',DST)
-for c in repo+['rvtest_app']: do(c)
+for c in repo+[CRATE]: do(c)
 print('stubs',stubs)
