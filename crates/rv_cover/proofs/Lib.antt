@@ -1,0 +1,6 @@
+pub mod Parts
+pub mod Codes
+pub mod Ran
+pub mod Summing
+pub mod Once
+pub mod Bounds

@@ -1,0 +1,5 @@
+pub mod Functions
+pub mod Codes
+pub mod Cover
+pub mod Steps
+pub mod Text
