@@ -1,5 +1,5 @@
 -- The first of a sum of images, in each of the cases.
-use Rattle.std.proofs.Common.{◌≡◌, ◌∙◌, ◌==◌, ◌+◌, ◌^◌, ◌<◌, ◌≤◌, ℕ, zero, suc, Bool, true, false, cond, List, [], ◌∷◌, ◌++◌, Option, Some, None, length, drop, get_or, refl, sym, ap, subst, append-nil, arith}
+use Rattle.std.proofs.Common.{◌≡◌, ◌∙◌, ◌==◌, ◌+◌, ◌^◌, ◌<◌, ◌≤◌, ◌⊎◌, inl, inr, ℕ, zero, suc, Bool, true, false, cond, List, [], ◌∷◌, ◌++◌, Option, Some, None, length, drop, get_or, refl, sym, ap, subst, append-nil, arith}
 use Rattle.std.proofs.lemmas.Bool.{and_parts, and_from, cond_both}
 use Rattle.std.proofs.lemmas.List.{drop_all}
 use Rattle.std.specs.Prelude.{◌&&◌}
@@ -8,13 +8,18 @@ use Rattle.std.specs.List.{AllByRecursion}
 use Rattle.std.specs.Str.{bytes_eq, IsUtf8}
 use Rattle.rv_counts.specs.declared.table.ImageCounts.{ImageCounts}
 use Rattle.rv_counts.specs.declared.sum.SumError.{SumError}
-use Rattle.rv_counts.specs.declared.sum.SumError.TheVariants.{OutOfMemory, Count, Runs}
+use Rattle.rv_counts.specs.declared.sum.SumError.TheVariants.{OutOfMemory, Count, Spot, Runs}
 use Rattle.rv_counts.specs.declared.sum_of_images.NextImage.{NextImage}
 use Rattle.rv_counts.specs.Lines.{lacks}
-use Rattle.rv_counts.specs.Table.{begun_at, taken_at, begun_in, taken_in, path_in, least_path, least_path_of}
-use Rattle.rv_counts.specs.Table.{is_before, is_behind, digests_rise, IsImage}
-use Rattle.rv_counts.specs.Sum.{IsSumOfCounts, IsTooGreatAt}
-use Rattle.rv_counts.specs.SumSteps.{ImagesAddUp, IsNextImage, IsTooGreatIn}
+use Rattle.rv_counts.specs.Table.{begun_at, taken_at, name_at, begun_in, taken_in, path_in, name_in, arrivals_in, steps_in, least_path, least_path_of}
+use Rattle.rv_counts.specs.Table.{is_before, is_behind, digests_rise, AreSpots, IsImage, IsSpot}
+use Rattle.rv_counts.specs.Sum.{sum_error_of, IsSumOfCounts, IsSumOfNames, IsTooGreatAt}
+use Rattle.rv_counts.specs.SumSteps.{ImagesAddUp, IsNextImage, IsTooGreatIn, IsTooGreatOf}
+use Rattle.rv_spots.specs.declared.sum.SpotSumError.{SpotSumError}
+use Rattle.rv_spots.specs.declared.sum.SpotSumError.TheVariants as spots
+use Rattle.rv_spots.specs.declared.spot.Spot.{Spot as ASpot}
+use Rattle.rv_spots.specs.Sums.{FitsSpot, IsSumOfSpots, IsTooGreat}
+use Rattle.rv_spots.specs.Trees.{arrivals_at, steps_at, HasArrivals}
 use Rattle.rv_counts.proofs.Adding.{parts}
 use Rattle.rv_counts.proofs.Paths.{any_first, second_first, by_two, same_place}
 
@@ -57,6 +62,10 @@ first_image_ahead x xs b others image above h = record {
   taken = λ d n. let e = h.taken d n in omega (arith, e);
   paths = λ d. ap (least_path_of (cond (bytes_eq x.digest d) (Some x.path) None)) (h.paths d)
       ∙ sym (any_first (cond (bytes_eq x.digest d) (Some x.path) None) (path_in d xs) (path_in d b));
+  names = λ d f. ap (least_path_of (cond (bytes_eq x.digest d) (name_at f x.functions) None)) (h.names d f)
+      ∙ sym (any_first (cond (bytes_eq x.digest d) (name_at f x.functions) None) (name_in d f xs) (name_in d f b));
+  arrivals = λ d p. let e = h.arrivals d p in omega (arith, e);
+  steps = λ d p. let e = h.steps d p in omega (arith, e);
 }
 
 -- an image of the second list alone
@@ -71,10 +80,14 @@ second_image_ahead y a ys others image above h = record {
   taken = λ d n. let e = h.taken d n in omega (arith, e);
   paths = λ d. ap (least_path_of (cond (bytes_eq y.digest d) (Some y.path) None)) (h.paths d)
       ∙ second_first (path_in d a) (cond (bytes_eq y.digest d) (Some y.path) None) (path_in d ys);
+  names = λ d f. ap (least_path_of (cond (bytes_eq y.digest d) (name_at f y.functions) None)) (h.names d f)
+      ∙ second_first (name_in d f a) (cond (bytes_eq y.digest d) (name_at f y.functions) None) (name_in d f ys);
+  arrivals = λ d p. let e = h.arrivals d p in omega (arith, e);
+  steps = λ d p. let e = h.steps d p in omega (arith, e);
 }
 
 -- the path of a digest that both lists have
-path_parts : (s t : Bool) (p q : List ℕ) (r u v : Option (List ℕ)) → s ≡ t → r ≡ least_path_of u v
+pub path_parts : (s t : Bool) (p q : List ℕ) (r u v : Option (List ℕ)) → s ≡ t → r ≡ least_path_of u v
     → least_path_of (cond s (Some (least_path p q)) None) r
     ≡ least_path_of (least_path_of (cond s (Some p) None) u) (least_path_of (cond t (Some q) None) v)
 path_parts s true p q r u v e f =
@@ -85,15 +98,28 @@ path_parts s false p q r u v e f =
     ap (λ (k : Bool). least_path_of (cond k (Some (least_path p q)) None) r) e ∙ f
     ∙ sym (ap (λ (k : Bool). least_path_of (least_path_of (cond k (Some p) None) u) v) e)
 
-least_is : (P : List ℕ → Type 0) (p q : List ℕ) → P p → P q → P (least_path p q)
+-- the name of a function that both have
+name_parts : (s t : Bool) (o p q r u v : Option (List ℕ)) → s ≡ t → o ≡ least_path_of p q → r ≡ least_path_of u v
+    → least_path_of (cond s o None) r
+    ≡ least_path_of (least_path_of (cond s p None) u) (least_path_of (cond t q None) v)
+name_parts s true o p q r u v e f g =
+    ap (λ (k : Bool). least_path_of (cond k o None) r) e
+    ∙ (λ i. least_path_of (f i) (g i)) ∙ by_two p q u v
+    ∙ sym (ap (λ (k : Bool). least_path_of (least_path_of (cond k p None) u) (least_path_of q v)) e)
+name_parts s false o p q r u v e f g =
+    ap (λ (k : Bool). least_path_of (cond k o None) r) e ∙ g
+    ∙ sym (ap (λ (k : Bool). least_path_of (least_path_of (cond k p None) u) v) e)
+
+pub least_is : (P : List ℕ → Type 0) (p q : List ℕ) → P p → P q → P (least_path p q)
 least_is P p q h k = cond_both (is_before q p) q p P (λ _. k) (λ _. h)
 
 -- an image of both lists
 both_images_ahead : (x y sum : ImageCounts) (xs ys others : List ImageCounts) → IsImage x → IsImage y
     → x.digest ≡ y.digest → sum.digest ≡ x.digest → sum.path ≡ least_path x.path y.path
-    → IsSumOfCounts x.addresses y.addresses sum.addresses
+    → IsSumOfCounts x.addresses y.addresses sum.addresses → IsSumOfNames x.functions y.functions sum.functions
+    → AreSpots sum.spots → IsSumOfSpots x.spots y.spots sum.spots
     → ImagesAddUp xs ys others → ImagesAddUp (x ∷ xs) (y ∷ ys) (sum ∷ others)
-both_images_ahead x y sum xs ys others image also one at path counts h = record {
+both_images_ahead x y sum xs ys others image also one at path counts names tree spots h = record {
   each = (
     (record {
       digest = ap length at ∙ image.digest;
@@ -101,6 +127,8 @@ both_images_ahead x y sum xs ys others image also one at path counts h = record 
       path = ap (lacks 10) path ∙ least_is (λ s. lacks 10 s ≡ true) x.path y.path image.path also.path;
       text = subst (λ (s : List ℕ). IsUtf8 s) (sym path) (least_is IsUtf8 x.path y.path image.text also.text);
       counts = counts.counts;
+      names = names.names;
+      spots = tree;
     }),
     h.each,
   );
@@ -116,6 +144,16 @@ both_images_ahead x y sum xs ys others image also one at path counts h = record 
   paths = λ d. (λ i. least_path_of (cond (bytes_eq (at i) d) (Some (path i)) None) (path_in d others))
       ∙ path_parts (bytes_eq x.digest d) (bytes_eq y.digest d) x.path y.path _ (path_in d xs) (path_in d ys)
       (ap (λ (s : List ℕ). bytes_eq s d) one) (h.paths d);
+  names = λ d f. ap (λ (s : List ℕ). least_path_of (cond (bytes_eq s d) (name_at f sum.functions) None) (name_in d f others)) at
+      ∙ name_parts (bytes_eq x.digest d) (bytes_eq y.digest d) (name_at f sum.functions) (name_at f x.functions)
+      (name_at f y.functions) _ (name_in d f xs) (name_in d f ys)
+      (ap (λ (s : List ℕ). bytes_eq s d) one) (names.each f) (h.names d f);
+  arrivals = λ d p. ap (λ (s : List ℕ). cond (bytes_eq s d) (arrivals_at p sum.spots) 0 + arrivals_in d p others) at
+      ∙ parts (bytes_eq x.digest d) (bytes_eq y.digest d) (arrivals_at p x.spots) (arrivals_at p y.spots)
+      (arrivals_at p sum.spots) _ _ _ (ap (λ (s : List ℕ). bytes_eq s d) one) (spots.arrivals p) (h.arrivals d p);
+  steps = λ d p. ap (λ (s : List ℕ). cond (bytes_eq s d) (steps_at p sum.spots) 0 + steps_in d p others) at
+      ∙ parts (bytes_eq x.digest d) (bytes_eq y.digest d) (steps_at p x.spots) (steps_at p y.spots)
+      (steps_at p sum.spots) _ _ _ (ap (λ (s : List ℕ). bytes_eq s d) one) (spots.steps p) (h.steps d p);
 }
 
 -- ---- the first of a sum in each case of `next_image`
@@ -181,11 +219,12 @@ image_of_second (x ∷ xs) (y ∷ ys) z w each some other is at less next e =
 pub image_of_both : (a b : List ImageCounts) (x y sum : ImageCounts) → AllByRecursion IsImage a → AllByRecursion IsImage b
     → 0 < length a → 0 < length b → x ≡ get_or a 0 x → y ≡ get_or b 0 y → is_before x.digest y.digest ≡ false
     → is_before y.digest x.digest ≡ false → sum.digest ≡ x.digest → sum.path ≡ least_path x.path y.path
-    → IsSumOfCounts x.addresses y.addresses sum.addresses
+    → IsSumOfCounts x.addresses y.addresses sum.addresses → IsSumOfNames x.functions y.functions sum.functions
+    → AreSpots sum.spots → IsSumOfSpots x.spots y.spots sum.spots
     → IsNextImage a b (record { image = sum; of_a = 1; of_b = 1 })
-image_of_both [] b x y sum each also some other is at first second digest path counts = absurd (omega arith)
-image_of_both (x ∷ xs) [] z w sum each also some other is at first second digest path counts = absurd (omega arith)
-image_of_both (x ∷ xs) (y ∷ ys) z w sum each also some other is at first second digest path counts = record {
+image_of_both [] b x y sum each also some other is at first second digest path counts names tree spots = absurd (omega arith)
+image_of_both (x ∷ xs) [] z w sum each also some other is at first second digest path counts names tree spots = absurd (omega arith)
+image_of_both (x ∷ xs) (y ∷ ys) z w sum each also some other is at first second digest path counts names tree spots = record {
   of_a = omega arith;
   of_b = omega arith;
   some = omega arith;
@@ -195,7 +234,11 @@ image_of_both (x ∷ xs) (y ∷ ys) z w sum each also some other is at first sec
       (digest ∙ ap (λ (i : ImageCounts). i.digest) is)
       (path ∙ (λ i. least_path (is i).path (at i).path))
       (subst (λ (i : ImageCounts). IsSumOfCounts x.addresses i.addresses sum.addresses) at
-      (subst (λ (i : ImageCounts). IsSumOfCounts i.addresses w.addresses sum.addresses) is counts)) h;
+      (subst (λ (i : ImageCounts). IsSumOfCounts i.addresses w.addresses sum.addresses) is counts))
+      (subst (λ (i : ImageCounts). IsSumOfNames x.functions i.functions sum.functions) at
+      (subst (λ (i : ImageCounts). IsSumOfNames i.functions w.functions sum.functions) is names)) tree
+      (subst (λ (i : ImageCounts). IsSumOfSpots x.spots i.spots sum.spots) at
+      (subst (λ (i : ImageCounts). IsSumOfSpots i.spots w.spots sum.spots) is spots)) h;
 }
 
 -- ---- what is refused
@@ -203,10 +246,23 @@ image_of_both (x ∷ xs) (y ∷ ys) z w sum each also some other is at first sec
 text_is_itself : (s : List ℕ) → bytes_eq s s ≡ true
 text_is_itself s = (bytes_decides s s).1 refl
 
--- a count of two images that stand first is one of both lists
+at_itself : (digest other : List ℕ) (n : ℕ) → digest ≡ other → cond (bytes_eq digest other) n 0 ≡ n
+at_itself digest other n e = ap (λ (t : Bool). cond t n 0) (ap (bytes_eq digest) (sym e) ∙ text_is_itself digest)
+
+-- a number of two images that stand first is one of both lists
+great_here : (count : ImageCounts → ℕ) (x y z w : ImageCounts) (n m : ℕ) → z ≡ x → w ≡ y → x.digest ≡ y.digest
+    → 2 ^ 64 ≤ count z + count w
+    → 2 ^ 64 ≤ (cond (bytes_eq x.digest x.digest) (count x) 0 + n) + (cond (bytes_eq y.digest x.digest) (count y) 0 + m)
+great_here count x y z w n m is at one h =
+    let p = at_itself x.digest x.digest (count x) refl in
+    let q = at_itself y.digest x.digest (count y) (sym one) in
+    let r = ap count is in
+    let s = ap count at in
+    omega (arith, p, q, r, s, h)
+
 pub too_great_first : (a b : List ImageCounts) (x y : ImageCounts) (error : SumError) → 0 < length a → 0 < length b
     → x ≡ get_or a 0 x → y ≡ get_or b 0 y → is_before x.digest y.digest ≡ false → is_before y.digest x.digest ≡ false
-    → IsTooGreatAt error x.addresses y.addresses → IsTooGreatIn error a b
+    → IsTooGreatOf error x y → IsTooGreatIn error a b
 too_great_first [] b x y error some other is at first second h = absurd (omega arith)
 too_great_first (x ∷ xs) [] z w error some other is at first second h = absurd (omega arith)
 too_great_first (x ∷ xs) (y ∷ ys) z w OutOfMemory some other is at first second h = tt
@@ -214,13 +270,56 @@ too_great_first (x ∷ xs) (y ∷ ys) z w Runs some other is at first second h =
 too_great_first (x ∷ xs) (y ∷ ys) z w (Count n) some other is at first second h =
     let one : x.digest ≡ y.digest = ap (λ (i : ImageCounts). i.digest) (sym is)
     ∙ same_place z.digest w.digest first second ∙ ap (λ (i : ImageCounts). i.digest) at in
-    let p : cond (bytes_eq x.digest x.digest) (begun_at n x.addresses) 0 ≡ begun_at n x.addresses =
-    ap (λ (t : Bool). cond t (begun_at n x.addresses) 0) (text_is_itself x.digest) in
-    let q : cond (bytes_eq y.digest x.digest) (begun_at n y.addresses) 0 ≡ begun_at n y.addresses =
-    ap (λ (t : Bool). cond t (begun_at n y.addresses) 0) (ap (bytes_eq y.digest) one ∙ text_is_itself y.digest) in
-    let r : begun_at n x.addresses ≡ begun_at n z.addresses = ap (λ (i : ImageCounts). begun_at n i.addresses) (sym is) in
-    let s : begun_at n y.addresses ≡ begun_at n w.addresses = ap (λ (i : ImageCounts). begun_at n i.addresses) (sym at) in
-    (x.digest, omega (arith, p, q, r, s, h))
+    (x.digest, great_here (λ i. begun_at n i.addresses) x y z w (begun_in x.digest n xs) (begun_in x.digest n ys) is at one h)
+too_great_first (x ∷ xs) (y ∷ ys) z w (Spot f) some other is at first second h =
+    let one : x.digest ≡ y.digest = ap (λ (i : ImageCounts). i.digest) (sym is)
+    ∙ same_place z.digest w.digest first second ∙ ap (λ (i : ImageCounts). i.digest) at in (
+      x.digest,
+      h.0,
+      h.1,
+      elim h.2 [
+        | inl k ↦ inl (great_here (λ i. arrivals_at h.0 i.spots) x y z w (arrivals_in x.digest h.0 xs) (arrivals_in x.digest h.0 ys) is at one k)
+        | inr k ↦ inr (great_here (λ i. steps_at h.0 i.spots) x y z w (steps_in x.digest h.0 xs) (steps_in x.digest h.0 ys) is at one k)
+      ],
+    )
+
+-- what is refused of addresses, and of spots, is refused of their images
+pub too_great_of_counts : (error : SumError) (a b : ImageCounts) → IsTooGreatAt error a.addresses b.addresses → IsTooGreatOf error a b
+too_great_of_counts OutOfMemory a b h = tt
+too_great_of_counts (Count n) a b h = h
+too_great_of_counts (Spot f) a b h = absurd h
+too_great_of_counts Runs a b h = h
+
+pub too_great_of_spots : (why : SpotSumError) (a b : ImageCounts) → IsTooGreat why a.spots b.spots
+    → IsTooGreatOf (sum_error_of why) a b
+too_great_of_spots spots.OutOfMemory a b h = tt
+too_great_of_spots (spots.Count f) a b h = h
+
+-- ---- spots of a sum
+
+pub all_come_to : (ss : List ASpot) → AllByRecursion IsSpot ss → HasArrivals ss
+all_come_to [] h = tt
+all_come_to (s ∷ ss) h = (h.0.some, all_come_to ss h.1)
+
+come_and_fit : (ss : List ASpot) → HasArrivals ss → AllByRecursion FitsSpot ss → AllByRecursion IsSpot ss
+come_and_fit [] h k = tt
+come_and_fit (s ∷ ss) h k = (
+  record {
+    depth = k.0.depth;
+    function = k.0.function;
+    some = h.0;
+    arrivals = k.0.arrivals;
+    steps = k.0.steps;
+  },
+  come_and_fit ss h.1 k.1,
+)
+
+pub are_spots : (a b xs ys sum : List ASpot) → AreSpots a → AreSpots b → xs ≡ a → ys ≡ b → IsSumOfSpots xs ys sum
+    → AllByRecursion FitsSpot sum → AreSpots sum
+are_spots a b xs ys sum h k is at sums fits =
+    let some = sums.some (subst (λ (ss : List ASpot). HasArrivals ss) (sym is) (all_come_to a h.each))
+    (subst (λ (ss : List ASpot). HasArrivals ss) (sym at) (all_come_to b k.each)) in
+    record { each = come_and_fit sum some fits; tree = sums.tree }
 
 -- ---- the loop: what both lists have ahead
 
@@ -235,6 +334,18 @@ some_images_left zero digest address is = omega arith
 some_images_left (suc n) digest address [] = omega arith
 some_images_left (suc n) digest address (i ∷ is) = let h = some_images_left n digest address is in omega (arith, h)
 
+some_arrivals_left : (n : ℕ) (digest path : List ℕ) (is : List ImageCounts)
+    → arrivals_in digest path (drop n is) ≤ arrivals_in digest path is
+some_arrivals_left zero digest path is = omega arith
+some_arrivals_left (suc n) digest path [] = omega arith
+some_arrivals_left (suc n) digest path (i ∷ is) = let h = some_arrivals_left n digest path is in omega (arith, h)
+
+some_steps_left : (n : ℕ) (digest path : List ℕ) (is : List ImageCounts)
+    → steps_in digest path (drop n is) ≤ steps_in digest path is
+some_steps_left zero digest path is = omega arith
+some_steps_left (suc n) digest path [] = omega arith
+some_steps_left (suc n) digest path (i ∷ is) = let h = some_steps_left n digest path is in omega (arith, h)
+
 pub too_great_in_rest : (n m : ℕ) (a b : List ImageCounts) (error : SumError)
     → IsTooGreatIn error (drop n a) (drop m b) → IsTooGreatIn error a b
 too_great_in_rest n m a b OutOfMemory h = tt
@@ -243,6 +354,21 @@ too_great_in_rest n m a b (Count address) h =
     let p = some_images_left n h.0 address a in
     let q = some_images_left m h.0 address b in
     (h.0, omega (arith, k, p, q))
+too_great_in_rest n m a b (Spot f) h = (
+  h.0,
+  h.1,
+  h.2,
+  elim h.3 [
+    | inl k ↦
+        let p = some_arrivals_left n h.0 h.1 a in
+        let q = some_arrivals_left m h.0 h.1 b in
+        inl (omega (arith, k, p, q))
+    | inr k ↦
+        let p = some_steps_left n h.0 h.1 a in
+        let q = some_steps_left m h.0 h.1 b in
+        inr (omega (arith, k, p, q))
+  ],
+)
 too_great_in_rest n m a b Runs h = h
 
 none_add_up : ImagesAddUp [] [] []
@@ -252,6 +378,9 @@ none_add_up = record {
   begun = λ digest address. refl;
   taken = λ digest address. refl;
   paths = λ digest. refl;
+  names = λ digest function. refl;
+  arrivals = λ digest path. refl;
+  steps = λ digest path. refl;
 }
 
 -- at the end what stands there is the sum

@@ -3,14 +3,17 @@ pub mod ByteOrder
 pub mod Adding
 pub mod Paths
 pub mod AddingImages
+pub mod AddingNames
 pub mod Pieces
 pub mod Words
 pub mod LineLoops
 pub mod LineTexts
+pub mod Entries
 pub mod Decode
 pub mod Reading
 pub mod Refusing
 pub mod ReadingLines
+pub mod ReadingStacks
 pub mod ReadTable
 pub mod ToldImages
 pub mod Lookups

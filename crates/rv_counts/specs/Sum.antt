@@ -1,11 +1,16 @@
--- The sum of two tables of counts: each count of each image is the sum of both.
-use Rattle.std.specs.Prelude.{◌≡◌, ◌+◌, ◌^◌, ◌≤◌, ℕ, List, [], Result, Ok, Err}
+-- The sum of two tables of counts: each count of each image is the sum of both, and of two names the first in the order of
+-- bytes stays.
+use Rattle.std.specs.Prelude.{◌≡◌, ◌+◌, ◌^◌, ◌≤◌, ◌⊎◌, ℕ, true, List, [], Result, Ok, Err}
 use Rattle.rv_counts.specs.declared.table.AddressCounts.{AddressCounts}
+use Rattle.rv_counts.specs.declared.table.FunctionName.{FunctionName}
 use Rattle.rv_counts.specs.declared.table.ImageCounts.{ImageCounts}
 use Rattle.rv_counts.specs.declared.table.CountTable.{CountTable}
 use Rattle.rv_counts.specs.declared.sum.SumError.{SumError}
-use Rattle.rv_counts.specs.declared.sum.SumError.TheVariants.{OutOfMemory, Count, Runs}
-use Rattle.rv_counts.specs.Table.{begun_at, taken_at, begun_in, taken_in, path_in, least_path_of, AreCounts, IsImage, IsTable}
+use Rattle.rv_counts.specs.declared.sum.SumError.TheVariants.{OutOfMemory, Count, Spot, Runs}
+use Rattle.rv_counts.specs.Table.{begun_at, taken_at, name_at, begun_in, taken_in, path_in, name_in, arrivals_in, steps_in, least_path_of, AreCounts, AreNames, IsImage, IsTable}
+use Rattle.rv_spots.specs.Trees.{ends_with}
+use Rattle.rv_spots.specs.declared.sum.SpotSumError.{SpotSumError}
+use Rattle.rv_spots.specs.declared.sum.SpotSumError.TheVariants as spots
 
 -- at each address the sum of both counts
 pub record IsSumOfCounts (a b sum : List AddressCounts) : Type 0 where
@@ -13,8 +18,13 @@ pub record IsSumOfCounts (a b sum : List AddressCounts) : Type 0 where
   pub begun : (address : ℕ) → begun_at address sum ≡ begun_at address a + begun_at address b
   pub taken : (address : ℕ) → taken_at address sum ≡ taken_at address a + taken_at address b
 
--- in the image of each digest the sum of both counts at each address; of two paths the first in
--- the order of bytes; and the runs of both
+-- for each function the name of both that comes first
+pub record IsSumOfNames (a b sum : List FunctionName) : Type 0 where
+  pub names : AreNames sum
+  pub each : (function : ℕ) → name_at function sum ≡ least_path_of (name_at function a) (name_at function b)
+
+-- in the image of each digest the sum of both counts at each address, and of both numbers of each list of functions; of two
+-- paths, and of two names of a function, the first in the order of bytes; and the runs of both
 pub record IsSum (a b sum : CountTable) : Type 0 where
   pub table : IsTable sum
   pub begun : (digest : List ℕ) → (address : ℕ)
@@ -23,19 +33,34 @@ pub record IsSum (a b sum : CountTable) : Type 0 where
       → taken_in digest address sum.images ≡ taken_in digest address a.images + taken_in digest address b.images
   pub paths : (digest : List ℕ)
       → path_in digest sum.images ≡ least_path_of (path_in digest a.images) (path_in digest b.images)
+  pub names : (digest : List ℕ) → (function : ℕ)
+      → name_in digest function sum.images ≡ least_path_of (name_in digest function a.images) (name_in digest function b.images)
+  pub arrivals : (digest path : List ℕ)
+      → arrivals_in digest path sum.images ≡ arrivals_in digest path a.images + arrivals_in digest path b.images
+  pub steps : (digest path : List ℕ)
+      → steps_in digest path sum.images ≡ steps_in digest path a.images + steps_in digest path b.images
   pub runs : sum.runs ≡ a.runs + b.runs
+
+-- what is told of spots that were not added
+abbrev pub sum_error_of : SpotSumError → SumError
+sum_error_of spots.OutOfMemory = OutOfMemory
+sum_error_of (spots.Count function) = Spot function
 
 -- the number that is told is of 2^64 or more
 abbrev pub IsTooGreat : SumError → CountTable → CountTable → Type 0
 IsTooGreat OutOfMemory a b = Unit {0}
 IsTooGreat (Count address) a b = (digest : List ℕ)
     × (2 ^ 64 ≤ begun_in digest address a.images + begun_in digest address b.images)
+IsTooGreat (Spot function) a b = (digest : List ℕ) × (path : List ℕ) × (ends_with function path ≡ true)
+    × ((2 ^ 64 ≤ arrivals_in digest path a.images + arrivals_in digest path b.images)
+    ⊎ (2 ^ 64 ≤ steps_in digest path a.images + steps_in digest path b.images))
 IsTooGreat Runs a b = 2 ^ 64 ≤ a.runs + b.runs
 
 -- the same of one image's addresses
 abbrev pub IsTooGreatAt : SumError → List AddressCounts → List AddressCounts → Type 0
 IsTooGreatAt OutOfMemory a b = Unit {0}
 IsTooGreatAt (Count address) a b = 2 ^ 64 ≤ begun_at address a + begun_at address b
+IsTooGreatAt (Spot function) a b = ⊥
 IsTooGreatAt Runs a b = ⊥
 
 -- the table of no run

@@ -1,12 +1,13 @@
 //! The sum of two tables.
 
 ghost use Rattle.std.specs.Prelude.{◌≡◌, IfOk, IfErr};
-ghost use Rattle.rv_counts.specs.Sum.{IsSum, IsTooGreat};
+ghost use Rattle.rv_counts.specs.Sum.{IsSum, IsTooGreat, sum_error_of};
 ghost use Rattle.rv_counts.specs.Table.{IsTable};
 ghost use Rattle.rv_counts.specs.declared.sum.SumError.TheVariants.{OutOfMemory};
 
 use crate::sum_of_images::sum_of_images;
 use crate::table::CountTable;
+use rv_spots::SpotSumError;
 use std::alloc::{AllocError, Global};
 use thiserror::Error;
 
@@ -19,6 +20,9 @@ pub enum SumError {
     /// The instruction at the address began 2^64 times or more, in one image.
     #[error("a count of {0:08x} does not fit in 64 bits")]
     Count(u32),
+    /// A number of a spot of the function is of 2^64 or more, in one image.
+    #[error("a count in the stacks of {0:08x} does not fit in 64 bits")]
+    Spot(u32),
     /// There are 2^64 runs or more.
     #[error("the number of runs does not fit in 64 bits")]
     Runs,
@@ -32,8 +36,19 @@ impl From<AllocError> for SumError {
     }
 }
 
-/// The sum of two tables: an image is known by its digest, and each of its counts is the sum of both. Takes memory for
-/// the sum alone.
+impl From<SpotSumError> for SumError {
+    ghost from_gives = { λ why error. error ≡ sum_error_of why };
+
+    fn from(why: SpotSumError) -> SumError {
+        match why {
+            SpotSumError::OutOfMemory => SumError::OutOfMemory,
+            SpotSumError::Count(function) => SumError::Spot(function),
+        }
+    }
+}
+
+/// The sum of two tables: an image is known by its digest, and each of its counts is the sum of both. Of two names of a function
+/// it has the first in the order of bytes. Takes memory for the sum alone.
 pub fn sum_of_tables(alloc: Global, a: &CountTable, b: &CountTable) -> Result<CountTable, SumError>
     requires a { IsTable a.now }
     requires b { IsTable b.now }

@@ -146,6 +146,95 @@ fffffffe 18446744073709551615 18446744073709551615
 done 1 1
 ";
 
+const STACKS: &str = "\
+rvcounts 1
+image 428abbe1347171d7e00df3badf31776c1ef4445e0516044cf7a638356db5f470 build/a.elf
+80000074 5 1
+function 00000000 ?
+function 80000000 _start
+function 80000060 sum
+spot 0 80000000 1 19
+spot 1 00000000 1 12
+spot 1 80000060 3 36
+spot 2 80000060 1 4
+done 1 1
+";
+
+const OTHER: &str = "\
+rvcounts 1
+image 428abbe1347171d7e00df3badf31776c1ef4445e0516044cf7a638356db5f470 build/a.elf
+function 80000000 _start
+function 80000060 add
+function 80000090 main
+spot 0 80000000 1 1
+spot 1 80000060 2 3
+spot 1 80000090 2 3
+spot 2 80000060 1 1
+spot 0 80000060 1 1
+done 1 1
+";
+
+const BOTH_STACKS: &str = "\
+rvcounts 1
+image 428abbe1347171d7e00df3badf31776c1ef4445e0516044cf7a638356db5f470 build/a.elf
+80000074 5 1
+function 00000000 ?
+function 80000000 _start
+function 80000060 add
+function 80000090 main
+spot 0 80000000 2 20
+spot 1 00000000 1 12
+spot 1 80000060 5 39
+spot 2 80000060 1 4
+spot 1 80000090 2 3
+spot 2 80000060 1 1
+spot 0 80000060 1 1
+done 1 2
+";
+
+#[test]
+fn adds_stacks(rt: HostRuntime) -> Result<(), Fail> {
+    let alloc = rt.alloc();
+    sum_is(alloc, STACKS, OTHER, BOTH_STACKS)?;
+    sum_is(alloc, OTHER, STACKS, BOTH_STACKS)?;
+    sum_is(alloc, "rvcounts 1\ndone 0 0\n", STACKS, STACKS)
+}
+
+// What stands behind the line of an image, and which line is refused.
+const REFUSED_STACKS: [(&str, usize); 12] = [
+    ("function 80000000 a\n80000000 1 0\n", 4),
+    ("function 80000000 a\nfunction 80000000 b\n", 4),
+    ("function 80000002 a\nfunction 80000000 b\n", 4),
+    ("function 8000000 a\n", 3),
+    ("spot 0 80000000 1 1\nfunction 80000000 a\n", 4),
+    ("spot 1 80000000 1 1\n", 3),
+    ("spot 0 80000000 0 1\n", 3),
+    ("spot 0 80000000 1 01\n", 3),
+    ("spot 0 80000000 1 1\nspot 2 80000000 1 1\n", 4),
+    ("spot 0 80000000 1 1\nspot 0 80000000 1 1\n", 4),
+    ("spot 0 80000004 1 1\nspot 0 80000000 1 1\n", 4),
+    ("spot 0 80000000 1 1\n80000000 1 0\n", 4),
+];
+
+#[test]
+fn refuses_stacks(rt: HostRuntime) -> Result<(), Fail> {
+    let alloc = rt.alloc();
+    for (lines, expected) in REFUSED_STACKS {
+        let mut text = String::from_str(alloc, FIRST_LINES)?;
+        text.push_str(lines)?;
+        match read_table(alloc, text.as_bytes()) {
+            Err(ReadError::Line(line)) if line == expected => {}
+            _ => return Err(lines.into()),
+        }
+    }
+    Ok(())
+}
+
+const FIRST_LINES: &str = "\
+rvcounts 1
+image 428abbe1347171d7e00df3badf31776c1ef4445e0516044cf7a638356db5f470 a
+";
+
 // A digit may be the first letter of the last line.
 #[test]
 fn reads_addresses_from_end_to_end(rt: HostRuntime) -> Result<(), Fail> {

@@ -3,9 +3,10 @@
 ghost use Rattle.std.specs.Prelude.{◌≡◌, ◌++◌, IfOk, OnOk, string_bytes, length};
 ghost use Rattle.std.specs.List.{flat_map};
 ghost use Rattle.rv_text.specs.Words.{word_digits};
-ghost use Rattle.rv_counts.specs.Text.{address_line, image_line, image_text, last_line, table_text};
+ghost use Rattle.rv_counts.specs.Text.{address_line, image_line, image_text, last_line, name_line, spot_line, table_text};
 
-use crate::table::{AddressCounts, CountTable, ImageCounts};
+use crate::table::{AddressCounts, CountTable, FunctionName, ImageCounts};
+use rv_spots::Spot;
 use std::alloc::{AllocError, Global};
 
 /// The text of a table.
@@ -34,7 +35,9 @@ fn push_image(alloc: Global, text: &mut String, image: &ImageCounts) -> Result<(
     ensures { OnOk result (string_bytes text.new ≡ string_bytes text.old ++ image_text image.now) }
 {
     push_image_line(alloc, text, image)?;
-    push_addresses(alloc, text, image.addresses.as_slice())
+    push_addresses(alloc, text, image.addresses.as_slice())?;
+    push_names(alloc, text, image.functions.as_slice())?;
+    push_spots(alloc, text, image.spots.as_slice())
 }
 
 fn push_addresses(
@@ -46,6 +49,24 @@ fn push_addresses(
 {
     for counts in addresses {
         push_address_line(alloc, text, *counts)?;
+    }
+    Ok(())
+}
+
+fn push_names(alloc: Global, text: &mut String, names: &[FunctionName]) -> Result<(), AllocError>
+    ensures { OnOk result (string_bytes text.new ≡ string_bytes text.old ++ flat_map name_line names.now) }
+{
+    for name in names {
+        push_name_line(alloc, text, name)?;
+    }
+    Ok(())
+}
+
+fn push_spots(alloc: Global, text: &mut String, spots: &[Spot]) -> Result<(), AllocError>
+    ensures { OnOk result (string_bytes text.new ≡ string_bytes text.old ++ flat_map spot_line spots.now) }
+{
+    for spot in spots {
+        push_spot_line(alloc, text, *spot)?;
     }
     Ok(())
 }
@@ -79,6 +100,34 @@ pub(crate) fn push_address_line(
     let begun = counts.begun;
     let taken = counts.taken;
     write!(text, "{address} {begun} {taken}\n")
+}
+
+/// Appends the line of a function's name.
+#[tactic(auto, unfolding(crate::specs::Text::name_line, rv_text::specs::Words::word_digits))]
+pub(crate) fn push_name_line(
+    alloc: Global,
+    text: &mut String,
+    name: &FunctionName,
+) -> Result<(), AllocError>
+    ensures { OnOk result (string_bytes text.new ≡ string_bytes text.old ++ name_line name.now) }
+{
+    let digits = hex::encode(alloc, name.function.to_be_bytes().as_slice())?;
+    let function = digits.as_str();
+    let name = name.name.as_str();
+    write!(text, "function {function} {name}\n")
+}
+
+/// Appends the line of a spot.
+#[tactic(auto, unfolding(crate::specs::Text::spot_line, rv_text::specs::Words::word_digits))]
+pub(crate) fn push_spot_line(alloc: Global, text: &mut String, spot: Spot) -> Result<(), AllocError>
+    ensures { OnOk result (string_bytes text.new ≡ string_bytes text.old ++ spot_line spot) }
+{
+    let digits = hex::encode(alloc, spot.function.to_be_bytes().as_slice())?;
+    let depth = spot.depth;
+    let function = digits.as_str();
+    let arrivals = spot.arrivals;
+    let steps = spot.steps;
+    write!(text, "spot {depth} {function} {arrivals} {steps}\n")
 }
 
 /// Appends the last line of a table of so many images and runs.

@@ -1,5 +1,5 @@
 -- Tables of jobs: of one, of some more, and of the same in another order.
-use Rattle.std.proofs.Common.{Fits, w8, ◌≡◌, ◌∙◌, ◌==◌, ◌+◌, ◌*◌, ◌^◌, ◌<◌, ◌≤◌, ℕ, zero, suc, Bool, true, false, cond, List, [], ◌∷◌, ◌++◌, Option, Some, None, Result, Ok, Err, option_map, map, length, get_or, refl, sym, ap, subst, arith}
+use Rattle.std.proofs.Common.{Fits, w8, ◌≡◌, ◌∙◌, ◌==◌, ◌+◌, ◌*◌, ◌^◌, ◌<◌, ◌≤◌, ◌⊎◌, inl, inr, ℕ, zero, suc, Bool, true, false, cond, List, [], ◌∷◌, ◌++◌, Option, Some, None, Result, Ok, Err, option_map, map, length, get_or, refl, sym, ap, subst, arith}
 use Rattle.std.proofs.lemmas.List.Sums.{sum_by-append}
 use Rattle.std.specs.Prelude.{is_ok}
 use Rattle.std.specs.Prelude.{IfOk, IfSome}
@@ -12,8 +12,9 @@ use Rattle.rv_counts.proofs.Public.{any_first, none_behind}
 use Rattle.rv_counts.specs.declared.table.AddressCounts.{AddressCounts}
 use Rattle.rv_counts.specs.declared.table.CountTable.{CountTable}
 use Rattle.rv_counts.specs.declared.table.ImageCounts.{ImageCounts}
-use Rattle.rv_counts.specs.Sum.{IsSum, no_counts}
-use Rattle.rv_counts.specs.Table.{begun_at, taken_at, begun_in, taken_in, path_in, least_path_of, digests_rise, AreCounts, IsImage, IsTable}
+use Rattle.rv_counts.specs.declared.sum.SumError.TheVariants.{Spot}
+use Rattle.rv_counts.specs.Sum.{IsSum, IsTooGreat, no_counts}
+use Rattle.rv_counts.specs.Table.{begun_at, taken_at, begun_in, taken_in, path_in, least_path_of, digests_rise, names_rise, AreCounts, AreNames, AreSpots, IsImage, IsTable}
 use Rattle.rv_jobs.specs.declared.answers.Answer.{Answer}
 use Rattle.rv_jobs.specs.declared_job.Job.{Job}
 use Rattle.rv_machine.specs.State.{State}
@@ -21,11 +22,18 @@ use Rattle.rv_report.specs.declared.row.Refusal.{Refusal}
 use Rattle.rv_rows.specs.Rows.{start_in}
 use Rattle.rv_text.specs.Printable.{printable_text}
 use Rattle.rv_coverage.specs.Coverage.{once_if, begun_in_run, taken_in_run, AreCountsOf, AreCountsOfJob}
-use Rattle.rv_coverage.specs.JobTables.{image_bytes, has_digest, start_over, begun_from, taken_from, begun_by, taken_by, path_by, runs_by, first_path, table_of_run, IsTableOfFew, IsTableOfJobs, IsTableOfOne}
+use Rattle.rv_coverage.specs.JobTables.{image_bytes, has_digest, start_over, begun_from, taken_from, begun_by, taken_by, path_by, runs_by, first_path, table_of_run, HasNoStacks, IsTableOfFew, IsTableOfJobs, IsTableOfOne}
 
 none_rise : digests_rise None [] ≡ true
 unfolding digests_rise
 none_rise = refl
+
+pub no_names : AreNames []
+unfolding names_rise
+no_names = record { each = tt; rising = refl }
+
+pub no_spots : AreSpots []
+no_spots = record { each = tt; tree = tt }
 
 one_rises : (i : ImageCounts) → digests_rise None (i ∷ []) ≡ true
 unfolding digests_rise
@@ -45,8 +53,56 @@ one_image_is_table i t is h = subst IsTable (sym is) (
     }
     )
 
+-- ---- tables without stacks
+
+no_counts_have_none : HasNoStacks no_counts
+no_counts_have_none = record { names = λ digest f. refl; arrivals = λ digest path. refl; steps = λ digest path. refl }
+
+no_name_either : (b : Bool) → least_path_of (cond b None None) None ≡ None
+no_name_either true = refl
+no_name_either false = refl
+
+none_either : (b : Bool) → cond b 0 0 + 0 ≡ 0
+none_either true = omega arith
+none_either false = omega arith
+
+run_has_none : (path file : List ℕ) (cs : List AddressCounts) → HasNoStacks (table_of_run path file cs)
+run_has_none path file cs = record {
+  names = λ digest f. no_name_either (bytes_eq (sha256 file) digest);
+  arrivals = λ digest at. none_either (bytes_eq (sha256 file) digest);
+  steps = λ digest at. none_either (bytes_eq (sha256 file) digest);
+}
+
+pub sum_has_none : (t u sum : CountTable) → HasNoStacks t → HasNoStacks u → IsSum t u sum → HasNoStacks sum
+sum_has_none t u sum h k is = record {
+  names = λ digest f. is.names digest f ∙ (λ i. least_path_of (h.names digest f i) (k.names digest f i));
+  arrivals = λ digest path.
+      let s = is.arrivals digest path in
+      let p = h.arrivals digest path in
+      let q = k.arrivals digest path in
+      omega (arith, s, p, q);
+  steps = λ digest path.
+      let s = is.steps digest path in
+      let p = h.steps digest path in
+      let q = k.steps digest path in
+      omega (arith, s, p, q);
+}
+
+-- so none of their numbers is too great
+pub no_great_stacks : (t u : CountTable) (f : ℕ) → HasNoStacks t → HasNoStacks u → IsTooGreat (Spot f) t u → ⊥
+no_great_stacks t u f h k great = elim great.3 [
+  | inl much ↦
+      let p = h.arrivals great.0 great.1 in
+      let q = k.arrivals great.0 great.1 in
+      omega (arith, much, p, q)
+  | inr much ↦
+      let p = h.steps great.0 great.1 in
+      let q = k.steps great.0 great.1 in
+      omega (arith, much, p, q)
+]
+
 pub no_counts_are_few : (n : ℕ) → IsTableOfFew n no_counts
-no_counts_are_few n = record { begun = λ digest address. omega arith; runs = omega arith }
+no_counts_are_few n = record { begun = λ digest address. omega arith; runs = omega arith; stacks = no_counts_have_none }
 
 pub none_of_none : (answers : List Answer) → IsTableOfJobs answers [] no_counts
 none_of_none answers = record {
@@ -55,6 +111,7 @@ none_of_none answers = record {
   taken = λ digest address. refl;
   paths = λ digest. refl;
   runs = refl;
+  stacks = no_counts_have_none;
 }
 
 -- ---- what callees promise
@@ -112,6 +169,7 @@ run_is_few path file cs few = record {
       let h = picked_few (bytes_eq (sha256 file) digest) (begun_at address cs) (2 ^ 32) (few address) in
       omega (arith, h);
   runs = omega arith;
+  stacks = run_has_none path file cs;
 }
 
 module _ (answers : List Answer) (job : Job) where
@@ -132,6 +190,7 @@ module _ (answers : List Answer) (job : Job) where
             sym (none_behind (path_by answers digest job)
             ∙ ap (λ (o : Option State). option_map (λ (s : State). printable_text job.image) o) (not_over digest none));
         runs = (let e = ap once_if (not_ok_if_none (start_in answers job) none) in omega (arith, e));
+        stacks = no_counts_have_none;
       }
 
   pub refused : (t : CountTable) → t ≡ no_counts → ((s : State) → start_in answers job ≡ Ok s → ⊥)
@@ -167,6 +226,7 @@ module _ (answers : List Answer) (job : Job) where
         ∙ sym (ap (λ (o : Option State). option_map (λ (t : State). path) o) (over digest file s bytes start))
         ∙ sym (none_behind (path_by answers digest job));
     runs = (let e = ap (λ (r : Result State Refusal). once_if (is_ok r)) start in omega (arith, e));
+    stacks = run_has_none job.image file cs;
   }
 
   -- with the counts that `count_job` answers
@@ -218,6 +278,7 @@ joined answers js ks t u sum h k is = record {
       let q = k.runs in
       let e = sum_by-append (runs_by answers) js ks in
       omega (arith, s, p, q, e));
+  stacks = sum_has_none t u sum h.stacks k.stacks is;
 }
 
 -- ---- numbers that fit
@@ -231,12 +292,14 @@ few_more n m t u sum h k is = record {
       let q = k.begun digest address in
       omega (arith, s, p, q);
   runs = (let s = is.runs in let p = h.runs in let q = k.runs in omega (arith, s, p, q));
+  stacks = sum_has_none t u sum h.stacks k.stacks is;
 }
 
 pub few_within : (n m : ℕ) (t : CountTable) → n ≤ m → IsTableOfFew n t → IsTableOfFew m t
 few_within n m t le h = record {
   begun = λ digest address. let p = h.begun digest address in omega (arith, p);
   runs = (let p = h.runs in omega (arith, p));
+  stacks = h.stacks;
 }
 
 -- so few jobs add up below 2^64

@@ -15,10 +15,11 @@ ghost use Rattle.rv_trace.specs.Trace.{job_at};
 ghost use Rattle.rv_coverage.specs.JobTables.{IsTableOfOne, image_bytes, table_of_run};
 
 use crate::count::count_job;
-use rv_counts::{Addresses, CountTable, ImageCounts, Images};
+use rv_counts::{Addresses, CountTable, FunctionNames, ImageCounts, Images};
 use rv_elf::{Image, ImageError, read_image};
 use rv_isa::Isa;
 use rv_jobs::{Bytes, Kept, Plan, Text};
+use rv_spots::Spots;
 use rv_text::{printable_text_is_utf8_without_controls, push_printable_text};
 use rv_trace::JobImage;
 use sha2::{Digest, Sha256};
@@ -104,6 +105,8 @@ fn table_of_run(
             digest,
             path,
             addresses,
+            functions: FunctionNames::new(Vec::new(alloc)),
+            spots: Spots::new(Vec::new(alloc)),
         },
     )?;
     Ok(CountTable { images, runs: 1 })

@@ -29,15 +29,17 @@ IsReadErrorStop path (read.Line line) why =
     IsStop 2 (path_number_message path (codes ":") line (codes ": no table of counts has this line here\n")) why
 IsReadErrorStop path read.CutOff why = IsStop 2 (path_message path (codes "the table is cut off")) why
 
--- a count of an address would be 2^64 or more with the table at a path
-abbrev pub great_count_message : List ℕ → ℕ → List ℕ
-great_count_message path address = codes "rvtest: " ++ printable_text path ++ codes ": a count of " ++ word_digits address
+-- a count of an address, or in the stacks of a function, would be 2^64 or more with the table at a path
+abbrev pub great_count_message : List ℕ → List ℕ → ℕ → List ℕ
+great_count_message path what address = codes "rvtest: " ++ printable_text path ++ what ++ word_digits address
     ++ codes " does not fit in 64 bits\n"
 
 -- a table is not added to others
 abbrev pub IsSumErrorStop : List ℕ → SumError → Stop → Type 0
 IsSumErrorStop path sum.OutOfMemory why = why ≡ stop.OutOfMemory
-IsSumErrorStop path (sum.Count address) why = IsStop 2 (great_count_message path address) why
+IsSumErrorStop path (sum.Count address) why = IsStop 2 (great_count_message path (codes ": a count of ") address) why
+IsSumErrorStop path (sum.Spot function) why =
+    IsStop 2 (great_count_message path (codes ": a count in the stacks of ") function) why
 IsSumErrorStop path sum.Runs why = IsStop 2 (path_message path (codes "the number of runs does not fit in 64 bits")) why
 
 -- memory was wanting; or the text at a path is no table: the least line is told that no table has there, or that it is cut off; a

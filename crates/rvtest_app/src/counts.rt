@@ -110,7 +110,14 @@ fn sum_error_stop(alloc: Global, path: &str, error: SumError) -> Stop
 {
     match error {
         SumError::OutOfMemory => Stop::OutOfMemory,
-        SumError::Count(address) => { Stop::of_refusal(great_count_message(alloc, path, address)) }
+        SumError::Count(address) => {
+            let what = ": a count of ";
+            Stop::of_refusal(great_count_message(alloc, path, what, address))
+        }
+        SumError::Spot(function) => {
+            let what = ": a count in the stacks of ";
+            Stop::of_refusal(great_count_message(alloc, path, what, function))
+        }
         SumError::Runs => {
             let what = "the number of runs does not fit in 64 bits";
             Stop::of_refusal(path_message(alloc, path, what))
@@ -118,15 +125,20 @@ fn sum_error_stop(alloc: Global, path: &str, error: SumError) -> Stop
     }
 }
 
-fn great_count_message(alloc: Global, path: &str, address: u32) -> Result<Vec<u8>, AllocError>
-    ensures { IfOk result (λ text. text.items ≡ great_count_message path.now address) }
+fn great_count_message<'a>(
+    alloc: Global,
+    path: &'a str,
+    what: &'a str,
+    address: u32,
+) -> Result<Vec<u8>, AllocError>
+    ensures { IfOk result (λ text. text.items ≡ great_count_message path.now what.now address) }
 {
     text_of_spans(
         alloc,
         &[
             Span::Text("rvtest: "),
             Span::Shown(path.as_bytes()),
-            Span::Text(": a count of "),
+            Span::Text(what),
             Span::Word(address),
             Span::Text(" does not fit in 64 bits\n"),
         ],

@@ -62,3 +62,4 @@ returns-clause-value c =
     let ensures = c.in_ok-image.ensures in
     image_of_both _ _ _ _ _ c.requires.a c.requires.b some other c.index-a-0-2.is c.index-b-0-2.is
     (sym c.if-is_earlier.ensures) (sym c.if-is_earlier-2.ensures) ensures.digest ensures.path ensures.counts
+    ensures.names ensures.tree ensures.spots
