@@ -9,16 +9,15 @@ HEAD = "rvcounts 1"
 NUMBER = "(0|[1-9][0-9]{0,19})"
 IMAGE = re.compile("image ([0-9a-f]{64}) (.*)")
 COUNT = re.compile(f"([0-9a-f]{{8}}) {NUMBER} {NUMBER}")
-FUNCTION = re.compile("function ([0-9a-f]{8}) (.*)")
-SPOT = re.compile(f"spot {NUMBER} ([0-9a-f]{{8}}) {NUMBER} {NUMBER}")
+SPOT = re.compile(f"spot {NUMBER} ([0-9a-f]{{8}}) {NUMBER} {NUMBER} (.*)")
 DONE = re.compile(f"done {NUMBER} {NUMBER}")
 MOST = 2**64 - 1
 WHY_UNREAD = {FileNotFoundError: "missing", IsADirectoryError: "a folder", PermissionError: "no permission"}
 
 
 class Image(NamedTuple):
-    """An image: its digest and path, of each address BEGUN and TAKEN, the names of functions, and of each list of functions, by rising
-    lists, ARRIVALS and STEPS."""
+    """An image: its digest and path, of each address BEGUN and TAKEN, the names of the functions of its stacks, and of each list of
+    functions, by rising lists, ARRIVALS and STEPS."""
 
     digest: str
     path: str
@@ -48,10 +47,7 @@ class Reader:
 
     def lines(self):
         """Each form of a line, and what takes it."""
-        return (
-            (COUNT, self.takes_count), (FUNCTION, self.takes_function), (SPOT, self.takes_spot), (IMAGE, self.takes_image),
-            (DONE, self.takes_done),
-        )
+        return (COUNT, self.takes_count), (SPOT, self.takes_spot), (IMAGE, self.takes_image), (DONE, self.takes_done)
 
     def takes_image(self, digest, path):
         if self.images and digest <= self.images[-1].digest:
@@ -60,7 +56,7 @@ class Reader:
         return True
 
     def takes_count(self, address, begun, taken):
-        if not self.images or self.images[-1].names or self.images[-1].spots:
+        if not self.images or self.images[-1].spots:
             return False
         counts = self.images[-1].counts
         place, begun, taken = int(address, 16), int(begun), int(taken)
@@ -69,26 +65,17 @@ class Reader:
         counts[place] = begun, taken
         return True
 
-    def takes_function(self, function, name):
-        if not self.images or self.images[-1].spots:
-            return False
-        names, place = self.images[-1].names, int(function, 16)
-        if names and place <= next(reversed(names)):
-            return False
-        names[place] = name
-        return True
-
-    def takes_spot(self, depth, function, arrivals, steps):
+    def takes_spot(self, depth, function, arrivals, steps, name):
         if not self.images:
             return False
-        spots = self.images[-1].spots
+        names, spots = self.images[-1].names, self.images[-1].spots
         front = next(reversed(spots)) if spots else ()
         depth, arrivals, steps = int(depth), int(arrivals), int(steps)
         path = (*front[:depth], int(function, 16))
         if depth > len(front) or path[:-1] != front[:depth] or path <= front or not 0 < arrivals <= MOST or steps > MOST:
             return False
         spots[path] = arrivals, steps
-        return True
+        return names.setdefault(path[-1], name) == name
 
     def takes_done(self, images, runs):
         if int(images) != len(self.images) or int(runs) > MOST:
@@ -148,8 +135,7 @@ def sum_of(paths):
 
 
 def added(first, second, path):
-    """The sum of one image's numbers in two tables, of which the second is at a path; the lesser of the image's paths is taken, and of two
-    names of a function."""
+    """The sum of one image's numbers in two tables, of which the second is at a path; the lesser of the image's paths is taken."""
     counts = dict(first.counts)
     for address, (begun, taken) in second.counts.items():
         before = counts.get(address, (0, 0))
@@ -157,8 +143,9 @@ def added(first, second, path):
         if counts[address][0] > MOST:
             raise Refused(f"{path}: a count of {address:08x} does not fit in 64 bits")
     names = dict(first.names)
-    for function, name in second.names.items():
-        names[function] = min(name, names.get(function, name))
+    for function, name in sorted(second.names.items()):
+        if names.setdefault(function, name) != name:
+            raise Refused(f"{path}: {function:08x} has two names in one image")
     spots = dict(first.spots)
     for functions, numbers in second.spots.items():
         spots[functions] = tuple(a + b for a, b in zip(numbers, spots.get(functions, (0, 0))))

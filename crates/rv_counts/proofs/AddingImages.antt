@@ -1,6 +1,6 @@
 -- The first of a sum of images, in each of the cases.
 use Rattle.std.proofs.Common.{◌≡◌, ◌∙◌, ◌==◌, ◌+◌, ◌^◌, ◌<◌, ◌≤◌, ◌⊎◌, inl, inr, ℕ, zero, suc, Bool, true, false, cond, List, [], ◌∷◌, ◌++◌, Option, Some, None, length, drop, get_or, refl, sym, ap, subst, append-nil, arith}
-use Rattle.std.proofs.lemmas.Bool.{and_parts, and_from, cond_both}
+use Rattle.std.proofs.lemmas.Bool.{and_parts, and_from, both_ways, cases_Bool, cond_both}
 use Rattle.std.proofs.lemmas.List.{drop_all}
 use Rattle.std.specs.Prelude.{◌&&◌}
 use Rattle.std.specs.Cmp.Lexicographic.{bytes_decides}
@@ -8,20 +8,20 @@ use Rattle.std.specs.List.{AllByRecursion}
 use Rattle.std.specs.Str.{bytes_eq, IsUtf8}
 use Rattle.rv_counts.specs.declared.table.ImageCounts.{ImageCounts}
 use Rattle.rv_counts.specs.declared.sum.SumError.{SumError}
-use Rattle.rv_counts.specs.declared.sum.SumError.TheVariants.{OutOfMemory, Count, Spot, Runs}
+use Rattle.rv_counts.specs.declared.sum.SumError.TheVariants.{OutOfMemory, Count, Spot, Names, Runs}
 use Rattle.rv_counts.specs.declared.sum_of_images.NextImage.{NextImage}
 use Rattle.rv_counts.specs.Lines.{lacks}
 use Rattle.rv_counts.specs.Table.{begun_at, taken_at, name_at, begun_in, taken_in, path_in, name_in, arrivals_in, steps_in, least_path, least_path_of}
-use Rattle.rv_counts.specs.Table.{is_before, is_behind, digests_rise, AreSpots, IsImage, IsSpot}
-use Rattle.rv_counts.specs.Sum.{sum_error_of, IsSumOfCounts, IsSumOfNames, IsTooGreatAt}
-use Rattle.rv_counts.specs.SumSteps.{ImagesAddUp, IsNextImage, IsTooGreatIn, IsTooGreatOf}
+use Rattle.rv_counts.specs.Table.{is_before, is_behind, digests_rise, AreNamesOf, AreSpots, IsImage, IsSpot}
+use Rattle.rv_counts.specs.Sum.{sum_error_of, Agree, HasName, HasNameIn, IsSumOfCounts, IsSumOfNames, CountsHaveNoSum, NamesHaveNoSum}
+use Rattle.rv_counts.specs.SumSteps.{ImagesAddUp, IsNextImage, ImagesHaveNoSum, ImageHasNoSum}
 use Rattle.rv_spots.specs.declared.sum.SpotSumError.{SpotSumError}
 use Rattle.rv_spots.specs.declared.sum.SpotSumError.TheVariants as spots
 use Rattle.rv_spots.specs.declared.spot.Spot.{Spot as ASpot}
 use Rattle.rv_spots.specs.Sums.{FitsSpot, IsSumOfSpots, IsTooGreat}
 use Rattle.rv_spots.specs.Trees.{arrivals_at, steps_at, HasArrivals}
 use Rattle.rv_counts.proofs.Adding.{parts}
-use Rattle.rv_counts.proofs.Paths.{any_first, second_first, by_two, same_place}
+use Rattle.rv_counts.proofs.Paths.{any_first, before_both, by_two, none_before_itself, none_behind, same_place, second_first}
 
 -- ---- digests in their order
 
@@ -48,6 +48,84 @@ pub images_raised : (last : Option (List ℕ)) (digest : List ℕ) (i : ImageCou
     → digests_rise last (i ∷ is) ≡ true → is_before digest i.digest ≡ true → digests_rise (Some digest) (i ∷ is) ≡ true
 images_raised last digest i is h before = images_rise (Some digest) i is before (images_behind last i is h)
 
+-- ---- a digest that is not among those of a list
+
+differ : (a b : List ℕ) → (a ≡ b → ⊥) → bytes_eq a b ≡ false
+differ a b h = elim (cases_Bool (bytes_eq a b)) [
+  | inl t ↦ absurd (h ((bytes_decides a b).0 t))
+  | inr f ↦ f
+]
+
+-- each digest of a list that rises behind one is another than those up to it
+pub head_differs : (last digest : List ℕ) (i : ImageCounts) (is : List ImageCounts) → digests_rise (Some last) (i ∷ is) ≡ true
+    → is_before last digest ≡ false → bytes_eq i.digest digest ≡ false
+head_differs last digest i is h up = differ i.digest digest
+    (λ e. both_ways _ up (ap (is_before last) (sym e) ∙ image_low (Some last) i is h))
+
+pub still_up : (last digest : List ℕ) (i : ImageCounts) (is : List ImageCounts) → digests_rise (Some last) (i ∷ is) ≡ true
+    → is_before last digest ≡ false → is_before i.digest digest ≡ false
+still_up last digest i is h up = elim (cases_Bool (is_before i.digest digest)) [
+  | inl t ↦ absurd (both_ways _ up (before_both last i.digest digest (image_low (Some last) i is h) t))
+  | inr f ↦ f
+]
+
+pub none_named : (is : List ImageCounts) (last digest : List ℕ) (f : ℕ) → digests_rise (Some last) is ≡ true
+    → is_before last digest ≡ false → name_in digest f is ≡ None
+none_named [] last digest f h up = refl
+none_named (i ∷ is) last digest f h up =
+    ap (λ (t : Bool). least_path_of (cond t (name_at f i.functions) None) (name_in digest f is)) (head_differs last digest i is h up)
+    ∙ none_named is i.digest digest f (images_behind (Some last) i is h) (still_up last digest i is h up)
+
+-- ---- names in which both lists agree
+
+agree_with_none : (o : Option (List ℕ)) → Agree o None
+agree_with_none None = tt
+agree_with_none (Some name) = tt
+
+passed_image : (x : ImageCounts) (xs : List ImageCounts) (d : List ℕ) (f : ℕ) → bytes_eq x.digest d ≡ false
+    → name_in d f (x ∷ xs) ≡ name_in d f xs
+passed_image x xs d f t = ap (λ (b : Bool). least_path_of (cond b (name_at f x.functions) None) (name_in d f xs)) t
+
+-- none of those behind an image has its digest
+none_further : (x : ImageCounts) (xs : List ImageCounts) (d : List ℕ) (f : ℕ) → digests_rise (Some x.digest) xs ≡ true
+    → bytes_eq x.digest d ≡ true → name_in d f xs ≡ None
+none_further x xs d f h t =
+    let e = (bytes_decides x.digest d).0 t in
+    none_named xs x.digest d f h (ap (is_before x.digest) (sym e) ∙ none_before_itself x.digest)
+
+its_names : (x : ImageCounts) (xs : List ImageCounts) (d : List ℕ) (f : ℕ) → digests_rise (Some x.digest) xs ≡ true
+    → bytes_eq x.digest d ≡ true → name_in d f (x ∷ xs) ≡ name_at f x.functions
+its_names x xs d f h t =
+    ap (λ (b : Bool). least_path_of (cond b (name_at f x.functions) None) (name_in d f xs)) t
+    ∙ ap (least_path_of (name_at f x.functions)) (none_further x xs d f h t) ∙ none_behind (name_at f x.functions)
+
+first_agrees : (x : ImageCounts) (xs b : List ImageCounts) (d : List ℕ) (f : ℕ) → digests_rise (Some x.digest) b ≡ true
+    → Agree (name_in d f xs) (name_in d f b) → Agree (name_in d f (x ∷ xs)) (name_in d f b)
+first_agrees x xs b d f h k = elim (cases_Bool (bytes_eq x.digest d)) [
+  | inl t ↦ subst (Agree (name_in d f (x ∷ xs))) (sym (none_further x b d f h t)) (agree_with_none (name_in d f (x ∷ xs)))
+  | inr t ↦ subst (λ (o : Option (List ℕ)). Agree o (name_in d f b)) (sym (passed_image x xs d f t)) k
+]
+
+second_agrees : (y : ImageCounts) (a ys : List ImageCounts) (d : List ℕ) (f : ℕ) → digests_rise (Some y.digest) a ≡ true
+    → Agree (name_in d f a) (name_in d f ys) → Agree (name_in d f a) (name_in d f (y ∷ ys))
+second_agrees y a ys d f h k = elim (cases_Bool (bytes_eq y.digest d)) [
+  | inl t ↦ subst (λ (o : Option (List ℕ)). Agree o (name_in d f (y ∷ ys))) (sym (none_further y a d f h t)) tt
+  | inr t ↦ subst (Agree (name_in d f a)) (sym (passed_image y ys d f t)) k
+]
+
+both_agree : (x y : ImageCounts) (xs ys : List ImageCounts) (d : List ℕ) (f : ℕ) → x.digest ≡ y.digest
+    → Agree (name_at f x.functions) (name_at f y.functions) → digests_rise (Some x.digest) xs ≡ true
+    → digests_rise (Some y.digest) ys ≡ true → Agree (name_in d f xs) (name_in d f ys)
+    → Agree (name_in d f (x ∷ xs)) (name_in d f (y ∷ ys))
+both_agree x y xs ys d f one names h k others = elim (cases_Bool (bytes_eq x.digest d)) [
+  | inl t ↦
+      subst (λ (o : Option (List ℕ)). Agree o (name_in d f (y ∷ ys))) (sym (its_names x xs d f h t))
+      (subst (Agree (name_at f x.functions)) (sym (its_names y ys d f k (ap (λ (s : List ℕ). bytes_eq s d) (sym one) ∙ t))) names)
+  | inr t ↦
+      subst (λ (o : Option (List ℕ)). Agree o (name_in d f (y ∷ ys))) (sym (passed_image x xs d f t))
+      (subst (Agree (name_in d f xs)) (sym (passed_image y ys d f (ap (λ (s : List ℕ). bytes_eq s d) (sym one) ∙ t))) others)
+]
+
 -- ---- an image ahead of the others
 
 -- an image of the first list alone
@@ -58,6 +136,8 @@ first_image_ahead x xs b others image above h = record {
   each = (image, h.each);
   rising = λ last p q. images_rise last x others (image_low last x xs p)
       (h.rising (Some x.digest) (images_behind last x xs p) (above last q));
+  agree = λ last p q d f. first_agrees x xs b d f (above last q)
+      (h.agree (Some x.digest) (images_behind last x xs p) (above last q) d f);
   begun = λ d n. let e = h.begun d n in omega (arith, e);
   taken = λ d n. let e = h.taken d n in omega (arith, e);
   paths = λ d. ap (least_path_of (cond (bytes_eq x.digest d) (Some x.path) None)) (h.paths d)
@@ -76,6 +156,8 @@ second_image_ahead y a ys others image above h = record {
   each = (image, h.each);
   rising = λ last p q. images_rise last y others (image_low last y ys q)
       (h.rising (Some y.digest) (above last p) (images_behind last y ys q));
+  agree = λ last p q d f. second_agrees y a ys d f (above last p)
+      (h.agree (Some y.digest) (above last p) (images_behind last y ys q) d f);
   begun = λ d n. let e = h.begun d n in omega (arith, e);
   taken = λ d n. let e = h.taken d n in omega (arith, e);
   paths = λ d. ap (least_path_of (cond (bytes_eq y.digest d) (Some y.path) None)) (h.paths d)
@@ -117,9 +199,9 @@ least_is P p q h k = cond_both (is_before q p) q p P (λ _. k) (λ _. h)
 both_images_ahead : (x y sum : ImageCounts) (xs ys others : List ImageCounts) → IsImage x → IsImage y
     → x.digest ≡ y.digest → sum.digest ≡ x.digest → sum.path ≡ least_path x.path y.path
     → IsSumOfCounts x.addresses y.addresses sum.addresses → IsSumOfNames x.functions y.functions sum.functions
-    → AreSpots sum.spots → IsSumOfSpots x.spots y.spots sum.spots
+    → AreNamesOf sum.spots sum.functions → AreSpots sum.spots → IsSumOfSpots x.spots y.spots sum.spots
     → ImagesAddUp xs ys others → ImagesAddUp (x ∷ xs) (y ∷ ys) (sum ∷ others)
-both_images_ahead x y sum xs ys others image also one at path counts names tree spots h = record {
+both_images_ahead x y sum xs ys others image also one at path counts names of tree spots h = record {
   each = (
     (record {
       digest = ap length at ∙ image.digest;
@@ -129,12 +211,16 @@ both_images_ahead x y sum xs ys others image also one at path counts names tree 
       counts = counts.counts;
       names = names.names;
       spots = tree;
+      of_spots = of;
     }),
     h.each,
   );
   rising = λ last p q. images_rise last sum others (ap (is_behind last) at ∙ image_low last x xs p)
       (h.rising (Some sum.digest) (ap (λ (s : List ℕ). digests_rise (Some s) xs) at ∙ images_behind last x xs p)
       (ap (λ (s : List ℕ). digests_rise (Some s) ys) (at ∙ one) ∙ images_behind last y ys q));
+  agree = λ last p q d f. both_agree x y xs ys d f one (names.agree f) (images_behind last x xs p) (images_behind last y ys q)
+      (h.agree (Some x.digest) (images_behind last x xs p)
+      (ap (λ (s : List ℕ). digests_rise (Some s) ys) one ∙ images_behind last y ys q) d f);
   begun = λ d n. ap (λ (s : List ℕ). cond (bytes_eq s d) (begun_at n sum.addresses) 0 + begun_in d n others) at
       ∙ parts (bytes_eq x.digest d) (bytes_eq y.digest d) (begun_at n x.addresses) (begun_at n y.addresses)
       (begun_at n sum.addresses) _ _ _ (ap (λ (s : List ℕ). bytes_eq s d) one) (counts.begun n) (h.begun d n);
@@ -220,11 +306,11 @@ pub image_of_both : (a b : List ImageCounts) (x y sum : ImageCounts) → AllByRe
     → 0 < length a → 0 < length b → x ≡ get_or a 0 x → y ≡ get_or b 0 y → is_before x.digest y.digest ≡ false
     → is_before y.digest x.digest ≡ false → sum.digest ≡ x.digest → sum.path ≡ least_path x.path y.path
     → IsSumOfCounts x.addresses y.addresses sum.addresses → IsSumOfNames x.functions y.functions sum.functions
-    → AreSpots sum.spots → IsSumOfSpots x.spots y.spots sum.spots
+    → AreNamesOf sum.spots sum.functions → AreSpots sum.spots → IsSumOfSpots x.spots y.spots sum.spots
     → IsNextImage a b (record { image = sum; of_a = 1; of_b = 1 })
-image_of_both [] b x y sum each also some other is at first second digest path counts names tree spots = absurd (omega arith)
-image_of_both (x ∷ xs) [] z w sum each also some other is at first second digest path counts names tree spots = absurd (omega arith)
-image_of_both (x ∷ xs) (y ∷ ys) z w sum each also some other is at first second digest path counts names tree spots = record {
+image_of_both [] b x y sum each also some other is at first second digest path counts names of tree spots = absurd (omega arith)
+image_of_both (x ∷ xs) [] z w sum each also some other is at first second digest path counts names of tree spots = absurd (omega arith)
+image_of_both (x ∷ xs) (y ∷ ys) z w sum each also some other is at first second digest path counts names of tree spots = record {
   of_a = omega arith;
   of_b = omega arith;
   some = omega arith;
@@ -236,7 +322,7 @@ image_of_both (x ∷ xs) (y ∷ ys) z w sum each also some other is at first sec
       (subst (λ (i : ImageCounts). IsSumOfCounts x.addresses i.addresses sum.addresses) at
       (subst (λ (i : ImageCounts). IsSumOfCounts i.addresses w.addresses sum.addresses) is counts))
       (subst (λ (i : ImageCounts). IsSumOfNames x.functions i.functions sum.functions) at
-      (subst (λ (i : ImageCounts). IsSumOfNames i.functions w.functions sum.functions) is names)) tree
+      (subst (λ (i : ImageCounts). IsSumOfNames i.functions w.functions sum.functions) is names)) of tree
       (subst (λ (i : ImageCounts). IsSumOfSpots x.spots i.spots sum.spots) at
       (subst (λ (i : ImageCounts). IsSumOfSpots i.spots w.spots sum.spots) is spots)) h;
 }
@@ -260,18 +346,28 @@ great_here count x y z w n m is at one h =
     let s = ap count at in
     omega (arith, p, q, r, s, h)
 
-pub too_great_first : (a b : List ImageCounts) (x y : ImageCounts) (error : SumError) → 0 < length a → 0 < length b
+pub no_sum_of_first : (a b : List ImageCounts) (x y : ImageCounts) (error : SumError) → 0 < length a → 0 < length b
     → x ≡ get_or a 0 x → y ≡ get_or b 0 y → is_before x.digest y.digest ≡ false → is_before y.digest x.digest ≡ false
-    → IsTooGreatOf error x y → IsTooGreatIn error a b
-too_great_first [] b x y error some other is at first second h = absurd (omega arith)
-too_great_first (x ∷ xs) [] z w error some other is at first second h = absurd (omega arith)
-too_great_first (x ∷ xs) (y ∷ ys) z w OutOfMemory some other is at first second h = tt
-too_great_first (x ∷ xs) (y ∷ ys) z w Runs some other is at first second h = h
-too_great_first (x ∷ xs) (y ∷ ys) z w (Count n) some other is at first second h =
+    → ImageHasNoSum error x y → ImagesHaveNoSum error a b
+no_sum_of_first [] b x y error some other is at first second h = absurd (omega arith)
+no_sum_of_first (x ∷ xs) [] z w error some other is at first second h = absurd (omega arith)
+no_sum_of_first (x ∷ xs) (y ∷ ys) z w OutOfMemory some other is at first second h = tt
+no_sum_of_first (x ∷ xs) (y ∷ ys) z w Runs some other is at first second h = h
+no_sum_of_first (x ∷ xs) (y ∷ ys) z w (Names f) some other is at first second h =
+    let one : x.digest ≡ y.digest = ap (λ (i : ImageCounts). i.digest) (sym is)
+    ∙ same_place z.digest w.digest first second ∙ ap (λ (i : ImageCounts). i.digest) at in (
+      x.digest,
+      h.0,
+      h.1,
+      inl (refl, subst (λ (i : ImageCounts). HasName f h.0 i.functions) is h.2),
+      inl (sym one, subst (λ (i : ImageCounts). HasName f h.1 i.functions) at h.3),
+      h.4,
+    )
+no_sum_of_first (x ∷ xs) (y ∷ ys) z w (Count n) some other is at first second h =
     let one : x.digest ≡ y.digest = ap (λ (i : ImageCounts). i.digest) (sym is)
     ∙ same_place z.digest w.digest first second ∙ ap (λ (i : ImageCounts). i.digest) at in
     (x.digest, great_here (λ i. begun_at n i.addresses) x y z w (begun_in x.digest n xs) (begun_in x.digest n ys) is at one h)
-too_great_first (x ∷ xs) (y ∷ ys) z w (Spot f) some other is at first second h =
+no_sum_of_first (x ∷ xs) (y ∷ ys) z w (Spot f) some other is at first second h =
     let one : x.digest ≡ y.digest = ap (λ (i : ImageCounts). i.digest) (sym is)
     ∙ same_place z.digest w.digest first second ∙ ap (λ (i : ImageCounts). i.digest) at in (
       x.digest,
@@ -284,16 +380,24 @@ too_great_first (x ∷ xs) (y ∷ ys) z w (Spot f) some other is at first second
     )
 
 -- what is refused of addresses, and of spots, is refused of their images
-pub too_great_of_counts : (error : SumError) (a b : ImageCounts) → IsTooGreatAt error a.addresses b.addresses → IsTooGreatOf error a b
-too_great_of_counts OutOfMemory a b h = tt
-too_great_of_counts (Count n) a b h = h
-too_great_of_counts (Spot f) a b h = absurd h
-too_great_of_counts Runs a b h = h
+pub no_sum_of_counts : (error : SumError) (a b : ImageCounts) → CountsHaveNoSum error a.addresses b.addresses → ImageHasNoSum error a b
+no_sum_of_counts OutOfMemory a b h = tt
+no_sum_of_counts (Count n) a b h = h
+no_sum_of_counts (Spot f) a b h = absurd h
+no_sum_of_counts (Names f) a b h = absurd h
+no_sum_of_counts Runs a b h = h
 
-pub too_great_of_spots : (why : SpotSumError) (a b : ImageCounts) → IsTooGreat why a.spots b.spots
-    → IsTooGreatOf (sum_error_of why) a b
-too_great_of_spots spots.OutOfMemory a b h = tt
-too_great_of_spots (spots.Count f) a b h = h
+pub no_sum_of_names : (error : SumError) (a b : ImageCounts) → NamesHaveNoSum error a.functions b.functions → ImageHasNoSum error a b
+no_sum_of_names OutOfMemory a b h = tt
+no_sum_of_names (Count n) a b h = absurd h
+no_sum_of_names (Spot f) a b h = absurd h
+no_sum_of_names (Names f) a b h = h
+no_sum_of_names Runs a b h = h
+
+pub no_sum_of_spots : (why : SpotSumError) (a b : ImageCounts) → IsTooGreat why a.spots b.spots
+    → ImageHasNoSum (sum_error_of why) a b
+no_sum_of_spots spots.OutOfMemory a b h = tt
+no_sum_of_spots (spots.Count f) a b h = h
 
 -- ---- spots of a sum
 
@@ -346,15 +450,21 @@ some_steps_left zero digest path is = omega arith
 some_steps_left (suc n) digest path [] = omega arith
 some_steps_left (suc n) digest path (i ∷ is) = let h = some_steps_left n digest path is in omega (arith, h)
 
-pub too_great_in_rest : (n m : ℕ) (a b : List ImageCounts) (error : SumError)
-    → IsTooGreatIn error (drop n a) (drop m b) → IsTooGreatIn error a b
-too_great_in_rest n m a b OutOfMemory h = tt
-too_great_in_rest n m a b (Count address) h =
+name_in_rest : (n f : ℕ) (digest name : List ℕ) (is : List ImageCounts) → HasNameIn digest f name (drop n is)
+    → HasNameIn digest f name is
+name_in_rest zero f digest name is h = h
+name_in_rest (suc n) f digest name [] h = h
+name_in_rest (suc n) f digest name (i ∷ is) h = inr (name_in_rest n f digest name is h)
+
+pub no_sum_of_rest : (n m : ℕ) (a b : List ImageCounts) (error : SumError)
+    → ImagesHaveNoSum error (drop n a) (drop m b) → ImagesHaveNoSum error a b
+no_sum_of_rest n m a b OutOfMemory h = tt
+no_sum_of_rest n m a b (Count address) h =
     let k = h.1 in
     let p = some_images_left n h.0 address a in
     let q = some_images_left m h.0 address b in
     (h.0, omega (arith, k, p, q))
-too_great_in_rest n m a b (Spot f) h = (
+no_sum_of_rest n m a b (Spot f) h = (
   h.0,
   h.1,
   h.2,
@@ -369,7 +479,9 @@ too_great_in_rest n m a b (Spot f) h = (
         inr (omega (arith, k, p, q))
   ],
 )
-too_great_in_rest n m a b Runs h = h
+no_sum_of_rest n m a b Runs h = h
+no_sum_of_rest n m a b (Names f) h =
+    (h.0, h.1, h.2, name_in_rest n f h.0 h.1 a h.3, name_in_rest m f h.0 h.2 b h.4, h.5)
 
 none_add_up : ImagesAddUp [] [] []
 none_add_up = record {
@@ -378,6 +490,7 @@ none_add_up = record {
   begun = λ digest address. refl;
   taken = λ digest address. refl;
   paths = λ digest. refl;
+  agree = λ last p q digest function. tt;
   names = λ digest function. refl;
   arrivals = λ digest path. refl;
   steps = λ digest path. refl;

@@ -10,7 +10,9 @@ use Rattle.rv_counts.specs.declared.table.FunctionName.{FunctionName}
 use Rattle.rv_counts.specs.declared.sum_of_names.NextName.{NextName}
 use Rattle.rv_counts.specs.Lines.{lacks}
 use Rattle.rv_counts.specs.Table.{name_at, names_rise, least_path, least_path_of, AreNames, IsName}
-use Rattle.rv_counts.specs.Sum.{IsSumOfNames}
+use Rattle.rv_counts.specs.Sum.{Agree, HasName, IsSumOfNames, NamesHaveNoSum}
+use Rattle.rv_counts.specs.declared.sum.SumError.{SumError}
+use Rattle.rv_counts.specs.declared.sum.SumError.TheVariants.{OutOfMemory, Count, Spot, Names, Runs}
 use Rattle.rv_counts.specs.SumSteps.{NamesAddUp, IsNextName}
 use Rattle.rv_counts.proofs.AddingImages.{least_is, path_parts}
 use Rattle.rv_counts.proofs.Paths.{any_first, either, second_first}
@@ -42,6 +44,59 @@ none_rises : (n : ℕ) → names_rise n [] ≡ true
 unfolding names_rise
 none_rises n = refl
 
+pub none_below : (ns : List FunctionName) (lowest f : ℕ) → names_rise lowest ns ≡ true → f < lowest → name_at f ns ≡ None
+none_below [] lowest f h under = refl
+none_below (n ∷ ns) lowest f h under =
+    let l = low lowest n ns h in
+    ap (λ (t : Bool). least_path_of (cond t (Some n.name) None) (name_at f ns)) (elsewhere f n.function (omega arith))
+    ∙ none_below ns (n.function + 1) f (behind lowest n ns h) (omega arith)
+
+-- ---- names in which both lists agree
+
+pub agree_with_none : (o : Option (List ℕ)) → Agree o None
+agree_with_none None = tt
+agree_with_none (Some name) = tt
+
+passed_name : (x : FunctionName) (xs : List FunctionName) (f : ℕ) → (x.function == f) ≡ false → name_at f (x ∷ xs) ≡ name_at f xs
+passed_name x xs f t = ap (λ (b : Bool). least_path_of (cond b (Some x.name) None) (name_at f xs)) t
+
+its_name : (x : FunctionName) (xs : List FunctionName) (f : ℕ) → names_rise (x.function + 1) xs ≡ true
+    → (x.function == f) ≡ true → name_at f (x ∷ xs) ≡ Some x.name
+its_name x xs f h t =
+    let e = eqb-true x.function f t in
+    ap (λ (b : Bool). least_path_of (cond b (Some x.name) None) (name_at f xs)) t
+    ∙ ap (least_path_of (Some x.name)) (none_below xs (x.function + 1) f h (omega (arith, e)))
+
+first_agrees : (x : FunctionName) (xs b : List FunctionName) (f : ℕ) → names_rise (x.function + 1) b ≡ true
+    → Agree (name_at f xs) (name_at f b) → Agree (name_at f (x ∷ xs)) (name_at f b)
+first_agrees x xs b f h k = elim (cases_Bool (x.function == f)) [
+  | inl t ↦
+      let e = eqb-true x.function f t in
+      subst (Agree (name_at f (x ∷ xs))) (sym (none_below b (x.function + 1) f h (omega (arith, e)))) (agree_with_none (name_at f (x ∷ xs)))
+  | inr t ↦ subst (λ (o : Option (List ℕ)). Agree o (name_at f b)) (sym (passed_name x xs f t)) k
+]
+
+second_agrees : (y : FunctionName) (a ys : List FunctionName) (f : ℕ) → names_rise (y.function + 1) a ≡ true
+    → Agree (name_at f a) (name_at f ys) → Agree (name_at f a) (name_at f (y ∷ ys))
+second_agrees y a ys f h k = elim (cases_Bool (y.function == f)) [
+  | inl t ↦
+      let e = eqb-true y.function f t in
+      subst (λ (o : Option (List ℕ)). Agree o (name_at f (y ∷ ys))) (sym (none_below a (y.function + 1) f h (omega (arith, e)))) tt
+  | inr t ↦ subst (Agree (name_at f a)) (sym (passed_name y ys f t)) k
+]
+
+both_agree : (x y : FunctionName) (xs ys : List FunctionName) (f : ℕ) → x.function ≡ y.function → x.name ≡ y.name
+    → names_rise (x.function + 1) xs ≡ true → names_rise (y.function + 1) ys ≡ true → Agree (name_at f xs) (name_at f ys)
+    → Agree (name_at f (x ∷ xs)) (name_at f (y ∷ ys))
+both_agree x y xs ys f one name h k others = elim (cases_Bool (x.function == f)) [
+  | inl t ↦
+      subst (λ (o : Option (List ℕ)). Agree o (name_at f (y ∷ ys))) (sym (its_name x xs f h t))
+      (subst (Agree (Some x.name)) (sym (its_name y ys f k (ap (λ (n : ℕ). n == f) (sym one) ∙ t))) name)
+  | inr t ↦
+      subst (λ (o : Option (List ℕ)). Agree o (name_at f (y ∷ ys))) (sym (passed_name x xs f t))
+      (subst (Agree (name_at f xs)) (sym (passed_name y ys f (ap (λ (n : ℕ). n == f) (sym one) ∙ t))) others)
+]
+
 -- ---- a name ahead of the others
 
 -- a name of the first list alone
@@ -52,6 +107,8 @@ first_ahead x xs b others named above h = record {
   each = (named, h.each);
   rising = λ lowest p q. rises lowest x others (low lowest x xs p)
       (h.rising (x.function + 1) (behind lowest x xs p) (above lowest q));
+  agree = λ lowest p q f. first_agrees x xs b f (above lowest q)
+      (h.agree (x.function + 1) (behind lowest x xs p) (above lowest q) f);
   names = λ f. ap (least_path_of (cond (x.function == f) (Some x.name) None)) (h.names f)
       ∙ sym (any_first (cond (x.function == f) (Some x.name) None) (name_at f xs) (name_at f b));
 }
@@ -64,28 +121,25 @@ second_ahead y a ys others named above h = record {
   each = (named, h.each);
   rising = λ lowest p q. rises lowest y others (low lowest y ys q)
       (h.rising (y.function + 1) (above lowest p) (behind lowest y ys q));
+  agree = λ lowest p q f. second_agrees y a ys f (above lowest p)
+      (h.agree (y.function + 1) (above lowest p) (behind lowest y ys q) f);
   names = λ f. ap (least_path_of (cond (y.function == f) (Some y.name) None)) (h.names f)
       ∙ second_first (name_at f a) (cond (y.function == f) (Some y.name) None) (name_at f ys);
 }
 
 -- a name of both lists
-both_ahead : (x y sum : FunctionName) (xs ys others : List FunctionName) → IsName x → IsName y
-    → x.function ≡ y.function → sum.function ≡ x.function → sum.name ≡ least_path x.name y.name
-    → NamesAddUp xs ys others → NamesAddUp (x ∷ xs) (y ∷ ys) (sum ∷ others)
-both_ahead x y sum xs ys others named also one at name h = record {
-  each = (
-    (record {
-      function = let k = named.function in omega (arith, k, at);
-      name = ap (lacks 10) name ∙ least_is (λ s. lacks 10 s ≡ true) x.name y.name named.name also.name;
-      text = subst (λ (s : List ℕ). IsUtf8 s) (sym name) (least_is IsUtf8 x.name y.name named.text also.text);
-    }),
-    h.each,
-  );
+both_ahead : (x y : FunctionName) (xs ys others : List FunctionName) → IsName x → x.function ≡ y.function → x.name ≡ y.name
+    → NamesAddUp xs ys others → NamesAddUp (x ∷ xs) (y ∷ ys) (x ∷ others)
+both_ahead x y xs ys others named one name h = record {
+  each = (named, h.each);
   rising = λ lowest p q.
-      rises lowest sum others (let k = low lowest x xs p in omega (arith, k, at))
-      (h.rising (sum.function + 1) (ap (λ (n : ℕ). names_rise (n + 1) xs) at ∙ behind lowest x xs p)
-      (ap (λ (n : ℕ). names_rise (n + 1) ys) (at ∙ one) ∙ behind lowest y ys q));
-  names = λ f. (λ i. least_path_of (cond (at i == f) (Some (name i)) None) (name_at f others))
+      rises lowest x others (low lowest x xs p)
+      (h.rising (x.function + 1) (behind lowest x xs p)
+      (ap (λ (n : ℕ). names_rise (n + 1) ys) one ∙ behind lowest y ys q));
+  agree = λ lowest p q f. both_agree x y xs ys f one name (behind lowest x xs p) (behind lowest y ys q)
+      (h.agree (x.function + 1) (behind lowest x xs p) (ap (λ (n : ℕ). names_rise (n + 1) ys) one ∙ behind lowest y ys q) f);
+  names = λ f. ap (λ (s : List ℕ). least_path_of (cond (x.function == f) (Some s) None) (name_at f others))
+      (least_is (λ s. x.name ≡ s) x.name y.name refl name)
       ∙ path_parts (x.function == f) (y.function == f) x.name y.name _ (name_at f xs) (name_at f ys)
       (ap (λ (n : ℕ). n == f) one) (h.names f);
 }
@@ -154,21 +208,47 @@ name_of_second (x ∷ xs) (y ∷ ys) z w each some other is at less next e =
           (λ n p. raised n (y.function + 1) x xs p (omega (arith, f, g, less))) h;
     })
 
-pub name_of_both : (a b : List FunctionName) (x y sum : FunctionName) → AllByRecursion IsName a → AllByRecursion IsName b
-    → 0 < length a → 0 < length b → x ≡ get_or a 0 x → y ≡ get_or b 0 y → x.function ≡ y.function
-    → sum.function ≡ x.function → sum.name ≡ least_path x.name y.name
-    → IsNextName a b (record { name = sum; of_a = 1; of_b = 1 })
-name_of_both [] b x y sum each also some other is at same function name = absurd (omega arith)
-name_of_both (x ∷ xs) [] z w sum each also some other is at same function name = absurd (omega arith)
-name_of_both (x ∷ xs) (y ∷ ys) z w sum each also some other is at same function name = record {
-  of_a = omega arith;
-  of_b = omega arith;
-  some = omega arith;
-  ahead = λ others h. both_ahead x y sum xs ys others each.0 also.0
-      (ap (λ (n : FunctionName). n.function) (sym is) ∙ same ∙ ap (λ (n : FunctionName). n.function) at)
-      (function ∙ ap (λ (n : FunctionName). n.function) is)
-      (name ∙ (λ i. least_path (is i).name (at i).name)) h;
-}
+pub name_of_both : (a b : List FunctionName) (x y : FunctionName) → AllByRecursion IsName a
+    → 0 < length a → 0 < length b → x ≡ get_or a 0 x → y ≡ get_or b 0 y → x.function ≡ y.function → x.name ≡ y.name
+    → (next : NextName) → next ≡ record { name = x; of_a = 1; of_b = 1 } → IsNextName a b next
+name_of_both [] b x y each some other is at function name next e = absurd (omega arith)
+name_of_both (x ∷ xs) [] z w each some other is at function name next e = absurd (omega arith)
+name_of_both (x ∷ xs) (y ∷ ys) z w each some other is at function name next e =
+    let e' : next ≡ record { name = x; of_a = 1; of_b = 1 } = e ∙ (λ i. record { name = is i; of_a = 1; of_b = 1 }) in
+    subst (λ (n : NextName). IsNextName (x ∷ xs) (y ∷ ys) n) (sym e') (record {
+      of_a = omega arith;
+      of_b = omega arith;
+      some = omega arith;
+      ahead = λ others h. both_ahead x y xs ys others each.0
+          (ap (λ (n : FunctionName). n.function) (sym is) ∙ function ∙ ap (λ (n : FunctionName). n.function) at)
+          (ap (λ (n : FunctionName). n.name) (sym is) ∙ name ∙ ap (λ (n : FunctionName). n.name) at) h;
+    })
+
+-- two names of one function, at the front of both
+pub other_names_first : (a b : List FunctionName) (x y : FunctionName) → 0 < length a → 0 < length b → x ≡ get_or a 0 x
+    → y ≡ get_or b 0 y → x.function ≡ y.function → (x.name ≡ y.name → ⊥) → NamesHaveNoSum (Names x.function) a b
+other_names_first [] b x y some other is at function differ = absurd (omega arith)
+other_names_first (x ∷ xs) [] z w some other is at function differ = absurd (omega arith)
+other_names_first (x ∷ xs) (y ∷ ys) z w some other is at function differ = (
+  z.name,
+  w.name,
+  inl (ap (λ (n : FunctionName). n.function) (sym is), ap (λ (n : FunctionName). n.name) (sym is)),
+  inl (ap (λ (n : FunctionName). n.function) (sym at) ∙ sym function, ap (λ (n : FunctionName). n.name) (sym at)),
+  differ,
+)
+
+name_in_rest : (n f : ℕ) (name : List ℕ) (ns : List FunctionName) → HasName f name (drop n ns) → HasName f name ns
+name_in_rest zero f name ns h = h
+name_in_rest (suc n) f name [] h = h
+name_in_rest (suc n) f name (m ∷ ms) h = inr (name_in_rest n f name ms h)
+
+pub no_sum_of_rest : (n m : ℕ) (a b : List FunctionName) (error : SumError) → NamesHaveNoSum error (drop n a) (drop m b)
+    → NamesHaveNoSum error a b
+no_sum_of_rest n m a b OutOfMemory h = tt
+no_sum_of_rest n m a b (Count address) h = h
+no_sum_of_rest n m a b (Spot function) h = h
+no_sum_of_rest n m a b Runs h = h
+no_sum_of_rest n m a b (Names f) h = (h.0, h.1, name_in_rest n f h.0 a h.2, name_in_rest m f h.1 b h.3, h.4)
 
 -- ---- the loop: what both lists have ahead
 
@@ -178,7 +258,7 @@ all_behind (suc n) [] h = h
 all_behind (suc n) (m ∷ ms) h = all_behind n ms h.1
 
 none_add_up : NamesAddUp [] [] []
-none_add_up = record { each = tt; rising = λ lowest p q. p; names = λ function. refl }
+none_add_up = record { each = tt; rising = λ lowest p q. p; agree = λ lowest p q function. tt; names = λ function. refl }
 
 -- at the end what stands there is the sum
 pub names_summed : (a b sums : List FunctionName) (n m : ℕ) → AreNames a → AreNames b → length a ≤ n → length b ≤ m
@@ -192,17 +272,11 @@ names_summed a b sums n m x y p q ahead =
     (subst (λ (s : List FunctionName). NamesAddUp [] s []) (sym f) none_add_up) in
     let all : NamesAddUp a b sums = subst (λ (s : List FunctionName). NamesAddUp a b s) (append-nil sums) (ahead [] none) in record {
       names = record { each = all.each; rising = all.rising 0 x.rising y.rising };
+      agree = all.agree 0 x.rising y.rising;
       each = all.names;
     }
 
 -- ---- one list has these names
-
-none_below : (ns : List FunctionName) (lowest f : ℕ) → names_rise lowest ns ≡ true → f < lowest → name_at f ns ≡ None
-none_below [] lowest f h under = refl
-none_below (n ∷ ns) lowest f h under =
-    let l = low lowest n ns h in
-    ap (λ (t : Bool). least_path_of (cond t (Some n.name) None) (name_at f ns)) (elsewhere f n.function (omega arith))
-    ∙ none_below ns (n.function + 1) f (behind lowest n ns h) (omega arith)
 
 first_named : (lowest : ℕ) (n : FunctionName) (ns : List FunctionName) → names_rise lowest (n ∷ ns) ≡ true
     → name_at n.function (n ∷ ns) ≡ Some n.name

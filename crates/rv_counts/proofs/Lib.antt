@@ -4,6 +4,8 @@ pub mod Adding
 pub mod Paths
 pub mod AddingImages
 pub mod AddingNames
+pub mod NamesOfSpots
+pub mod SumsOfStacks
 pub mod Pieces
 pub mod Words
 pub mod LineLoops

@@ -172,7 +172,7 @@ same_images (i ∷ is) (j ∷ js) n m r q h k e =
     (no_entry_first js m q) same.1 in
     let others = same_images is js n m r q h.1 k.1 inside.1 in
     let one : i ≡ j = same_image i j (same_digest i j h.0 k.0 lines) (same_path i j h.0 k.0 lines)
-    (same_parts i j inside.0) in
+    (same_parts i j h.0 k.0 inside.0) in
     (λ x. one x ∷ others.0 x, others.1)
 
 behind_first : (t : CountTable) → drop 11 (table_text t) ≡ flat_map image_text t.images ++ last_line (length t.images) t.runs

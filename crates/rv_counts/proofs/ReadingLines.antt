@@ -13,13 +13,12 @@ use Rattle.rv_counts.specs.declared.table.ImageCounts.{ImageCounts}
 use Rattle.rv_counts.specs.declared.read_lines.AddressLines.{AddressLines}
 use Rattle.rv_counts.specs.declared.read_lines.ImageLines.{ImageLines}
 use Rattle.rv_counts.specs.declared.read_lines.OneImage.{OneImage}
-use Rattle.rv_counts.specs.declared.read_stacks.NameLines.{NameLines}
 use Rattle.rv_counts.specs.declared.read_stacks.SpotLines.{SpotLines}
 use Rattle.rv_counts.specs.declared.table.FunctionName.{FunctionName}
 use Rattle.rv_counts.specs.Lines.{lacks, whole_line}
 use Rattle.rv_counts.specs.Table.{is_before, is_behind, digests_rise, rise_from, IsCounted, IsImage}
-use Rattle.rv_counts.specs.Text.{line, address_line, image_line, image_text, last_line, name_line, spot_line}
-use Rattle.rv_counts.specs.ReadSteps.{lowest_behind, last_digest, nowhere, at_image, place_in, place_behind, entries_of, Place, IsNoAddress, IsNoEntry, IsNoImage, AreAddressLines, AreImageLines, AreNameLines, AreSpotLines, IsOneImage}
+use Rattle.rv_counts.specs.Text.{line, address_line, image_line, image_text, last_line, line_of_spot}
+use Rattle.rv_counts.specs.ReadSteps.{lowest_behind, last_digest, nowhere, at_image, place_in, place_behind, entries_of, Place, IsNoAddress, IsNoEntry, IsNoImage, AreAddressLines, AreImageLines, AreSpotLines, IsOneImage}
 use Rattle.rv_spots.specs.declared.spot.Spot.{Spot}
 use Rattle.rv_counts.proofs.Pieces.{cases_line, line_at, no_line, same_cut}
 use Rattle.rv_counts.proofs.Told.{low, behind}
@@ -173,12 +172,12 @@ all_so_far text lowest read h no_more = record {
 
 image_line_is_kept : (i : ImageCounts) (cs : List AddressCounts) (ns : List FunctionName) (ss : List Spot)
     → image_text (record i { addresses = cs; functions = ns; spots = ss })
-    ≡ image_line i ++ flat_map address_line cs ++ flat_map name_line ns ++ flat_map spot_line ss
+    ≡ image_line i ++ flat_map address_line cs ++ flat_map (line_of_spot ns) ss
 unfolding image_text image_line
 image_line_is_kept i cs ns ss = refl
 
-five_parts : (a b c d e : List ℕ) → a ++ (b ++ (c ++ (d ++ e))) ≡ (a ++ b ++ c ++ d) ++ e
-five_parts a b c d e = sym (append_assoc (a ++ b ++ c) d e ∙ append_assoc (a ++ b) c (d ++ e) ∙ append_assoc a b (c ++ (d ++ e)))
+four_parts : (a b c d : List ℕ) → a ++ (b ++ (c ++ d)) ≡ (a ++ b ++ c) ++ d
+four_parts a b c d = sym (append_assoc (a ++ b) c d ∙ append_assoc a b (c ++ d))
 
 pub lacks_path : (xs ys : List ℕ) → lacks 10 (xs ++ ys) ≡ true → lacks 10 ys ≡ true
 lacks_path [] ys h = h
@@ -202,71 +201,61 @@ plain_image text i e =
     (ap (lacks 10) (sym (same_words p.0 (image_words i) p.2)) ∙ p.1)
 
 -- what was read behind the line of an image
-pub record AreParts (text : List ℕ) (start : ℕ) (lines : AddressLines) (names : NameLines) (spots : SpotLines) (n : ℕ) : Type 0 where
+pub record AreParts (text : List ℕ) (start : ℕ) (lines : AddressLines) (spots : SpotLines) (n : ℕ) : Type 0 where
   pub addresses : AreAddressLines (drop start text) lines
-  pub functions : AreNameLines (drop (start + lines.length) text) names
-  pub stacks : AreSpotLines (drop (start + lines.length + names.length) text) spots
-  pub end : n ≡ start + lines.length + names.length + spots.length
+  pub stacks : AreSpotLines (drop (start + lines.length) text) spots
+  pub end : n ≡ start + lines.length + spots.length
 
-parts_within : (text : List ℕ) (start : ℕ) (lines : AddressLines) (names : NameLines) (spots : SpotLines) (n : ℕ)
-    → AreParts text start lines names spots n → start ≤ length text → n ≤ length text
-parts_within text start lines names spots n h le =
+parts_within : (text : List ℕ) (start : ℕ) (lines : AddressLines) (spots : SpotLines) (n : ℕ)
+    → AreParts text start lines spots n → start ≤ length text → n ≤ length text
+parts_within text start lines spots n h le =
     let a = h.addresses.within in
-    let b = h.functions.within in
-    let c = h.stacks.within in
+    let b = h.stacks.within in
     let p = length-drop start text in
     let q = length-drop (start + lines.length) text in
-    let r = length-drop (start + lines.length + names.length) text in
     let e = h.end in
-    omega (arith, a, b, c, p, q, r, e)
+    omega (arith, a, b, p, q, e)
 
-parts_text : (text : List ℕ) (start : ℕ) (lines : AddressLines) (names : NameLines) (spots : SpotLines) (n : ℕ)
-    → AreParts text start lines names spots n → drop start text ≡ flat_map address_line lines.addresses
-    ++ (flat_map name_line names.functions ++ (flat_map spot_line spots.spots ++ drop n text))
-parts_text text start lines names spots n h =
-    let third : drop (start + lines.length + names.length) text ≡ flat_map spot_line spots.spots ++ drop n text =
-    h.stacks.lines ∙ ap (λ (t : List ℕ). flat_map spot_line spots.spots ++ t)
-    (drop-drop spots.length (start + lines.length + names.length) text ∙ ap (λ (k : ℕ). drop k text) (sym h.end)) in
-    let second : drop (start + lines.length) text ≡ flat_map name_line names.functions ++ (flat_map spot_line spots.spots ++ drop n text) =
-    h.functions.lines ∙ ap (λ (t : List ℕ). flat_map name_line names.functions ++ t)
-    (drop-drop names.length (start + lines.length) text ∙ third) in
+parts_text : (text : List ℕ) (start : ℕ) (lines : AddressLines) (spots : SpotLines) (n : ℕ)
+    → AreParts text start lines spots n → drop start text ≡ flat_map address_line lines.addresses
+    ++ (flat_map (line_of_spot spots.functions) spots.spots ++ drop n text)
+parts_text text start lines spots n h =
+    let second : drop (start + lines.length) text ≡ flat_map (line_of_spot spots.functions) spots.spots ++ drop n text =
+    h.stacks.lines ∙ ap (λ (t : List ℕ). flat_map (line_of_spot spots.functions) spots.spots ++ t)
+    (drop-drop spots.length (start + lines.length) text ∙ ap (λ (k : ℕ). drop k text) (sym h.end)) in
     h.addresses.lines ∙ ap (λ (t : List ℕ). flat_map address_line lines.addresses ++ t)
     (drop-drop lines.length start text ∙ second)
 
-no_part : (text : List ℕ) (start : ℕ) (lines : AddressLines) (names : NameLines) (spots : SpotLines) (n : ℕ)
-    → AreParts text start lines names spots n
-    → IsNoEntry (place_behind at_image (all_entries lines.addresses names.functions spots.spots)) (whole_line (drop n text))
-no_part text start lines names spots n h =
-    let end = drop-drop spots.length (start + lines.length + names.length) text ∙ ap (λ (k : ℕ). drop k text) (sym h.end) in
-    subst (λ (t : List ℕ). IsNoEntry (place_behind at_image (all_entries lines.addresses names.functions spots.spots)) (whole_line t)) end
-    (no_entry lines.addresses names.functions spots.spots (whole_line (drop lines.length (drop start text)))
-    (whole_line (drop names.length (drop (start + lines.length) text)))
-    (whole_line (drop spots.length (drop (start + lines.length + names.length) text)))
-    h.addresses.behind h.functions.behind h.stacks.behind
-    (λ e. ap whole_line (drop-drop lines.length start text ∙ h.functions.lines
-    ∙ ap (λ (ns : List FunctionName). flat_map name_line ns ++ drop names.length (drop (start + lines.length) text)) e))
-    (λ e. ap whole_line (drop-drop names.length (start + lines.length) text ∙ h.stacks.lines
-    ∙ ap (λ (ss : List Spot). flat_map spot_line ss ++ drop spots.length (drop (start + lines.length + names.length) text)) e)))
+no_part : (text : List ℕ) (start : ℕ) (lines : AddressLines) (spots : SpotLines) (n : ℕ) → AreParts text start lines spots n
+    → IsNoEntry (place_behind at_image (all_entries lines.addresses spots.functions spots.spots)) (whole_line (drop n text))
+no_part text start lines spots n h =
+    let end = drop-drop spots.length (start + lines.length) text ∙ ap (λ (k : ℕ). drop k text) (sym h.end) in
+    subst (λ (t : List ℕ). IsNoEntry (place_behind at_image (all_entries lines.addresses spots.functions spots.spots)) (whole_line t)) end
+    (no_entry lines.addresses spots.functions spots.spots (whole_line (drop lines.length (drop start text)))
+    (whole_line (drop spots.length (drop (start + lines.length) text)))
+    h.addresses.behind h.stacks.behind h.stacks.known
+    (λ e. ap whole_line (drop-drop lines.length start text ∙ h.stacks.lines
+    ∙ ap (λ (ss : List Spot). flat_map (line_of_spot spots.functions) ss ++ drop spots.length (drop (start + lines.length) text)) e)))
 
-pub one_image : (last : Option (List ℕ)) (text : List ℕ) (image : ImageCounts) (lines : AddressLines) (names : NameLines)
+pub one_image : (last : Option (List ℕ)) (text : List ℕ) (image : ImageCounts) (lines : AddressLines)
     (spots : SpotLines) (n : ℕ) → whole_line text ≡ image_line image → length image.digest ≡ 32
     → is_behind last image.digest ≡ true → AllByRecursion (λ b. b < 256) image.digest → IsUtf8 image.path
-    → AreParts text (length (whole_line text)) lines names spots n
+    → AreParts text (length (whole_line text)) lines spots n
     → IsOneImage last text (record {
-      image = record image { addresses = lines.addresses; functions = names.functions; spots = spots.spots };
+      image = record image { addresses = lines.addresses; functions = spots.functions; spots = spots.spots };
       length = n;
     })
-one_image last text image lines names spots n is long rising bytes utf h =
+one_image last text image lines spots n is long rising bytes utf h =
     let w = whole_line text in
     let split = whole_split text in
     let long_enough : 0 < length w = subst (λ (s : List ℕ). 0 < length s) (sym is) (image_is_long image) in
     let end = h.end in record {
-      within = parts_within text (length w) lines names spots n h (whole_within text);
+      within = parts_within text (length w) lines spots n h (whole_within text);
       lines = split ∙ ap (λ (s : List ℕ). s ++ drop (length w) text) is
-          ∙ ap (λ (s : List ℕ). image_line image ++ s) (parts_text text (length w) lines names spots n h)
-          ∙ five_parts (image_line image) (flat_map address_line lines.addresses) (flat_map name_line names.functions)
-          (flat_map spot_line spots.spots) (drop n text)
-          ∙ ap (λ (s : List ℕ). s ++ drop n text) (sym (image_line_is_kept image lines.addresses names.functions spots.spots));
+          ∙ ap (λ (s : List ℕ). image_line image ++ s) (parts_text text (length w) lines spots n h)
+          ∙ four_parts (image_line image) (flat_map address_line lines.addresses)
+          (flat_map (line_of_spot spots.functions) spots.spots) (drop n text)
+          ∙ ap (λ (s : List ℕ). s ++ drop n text) (sym (image_line_is_kept image lines.addresses spots.functions spots.spots));
       some = omega (arith, long_enough, end);
       image = record {
         digest = long;
@@ -274,11 +263,12 @@ one_image last text image lines names spots n is long rising bytes utf h =
         path = plain_image text image is;
         text = utf;
         counts = h.addresses.counts;
-        names = h.functions.names;
+        names = h.stacks.names;
         spots = h.stacks.spots;
+        of_spots = h.stacks.of_spots;
       };
       rising = rising;
-      behind = no_part text (length w) lines names spots n h;
+      behind = no_part text (length w) lines spots n h;
     }
 
 pub no_image_digest : (last : Option (List ℕ)) (text digest : List ℕ)

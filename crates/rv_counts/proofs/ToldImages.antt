@@ -1,6 +1,6 @@
 -- Tables are told apart by their numbers, their paths and their runs.
 use Rattle.std.proofs.Common.{◌≡◌, ◌∙◌, ◌==◌, ◌+◌, ◌<◌, ◌≤◌, ℕ, Bool, true, false, cond, List, [], ◌∷◌, Option, Some, None, refl, sym, ap, subst, arith, inl, inr}
-use Rattle.std.proofs.lemmas.Bool.{cases_Bool, both_ways, false≢true}
+use Rattle.std.proofs.lemmas.Bool.{cases_Bool}
 use Rattle.std.specs.Cmp.Lexicographic.{bytes_decides}
 use Rattle.std.specs.List.{AllByRecursion}
 use Rattle.std.specs.Str.{bytes_eq}
@@ -13,29 +13,10 @@ use Rattle.rv_spots.proofs.Public.{one_tree_of_counts}
 use Rattle.rv_counts.proofs.AddingNames.{one_list_of_names}
 use Rattle.rv_counts.specs.Sum.{IsSum}
 use Rattle.rv_counts.proofs.Told.{one_of, left_over, either_order, either_first}
-use Rattle.rv_counts.proofs.AddingImages.{all_come_to, image_low, images_behind, images_raised}
-use Rattle.rv_counts.proofs.Paths.{none_before_itself, none_behind, before_both, same_place, either, any_first}
+use Rattle.rv_counts.proofs.AddingImages.{all_come_to, head_differs, image_low, images_behind, images_raised, none_named, still_up}
+use Rattle.rv_counts.proofs.Paths.{none_before_itself, none_behind, same_place, either, any_first}
 
 -- ---- a digest that is not among those of a list
-
-differ : (a b : List ℕ) → (a ≡ b → ⊥) → bytes_eq a b ≡ false
-differ a b h = elim (cases_Bool (bytes_eq a b)) [
-  | inl t ↦ absurd (h ((bytes_decides a b).0 t))
-  | inr f ↦ f
-]
-
--- each digest of a list that rises behind one is another than those up to it
-head_differs : (last digest : List ℕ) (i : ImageCounts) (is : List ImageCounts) → digests_rise (Some last) (i ∷ is) ≡ true
-    → is_before last digest ≡ false → bytes_eq i.digest digest ≡ false
-head_differs last digest i is h up = differ i.digest digest
-    (λ e. both_ways _ up (ap (is_before last) (sym e) ∙ image_low (Some last) i is h))
-
-still_up : (last digest : List ℕ) (i : ImageCounts) (is : List ImageCounts) → digests_rise (Some last) (i ∷ is) ≡ true
-    → is_before last digest ≡ false → is_before i.digest digest ≡ false
-still_up last digest i is h up = elim (cases_Bool (is_before i.digest digest)) [
-  | inl t ↦ absurd (both_ways _ up (before_both last i.digest digest (image_low (Some last) i is h) t))
-  | inr f ↦ f
-]
 
 no_path : (is : List ImageCounts) (last digest : List ℕ) → digests_rise (Some last) is ≡ true
     → is_before last digest ≡ false → path_in digest is ≡ None
@@ -56,13 +37,6 @@ none_counted count (i ∷ is) last digest h up =
     let e = ap (λ (t : Bool). cond t (count i) 0) (head_differs last digest i is h up) in
     let r = none_counted count is i.digest digest (images_behind (Some last) i is h) (still_up last digest i is h up) in
     omega (arith, e, r)
-
-none_named : (is : List ImageCounts) (last digest : List ℕ) (f : ℕ) → digests_rise (Some last) is ≡ true
-    → is_before last digest ≡ false → name_in digest f is ≡ None
-none_named [] last digest f h up = refl
-none_named (i ∷ is) last digest f h up =
-    ap (λ (t : Bool). least_path_of (cond t (name_at f i.functions) None) (name_in digest f is)) (head_differs last digest i is h up)
-    ∙ none_named is i.digest digest f (images_behind (Some last) i is h) (still_up last digest i is h up)
 
 -- these are such numbers
 begun_is : (n : ℕ) (digest : List ℕ) (is : List ImageCounts)

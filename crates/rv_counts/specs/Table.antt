@@ -7,8 +7,10 @@ use Rattle.rv_counts.specs.Lines.{lacks}
 use Rattle.rv_counts.specs.declared.table.AddressCounts.{AddressCounts}
 use Rattle.rv_counts.specs.declared.table.FunctionName.{FunctionName}
 use Rattle.rv_counts.specs.declared.table.ImageCounts.{ImageCounts}
+use Rattle.rv_counts.specs.declared.table.NamedSpot.{NamedSpot}
 use Rattle.rv_counts.specs.declared.table.CountTable.{CountTable}
 use Rattle.rv_spots.specs.declared.spot.Spot.{Spot}
+use Rattle.rv_spots.specs.Profiles.{is_last_of_some}
 use Rattle.rv_spots.specs.Trees.{arrivals_at, steps_at, IsTree}
 
 -- ---- what a table says
@@ -121,6 +123,25 @@ pub record IsSpot (s : Spot) : Type 0 where
   pub arrivals : s.arrivals < 2 ^ 64
   pub steps : s.steps < 2 ^ 64
 
+-- with the name of its function
+pub record IsNamedSpot (n : NamedSpot) : Type 0 where
+  pub spot : IsSpot n.spot
+  pub name : lacks 10 n.name ≡ true
+  pub text : IsUtf8 n.name
+
+abbrev pub has_name : Option (List ℕ) → Bool
+has_name None = false
+has_name (Some name) = true
+
+-- the name that a list has of a function, if it has one
+abbrev pub name_of : ℕ → List FunctionName → Option (List ℕ)
+name_of function [] = None
+name_of function (n ∷ ns) = if n.function == function then Some n.name else name_of function ns
+
+-- each function of the spots has a name, and no other one
+abbrev pub AreNamesOf : List Spot → List FunctionName → Type 0
+AreNamesOf spots names = (function : ℕ) → has_name (name_of function names) ≡ is_last_of_some function spots
+
 -- each list of functions stands once, in order
 pub record AreSpots (ss : List Spot) : Type 0 where
   pub each : AllByRecursion IsSpot ss
@@ -135,6 +156,7 @@ pub record IsImage (i : ImageCounts) : Type 0 where
   pub counts : AreCounts i.addresses
   pub names : AreNames i.functions
   pub spots : AreSpots i.spots
+  pub of_spots : AreNamesOf i.spots i.functions
 
 -- a digest stands behind the last one, if there is one
 abbrev pub is_behind : Option (List ℕ) → List ℕ → Bool

@@ -10,6 +10,7 @@ mod growth;
 mod law;
 mod line_parts;
 mod lookup;
+mod names;
 mod order;
 mod read;
 mod read_lines;

@@ -18,7 +18,7 @@ pub(crate) fn is_before(a: &[u8], b: &[u8]) -> bool
     false
 }
 
-/// The path or name that comes first in the order of bytes.
+/// The path that comes first in the order of bytes.
 pub(crate) fn least_path<'a>(path: &'a str, other: &'a str) -> &'a str
     ensures { result.now ≡ least_path path.now other.now }
 {

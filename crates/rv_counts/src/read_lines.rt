@@ -17,7 +17,7 @@ use crate::line_parts::{
     whole_line,
 };
 use crate::order::is_before;
-use crate::read_stacks::{read_names, read_spots};
+use crate::read_stacks::read_spots;
 use crate::table::{AddressCounts, Addresses, Digest, FunctionNames, ImageCounts, Images};
 use crate::text::{push_address_line, push_image_line, push_last_line};
 use rv_base::Text;
@@ -87,12 +87,10 @@ fn read_image(
     }
     let lines = read_addresses(alloc, tail_from(text, line.len()))?;
     let addresses_end = line.len() + lines.length;
-    let names = read_names(alloc, tail_from(text, addresses_end))?;
-    let names_end = addresses_end + names.length;
-    let spots = read_spots(alloc, tail_from(text, names_end))?;
-    let length = names_end + spots.length;
+    let spots = read_spots(alloc, tail_from(text, addresses_end))?;
+    let length = addresses_end + spots.length;
     image.addresses = lines.addresses;
-    image.functions = names.functions;
+    image.functions = spots.functions;
     image.spots = spots.spots;
     Ok(Some(OneImage { image, length }))
 }

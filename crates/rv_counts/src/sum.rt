@@ -1,7 +1,7 @@
 //! The sum of two tables.
 
 ghost use Rattle.std.specs.Prelude.{◌≡◌, IfOk, IfErr};
-ghost use Rattle.rv_counts.specs.Sum.{IsSum, IsTooGreat, sum_error_of};
+ghost use Rattle.rv_counts.specs.Sum.{IsSum, HaveNoSum, sum_error_of};
 ghost use Rattle.rv_counts.specs.Table.{IsTable};
 ghost use Rattle.rv_counts.specs.declared.sum.SumError.TheVariants.{OutOfMemory};
 
@@ -23,6 +23,9 @@ pub enum SumError {
     /// A number of a spot of the function is of 2^64 or more, in one image.
     #[error("a count in the stacks of {0:08x} does not fit in 64 bits")]
     Spot(u32),
+    /// The function has one name in one table, and another in the other, in one image.
+    #[error("{0:08x} has two names in one image")]
+    Names(u32),
     /// There are 2^64 runs or more.
     #[error("the number of runs does not fit in 64 bits")]
     Runs,
@@ -47,13 +50,13 @@ impl From<SpotSumError> for SumError {
     }
 }
 
-/// The sum of two tables: an image is known by its digest, and each of its counts is the sum of both. Of two names of a function
-/// it has the first in the order of bytes. Takes memory for the sum alone.
+/// The sum of two tables: an image is known by its digest, and each of its counts is the sum of both. Takes memory for the sum
+/// alone.
 pub fn sum_of_tables(alloc: Global, a: &CountTable, b: &CountTable) -> Result<CountTable, SumError>
     requires a { IsTable a.now }
     requires b { IsTable b.now }
     ensures value { IfOk result (λ sum. IsSum a.now b.now sum) }
-    ensures refused { IfErr result (λ error. IsTooGreat error a.now b.now) }
+    ensures refused { IfErr result (λ error. HaveNoSum error a.now b.now) }
 {
     let runs = a.runs.checked_add(b.runs).ok_or(SumError::Runs)?;
     let images = sum_of_images(alloc, a.images.as_slice(), b.images.as_slice())?;

@@ -4,8 +4,8 @@ ghost use Rattle.std.specs.Prelude.{◌≡◌, ◌+◌, ◌<◌, IfOk, IfErr, le
 ghost use Rattle.std.specs.List.{AllByRecursion};
 ghost use Rattle.rv_counts.specs.declared.sum.SumError.TheVariants.{OutOfMemory};
 ghost use Rattle.rv_counts.specs.Sum.{IsSumOfCounts, IsSumOfNames};
-ghost use Rattle.rv_counts.specs.SumSteps.{ImagesAddUp, IsNextImage, IsTooGreatIn, IsTooGreatOf};
-ghost use Rattle.rv_counts.specs.Table.{AreSpots, IsImage, is_before, least_path};
+ghost use Rattle.rv_counts.specs.SumSteps.{ImagesAddUp, IsNextImage, ImagesHaveNoSum, ImageHasNoSum};
+ghost use Rattle.rv_counts.specs.Table.{AreNamesOf, AreSpots, IsImage, is_before, least_path};
 ghost use Rattle.rv_spots.specs.Sums.{IsSumOfSpots};
 
 use crate::growth::push_item;
@@ -27,7 +27,7 @@ pub(crate) fn sum_of_images(
     requires a { AllByRecursion IsImage a.now }
     requires b { AllByRecursion IsImage b.now }
     ensures value { IfOk result (λ sum. ImagesAddUp a.now b.now sum) }
-    ensures refused { IfErr result (λ error. IsTooGreatIn error a.now b.now) }
+    ensures refused { IfErr result (λ error. ImagesHaveNoSum error a.now b.now) }
 {
     let mut sums = Vec::new(alloc);
     let mut from_a = 0;
@@ -55,7 +55,7 @@ fn next_image(alloc: Global, a: &[ImageCounts], b: &[ImageCounts]) -> Result<Nex
     requires b { AllByRecursion IsImage b.now }
     requires some { 0 < length a.now + length b.now }
     ensures value { IfOk result (λ next. IsNextImage a.now b.now next) }
-    ensures refused { IfErr result (λ error. IsTooGreatIn error a.now b.now) }
+    ensures refused { IfErr result (λ error. ImagesHaveNoSum error a.now b.now) }
 {
     if b.is_empty() {
         return image_of_first(alloc, &a[0]);
@@ -117,9 +117,10 @@ fn sum_of_image(alloc: Global, a: &ImageCounts, b: &ImageCounts) -> Result<Image
     ensures path { IfOk result (λ sum. sum.path ≡ least_path a.now.path b.now.path) }
     ensures counts { IfOk result (λ sum. IsSumOfCounts a.now.addresses b.now.addresses sum.addresses) }
     ensures names { IfOk result (λ sum. IsSumOfNames a.now.functions b.now.functions sum.functions) }
+    ensures of_spots { IfOk result (λ sum. AreNamesOf sum.spots sum.functions) }
     ensures tree { IfOk result (λ sum. AreSpots sum.spots) }
     ensures spots { IfOk result (λ sum. IsSumOfSpots a.now.spots b.now.spots sum.spots) }
-    ensures refused { IfErr result (λ error. IsTooGreatOf error a.now b.now) }
+    ensures refused { IfErr result (λ error. ImageHasNoSum error a.now b.now) }
 {
     let addresses = sum_of_counts(alloc, a.addresses.as_slice(), b.addresses.as_slice())?;
     let digest = Digest::new(copy_of(alloc, a.digest.as_slice())?);

@@ -1,26 +1,28 @@
 //! The sum of the names of one image's functions.
 
-ghost use Rattle.std.specs.Prelude.{◌≡◌, ◌+◌, ◌<◌, IfOk, length};
+ghost use Rattle.std.specs.Prelude.{◌≡◌, ◌+◌, ◌<◌, IfOk, IfErr, length};
 ghost use Rattle.std.specs.List.{AllByRecursion};
-ghost use Rattle.rv_counts.specs.Sum.{IsSumOfNames};
+ghost use Rattle.rv_counts.specs.declared.sum.SumError.TheVariants.{OutOfMemory};
+ghost use Rattle.rv_counts.specs.Sum.{IsSumOfNames, NamesHaveNoSum};
 ghost use Rattle.rv_counts.specs.SumSteps.{IsNextName};
 ghost use Rattle.rv_counts.specs.Table.{AreNames, IsName};
 
 use crate::growth::push_item;
-use crate::order::least_path;
+use crate::sum::SumError;
 use crate::table::{FunctionName, FunctionNames};
 use rv_base::Text;
 use std::alloc::{AllocError, Global};
 
-/// Each function of both lists, by the name that comes first. Takes memory for the sum alone.
+/// Each function of both lists, by its name. Takes memory for the sum alone.
 pub(crate) fn sum_of_names(
     alloc: Global,
     a: &[FunctionName],
     b: &[FunctionName],
-) -> Result<FunctionNames, AllocError>
+) -> Result<FunctionNames, SumError>
     requires a { AreNames a.now }
     requires b { AreNames b.now }
-    ensures { IfOk result (λ sum. IsSumOfNames a.now b.now sum) }
+    ensures value { IfOk result (λ sum. IsSumOfNames a.now b.now sum) }
+    ensures refused { IfErr result (λ error. NamesHaveNoSum error a.now b.now) }
 {
     let mut sums = Vec::new(alloc);
     let mut from_a = 0;
@@ -43,11 +45,12 @@ pub(crate) struct NextName {
 }
 
 // The name of the lowest function in both lists.
-fn next_name(alloc: Global, a: &[FunctionName], b: &[FunctionName]) -> Result<NextName, AllocError>
+fn next_name(alloc: Global, a: &[FunctionName], b: &[FunctionName]) -> Result<NextName, SumError>
     requires a { AllByRecursion IsName a.now }
     requires b { AllByRecursion IsName b.now }
     requires some { 0 < length a.now + length b.now }
-    ensures { IfOk result (λ next. IsNextName a.now b.now next) }
+    ensures value { IfOk result (λ next. IsNextName a.now b.now next) }
+    ensures refused { IfErr result (λ error. NamesHaveNoSum error a.now b.now) }
 {
     if b.is_empty() {
         return name_of_first(alloc, &a[0]);
@@ -63,19 +66,20 @@ fn next_name(alloc: Global, a: &[FunctionName], b: &[FunctionName]) -> Result<Ne
     if second.function < first.function {
         return name_of_second(alloc, second);
     }
-    let name = Text::copy(alloc, least_path(first.name.as_str(), second.name.as_str()))?;
+    if first.name.as_str() != second.name.as_str() {
+        return Err(SumError::Names(first.function));
+    }
+    let name = copy_of_name(alloc, first)?;
     Ok(NextName {
-        name: FunctionName {
-            function: first.function,
-            name,
-        },
+        name,
         of_a: 1,
         of_b: 1,
     })
 }
 
-fn name_of_first(alloc: Global, name: &FunctionName) -> Result<NextName, AllocError>
-    ensures { IfOk result (λ next. next ≡ record { name = name.now; of_a = 1; of_b = 0 }) }
+fn name_of_first(alloc: Global, name: &FunctionName) -> Result<NextName, SumError>
+    ensures value { IfOk result (λ next. next ≡ record { name = name.now; of_a = 1; of_b = 0 }) }
+    ensures refused { IfErr result (λ error. error ≡ OutOfMemory) }
 {
     let name = copy_of_name(alloc, name)?;
     Ok(NextName {
@@ -85,8 +89,9 @@ fn name_of_first(alloc: Global, name: &FunctionName) -> Result<NextName, AllocEr
     })
 }
 
-fn name_of_second(alloc: Global, name: &FunctionName) -> Result<NextName, AllocError>
-    ensures { IfOk result (λ next. next ≡ record { name = name.now; of_a = 0; of_b = 1 }) }
+fn name_of_second(alloc: Global, name: &FunctionName) -> Result<NextName, SumError>
+    ensures value { IfOk result (λ next. next ≡ record { name = name.now; of_a = 0; of_b = 1 }) }
+    ensures refused { IfErr result (λ error. error ≡ OutOfMemory) }
 {
     let name = copy_of_name(alloc, name)?;
     Ok(NextName {

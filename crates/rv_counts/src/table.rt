@@ -1,7 +1,7 @@
 //! The table of counts as a value.
 
 use rv_base::{Bytes, Sequence, Text};
-use rv_spots::Spots;
+use rv_spots::{Spot, Spots};
 
 /// Counts of one image's addresses, of which contracts see their list.
 pub type Addresses = Sequence<AddressCounts>;
@@ -34,6 +34,13 @@ pub struct FunctionName {
     pub name: Text,
 }
 
+/// A spot with the name of its function, as a line has them.
+#[derive(Debug, Drop)]
+pub struct NamedSpot {
+    pub spot: Spot,
+    pub name: Text,
+}
+
 /// The counts of one image.
 #[derive(Debug, Drop)]
 pub struct ImageCounts {
@@ -42,7 +49,7 @@ pub struct ImageCounts {
     pub path: Text,
     /// Rising by address.
     pub addresses: Addresses,
-    /// Rising by function; none where stacks were not counted.
+    /// Rising by function: those of the spots, each once.
     pub functions: FunctionNames,
     /// In which stacks the instructions began; none where that was not counted.
     pub spots: Spots,

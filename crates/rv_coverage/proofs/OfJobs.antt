@@ -6,15 +6,17 @@ use Rattle.std.specs.Prelude.{IfOk, IfSome}
 use Rattle.std.specs.List.{AllByRecursion, sum_by}
 use Rattle.std.specs.declared.alloc.AllocError.{AllocError}
 use Rattle.std.specs.Result.{result_ok}
+use Rattle.std.specs.Cmp.Lexicographic.{bytes_decides}
 use Rattle.std.specs.Str.{bytes_eq}
 use Rattle.sha2.specs.Sha256.{sha256}
 use Rattle.rv_counts.proofs.Public.{any_first, none_behind}
 use Rattle.rv_counts.specs.declared.table.AddressCounts.{AddressCounts}
 use Rattle.rv_counts.specs.declared.table.CountTable.{CountTable}
+use Rattle.rv_counts.specs.declared.table.FunctionName.{FunctionName}
 use Rattle.rv_counts.specs.declared.table.ImageCounts.{ImageCounts}
-use Rattle.rv_counts.specs.declared.sum.SumError.TheVariants.{Spot}
-use Rattle.rv_counts.specs.Sum.{IsSum, IsTooGreat, no_counts}
-use Rattle.rv_counts.specs.Table.{begun_at, taken_at, begun_in, taken_in, path_in, least_path_of, digests_rise, names_rise, AreCounts, AreNames, AreSpots, IsImage, IsTable}
+use Rattle.rv_counts.specs.declared.sum.SumError.TheVariants.{Names, Spot}
+use Rattle.rv_counts.specs.Sum.{HasName, HasNameIn, HaveNoSum, IsSum, no_counts}
+use Rattle.rv_counts.specs.Table.{begun_at, taken_at, name_at, begun_in, taken_in, name_in, path_in, least_path_of, digests_rise, names_rise, AreCounts, AreNames, AreNamesOf, AreSpots, IsImage, IsTable}
 use Rattle.rv_jobs.specs.declared.answers.Answer.{Answer}
 use Rattle.rv_jobs.specs.declared_job.Job.{Job}
 use Rattle.rv_machine.specs.State.{State}
@@ -31,6 +33,9 @@ none_rise = refl
 pub no_names : AreNames []
 unfolding names_rise
 no_names = record { each = tt; rising = refl }
+
+pub no_owners : AreNamesOf [] []
+no_owners f = refl
 
 pub no_spots : AreSpots []
 no_spots = record { each = tt; tree = tt }
@@ -89,7 +94,7 @@ sum_has_none t u sum h k is = record {
 }
 
 -- so none of their numbers is too great
-pub no_great_stacks : (t u : CountTable) (f : ℕ) → HasNoStacks t → HasNoStacks u → IsTooGreat (Spot f) t u → ⊥
+pub no_great_stacks : (t u : CountTable) (f : ℕ) → HasNoStacks t → HasNoStacks u → HaveNoSum (Spot f) t u → ⊥
 no_great_stacks t u f h k great = elim great.3 [
   | inl much ↦
       let p = h.arrivals great.0 great.1 in
@@ -100,6 +105,43 @@ no_great_stacks t u f h k great = elim great.3 [
       let q = k.steps great.0 great.1 in
       omega (arith, much, p, q)
 ]
+
+-- and no function has two names
+none_of_either : (o p : Option (List ℕ)) → least_path_of o p ≡ None → (o ≡ None) × (p ≡ None)
+none_of_either None p h = (refl, h)
+none_of_either (Some name) None h = cc
+none_of_either (Some name) (Some other) h = cc
+
+no_name_here : (t : Bool) (name : List ℕ) → t ≡ true → cond t (Some name) None ≡ None → ⊥
+no_name_here true name h e = cc
+no_name_here false name h e = cc
+
+is_here : (n f : ℕ) → n ≡ f → (n == f) ≡ true
+is_here n f e = grind (arith, e)
+
+no_name_of : (f : ℕ) (name : List ℕ) (ns : List FunctionName) → name_at f ns ≡ None → HasName f name ns → ⊥
+no_name_of f name [] none has = has
+no_name_of f name (n ∷ ns) none (inl is) =
+    no_name_here (n.function == f) n.name (is_here n.function f is.0) (none_of_either (cond (n.function == f) (Some n.name) None) (name_at f ns) none).0
+no_name_of f name (n ∷ ns) none (inr more) =
+    no_name_of f name ns (none_of_either (cond (n.function == f) (Some n.name) None) (name_at f ns) none).1 more
+
+taken_if : (t : Bool) (o : Option (List ℕ)) → t ≡ true → cond t o None ≡ None → o ≡ None
+taken_if true o h e = e
+taken_if false o h e = cc
+
+no_name_in : (digest : List ℕ) (f : ℕ) (name : List ℕ) (is : List ImageCounts) → name_in digest f is ≡ None
+    → HasNameIn digest f name is → ⊥
+no_name_in digest f name [] none has = has
+no_name_in digest f name (i ∷ is) none (inl here) =
+    no_name_of f name i.functions (taken_if (bytes_eq i.digest digest) (name_at f i.functions) ((bytes_decides i.digest digest).1 here.0)
+    (none_of_either (cond (bytes_eq i.digest digest) (name_at f i.functions) None) (name_in digest f is) none).0) here.1
+no_name_in digest f name (i ∷ is) none (inr more) =
+    no_name_in digest f name is
+    (none_of_either (cond (bytes_eq i.digest digest) (name_at f i.functions) None) (name_in digest f is) none).1 more
+
+pub no_other_names : (t u : CountTable) (f : ℕ) → HasNoStacks t → HaveNoSum (Names f) t u → ⊥
+no_other_names t u f h have = no_name_in have.0 f have.1 t.images (h.names have.0 f) have.3
 
 pub no_counts_are_few : (n : ℕ) → IsTableOfFew n no_counts
 no_counts_are_few n = record { begun = λ digest address. omega arith; runs = omega arith; stacks = no_counts_have_none }

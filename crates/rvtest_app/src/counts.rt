@@ -5,7 +5,7 @@ ghost use Rattle.rv_command.specs.Texts.{optional_text};
 ghost use Rattle.rv_counts.specs.Sum.{no_counts};
 ghost use Rattle.rv_counts.specs.Table.{IsTable};
 ghost use Rattle.rv_counts.specs.Text.{table_text};
-ghost use Rattle.rvtest_app.specs.CountStops.{IsCountsStop, IsReadErrorStop, IsSumErrorStop, IsSumStop, IsTableFaultStop, IsUnaddedStop, great_count_message};
+ghost use Rattle.rvtest_app.specs.CountStops.{IsCountsStop, IsReadErrorStop, IsSumErrorStop, IsSumStop, IsTableFaultStop, IsUnaddedStop, great_count_message, two_names_message};
 ghost use Rattle.rvtest_app.specs.CountSums.{AreAdded, IsAdded, IsSumPut};
 ghost use Rattle.rvtest_app.specs.Outlets.{is_stdout};
 ghost use Rattle.rvtest_app.specs.Said.{said};
@@ -118,11 +118,27 @@ fn sum_error_stop(alloc: Global, path: &str, error: SumError) -> Stop
             let what = ": a count in the stacks of ";
             Stop::of_refusal(great_count_message(alloc, path, what, function))
         }
+        SumError::Names(function) => Stop::of_refusal(two_names_message(alloc, path, function)),
         SumError::Runs => {
             let what = "the number of runs does not fit in 64 bits";
             Stop::of_refusal(path_message(alloc, path, what))
         }
     }
+}
+
+fn two_names_message(alloc: Global, path: &str, function: u32) -> Result<Vec<u8>, AllocError>
+    ensures { IfOk result (λ text. text.items ≡ two_names_message path.now function) }
+{
+    text_of_spans(
+        alloc,
+        &[
+            Span::Text("rvtest: "),
+            Span::Shown(path.as_bytes()),
+            Span::Text(": "),
+            Span::Word(function),
+            Span::Text(" has two names in one image\n"),
+        ],
+    )
 }
 
 fn great_count_message<'a>(

@@ -4,7 +4,7 @@ use Rattle.std.proofs.lemmas.List.{drop-drop, take_rest}
 use Rattle.std.proofs.lemmas.Result.{err_from_is_err_and}
 use Rattle.rv_counts.specs.declared.table.ImageCounts.{ImageCounts}
 use Rattle.rv_counts.specs.SumSteps.{ImagesAddUp, IsNextImage}
-use Rattle.rv_counts.proofs.AddingImages.{too_great_in_rest, images_summed}
+use Rattle.rv_counts.proofs.AddingImages.{no_sum_of_rest, images_summed}
 use Rattle.rv_counts.proofs.sum_of_images.sum_of_images.Goals as goal
 
 pub loop-from_a-preserved : goal.loop-from_a-preserved
@@ -35,7 +35,7 @@ returns-in_err-next-clause-refused c =
     let error = err_from_is_err_and c.from_residual.result c.from_residual.ensures.1 in
     let refused = simp take_rest at c.in_err-next.ensures.refused in
     rw (error.1, error.2)
-    (too_great_in_rest c.loop-from_a.from_a c.loop-from_a.from_b c.args.a.now c.args.b.now _ refused)
+    (no_sum_of_rest c.loop-from_a.from_a c.loop-from_a.from_b c.args.a.now c.args.b.now _ refused)
 
 pub returns-clause-value : goal.returns-clause-value
 returns-clause-value c =

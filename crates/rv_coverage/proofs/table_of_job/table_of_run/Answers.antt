@@ -1,8 +1,8 @@
 -- The one image can stand in a table.
-use Rattle.std.proofs.Common.{◌≡◌, ◌∙◌, List, subst, sym}
+use Rattle.std.proofs.Common.{◌≡◌, ◌∙◌, List, [], subst, sym}
 use Rattle.rv_counts.specs.declared.table.FunctionName.{FunctionName}
-use Rattle.rv_counts.specs.Table.{AreNames, AreSpots}
-use Rattle.rv_coverage.proofs.OfJobs.{no_names, no_spots, one_image_is_table}
+use Rattle.rv_counts.specs.Table.{AreNames, AreNamesOf, AreSpots}
+use Rattle.rv_coverage.proofs.OfJobs.{no_names, no_owners, no_spots, one_image_is_table}
 use Rattle.rv_coverage.proofs.table_of_job.table_of_run.Goals as goal
 use Rattle.rv_spots.specs.declared.spot.Spot.{Spot}
 
@@ -25,4 +25,6 @@ returns-clause-table c =
       counts = c.requires;
       names = subst (λ (ns : List FunctionName). AreNames ns) (sym (c.new-2.ensures ∙ c.new.ensures.items)) no_names;
       spots = subst (λ (ss : List Spot). AreSpots ss) (sym (c.new-4.ensures ∙ c.new-3.ensures.items)) no_spots;
+      of_spots = subst (λ (ss : List Spot). AreNamesOf ss c.new-2.result) (sym (c.new-4.ensures ∙ c.new-3.ensures.items))
+          (subst (λ (ns : List FunctionName). AreNamesOf [] ns) (sym (c.new-2.ensures ∙ c.new.ensures.items)) no_owners);
     })
