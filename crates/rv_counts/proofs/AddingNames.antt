@@ -20,16 +20,16 @@ use Rattle.rv_counts.proofs.Told.{elsewhere, here}
 
 -- ---- functions in their order
 
-low : (lowest : ℕ) (n : FunctionName) (ns : List FunctionName) → names_rise lowest (n ∷ ns) ≡ true → lowest ≤ n.function
+pub low : (lowest : ℕ) (n : FunctionName) (ns : List FunctionName) → names_rise lowest (n ∷ ns) ≡ true → lowest ≤ n.function
 unfolding names_rise
 low lowest n ns h = let p = (and_parts (nat_le lowest n.function) (names_rise (n.function + 1) ns) h).0 in grind (arith, nat_tests)
 
-behind : (lowest : ℕ) (n : FunctionName) (ns : List FunctionName) → names_rise lowest (n ∷ ns) ≡ true
+pub behind : (lowest : ℕ) (n : FunctionName) (ns : List FunctionName) → names_rise lowest (n ∷ ns) ≡ true
     → names_rise (n.function + 1) ns ≡ true
 unfolding names_rise
 behind lowest n ns h = (and_parts (nat_le lowest n.function) (names_rise (n.function + 1) ns) h).1
 
-rises : (lowest : ℕ) (n : FunctionName) (ns : List FunctionName) → lowest ≤ n.function
+pub rises : (lowest : ℕ) (n : FunctionName) (ns : List FunctionName) → lowest ≤ n.function
     → names_rise (n.function + 1) ns ≡ true → names_rise lowest (n ∷ ns) ≡ true
 unfolding names_rise
 rises lowest n ns under h =

@@ -51,17 +51,19 @@ first_is (n ∷ ns) lowest f h = elim (cases_Bool (n.function == f)) [
       ∙ sym (ap (λ (b : Bool). least_path_of (cond b (Some n.name) None) (name_at f ns)) t)
 ]
 
+abbrev FitsName : List ℕ → Type 0
+FitsName name = (lacks 10 name ≡ true) × IsUtf8 name
+
+picked_fits : (b : Bool) (name : List ℕ) (o : Option (List ℕ)) → FitsName name → (b ≡ false → FitsName (name_or_nothing o))
+    → FitsName (name_or_nothing (cond b (Some name) o))
+picked_fits true name o h k = h
+picked_fits false name o h k = k refl
+
 named_is_name : (ns : List FunctionName) (f : ℕ) → AllByRecursion IsName ns → has_name (name_of f ns) ≡ true
-    → (lacks 10 (name_or_nothing (name_of f ns)) ≡ true) × IsUtf8 (name_or_nothing (name_of f ns))
+    → FitsName (name_or_nothing (name_of f ns))
 named_is_name [] f h some = absurd (false≢true some)
-named_is_name (n ∷ ns) f h some = by_test (n.function == f) refl
-  where
-    abbrev Fits : Option (List ℕ) → Type 0
-    Fits o = (lacks 10 (name_or_nothing o) ≡ true) × IsUtf8 (name_or_nothing o)
-    by_test : (b : Bool) → (n.function == f) ≡ b → Fits (cond (n.function == f) (Some n.name) (name_of f ns))
-    by_test true t = subst (λ (b : Bool). Fits (cond b (Some n.name) (name_of f ns))) (sym t) (h.0.name, h.0.text)
-    by_test false t = subst (λ (b : Bool). Fits (cond b (Some n.name) (name_of f ns))) (sym t)
-        (named_is_name ns f h.1 (sym (ap (λ (b : Bool). has_name (cond b (Some n.name) (name_of f ns))) t) ∙ some))
+named_is_name (n ∷ ns) f h some = picked_fits (n.function == f) n.name (name_of f ns) (h.0.name, h.0.text)
+    (λ t. named_is_name ns f h.1 (sym (ap (λ (b : Bool). has_name (cond b (Some n.name) (name_of f ns))) t) ∙ some))
 
 pub named_fits : (ns : List FunctionName) (s : Spot) → AllByRecursion IsName ns → IsSpot s
     → has_name (name_of s.function ns) ≡ true → IsNamedSpot (named ns s)
@@ -123,7 +125,7 @@ not_first n m ms h = elim (cases_Bool (m.function == n.function)) [
 ]
 
 other : (m n f : ℕ) → (m == n) ≡ false → (m == f) ≡ true → (n == f) ≡ false
-other m n f h k = grind arith
+other m n f h k = grind (arith, nat_tests)
 
 swapped : (m n f : ℕ) (p q : List ℕ) (o : Option (List ℕ)) → (m == n) ≡ false
     → cond (m == f) (Some p) (cond (n == f) (Some q) o) ≡ cond (n == f) (Some q) (cond (m == f) (Some p) o)
@@ -215,19 +217,17 @@ name_with n ns f h = elim (cases_Bool (has_name (name_of n.function ns))) [
 abbrev pub AgreeWithAll : List FunctionName → List FunctionName → Type 0
 AgreeWithAll ns ms = (f : ℕ) → AgreesWith (name_or_nothing (name_of f ns)) (name_of f ms)
 
+agree_if : (b : Bool) (text name : List ℕ) (o : Option (List ℕ)) → (b ≡ true → text ≡ name) → AgreesWith text o
+    → AgreesWith text (cond b (Some name) o)
+agree_if true text name o h k = h refl
+agree_if false text name o h k = k
+
 pub agree_more : (ns ms : List FunctionName) (s : Spot) → AgreeWithAll ns ms
     → AgreeWithAll ns (with_name (function_name (named ns s)) ms)
 agree_more ns ms s h f =
-    let n = function_name (named ns s) in
-    subst (AgreesWith (name_or_nothing (name_of f ns))) (sym (name_with n ms f (h s.function))) (by_test (s.function == f) refl)
-  where
-    by_test : (b : Bool) → (s.function == f) ≡ b → AgreesWith (name_or_nothing (name_of f ns))
-        (cond (s.function == f) (Some (name_or_nothing (name_of s.function ns))) (name_of f ms))
-    by_test true t = subst (λ (b : Bool). AgreesWith (name_or_nothing (name_of f ns))
-        (cond b (Some (name_or_nothing (name_of s.function ns))) (name_of f ms))) (sym t)
-        (ap (λ (g : ℕ). name_or_nothing (name_of g ns)) (sym (eqb-true s.function f t)))
-    by_test false t = subst (λ (b : Bool). AgreesWith (name_or_nothing (name_of f ns))
-        (cond b (Some (name_or_nothing (name_of s.function ns))) (name_of f ms))) (sym t) (h f)
+    subst (AgreesWith (name_or_nothing (name_of f ns))) (sym (name_with (function_name (named ns s)) ms f (h s.function)))
+    (agree_if (s.function == f) (name_or_nothing (name_of f ns)) (name_or_nothing (name_of s.function ns)) (name_of f ms)
+    (λ t. ap (λ (g : ℕ). name_or_nothing (name_of g ns)) (sym (eqb-true s.function f t))) (h f))
 
 -- ---- lists of names that say the same of spots
 
@@ -300,18 +300,15 @@ no_names_so_far = record {
 
 module _ (ss : List Spot) (names : List FunctionName) (x : NamedSpot) (fits : IsNamedSpot x)
     (agrees : AgreesWith x.name (name_of x.spot.function names)) where
-  abbrev more : List FunctionName
-  more = with_name (function_name x) names
-
-  says : (f : ℕ) → name_of f more ≡ cond (x.spot.function == f) (Some x.name) (name_of f names)
+  says : (f : ℕ) → name_of f (with_name (function_name x) names) ≡ cond (x.spot.function == f) (Some x.name) (name_of f names)
   says f = name_with (function_name x) names f agrees
 
-  pub it_has_its_name : named more x.spot ≡ x
+  pub it_has_its_name : named (with_name (function_name x) names) x.spot ≡ x
   it_has_its_name =
       let e = says x.spot.function ∙ ap (λ (b : Bool). cond b (Some x.name) (name_of x.spot.function names)) (same x.spot.function) in
       λ i. record { spot = x.spot; name = name_or_nothing (e i) }
 
-  others_keep : AreNamesOf ss names → (f : ℕ) → is_last_of_some f ss ≡ true → name_of f more ≡ name_of f names
+  others_keep : AreNamesOf ss names → (f : ℕ) → is_last_of_some f ss ≡ true → name_of f (with_name (function_name x) names) ≡ name_of f names
   others_keep h f some = says f ∙ elim (cases_Bool (x.spot.function == f)) [
     | inl t ↦
         let e = eqb-true x.spot.function f t in
@@ -321,15 +318,15 @@ module _ (ss : List Spot) (names : List FunctionName) (x : NamedSpot) (fits : Is
     | inr t ↦ ap (λ (b : Bool). cond b (Some x.name) (name_of f names)) t
   ]
 
-  pub others_are_named : AreNamesOf ss names → map (named more) ss ≡ map (named names) ss
-  others_are_named h = same_named more names ss (others_keep h)
+  pub others_are_named : AreNamesOf ss names → map (named (with_name (function_name x) names)) ss ≡ map (named names) ss
+  others_are_named h = same_named (with_name (function_name x) names) names ss (others_keep h)
 
   has_either : (b c : Bool) (o : Option (List ℕ)) → has_name o ≡ c → has_name (cond b (Some x.name) o) ≡ (c || b)
   has_either true true o h = refl
   has_either true false o h = refl
   has_either false c o h = h ∙ sym (or_false c)
 
-  pub names_so_far : AreNamesSoFar ss names → AreNamesSoFar (ss ++ x.spot ∷ []) more
+  pub names_so_far : AreNamesSoFar ss names → AreNamesSoFar (ss ++ x.spot ∷ []) (with_name (function_name x) names)
   names_so_far h = record {
     names = are_more (function_name x) names
         (record { function = fits.spot.function; name = fits.name; text = fits.text }) h.names;
@@ -337,6 +334,6 @@ module _ (ss : List Spot) (names : List FunctionName) (x : NamedSpot) (fits : Is
         ∙ has_either (x.spot.function == f) (is_last_of_some f ss) (name_of f names) (h.of_spots f)
         ∙ sym (last_of_more f ss x.spot);
     known = ap (with_name (function_name x)) (h.known ∙ ap (with_names []) (sym (others_are_named h.of_spots)))
-        ∙ sym (ap (with_names []) (more_named more ss x.spot ∙ ap (λ (n : NamedSpot). map (named more) ss ++ n ∷ []) it_has_its_name)
-        ∙ more_names [] (map (named more) ss) x);
+        ∙ sym (ap (with_names []) (more_named (with_name (function_name x) names) ss x.spot ∙ ap (λ (n : NamedSpot). map (named (with_name (function_name x) names)) ss ++ n ∷ []) it_has_its_name)
+        ∙ more_names [] (map (named (with_name (function_name x) names)) ss) x);
   }

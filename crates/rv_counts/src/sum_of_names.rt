@@ -1,6 +1,6 @@
 //! The sum of the names of one image's functions.
 
-ghost use Rattle.std.specs.Prelude.{◌≡◌, ◌+◌, ◌<◌, IfOk, IfErr, length};
+ghost use Rattle.std.specs.Prelude.{◌≡◌, ◌+◌, ◌<◌, ◌↔◌, IfOk, IfErr, IsTrue, length};
 ghost use Rattle.std.specs.List.{AllByRecursion};
 ghost use Rattle.rv_counts.specs.declared.sum.SumError.TheVariants.{OutOfMemory};
 ghost use Rattle.rv_counts.specs.Sum.{IsSumOfNames, NamesHaveNoSum};
@@ -66,7 +66,7 @@ fn next_name(alloc: Global, a: &[FunctionName], b: &[FunctionName]) -> Result<Ne
     if second.function < first.function {
         return name_of_second(alloc, second);
     }
-    if first.name.as_str() != second.name.as_str() {
+    if !have_one_name(first, second) {
         return Err(SumError::Names(first.function));
     }
     let name = copy_of_name(alloc, first)?;
@@ -75,6 +75,12 @@ fn next_name(alloc: Global, a: &[FunctionName], b: &[FunctionName]) -> Result<Ne
         of_a: 1,
         of_b: 1,
     })
+}
+
+fn have_one_name(a: &FunctionName, b: &FunctionName) -> bool
+    ensures { IsTrue result ↔ (a.now.name ≡ b.now.name) }
+{
+    a.name.as_str() == b.name.as_str()
 }
 
 fn name_of_first(alloc: Global, name: &FunctionName) -> Result<NextName, SumError>
