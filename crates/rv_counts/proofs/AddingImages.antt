@@ -78,7 +78,7 @@ none_named (i ∷ is) last digest f h up =
 
 -- ---- names in which both lists agree
 
-agree_with_none : (o : Option (List ℕ)) → Agree o None
+pub agree_with_none : (o : Option (List ℕ)) → Agree o None
 agree_with_none None = tt
 agree_with_none (Some name) = tt
 

@@ -14,7 +14,7 @@ use Rattle.rv_counts.specs.Sum.{Agree, HasName, IsSumOfNames, NamesHaveNoSum}
 use Rattle.rv_counts.specs.declared.sum.SumError.{SumError}
 use Rattle.rv_counts.specs.declared.sum.SumError.TheVariants.{OutOfMemory, Count, Spot, Names, Runs}
 use Rattle.rv_counts.specs.SumSteps.{NamesAddUp, IsNextName}
-use Rattle.rv_counts.proofs.AddingImages.{least_is, path_parts}
+use Rattle.rv_counts.proofs.AddingImages.{agree_with_none, least_is, path_parts}
 use Rattle.rv_counts.proofs.Paths.{any_first, either, second_first}
 use Rattle.rv_counts.proofs.Told.{elsewhere, here}
 
@@ -52,10 +52,6 @@ none_below (n ∷ ns) lowest f h under =
     ∙ none_below ns (n.function + 1) f (behind lowest n ns h) (omega arith)
 
 -- ---- names in which both lists agree
-
-pub agree_with_none : (o : Option (List ℕ)) → Agree o None
-agree_with_none None = tt
-agree_with_none (Some name) = tt
 
 passed_name : (x : FunctionName) (xs : List FunctionName) (f : ℕ) → (x.function == f) ≡ false → name_at f (x ∷ xs) ≡ name_at f xs
 passed_name x xs f t = ap (λ (b : Bool). least_path_of (cond b (Some x.name) None) (name_at f xs)) t

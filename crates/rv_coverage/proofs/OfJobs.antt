@@ -1,5 +1,6 @@
 -- Tables of jobs: of one, of some more, and of the same in another order.
 use Rattle.std.proofs.Common.{Fits, w8, ◌≡◌, ◌∙◌, ◌==◌, ◌+◌, ◌*◌, ◌^◌, ◌<◌, ◌≤◌, ◌⊎◌, inl, inr, ℕ, zero, suc, Bool, true, false, cond, List, [], ◌∷◌, ◌++◌, Option, Some, None, Result, Ok, Err, option_map, map, length, get_or, refl, sym, ap, subst, arith}
+use Rattle.std.proofs.lemmas.Bool.{false≢true}
 use Rattle.std.proofs.lemmas.List.Sums.{sum_by-append}
 use Rattle.std.specs.Prelude.{is_ok}
 use Rattle.std.specs.Prelude.{IfOk, IfSome}
@@ -16,7 +17,7 @@ use Rattle.rv_counts.specs.declared.table.FunctionName.{FunctionName}
 use Rattle.rv_counts.specs.declared.table.ImageCounts.{ImageCounts}
 use Rattle.rv_counts.specs.declared.sum.SumError.TheVariants.{Names, Spot}
 use Rattle.rv_counts.specs.Sum.{HasName, HasNameIn, HaveNoSum, IsSum, no_counts}
-use Rattle.rv_counts.specs.Table.{begun_at, taken_at, name_at, begun_in, taken_in, name_in, path_in, least_path_of, digests_rise, names_rise, AreCounts, AreNames, AreNamesOf, AreSpots, IsImage, IsTable}
+use Rattle.rv_counts.specs.Table.{begun_at, taken_at, name_at, begun_in, taken_in, name_in, path_in, least_path, least_path_of, digests_rise, names_rise, AreCounts, AreNames, AreNamesOf, AreSpots, IsImage, IsTable}
 use Rattle.rv_jobs.specs.declared.answers.Answer.{Answer}
 use Rattle.rv_jobs.specs.declared_job.Job.{Job}
 use Rattle.rv_machine.specs.State.{State}
@@ -107,14 +108,17 @@ no_great_stacks t u f h k great = elim great.3 [
 ]
 
 -- and no function has two names
+some_is_none : (name : List ℕ) → Some name ≡ None → ⊥
+some_is_none name h = cc
+
 none_of_either : (o p : Option (List ℕ)) → least_path_of o p ≡ None → (o ≡ None) × (p ≡ None)
 none_of_either None p h = (refl, h)
-none_of_either (Some name) None h = cc
-none_of_either (Some name) (Some other) h = cc
+none_of_either (Some name) None h = absurd (some_is_none name h)
+none_of_either (Some name) (Some other) h = absurd (some_is_none (least_path name other) h)
 
 no_name_here : (t : Bool) (name : List ℕ) → t ≡ true → cond t (Some name) None ≡ None → ⊥
-no_name_here true name h e = cc
-no_name_here false name h e = cc
+no_name_here true name h e = some_is_none name e
+no_name_here false name h e = false≢true h
 
 is_here : (n f : ℕ) → n ≡ f → (n == f) ≡ true
 is_here n f e = grind (arith, e)
@@ -128,7 +132,7 @@ no_name_of f name (n ∷ ns) none (inr more) =
 
 taken_if : (t : Bool) (o : Option (List ℕ)) → t ≡ true → cond t o None ≡ None → o ≡ None
 taken_if true o h e = e
-taken_if false o h e = cc
+taken_if false o h e = absurd (false≢true h)
 
 no_name_in : (digest : List ℕ) (f : ℕ) (name : List ℕ) (is : List ImageCounts) → name_in digest f is ≡ None
     → HasNameIn digest f name is → ⊥
