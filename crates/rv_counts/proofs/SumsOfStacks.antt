@@ -96,17 +96,20 @@ module _ (a b sum : List Spot) (h : HasArrivals a) (k : HasArrivals b) (is : IsS
           let e = is.arrivals c.path in
           let more = c.some in
           is_last f c.path [] sum c.ends (omega (arith, e, more))
+
       of_second : is_last_of_some f b ≡ true → is_last_of_some f sum ≡ true
       of_second some =
           let c = come_to f [] b k some in
           let e = is.arrivals c.path in
           let more = c.some in
           is_last f c.path [] sum c.ends (omega (arith, e, more))
+
       by_first : (path : List ℕ) → ends_with f path ≡ true → is_last_of_some f a ≡ false → arrivals_at path a ≡ 0
       by_first path ends none = elim (cases_nat (arrivals_at path a)) [
         | inl e ↦ e
         | inr more ↦ absurd (false≢true (sym none ∙ is_last f path [] a ends more))
       ]
+
       of_sum : is_last_of_some f sum ≡ true → is_last_of_some f a ≡ false → is_last_of_some f b ≡ true
       of_sum some none =
           let c = come_to f [] sum (is.some h k) some in
