@@ -7,7 +7,7 @@ use Rattle.std.specs.Prelude.{◌&&◌, nat_le}
 use Rattle.std.specs.List.{AllByRecursion}
 use Rattle.rv_counts.specs.declared.table.AddressCounts.{AddressCounts}
 use Rattle.rv_counts.specs.declared.sum.SumError.{SumError}
-use Rattle.rv_counts.specs.declared.sum.SumError.TheVariants.{OutOfMemory, Count, Spot, Runs}
+use Rattle.rv_counts.specs.declared.sum.SumError.TheVariants.{OutOfMemory, Count, Spot, Runs, Names}
 use Rattle.rv_counts.specs.Table.{begun_at, taken_at, rise_from, IsCounted, AreCounts}
 use Rattle.rv_counts.specs.Sum.{IsSumOfCounts, CountsHaveNoSum}
 use Rattle.rv_counts.specs.SumSteps.{AddsUp, IsNextCount}
@@ -174,6 +174,7 @@ too_great_behind n m a b (Count address) h =
     let p = some_left n address a in let q = some_left m address b in omega (arith, h, p, q)
 too_great_behind n m a b (Spot function) h = h
 too_great_behind n m a b Runs h = h
+too_great_behind n m a b (Names function) h = h
 
 -- nothing and nothing is nothing
 pub none_adds_up : AddsUp [] [] []

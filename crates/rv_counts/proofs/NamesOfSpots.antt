@@ -286,10 +286,10 @@ more_names ns [] x = refl
 more_names ns (y ∷ ys) x = more_names (with_name (function_name y) ns) ys x
 
 -- the names of some spots, which are those that these bring
-pub record AreNamesSoFar (ss : List Spot) (names : List FunctionName) : Type 0 where
-  pub names : AreNames names
-  pub of_spots : AreNamesOf ss names
-  pub known : names ≡ with_names [] (map (named names) ss)
+pub record AreNamesSoFar (ss : List Spot) (ns : List FunctionName) : Type 0 where
+  pub names : AreNames ns
+  pub of_spots : AreNamesOf ss ns
+  pub known : ns ≡ with_names [] (map (named ns) ss)
 
 pub no_names_so_far : AreNamesSoFar [] []
 no_names_so_far = record {

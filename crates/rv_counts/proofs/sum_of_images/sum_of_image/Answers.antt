@@ -1,7 +1,8 @@
 -- The spots are a tree, a run came to each, and their functions have names.
 use Rattle.std.proofs.Common.{◌≡◌, List, subst}
+use Rattle.std.proofs.lemmas.Result.{err_from_is_err_and}
 use Rattle.rv_counts.specs.declared.table.FunctionName.{FunctionName}
-use Rattle.rv_counts.specs.Sum.{IsSumOfNames}
+use Rattle.rv_counts.specs.Sum.{IsSumOfNames, NamesHaveNoSum}
 use Rattle.rv_counts.proofs.AddingImages.{are_spots, no_sum_of_counts, no_sum_of_names, no_sum_of_spots}
 use Rattle.rv_counts.proofs.SumsOfStacks.{names_of_sum}
 use Rattle.rv_counts.proofs.sum_of_images.sum_of_image.Goals as goal
@@ -26,3 +27,14 @@ returns-clause-of_spots c =
     (subst (λ (ss : List Spot). IsSumOfSpots a.spots ss spots) c.as_slice-7.ensures
     (subst (λ (ss : List Spot). IsSumOfSpots ss c.as_slice-7.result.now spots) c.as_slice-6.ensures
     c.in_ok-spots.ensures.value))
+
+pub returns-in_err-functions-clause-refused : goal.returns-in_err-functions-clause-refused
+returns-in_err-functions-clause-refused c =
+    let a = c.args.a.now in
+    let b = c.args.b.now in
+    let error = err_from_is_err_and c.from_residual-in_err-functions.result c.from_residual-in_err-functions.ensures.1 in
+    rw (error.1, error.2)
+    (no_sum_of_names _ a b
+    (subst (λ (ns : List FunctionName). NamesHaveNoSum _ a.functions ns) c.as_slice-5.ensures
+    (subst (λ (ns : List FunctionName). NamesHaveNoSum _ ns c.as_slice-5.result.now) c.as_slice-4.ensures
+    c.in_err-functions.ensures.refused)))
