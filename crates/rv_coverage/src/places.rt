@@ -98,7 +98,7 @@ fn add_table(alloc: Global, sum: &CountTable, table: &CountTable) -> Result<Coun
     match sum_of_tables(alloc, sum, table) {
         Ok(sum) => Ok(sum),
         Err(SumError::OutOfMemory) => Err(AllocError),
-        Err(SumError::Count(_) | SumError::Spot(_) | SumError::Names(_) | SumError::Runs) =>
-            unreachable!(),
+        Err(SumError::Count(_) | SumError::Spot(_) | SumError::Runs) => unreachable!(),
+        Err(SumError::Names(_)) => unreachable!(),
     }
 }
