@@ -6,6 +6,7 @@ use Rattle.std.specs.Prelude.{◌&&◌}
 use Rattle.std.specs.Cmp.Lexicographic.{bytes_decides}
 use Rattle.std.specs.List.{AllByRecursion}
 use Rattle.std.specs.Str.{bytes_eq, IsUtf8}
+use Rattle.rv_counts.specs.declared.table.FunctionName.{FunctionName}
 use Rattle.rv_counts.specs.declared.table.ImageCounts.{ImageCounts}
 use Rattle.rv_counts.specs.declared.sum.SumError.{SumError}
 use Rattle.rv_counts.specs.declared.sum.SumError.TheVariants.{OutOfMemory, Count, Spot, Names, Runs}
@@ -387,12 +388,18 @@ no_sum_of_counts (Spot f) a b h = absurd h
 no_sum_of_counts (Names f) a b h = absurd h
 no_sum_of_counts Runs a b h = h
 
-pub no_sum_of_names : (error : SumError) (a b : ImageCounts) → NamesHaveNoSum error a.functions b.functions → ImageHasNoSum error a b
+no_sum_of_names : (error : SumError) (a b : ImageCounts) → NamesHaveNoSum error a.functions b.functions → ImageHasNoSum error a b
 no_sum_of_names OutOfMemory a b h = tt
 no_sum_of_names (Count n) a b h = absurd h
 no_sum_of_names (Spot f) a b h = absurd h
 no_sum_of_names (Names f) a b h = h
 no_sum_of_names Runs a b h = h
+
+pub no_sum_of_named : (error : SumError) (a b : ImageCounts) (ns ms : List FunctionName) → ns ≡ a.functions
+    → ms ≡ b.functions → NamesHaveNoSum error ns ms → ImageHasNoSum error a b
+no_sum_of_named error a b ns ms p q h = no_sum_of_names error a b
+    (subst (λ (xs : List FunctionName). NamesHaveNoSum error a.functions xs) q
+    (subst (λ (xs : List FunctionName). NamesHaveNoSum error xs ms) p h))
 
 pub no_sum_of_spots : (why : SpotSumError) (a b : ImageCounts) → IsTooGreat why a.spots b.spots
     → ImageHasNoSum (sum_error_of why) a b

@@ -2,8 +2,8 @@
 use Rattle.std.proofs.Common.{◌≡◌, List, subst}
 use Rattle.std.proofs.lemmas.Result.{err_from_is_err_and}
 use Rattle.rv_counts.specs.declared.table.FunctionName.{FunctionName}
-use Rattle.rv_counts.specs.Sum.{IsSumOfNames, NamesHaveNoSum}
-use Rattle.rv_counts.proofs.AddingImages.{are_spots, no_sum_of_counts, no_sum_of_names, no_sum_of_spots}
+use Rattle.rv_counts.specs.Sum.{IsSumOfNames}
+use Rattle.rv_counts.proofs.AddingImages.{are_spots, no_sum_of_counts, no_sum_of_named, no_sum_of_spots}
 use Rattle.rv_counts.proofs.SumsOfStacks.{names_of_sum}
 use Rattle.rv_counts.proofs.sum_of_images.sum_of_image.Goals as goal
 use Rattle.rv_spots.specs.declared.spot.Spot.{Spot}
@@ -34,7 +34,4 @@ returns-in_err-functions-clause-refused c =
     let b = c.args.b.now in
     let error = err_from_is_err_and c.from_residual-in_err-functions.result c.from_residual-in_err-functions.ensures.1 in
     rw (error.1, error.2)
-    (no_sum_of_names _ a b
-    (subst (λ (ns : List FunctionName). NamesHaveNoSum _ a.functions ns) c.as_slice-5.ensures
-    (subst (λ (ns : List FunctionName). NamesHaveNoSum _ ns c.as_slice-5.result.now) c.as_slice-4.ensures
-    c.in_err-functions.ensures.refused)))
+    (no_sum_of_named _ a b _ _ c.as_slice-4.ensures c.as_slice-5.ensures c.in_err-functions.ensures.refused)
