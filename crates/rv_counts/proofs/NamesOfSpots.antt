@@ -1,5 +1,5 @@
 -- Names of functions that are added and looked up, and the functions of spots.
-use Rattle.std.proofs.Common.{◌≡◌, ◌∙◌, ◌==◌, ◌+◌, ◌<◌, ◌≤◌, ◌^◌, ℕ, suc, Bool, true, false, cond, List, [], ◌∷◌, ◌++◌, Option, Some, None, option_map, map, refl, sym, ap, subst, arith, inl, inr}
+use Rattle.std.proofs.Common.{◌≡◌, ◌∙◌, ◌==◌, ◌+◌, ◌<◌, ◌≤◌, ◌^◌, ℕ, suc, Bool, true, false, cond, List, [], ◌∷◌, ◌++◌, Option, Some, None, length, option_map, map, refl, sym, ap, subst, arith, inl, inr}
 use Rattle.std.proofs.lemmas.Bool.{cases_Bool, eqb-true, false≢true}
 use Rattle.std.proofs.lemmas.Bool.Decides.{nat_tests}
 use Rattle.std.specs.Prelude.{◌||◌, nat_lt}
@@ -103,6 +103,14 @@ last_of_more f (t ∷ ts) s = ap (λ (b : Bool). (t.function == f) || b) (last_o
 
 one_more : (n : ℕ) → 1 + n ≡ suc n
 one_more n = omega arith
+
+within_if : (b : Bool) (n m : ℕ) → n ≤ m → cond b (1 + n) 0 ≤ suc m
+within_if true n m h = omega (arith, h)
+within_if false n m h = omega arith
+
+pub prefix_within : {X : Type 0} (test : X → Bool) (xs : List X) → prefix_len test xs ≤ length xs
+prefix_within test [] = omega arith
+prefix_within test (x ∷ xs) = within_if (test x) (prefix_len test xs) (length xs) (prefix_within test xs)
 
 behind_lower : (n m : FunctionName) (ms : List FunctionName) → nat_lt m.function n.function ≡ true
     → inserted n (m ∷ ms) ≡ m ∷ inserted n ms

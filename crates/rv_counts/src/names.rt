@@ -9,7 +9,6 @@ use crate::table::FunctionName;
 use std::alloc::AllocError;
 
 /// The name of a function, if it has one. Takes the time of one pass.
-#[tactic(auto, using(crate::proofs::NamesOfSpots::found))]
 pub(crate) fn name_of(names: &[FunctionName], function: u32) -> Option<&str>
     ensures { option_map (λ name. name.now) result ≡ name_of function names.now }
 {

@@ -36,7 +36,7 @@ lines-preserved c =
     let fits = rw c.in-Some.is at c.in_ok-read.ensures.spot (drop c.lines.length text) w in
     let stands = subst (λ (path : List ℕ). StandsBehind path read.spot) c.as_slice.ensures.value
     (rw c.in-Some.is at c.in_ok-read.ensures.stands) in
-    let agrees = subst (λ (ns : List FunctionName). AgreesWith read.name (name_of read.spot.function ns)) c.as_slice-2.ensures.value
+    let agrees = subst (λ (ns : List FunctionName). AgreesWith read.name (name_of read.spot.function ns)) c.as_slice-in-lines.ensures.value
     (rw c.in-Some.is at c.in_ok-read.ensures.agrees) in
     let line = rw c.in-Some.is at c.in_ok-read.ensures.line in
     let m = c.lines.length + length c.whole_line-line.result.now in
