@@ -15,6 +15,7 @@ use Rattle.rv_counts.specs.declared.table.AddressCounts.{AddressCounts}
 use Rattle.rv_counts.specs.declared.table.CountTable.{CountTable}
 use Rattle.rv_counts.specs.declared.table.FunctionName.{FunctionName}
 use Rattle.rv_counts.specs.declared.table.ImageCounts.{ImageCounts}
+use Rattle.rv_counts.specs.declared.sum.SumError.{SumError}
 use Rattle.rv_counts.specs.declared.sum.SumError.TheVariants.{Names, Spot}
 use Rattle.rv_counts.specs.Sum.{HasName, HasNameIn, HaveNoSum, IsSum, no_counts}
 use Rattle.rv_counts.specs.Table.{begun_at, taken_at, name_at, begun_in, taken_in, name_in, path_in, least_path, least_path_of, digests_rise, names_rise, AreCounts, AreNames, AreNamesOf, AreSpots, IsImage, IsTable}
@@ -144,8 +145,11 @@ no_name_in digest f name (i ∷ is) none (inr more) =
     no_name_in digest f name is
     (none_of_either (cond (bytes_eq i.digest digest) (name_at f i.functions) None) (name_in digest f is) none).1 more
 
-pub no_other_names : (t u : CountTable) (f : ℕ) → HasNoStacks t → HaveNoSum (Names f) t u → ⊥
-no_other_names t u f h have = no_name_in have.0 f have.1 t.images (h.names have.0 f) have.3
+no_two_names : (t u : CountTable) (f : ℕ) → HasNoStacks t → HaveNoSum (Names f) t u → ⊥
+no_two_names t u f h have = no_name_in have.0 f have.1 t.images (h.names have.0 f) have.3
+
+pub no_other_names : (t u : CountTable) (error : SumError) (f : ℕ) → error ≡ Names f → HasNoStacks t → HaveNoSum error t u → ⊥
+no_other_names t u error f is h have = no_two_names t u f h (subst (λ (e : SumError). HaveNoSum e t u) is have)
 
 pub no_counts_are_few : (n : ℕ) → IsTableOfFew n no_counts
 no_counts_are_few n = record { begun = λ digest address. omega arith; runs = omega arith; stacks = no_counts_have_none }
