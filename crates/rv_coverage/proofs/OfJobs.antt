@@ -1,5 +1,5 @@
 -- Tables of jobs: of one, of some more, and of the same in another order.
-use Rattle.std.proofs.Common.{Fits, w8, ◌≡◌, ◌∙◌, ◌==◌, ◌+◌, ◌*◌, ◌^◌, ◌<◌, ◌≤◌, ◌⊎◌, inl, inr, ℕ, zero, suc, Bool, true, false, cond, List, [], ◌∷◌, ◌++◌, Option, Some, None, Result, Ok, Err, option_map, map, length, get_or, refl, sym, ap, subst, arith}
+use Rattle.std.proofs.Common.{Fits, w8, ◌≡◌, ◌∙◌, ◌==◌, ◌+◌, ◌*◌, ◌^◌, ◌<◌, ◌≤◌, inl, inr, ℕ, zero, suc, Bool, true, false, cond, List, [], ◌∷◌, ◌++◌, Option, Some, None, Result, Ok, Err, option_map, map, length, get_or, refl, sym, ap, subst, arith}
 use Rattle.std.proofs.lemmas.Bool.{false≢true}
 use Rattle.std.proofs.lemmas.List.Sums.{sum_by-append}
 use Rattle.std.specs.Prelude.{is_ok}
@@ -16,7 +16,7 @@ use Rattle.rv_counts.specs.declared.table.CountTable.{CountTable}
 use Rattle.rv_counts.specs.declared.table.FunctionName.{FunctionName}
 use Rattle.rv_counts.specs.declared.table.ImageCounts.{ImageCounts}
 use Rattle.rv_counts.specs.declared.sum.SumError.{SumError}
-use Rattle.rv_counts.specs.declared.sum.SumError.TheVariants.{Names, Spot}
+use Rattle.rv_counts.specs.declared.sum.SumError.TheVariants.{Names}
 use Rattle.rv_counts.specs.Sum.{HasName, HasNameIn, HaveNoSum, IsSum, no_counts}
 use Rattle.rv_counts.specs.Table.{begun_at, taken_at, name_at, begun_in, taken_in, name_in, path_in, least_path, least_path_of, digests_rise, names_rise, AreCounts, AreNames, AreNamesOf, AreSpots, IsImage, IsTable}
 use Rattle.rv_jobs.specs.declared.answers.Answer.{Answer}
@@ -95,20 +95,7 @@ sum_has_none t u sum h k is = record {
       omega (arith, s, p, q);
 }
 
--- so none of their numbers is too great
-pub no_great_stacks : (t u : CountTable) (f : ℕ) → HasNoStacks t → HasNoStacks u → HaveNoSum (Spot f) t u → ⊥
-no_great_stacks t u f h k great = elim great.3 [
-  | inl much ↦
-      let p = h.arrivals great.0 great.1 in
-      let q = k.arrivals great.0 great.1 in
-      omega (arith, much, p, q)
-  | inr much ↦
-      let p = h.steps great.0 great.1 in
-      let q = k.steps great.0 great.1 in
-      omega (arith, much, p, q)
-]
-
--- and no function has two names
+-- no function of such a table has a name
 some_is_none : (name : List ℕ) → Some name ≡ None → ⊥
 some_is_none name h = cc
 
