@@ -2,7 +2,7 @@
 use Rattle.rv_coverage.proofs.OfJobs.{no_other_names}
 use Rattle.rv_coverage.proofs.places.add_table.Goals as goal
 
-pub unreachable-in-Err-Names-requires : goal.unreachable-in-Err-Names-requires
-unreachable-in-Err-Names-requires c =
+pub unreachable-requires-in-Err-Names : goal.unreachable-requires-in-Err-Names
+unreachable-requires-in-Err-Names c =
     no_other_names c.args.sum.now c.args.table.now c.in-Err-Names.field-0 _ c.in-Err-Names.field-0-is
     c.requires.no_stacks.0 c.in-Err-Names.ensures.refused
