@@ -2,8 +2,8 @@
 //! often a run came to each list.
 //!
 //! [`stacks_of_run`] runs a machine within a budget, one instruction at a time, and answers its spots. [`stacks_of_job`] does so of
-//! a job of a plan. The calls that have not
-//! returned are those of `rv_calls`: a spot is the functions in which they were made, and that of the pc.
+//! a job of a plan. The calls that have not returned are those of `rv_calls`: a spot is the functions in which they were made, and
+//! that of the pc.
 #![tactic(auto)]
 
 mod functions;
