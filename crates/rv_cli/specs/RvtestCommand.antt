@@ -95,6 +95,10 @@ explain_last_rule = record last_rule { defaults = codes "16" ∷ [] }
 abbrev pub job_budget_rule : Rule
 job_budget_rule = number_rule (codes "budget") (pos 1) (pos most_budget) []
 
+-- --memory <N>, of megabytes
+abbrev pub memory_rule : Rule
+memory_rule = number_rule (codes "memory") (pos 64) (pos 4096) []
+
 -- a command with an argument more, and with several in their order
 abbrev pub with_argument : App → Argument → App
 with_argument app argument = with_rule app (argument_rule argument)
@@ -203,9 +207,10 @@ explain_app = with_color (with_rule (with_rule (with_rule (with_rule (app_of_lis
 abbrev pub console_app : App
 console_app = with_rule (with_rule (app_of_list (codes "console")) (word_rule (codes "name"))) (option_rule (codes "root"))
 
--- gdb <LIST> <NAME> [--root <DIR>]
+-- gdb <LIST> <NAME> [--root <DIR>] [--memory <MB>]
 abbrev pub gdb_app : App
-gdb_app = with_rule (with_rule (app_of_list (codes "gdb")) (word_rule (codes "name"))) (option_rule (codes "root"))
+gdb_app = with_rule (with_rule (with_rule (app_of_list (codes "gdb")) (word_rule (codes "name"))) (option_rule (codes "root")))
+    memory_rule
 
 -- check <LIST> [--root <DIR>]
 abbrev pub check_app : App

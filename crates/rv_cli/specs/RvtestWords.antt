@@ -104,7 +104,7 @@ pub record CountsWords : Type 0 where
   pub out : Option Text
 
 -- to run jobs; to say which jobs a run of these words would run; to explain one; to write the console of one, or to show its run to
--- gdb, whose paths are taken from a folder; to say all that is wrong with a list, whose paths are taken from a
+-- gdb within some megabytes, whose paths are taken from a folder; to say all that is wrong with a list, whose paths are taken from a
 -- folder; to accept what runs came to; to merge parts; to compare two reports, with their steps or without, or by which jobs are slower; to show one; to add up tables of counts; to
 -- tell of something that is no command
 pub data Words : Type 0 where
@@ -112,7 +112,7 @@ pub data Words : Type 0 where
   names : RunWords → Words
   explain : ExplainWords → Words
   console : Text → Text → Option Text → Words
-  gdb : Text → Text → Option Text → Words
+  gdb : Text → Text → Option Text → Option ℕ → Words
   check : Text → Option Text → Words
   accept : AcceptWords → Words
   merge : MergeWords → Words
@@ -182,7 +182,8 @@ console_request rows = option_and_then (λ list. option_map (λ name. console li
     (first_of (codes "name") rows)) (first_of (codes "list") rows)
 
 abbrev pub gdb_request : List Row → Option Words
-gdb_request rows = option_and_then (λ list. option_map (λ name. gdb list name (first_of (codes "root") rows))
+gdb_request rows = option_and_then (λ list. option_map (λ name.
+    gdb list name (first_of (codes "root") rows) (number_value (codes "memory") 64 4096 rows))
     (first_of (codes "name") rows)) (first_of (codes "list") rows)
 
 abbrev pub check_request : List Row → Option Words
@@ -550,7 +551,7 @@ asked_words (asked.Run value) = run (run_asked_words value)
 asked_words (asked.List value) = names (run_asked_words value)
 asked_words (asked.Explain value) = explain (explain_asked_words value)
 asked_words (asked.Console value) = console value.list.now value.name.now (borrowed_text value.root)
-asked_words (asked.Gdb value) = gdb value.list.now value.name.now (borrowed_text value.root)
+asked_words (asked.Gdb value) = gdb value.list.now value.name.now (borrowed_text value.root) value.memory
 asked_words (asked.Check value) = check value.list.now (borrowed_text value.root)
 asked_words (asked.Accept value) = accept (accept_asked_words value)
 asked_words (asked.Merge value) = merge (merge_asked_words value)

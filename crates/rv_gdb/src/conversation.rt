@@ -1,11 +1,12 @@
 //! What gdb sends, and what it is answered.
 
-ghost use Rattle.std.specs.Prelude.{◌≡◌, IfErr, IfOk, OnOk, false};
+ghost use Rattle.std.specs.Prelude.{◌≡◌, ◌≢◌, ◌≤◌, IfErr, IfOk, OnOk, take};
+ghost use Rattle.std.specs.Io.KnownBytes.{Consumes, IsAtEnd};
 ghost use Rattle.rv_base.specs.Counts.{one_more};
-ghost use Rattle.rv_gdb.specs.Conversing.{IsConversed, IsEnded};
+ghost use Rattle.rv_gdb.specs.Conversing.{IsConversed, IsEnded, IsHeard};
 
 use rv_base::{Sink, put_all};
-use rv_session::{Session, cuts_are_not_seen};
+use rv_session::{EndText, Session, cuts_are_not_seen};
 use std::alloc::{AllocError, Global};
 use std::io::{ErrorKind, Read};
 
@@ -33,14 +34,16 @@ impl From<AllocError> for Broken {
 // A read asks for as many bytes at most: gdb's packets have up to 16,384.
 const CHUNK: usize = 16_384;
 
-/// Hears the bytes of a reader, and puts what the session answers to them, until gdb ends the session or the reader has no more.
-pub fn converse<I: Read, O: Sink>(
+/// Hears the bytes of a reader, and puts what the session answers to them, until gdb ends the session or the reader has no more. No
+/// read begins once the session is over.
+pub fn converse<E: EndText, I: Read, O: Sink>(
     alloc: Global,
     session: &mut Session,
+    end: &E,
     input: &mut I,
     out: &mut O,
 ) -> Result<(), Broken>
-    ensures heard { OnOk result (IsConversed session.old (I.remaining input.old) (I.remaining input.new)
+    ensures heard { OnOk result (IsConversed (E.end_text end.now) session.old (I.remaining input.old) (I.remaining input.new)
         (O.taken out.old) (O.taken out.new) session.new) }
     ensures ended { OnOk result (IsEnded session.new (I.remaining input.new)) }
     ensures failed { IfErr result (λ broken. broken ≡ Broken.Unput → O.failed out.new ≡ one_more (O.failed out.old)) }
@@ -49,7 +52,12 @@ pub fn converse<I: Read, O: Sink>(
     cuts_are_not_seen();
     let mut chunk = [0u8; CHUNK];
     for _ in 0..u64::MAX {
-        if !answer_chunk(alloc, session, input, out, &mut chunk)? {
+        if session.is_over() {
+            return Ok(());
+        }
+        let count = read_chunk(input, &mut chunk)?;
+        answer(alloc, session, end, &chunk[..count], out)?;
+        if count == 0 {
             return Ok(());
         }
     }
@@ -57,27 +65,34 @@ pub fn converse<I: Read, O: Sink>(
     Err(Broken::Unread(ErrorKind::TimedOut))
 }
 
-// Reads once, and puts what the session answers. More may come if it says so.
-fn answer_chunk<I: Read, O: Sink>(
+// Reads once, and says how many bytes came: none where no more do.
+fn read_chunk<I: Read>(input: &mut I, chunk: &mut [u8; CHUNK]) -> Result<usize, Broken>
+    ensures within { IfOk result (λ count. count ≤ 16384) }
+    ensures read { IfOk result (λ count. Consumes (I.remaining input.old) (I.remaining input.new) (take count chunk.new)) }
+    ensures ended { IfOk result (λ count. count ≡ 0 → IsAtEnd (I.remaining input.new)) }
+    ensures failed { IfErr result (λ broken. broken ≢ Broken.Unput) }
+{
+    match input.read(chunk) {
+        Ok(count) => Ok(count),
+        Err(error) => Err(Broken::Unread(error.kind())),
+    }
+}
+
+// Puts what the session answers to bytes.
+fn answer<E: EndText, O: Sink>(
     alloc: Global,
     session: &mut Session,
-    input: &mut I,
+    end: &E,
+    bytes: &[u8],
     out: &mut O,
-    chunk: &mut [u8; CHUNK],
-) -> Result<bool, Broken>
-    ensures heard { OnOk result (IsConversed session.old (I.remaining input.old) (I.remaining input.new)
-        (O.taken out.old) (O.taken out.new) session.new) }
-    ensures ended { IfOk result (λ more. more ≡ false → IsEnded session.new (I.remaining input.new)) }
+) -> Result<(), Broken>
+    ensures heard { OnOk result (IsHeard (E.end_text end.now) session.old bytes.now (O.taken out.old) (O.taken out.new) session.new) }
     ensures failed { IfErr result (λ broken. broken ≡ Broken.Unput → O.failed out.new ≡ one_more (O.failed out.old)) }
     ensures counted { OnOk result (O.failed out.new ≡ O.failed out.old) }
 {
-    let count = match input.read(chunk) {
-        Ok(count) => count,
-        Err(error) => return Err(Broken::Unread(error.kind())),
-    };
-    let told = session.feed(alloc, &chunk[..count])?;
+    let told = session.feed(alloc, end, bytes)?;
     match put_all(out, told.as_slice()) {
-        Ok(()) => Ok(count > 0 && !session.is_over()),
+        Ok(()) => Ok(()),
         Err(_) => Err(Broken::Unput),
     }
 }

@@ -63,6 +63,14 @@ impl History {
         })
     }
 
+    /// From now on it takes so many megabytes at most, from 64 to 4,096, and 256 if it is told nothing: the more, the fewer steps are run
+    /// again on a move back. What is kept goes.
+    pub fn set_memory(&mut self, alloc: Global, megabytes: u32)
+        ensures { self.new ≡ self.old }
+    {
+        self.track.set_memory(alloc, megabytes);
+    }
+
     /// How many steps are done.
     pub fn place(&self) -> u32
         ensures value { result ≡ self.now.place }

@@ -1,6 +1,6 @@
 //! A run, with some of its states at hand.
 
-ghost use Rattle.std.specs.Prelude.{◌≡◌, ◌≤◌, ◌<◌, IfOk, IfSome};
+ghost use Rattle.std.specs.Prelude.{◌≡◌, ◌≤◌, ◌<◌, [], IfOk, IfSome};
 ghost use Rattle.rv_machine.specs.Machine.{state_of};
 ghost use Rattle.rv_machine.specs.Run.{run_of};
 ghost use Rattle.rv_trace.specs.Trace.{state_after};
@@ -19,8 +19,13 @@ const INTERVAL: u32 = 1 << 22;
 // Where a move ends, a state is kept at most so many steps before.
 const NEAR: u32 = 1 << 16;
 
-// All that is kept has at most so many bytes.
-const ROOM: usize = 224 << 20;
+// A session takes so many megabytes at most, if none is told another number.
+const MEGABYTES: u32 = 256;
+
+const MEGABYTE: usize = 1 << 20;
+
+// So many of them are for what is not kept.
+const MEGABYTES_BESIDE: usize = 32;
 
 // One in so many of the states is for the way to where the last moves ended.
 const NEAR_SHARE: usize = 8;
@@ -67,14 +72,22 @@ impl Track {
     pub(crate) fn new(alloc: Global, start: Start) -> Track
         ensures { result ≡ start_of start }
     {
-        let states = ROOM / machine_size(&start.bus);
-        let near = states / NEAR_SHARE;
+        let (coarse, near) = kept_states(alloc, &start.bus, MEGABYTES);
         Track {
             start,
             interval: INTERVAL,
-            coarse: KeptStates::new(alloc, states - near),
-            near: KeptStates::new(alloc, near),
+            coarse,
+            near,
         }
+    }
+
+    /// From now on so many megabytes are taken at most. None but the start is at hand.
+    pub(crate) fn set_memory(&mut self, alloc: Global, megabytes: u32)
+        ensures { self.new ≡ self.old }
+    {
+        let (coarse, near) = kept_states(alloc, &self.start.bus, megabytes);
+        self.coarse = coarse;
+        self.near = near;
     }
 
     /// Where it begins.
@@ -173,6 +186,20 @@ impl Track {
             self.near.keep(kept)
         }
     }
+}
+
+// None yet of the states of a machine over a bus, of which so many megabytes keep as many as they can: those at multiples, and those near
+// to where the last moves ended.
+fn kept_states(alloc: Global, bus: &Bus, megabytes: u32) -> (KeptStates, KeptStates)
+    ensures { (result.0 ≡ []) × (result.1 ≡ []) }
+{
+    let room = (megabytes as usize)
+        .saturating_sub(MEGABYTES_BESIDE)
+        .saturating_mul(MEGABYTE);
+    let states = room / machine_size(bus);
+    let near = states / NEAR_SHARE;
+    let coarse = KeptStates::new(alloc, states - near);
+    (coarse, KeptStates::new(alloc, near))
 }
 
 // How many bytes a machine over a bus has, or more.

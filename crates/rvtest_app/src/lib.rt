@@ -28,6 +28,7 @@ mod help;
 mod help_topic;
 mod host;
 mod into_report;
+mod job_end;
 mod junit_class;
 mod known_file;
 mod law;

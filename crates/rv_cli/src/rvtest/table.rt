@@ -102,6 +102,7 @@ const GDB: Subcommand<'static> = Subcommand {
         Argument::Word("list", "LIST", LIST_PATH),
         Argument::Word("name", "NAME", NAME),
         Argument::Option("root", "DIR", ROOT),
+        Argument::Number("memory", None, MEMORY, MEMORY_BOUNDS, &[]),
     ],
 };
 
@@ -267,6 +268,13 @@ const SLOWER: Bounds = Bounds {
 const STOP_AFTER_BOUNDS: Bounds = Bounds {
     least: 1,
     most: MOST_JOBS as i64,
+};
+
+const MEMORY: &str = "Megabytes at most, from 64 to 4096; else 256";
+
+const MEMORY_BOUNDS: Bounds = Bounds {
+    least: 64,
+    most: 4_096,
 };
 
 const LAST_BOUNDS: Bounds = Bounds {

@@ -1,4 +1,4 @@
-use Rattle.std.proofs.Common.{◌∙◌, ap, inr, length, rules}
+use Rattle.std.proofs.Common.{◌∙◌, ap, inr, length, refl, rules}
 use Rattle.rvtest_app.proofs.gdb.session_of_job.Goals as goal
 
 pub returns-in-Some-clause-opened : goal.returns-in-Some-clause-opened
@@ -8,7 +8,10 @@ returns-in-Some-clause-opened g c =
       listed = gathered.jobs;
       paths = search rules;
       kept = rw (c.new-store.ensures.inputs, c.new-store.ensures.folder) at gathered.kept;
+      unread = c.into_unread_paths.result.items;
+      noted = ap length c.into_unread_paths.ensures ∙ (rw c.new-store.ensures.nothing at gathered.faults);
       over = λ d. rw c.in-Some.is at (c.in_ok-session.ensures d);
+      said = refl;
     }
 
 pub returns-clause-stopped : goal.returns-clause-stopped

@@ -1,15 +1,18 @@
 use Rattle.std.proofs.Common.{inl, inr, refl}
 use Rattle.std.proofs.lemmas.Result.{err_from_is_err_and}
+use Rattle.rvtest_app.specs.Debugging.{job_end_text}
 use Rattle.rvtest_app.proofs.gdb.show_job_to_gdb.Goals as goal
 
 pub returns-in-Ok-clause-answered : goal.returns-in-Ok-clause-answered
 returns-in-Ok-clause-answered g c =
-    let heard = rw c.in-Ok.is at c.converse.ensures.heard in record {
+    let heard = rw (c.in-Ok.is, c.set_memory.ensures) at c.converse.ensures.heard in record {
       spoken = c.if-is_terminal.false;
-      first = c.in_ok-session.session;
-      opened = c.in_ok-session.ensures.opened;
+      end_text = job_end_text c.in_ok-Opened.job.plan c.in_ok-Opened.job.unread.items c.in_ok-Opened.job.place;
+      first = c.in_ok-Opened.session;
+      opened = c.in_ok-Opened.ensures.opened;
       heard = heard.heard;
       read = heard.read;
+      while_open = heard.while_open;
       told = heard.told;
       last = c.converse.new.session;
       fed = heard.fed;
