@@ -6,7 +6,7 @@ _rvfleet_options() {
         'rvtest list') echo '--only --match --exclude --failed --partial --lenient --help' ;;
         'rvtest explain') echo '--last --budget --root --color --help' ;;
         'rvtest console') echo '--root --help' ;;
-        'rvtest gdb') echo '--root --help' ;;
+        'rvtest gdb') echo '--root --memory --help' ;;
         'rvtest check') echo '--root --help' ;;
         'rvtest accept') echo '--only --match --exclude --failed --partial --ends --check --workers --group --root --help' ;;
         'rvtest merge') echo '--report --junit --suite --lenient --help' ;;

@@ -53,6 +53,7 @@ complete -c rvtest -n '__fish_seen_subcommand_from console' -l root -x -a '(__fi
 complete -c rvtest -n '__fish_seen_subcommand_from console' -a '(__rvfleet_jobs)'
 complete -c rvtest -n __fish_use_subcommand -f -a gdb -d 'Shows the run of one job to gdb, forwards and backwards'
 complete -c rvtest -n '__fish_seen_subcommand_from gdb' -l root -x -a '(__fish_complete_directories)' -d 'Takes the paths in the list from this folder'
+complete -c rvtest -n '__fish_seen_subcommand_from gdb' -l memory -x -d 'Megabytes at most, from 64 to 4096; else 256'
 complete -c rvtest -n '__fish_seen_subcommand_from gdb' -a '(__rvfleet_jobs)'
 complete -c rvtest -n __fish_use_subcommand -f -a check -d 'Says all that is wrong with a list and its files, and runs nothing'
 complete -c rvtest -n '__fish_seen_subcommand_from check' -l root -x -a '(__fish_complete_directories)' -d 'Takes the paths in the list from this folder'

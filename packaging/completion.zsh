@@ -87,6 +87,7 @@ _rvfleet_behind_rvtest() {
                 ':NAME:_rvfleet_jobs' ;;
         gdb) _arguments \
                 '--root[Takes the paths in the list from this folder]:DIR:_directories' \
+                '--memory[Megabytes at most, from 64 to 4096; else 256]:N: ' \
                 '--help[Print help]' \
                 ':LIST:_files' \
                 ':NAME:_rvfleet_jobs' ;;
