@@ -42,7 +42,7 @@ fault_told fault.ConsoleFull = refl
 stop_told : (one : Stop) → of_reply (stop_text one) ≡ told_by one
 unfolding stop_text
 stop_told stop.Here = refl
-stop_told (stop.Watch address) = refl
+stop_told (stop.Watch kind address) = refl
 stop_told stop.Interrupt = refl
 stop_told stop.Beginning = refl
 stop_told stop.Exit = refl

@@ -27,6 +27,8 @@ breakpoints backward | LOOP | 100 | c > O656e640a & T05replaylog:end; / Z1,80000
 a watch forward | LOOP | 100 | Z2,80000100,4 > OK / c > T05watch:80000100; / p21 > 03000000 / s > T05watch:80000100; / z2,80000100,4 > OK / s > T05 / Z2,80000100,4 > OK / c > T05watch:80000100; / p21 > 06000000
 a watch backward | LOOP | 100 | c > O656e640a & T05replaylog:end; / Z2,80000100,4 > OK / bc > T05watch:80000100; / p21 > 0a000000 / bs > T05watch:80000100; / z2,80000100,4 > OK / bs > T05 / p21 > 09000000
 the right watch | LOOP | 100 | Z2,80000200,4 > OK / Z2,80000100,1 > OK / c > T05watch:80000100;
+a watch of reads | 00000297 0002a383 X | 100 | Z3,80000001,1 > OK / c > T05rwatch:80000001; / p21 > 01000000 / z3,80000001,1 > OK / Z3,80000004,1 > OK / c > O656e640a & T05replaylog:end; / Z4,80000003,1 > OK / bc > T05awatch:80000003; / p21 > 02000000
+a watch of accesses | LOOP | 100 | Z3,80000100,4 > OK / Z4,80000102,1 > OK / c > T05awatch:80000102; / p21 > 03000000
 a range | LOOP | 100 | vCont;r80000000,8000000c:1;c > T05 / p21 > 03000000 / vCont;r8000000c,80000018 > T05 / p21 > 0c000000 / p20 > 18000080
 a range with a break | LOOP | 100 | Z0,80000008,4 > OK / vCont;r80000000,8000000c > T05 / p21 > 02000000
 the budget | LOOP | 5 | vCont;c > O656e640a & T18 / p21 > 05000000 / s > O656e640a & T18 / bs > T05 / p21 > 04000000
@@ -151,7 +153,7 @@ fn check_answers(alloc: Global, line: &str) -> Result<(), Fail> {
 
 #[test]
 fn requests_are_answered(rt: HostRuntime) -> Result<(), Fail> {
-    has_lines(ANSWERS, 30)?;
+    has_lines(ANSWERS, 32)?;
     for line in ANSWERS.lines() {
         check_answers(rt.alloc(), line)?;
     }
