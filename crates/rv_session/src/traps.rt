@@ -46,7 +46,7 @@ fn is_full(stops: &Stops) -> bool
     let watches = stops.watches.as_slice().len();
     let reads = stops.reads.as_slice().len();
     let accesses = stops.accesses.as_slice().len();
-    (breaks.saturating_add(watches)).saturating_add(reads.saturating_add(accesses)) >= MOST_TRAPS
+    (breaks + watches) + (reads + accesses) >= MOST_TRAPS
 }
 
 fn with_break(
