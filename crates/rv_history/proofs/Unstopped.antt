@@ -40,21 +40,26 @@ no_bytes : (stops : Stops) (bus : Contents) → stops.watches ≡ [] → watched
 unfolding watched_bytes
 no_bytes stops bus none = ap (λ (watches : List Watch). flat_map (watch_bytes bus) watches) none
 
-untouched_by : (stops : Stops) (access : Option Access) → AreUnwatched stops → is_some (touched_by stops access) ≡ false
-untouched_by stops None none = refl
-untouched_by stops (Some access) none =
+-- with no watch of reads and none of accesses, nothing is touched
+pub nothing_touched : (stops : Stops) (access : Option Access) → (stops.reads ≡ []) × (stops.accesses ≡ [])
+    → touched_by stops access ≡ None
+nothing_touched stops None none = refl
+nothing_touched stops (Some access) none =
     let found : List Watch → List Watch → Option SetOff = λ reads accesses. told_or set_off.Read (first_read access reads)
     (told_or set_off.Access (first_hit access accesses) None) in
-    ap (λ (reads : List Watch). is_some (found reads stops.accesses)) none.1.0
-    ∙ ap (λ (accesses : List Watch). is_some (found [] accesses)) none.1.1 ∙ nothing access.is_read
+    ap (λ (reads : List Watch). found reads stops.accesses) none.0
+    ∙ ap (λ (accesses : List Watch). found [] accesses) none.1 ∙ nothing access.is_read
   where
-    nothing : (is_read : Bool) → is_some (told_or set_off.Read (if is_read then None else None) None) ≡ false
+    nothing : (is_read : Bool) → told_or set_off.Read (if is_read then None else None) None ≡ None
     nothing true = refl
     nothing false = refl
 
+untouched : (stops : Stops) (s : State) → AreUnwatched stops → is_some (touched stops s) ≡ false
+untouched stops s none = ap is_some (nothing_touched stops (access_at s) none.1)
+
 unset : (stops : Stops) (s t : State) → AreUnwatched stops → IsSetOff stops s t → ⊥
 unset stops s t none (inl differ) = differ (no_bytes stops s.bus none.0 ∙ sym (no_bytes stops t.bus none.0))
-unset stops s t none (inr touches) = both_ways (is_some (touched stops s)) (untouched_by stops (access_at s) none) touches
+unset stops s t none (inr touches) = both_ways (is_some (touched stops s)) (untouched stops s none) touches
 
 no_change : (stops : Stops) (budget place : ℕ) (start : State) → AreUnwatched stops → IsChangeAt stops budget start place → ⊥
 no_change stops budget place start none change =
