@@ -18,6 +18,7 @@ mod search_back;
 mod start;
 mod stepping;
 mod stops;
+mod touching;
 mod track;
 
 pub use bounds::Bounds;

@@ -1,13 +1,8 @@
 //! Where a run is to stop.
 
-ghost use Rattle.std.specs.Prelude.{◌≡◌, ◌≤◌, ◌+◌, ◌^◌, ◌++◌, ◌↔◌, [], ℕ, List, IfOk, IfSome, IsTrue, MatchOption, OnOk, drop, length, option_map};
-ghost use Rattle.std.specs.List.{find};
-ghost use Rattle.rv_history.specs.Accesses.{is_hit};
-ghost use Rattle.rv_history.specs.Stops.{first_hit, first_read};
+ghost use Rattle.std.specs.Prelude.{◌≡◌, ◌≤◌, ◌+◌, ◌^◌, ◌++◌, ◌↔◌, [], ℕ, List, IfOk, IfSome, IsTrue, MatchOption, OnOk, drop, length};
 
-use crate::access::{Access, access_at};
 use rv_base::Sequence;
-use rv_machine::Machine;
 use rv_memory::Bus;
 use std::alloc::{AllocError, Global};
 
@@ -44,8 +39,7 @@ pub enum SetOff {
 }
 
 impl Stops {
-    ghost use Rattle.rv_machine.specs.Machine.{state_of};
-    ghost use Rattle.rv_history.specs.Stops.{first_differing, first_set_off, is_break, touched, watched_bytes};
+    ghost use Rattle.rv_history.specs.Stops.{first_differing, is_break, watched_bytes};
 
     /// Whether there are none at all.
     pub(crate) fn are_none(&self) -> bool
@@ -62,44 +56,11 @@ impl Stops {
         self.watches.as_slice().is_empty() && self.have_no_access()
     }
 
-    // Whether no reads and no accesses are watched.
-    fn have_no_access(&self) -> bool
+    /// Whether no reads and no accesses are watched.
+    pub(crate) fn have_no_access(&self) -> bool
         ensures { IsTrue result ↔ ((self.now.reads ≡ []) × (self.now.accesses ≡ [])) }
     {
         self.reads.as_slice().is_empty() && self.accesses.as_slice().is_empty()
-    }
-
-    /// The watch that the instruction at a machine's pc sets off by what it reads or writes, if it does: the first of reads, else of
-    /// accesses.
-    pub(crate) fn touched(&self, machine: &Machine) -> Option<SetOff>
-        ensures { result ≡ touched self.now (state_of machine.now) }
-    {
-        // An instruction is decoded only where it matters.
-        if self.have_no_access() {
-            return None;
-        }
-        let access = access_at(machine)?;
-        if let Some(address) = first_read(access, self.reads.as_slice()) {
-            return Some(SetOff::Read(address));
-        }
-        let address = first_hit(access, self.accesses.as_slice())?;
-        Some(SetOff::Access(address))
-    }
-
-    /// The first watch of changes that differs between two machines, of which the second is behind the step of the first, else the one
-    /// that the step touches.
-    pub(crate) fn first_set_off(
-        &self,
-        alloc: Global,
-        one: &Machine,
-        other: &Machine,
-    ) -> Result<Option<SetOff>, AllocError>
-        ensures { IfOk result (λ found. found ≡ first_set_off self.now (state_of one.now) (state_of other.now)) }
-    {
-        match self.differing_watch(alloc, one.bus(), other.bus())? {
-            Some(address) => Ok(Some(SetOff::Change(address))),
-            None => Ok(self.touched(one)),
-        }
     }
 
     /// Whether an address is a breakpoint.
@@ -138,7 +99,7 @@ impl Stops {
 
     /// The address of the first watch whose bytes differ between two buses.
     #[tactic(auto, using(crate::proofs::Differing::differing_at), unfolding(crate::specs::Stops::first_differing))]
-    fn differing_watch(
+    pub(crate) fn differing_watch(
         &self,
         alloc: Global,
         one: &Bus,
@@ -157,31 +118,6 @@ impl Stops {
         }
         Ok(None)
     }
-}
-
-// The first of the watches that an access hits, if it reads.
-fn first_read(access: Access, watches: &[Watch]) -> Option<u32>
-    ensures { result ≡ first_read access watches.now }
-{
-    if access.is_read {
-        first_hit(access, watches)
-    } else {
-        None
-    }
-}
-
-// The first of the watches that an access hits.
-fn first_hit(access: Access, watches: &[Watch]) -> Option<u32>
-    ensures { result ≡ first_hit access watches.now }
-{
-    let watch = hit_watch(access, watches)?;
-    Some(watch.address)
-}
-
-fn hit_watch(access: Access, watches: &[Watch]) -> Option<&Watch>
-    ensures { option_map (λ watch. watch.now) result ≡ find (is_hit access) watches.now }
-{
-    watches.iter().find(|watch| access.is_hit(watch))
 }
 
 impl Watch {
