@@ -3,7 +3,7 @@
 use Rattle.std.specs.Prelude.{ℕ, refl}
 use Rattle.std.specs.Coded.{Coded, code_by, coded_ℕ, coded×}
 use Rattle.rv_machine.specs.State.{State}
-use Rattle.rv_machine.proofs.Public.{state_code}
+pub use Rattle.rv_machine.proofs.Public.{state_code}
 use Rattle.rv_history.specs.Stands.{Stand}
 
 abbrev pub stand_code : Coded Stand
