@@ -1,5 +1,5 @@
 import sys
-sys.path.insert(0,'/work/w/next/checks/lib')
+sys.path.insert(0,'/work/next/checks/lib')
 import markdown
 for p in sys.argv[1:]:
     t=open(p).read()
