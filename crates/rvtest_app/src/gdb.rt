@@ -65,7 +65,8 @@ pub(crate) fn show_job_to_gdb<
     if is_terminal {
         return Err(no_gdb_stop(alloc));
     }
-    let Opened { mut session, job } = session_of_named_job(host.inputs, alloc, asked)?;
+    let opened = session_of_named_job(host.inputs, alloc, asked)?;
+    let Opened { mut session, job } = opened;
     set_memory(alloc, &mut session, asked.memory);
     match converse(alloc, &mut session, &job, input, &mut to.out) {
         Ok(()) => Ok(DONE),
