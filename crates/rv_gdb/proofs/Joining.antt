@@ -1,10 +1,9 @@
 -- Bytes that were heard one read behind the other.
-use Rattle.std.proofs.Common.{◌≡◌, ◌≤◌, ◌++◌, [], ℕ, List, Option, false, inl, inr, length, refl}
+use Rattle.std.proofs.Common.{◌≡◌, ◌++◌, [], ℕ, List, Option, false, inl, inr, refl}
 use Rattle.std.proofs.KnownBytes.{Appends-nil, Appends-trans, Consumes-nil, Consumes-trans}
-use Rattle.std.specs.Io.KnownBytes.{Consumes}
 use Rattle.rv_session.specs.Heard.{IsFed, no_bytes}
 use Rattle.rv_session.specs.declared.session.Session.{Session}
-use Rattle.rv_gdb.specs.Conversing.{IsConversed, IsHeard, most_read}
+use Rattle.rv_gdb.specs.Conversing.{IsConversed, IsReadAnswered}
 
 -- fed in two pieces is fed in one
 abbrev pub AreCutsUnseen : List ℕ → Type 0
@@ -25,23 +24,23 @@ silent end_text session input out = record {
 }
 
 -- a read behind others, which begins while the session is not over
-pub heard_more : (end_text : List ℕ) (session between next : Session) (a b c x y z : Option (List ℕ)) (bytes : List ℕ)
-    → AreCutsUnseen end_text → IsConversed end_text session a b x y between → between.is_over ≡ false → length bytes ≤ most_read
-    → Consumes b c bytes → IsHeard end_text between bytes y z next → IsConversed end_text session a c x z next
-heard_more end_text session between next a b c x y z bytes unseen first is_open short read second = record {
-  heard = first.heard ++ bytes;
+pub heard_more : (end_text : List ℕ) (session between next : Session) (a b c x y z : Option (List ℕ)) → AreCutsUnseen end_text
+    → IsConversed end_text session a b x y between → between.is_over ≡ false → IsReadAnswered end_text between b c y z next
+    → IsConversed end_text session a c x z next
+heard_more end_text session between next a b c x y z unseen first is_open second = record {
+  heard = first.heard ++ second.heard;
   told = first.told ++ second.told;
-  read = Consumes-trans a b c first.heard bytes first.read read;
+  read = Consumes-trans a b c first.heard second.heard first.read second.read;
   while_open = inr (record {
     front = first.heard;
-    last = bytes;
+    last = second.heard;
     heard_is = refl;
-    short = short;
+    short = second.short;
     told = first.told;
     standing = between;
     fed = first.fed;
     is_open = is_open;
   });
-  fed = unseen session between next first.heard bytes first.told second.told first.fed second.fed;
+  fed = unseen session between next first.heard second.heard first.told second.told first.fed second.fed;
   put = Appends-trans x y z first.told second.told first.put second.put;
 }

@@ -4,16 +4,19 @@ use Rattle.std.specs.Io.KnownBytes.{Appends, Consumes, IsAtEnd}
 use Rattle.rv_session.specs.Heard.{IsFed}
 use Rattle.rv_session.specs.declared.session.Session.{Session}
 
--- what the session answers to some bytes went out
-pub record IsHeard (end_text : List ℕ) (session : Session) (bytes : List ℕ) (old new : Option (List ℕ)) (next : Session)
-    : Type 0 where
-  pub told : List ℕ
-  pub fed : IsFed end_text session bytes told next
-  pub put : Appends old new told
-
 -- the most bytes of a read
 abbrev pub most_read : ℕ
 most_read = 16384
+
+-- a read gave some bytes, and what went out is what the session answers to them
+pub record IsReadAnswered (end_text : List ℕ) (session : Session) (before after old new : Option (List ℕ)) (next : Session)
+    : Type 0 where
+  pub heard : List ℕ
+  pub told : List ℕ
+  pub short : length heard ≤ most_read
+  pub read : Consumes before after heard
+  pub fed : IsFed end_text session heard told next
+  pub put : Appends old new told
 
 -- the session was not over when the last of these bytes were read, as many as a read gives at most
 pub record IsLastReadOpen (end_text : List ℕ) (session : Session) (heard : List ℕ) : Type 0 where

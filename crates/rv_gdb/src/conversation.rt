@@ -1,9 +1,9 @@
 //! What gdb sends, and what it is answered.
 
-ghost use Rattle.std.specs.Prelude.{◌≡◌, ◌≢◌, ◌≤◌, IfErr, IfOk, OnOk, take};
-ghost use Rattle.std.specs.Io.KnownBytes.{Consumes, IsAtEnd};
+ghost use Rattle.std.specs.Prelude.{◌≡◌, IfErr, IfOk, OnOk, false};
+ghost use Rattle.std.specs.Io.KnownBytes.{IsAtEnd};
 ghost use Rattle.rv_base.specs.Counts.{one_more};
-ghost use Rattle.rv_gdb.specs.Conversing.{IsConversed, IsEnded, IsHeard};
+ghost use Rattle.rv_gdb.specs.Conversing.{IsConversed, IsEnded, IsReadAnswered};
 
 use rv_base::{Sink, put_all};
 use rv_session::{EndText, Session, cuts_are_not_seen};
@@ -50,14 +50,11 @@ pub fn converse<E: EndText, I: Read, O: Sink>(
     ensures counted { OnOk result (O.failed out.new ≡ O.failed out.old) }
 {
     cuts_are_not_seen();
-    let mut chunk = [0u8; CHUNK];
     for _ in 0..u64::MAX {
         if session.is_over() {
             return Ok(());
         }
-        let count = read_chunk(input, &mut chunk)?;
-        answer(alloc, session, end, &chunk[..count], out)?;
-        if count == 0 {
+        if !answer_chunk(alloc, session, end, input, out)? {
             return Ok(());
         }
     }
@@ -65,34 +62,28 @@ pub fn converse<E: EndText, I: Read, O: Sink>(
     Err(Broken::Unread(ErrorKind::TimedOut))
 }
 
-// Reads once, and says how many bytes came: none where no more do.
-fn read_chunk<I: Read>(input: &mut I, chunk: &mut [u8; CHUNK]) -> Result<usize, Broken>
-    ensures within { IfOk result (λ count. count ≤ 16384) }
-    ensures read { IfOk result (λ count. Consumes (I.remaining input.old) (I.remaining input.new) (take count chunk.new)) }
-    ensures ended { IfOk result (λ count. count ≡ 0 → IsAtEnd (I.remaining input.new)) }
-    ensures failed { IfErr result (λ broken. broken ≢ Broken.Unput) }
-{
-    match input.read(chunk) {
-        Ok(count) => Ok(count),
-        Err(error) => Err(Broken::Unread(error.kind())),
-    }
-}
-
-// Puts what the session answers to bytes.
-fn answer<E: EndText, O: Sink>(
+// Reads once, and puts what the session answers. It says whether more may come.
+fn answer_chunk<E: EndText, I: Read, O: Sink>(
     alloc: Global,
     session: &mut Session,
     end: &E,
-    bytes: &[u8],
+    input: &mut I,
     out: &mut O,
-) -> Result<(), Broken>
-    ensures heard { OnOk result (IsHeard (E.end_text end.now) session.old bytes.now (O.taken out.old) (O.taken out.new) session.new) }
+) -> Result<bool, Broken>
+    ensures heard { OnOk result (IsReadAnswered (E.end_text end.now) session.old (I.remaining input.old) (I.remaining input.new)
+        (O.taken out.old) (O.taken out.new) session.new) }
+    ensures ended { IfOk result (λ more. more ≡ false → IsAtEnd (I.remaining input.new)) }
     ensures failed { IfErr result (λ broken. broken ≡ Broken.Unput → O.failed out.new ≡ one_more (O.failed out.old)) }
     ensures counted { OnOk result (O.failed out.new ≡ O.failed out.old) }
 {
-    let told = session.feed(alloc, end, bytes)?;
+    let mut chunk = [0u8; CHUNK];
+    let count = match input.read(&mut chunk) {
+        Ok(count) => count,
+        Err(error) => return Err(Broken::Unread(error.kind())),
+    };
+    let told = session.feed(alloc, end, &chunk[..count])?;
     match put_all(out, told.as_slice()) {
-        Ok(()) => Ok(()),
+        Ok(()) => Ok(count > 0),
         Err(_) => Err(Broken::Unput),
     }
 }
