@@ -3,3 +3,5 @@ pub mod Codes
 pub mod Cover
 pub mod Steps
 pub mod Text
+pub mod Csv
+pub mod Images
