@@ -8,6 +8,7 @@ mod AddedTables
 mod BegunSums
 mod ChosenTexts
 mod CountedRuns
+mod CoveredImages
 mod Numbers
 mod Sent
 mod Results
