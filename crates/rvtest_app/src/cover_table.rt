@@ -77,7 +77,11 @@ fn read_table_for_images<D: Inputs>(
     }
 }
 
-fn other_image_message(alloc: Global, table: &str, path: &str) -> Result<Vec<u8>, AllocError>
+fn other_image_message<'a>(
+    alloc: Global,
+    table: &'a str,
+    path: &'a str,
+) -> Result<Vec<u8>, AllocError>
     ensures { IfOk result (λ text. text.items ≡ other_image_message table.now path.now) }
 {
     text_of_spans(
