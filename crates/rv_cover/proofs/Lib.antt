@@ -4,3 +4,6 @@ pub mod Ran
 pub mod Summing
 pub mod Once
 pub mod Bounds
+mod FirstFound
+mod JobImages
+mod Shown

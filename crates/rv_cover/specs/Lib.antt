@@ -5,3 +5,6 @@ pub mod Steps
 pub mod Text
 pub mod Csv
 pub mod Images
+pub mod JobImages
+pub mod ImageCounts
+pub mod ImagesText

@@ -8,7 +8,7 @@ mod AddedTables
 mod BegunSums
 mod ChosenTexts
 mod CountedRuns
-mod CoveredImages
+mod CoverAnswers
 mod Numbers
 mod Sent
 mod Results

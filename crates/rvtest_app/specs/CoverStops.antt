@@ -7,6 +7,8 @@ use Rattle.rv_command.specs.Texts.{IsTextAt, optional_text}
 use Rattle.rv_command.specs.declared.stop.Stop.{Stop}
 use Rattle.rv_command.specs.declared.stop.Stop.TheVariants as stop
 use Rattle.rv_counts.specs.declared.table.CountTable.{CountTable}
+use Rattle.rv_cover.specs.ImageCounts.{other_image}
+use Rattle.rv_cover.specs.JobImages.{FileImage, images_of}
 use Rattle.rv_coverage.specs.JobTables.{jobs_at}
 use Rattle.rv_files.specs.UnreadPaths.{contents_below}
 use Rattle.rv_files.specs.declared.noting_store.Unread.{Unread}
@@ -17,7 +19,6 @@ use Rattle.rv_report.specs.declared.saved.Shard.{Shard}
 use Rattle.rv_text.specs.Printable.{printable_text}
 use Rattle.rvtest_app.specs.CountStops.{IsTableFaultStop}
 use Rattle.rvtest_app.specs.CountSums.{IsTableAt}
-use Rattle.rvtest_app.specs.Covers.{FileImage, images_of, other_image}
 use Rattle.rvtest_app.specs.RunStops.{IsUnrequestedStop}
 use Rattle.rvtest_app.specs.Runs.{AreRequestedJobs, IsPlanFor, places_of_marks}
 

@@ -1,21 +1,20 @@
-//! What `cover` puts of images.
+//! What is shown of images, by the counts of a table.
 
-ghost use Rattle.std.specs.Prelude.{◌≡◌, ◌++◌, IfOk, List, OnOk, ℕ, map};
+ghost use Rattle.std.specs.Prelude.{◌≡◌, ◌++◌, IfOk, List, OnOk, ℕ};
 ghost use Rattle.rv_counts.specs.Table.{IsTable};
-ghost use Rattle.rvtest_app.specs.CoverFiles.{image_of_file, images_of_files};
-ghost use Rattle.rvtest_app.specs.Covers.{IsCoverText, IsShownOf, head_text, image_text};
+ghost use Rattle.rv_cover.specs.ImagesText.{IsCoverText, IsShownOf, head_text, image_text};
+ghost use Rattle.rv_cover.specs.JobImages.{image_of_file, images_of_files};
 
-use crate::cover_images::ImageFile;
-use crate::cover_table::counts_of;
+use crate::csv::{push_csv_head, push_csv_row};
+use crate::image_counts::counts_of;
+use crate::image_cover::{ImageCover, cover_of_image};
+use crate::image_file::ImageFile;
+use crate::text::{push_cover_head, push_image_line, push_never_run_line};
 use rv_counts::CountTable;
-use rv_cover::{
-    ImageCover, cover_of_image, push_cover_head, push_csv_head, push_csv_row, push_image_line,
-    push_never_run_line,
-};
 use std::alloc::{AllocError, Global};
 
-/// What is shown of images by the counts of a table, for tools or for people.
-pub(crate) fn cover_text(
+/// What is shown of images by the counts of a table: a head, and what ran of each, as rows for tools or as lines for people.
+pub fn cover_text(
     alloc: Global,
     csv: bool,
     table: &CountTable,
