@@ -1,6 +1,7 @@
 -- The files of a plan are small, the counts that are taken are a table, and the lines of one job more.
 use Rattle.std.proofs.Common.{◌≡◌, ◌∙◌, ◌+◌, ◌<◌, ◌≤◌, ◌∷◌, ◌++◌, [], ℕ, Bool, true, false, List, Option, Some, None, IfSome, ap, append-nil, get_or, length, map, refl, sym, take}
 use Rattle.std.specs.List.{flat_map}
+use Rattle.std.specs.Prelude.{slice_index_or}
 use Rattle.std.specs.Str.{bytes_eq}
 use Rattle.std.proofs.lemmas.Grind.{flat_map-append}
 use Rattle.std.proofs.lemmas.List.{map-append, take_more}
@@ -20,13 +21,12 @@ use Rattle.rv_jobs.specs.declared.answers.Answer.{Answer}
 use Rattle.rv_jobs.specs.declared.kept.Kept.{Kept}
 use Rattle.rv_jobs.specs.declared.kept.Kept.TheVariants as kept
 use Rattle.rv_rows.specs.Rows.{content_if_read}
-use Rattle.rv_trace.specs.Trace.{job_at}
 use Rattle.rvtest_app.specs.Covers.{AreCountsFor, refused_line, refused_lines}
 
 -- ---- lines
 
 jobs_more : (plan : Planned) (places : List ℕ) (i place : ℕ) → i < length places → place ≡ get_or places i place
-    → jobs_at plan (take (i + 1) places) ≡ jobs_at plan (take i places) ++ job_at plan place (single_job [] 0 []) ∷ []
+    → jobs_at plan (take (i + 1) places) ≡ jobs_at plan (take i places) ++ slice_index_or plan.jobs place (single_job [] 0 []) ∷ []
 jobs_more plan places i place lt is =
     ap (jobs_at plan) (take_more places i place lt)
     ∙ map-append _ (take i places) (get_or places i place ∷ [])
@@ -35,10 +35,10 @@ jobs_more plan places i place lt is =
 pub refused_more : (judging : Judging) (plan : Planned) (unread : List Unread) (places : List ℕ) (i place : ℕ) → i < length places
     → place ≡ get_or places i place
     → refused_lines judging plan unread (take (i + 1) places)
-    ≡ refused_lines judging plan unread (take i places) ++ refused_line judging plan unread (job_at plan place (single_job [] 0 []))
+    ≡ refused_lines judging plan unread (take i places) ++ refused_line judging plan unread (slice_index_or plan.jobs place (single_job [] 0 []))
 refused_more judging plan unread places i place lt is =
     ap (λ js. flat_map (refused_line judging plan unread) js) (jobs_more plan places i place lt is)
-    ∙ flat_map-append (refused_line judging plan unread) (jobs_at plan (take i places)) (job_at plan place (single_job [] 0 []) ∷ [])
+    ∙ flat_map-append (refused_line judging plan unread) (jobs_at plan (take i places)) (slice_index_or plan.jobs place (single_job [] 0 []) ∷ [])
     ∙ ap (λ text. refused_lines judging plan unread (take i places) ++ text) (append-nil _)
 
 -- ---- files

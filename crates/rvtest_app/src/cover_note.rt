@@ -35,13 +35,29 @@ pub(crate) fn cover_note(
         verbosity: Verbosity::All,
         last: None,
     };
-    for place in places {
-        push_refused_line(alloc, &telling, *place, &mut note)?;
-    }
+    push_refused_lines(alloc, &telling, places, &mut note)?;
     Ok(note)
 }
 
+// Appends the lines of the jobs at some places that are refused.
+fn push_refused_lines(
+    alloc: Global,
+    telling: &RowTelling<'_>,
+    places: &[usize],
+    text: &mut Vec<u8>,
+) -> Result<(), AllocError>
+    requires { AreJobPlaces telling.now.plan.now places.now }
+    ensures { OnOk result (text.new.items ≡ text.old.items
+        ++ refused_lines (judging_of telling.now.judge) telling.now.plan.now telling.now.unread.now places.now) }
+{
+    for place in places {
+        push_refused_line(alloc, telling, *place, text)?;
+    }
+    Ok(())
+}
+
 // Appends the line of the job at a place, if it is refused.
+#[tactic(auto, unfolding(crate::specs::Covers::refused_line))]
 fn push_refused_line(
     alloc: Global,
     telling: &RowTelling<'_>,
