@@ -69,9 +69,11 @@ fn push_refused_line(
         ++ refused_line (judging_of telling.now.judge) telling.now.plan.now telling.now.unread.now
         (slice_index_or telling.now.plan.now.jobs place d)) }
 {
-    if refusal_at(alloc, telling.plan, place)?.is_none() {
-        return Ok(());
+    match refusal_at(alloc, telling.plan, place)? {
+        Some(_) => {
+            let row = row_at(alloc, telling.plan, place)?;
+            telling.push_lone_row_line(alloc, place, &row, text)
+        }
+        None => Ok(()),
     }
-    let row = row_at(alloc, telling.plan, place)?;
-    telling.push_lone_row_line(alloc, place, &row, text)
 }

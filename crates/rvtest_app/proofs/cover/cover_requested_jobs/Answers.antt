@@ -1,4 +1,4 @@
-use Rattle.std.proofs.Common.{None, Some, inl, inr, refl}
+use Rattle.std.proofs.Common.{None, Some, arith, inl, inr, refl}
 use Rattle.std.proofs.lemmas.Result.{err_from_is_err_and}
 use Rattle.rvtest_app.specs.Said.{said}
 use Rattle.rvtest_app.proofs.Results.{IfOk-map}
@@ -27,6 +27,10 @@ returns-in-Some-clause-put g c =
       done = put.0;
     })
     (rw c.as_slice-in-Some.ensures.value at c.cover_marked_jobs.ensures.put)
+
+pub returns-in-Some-clause-low : goal.returns-in-Some-clause-low
+returns-in-Some-clause-low g c =
+    IfOk-map c.cover_marked_jobs.result _ _ (λ status put. omega (arith, put.0)) c.cover_marked_jobs.ensures.put
 
 pub returns-in-Some-clause-stopped : goal.returns-in-Some-clause-stopped
 returns-in-Some-clause-stopped g c =
