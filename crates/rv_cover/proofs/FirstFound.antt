@@ -11,12 +11,13 @@ module _ {X : Type 0} (test : X → Bool) where
       → find test xs ≡ Some (get_or xs i x)
   found_first [] i x lt none is = absurd (omega (arith, lt))
   found_first (y ∷ ys) zero x lt none is = rw is refl
-  found_first (y ∷ ys) (suc i) x lt none is = go (test y) refl
+  found_first (y ∷ ys) (suc i) x lt none is = go (test y) refl (λ behind. found_first ys i x (omega (arith, lt)) behind is)
     where
-      go : (first : Bool) → test y ≡ first → find test (y ∷ ys) ≡ Some (get_or ys i x)
-      go true first = absurd (some_is_no_none (sym (ap (λ b. cond b (Some y) (find test (take i ys))) first) ∙ none))
-      go false first = ap (λ b. cond b (Some y) (find test ys)) first
-          ∙ found_first ys i x (omega (arith, lt)) (sym (ap (λ b. cond b (Some y) (find test (take i ys))) first) ∙ none) is
+      go : (first : Bool) → test y ≡ first → (find test (take i ys) ≡ None → find test ys ≡ Some (get_or ys i x))
+          → find test (y ∷ ys) ≡ Some (get_or ys i x)
+      go true first rest = absurd (some_is_no_none (sym (ap (λ b. cond b (Some y) (find test (take i ys))) first) ∙ none))
+      go false first rest = ap (λ b. cond b (Some y) (find test ys)) first
+          ∙ rest (sym (ap (λ b. cond b (Some y) (find test (take i ys))) first) ∙ none)
 
   pub none_more : (xs : List X) (i : ℕ) (x : X) → i < length xs → find test (take i xs) ≡ None → test (get_or xs i x) ≡ false
       → find test (take (i + 1) xs) ≡ None

@@ -4,6 +4,7 @@ pub mod Ran
 pub mod Summing
 pub mod Once
 pub mod Bounds
-mod FirstFound
-mod JobImages
-mod Shown
+pub mod FirstFound
+pub mod Found
+pub mod JobImages
+pub mod Shown

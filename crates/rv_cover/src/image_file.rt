@@ -1,10 +1,11 @@
 //! An image of a job, with its file.
 
-ghost use Rattle.std.specs.Prelude.{◌≤◌, length};
+ghost use Rattle.std.specs.Prelude.{◌≡◌, ◌≤◌, Ok, length};
 ghost use Rattle.rv_base.specs.Limits.{most_bytes};
-ghost use Rattle.rv_elf.specs.Image.{IsImageOf};
+ghost use Rattle.rv_elf.specs.Image.{image_of};
 
 use rv_elf::Image;
+use rv_isa::Isa;
 
 /// An image of a job, and its file.
 #[derive(Drop)]
@@ -13,6 +14,8 @@ pub struct ImageFile<'a> {
     pub path: &'a str,
     pub bytes: &'a [u8],
     pub image: Image,
-    ghost read: { IsImageOf bytes.now image },
+    /// The instructions that it was read for.
+    pub isa: Isa,
+    ghost read: { image_of isa bytes.now ≡ Ok image },
     ghost small: { length bytes.now ≤ most_bytes },
 }

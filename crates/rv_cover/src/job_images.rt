@@ -1,10 +1,10 @@
 //! The images of jobs, each file once.
 
-ghost use Rattle.std.specs.Prelude.{◌≡◌, ◌<◌, IfOk, IfSome, OnOk, Some, length, option_map};
+ghost use Rattle.std.specs.Prelude.{◌≡◌, ◌<◌, IfOk, IfSome, Ok, OnOk, Some, length, option_map};
 ghost use Rattle.std.specs.List.{list_any};
 ghost use Rattle.std.specs.Str.{bytes_eq};
 ghost use Rattle.rv_coverage.specs.JobTables.{image_bytes, jobs_at};
-ghost use Rattle.rv_elf.specs.Image.{IsImageOf};
+ghost use Rattle.rv_elf.specs.Image.{image_of};
 ghost use Rattle.rv_fleet.specs.Choices.{AreJobPlaces};
 ghost use Rattle.rv_jobs.specs.declared_job.Job.{Job as AJob};
 ghost use Rattle.rv_rows.specs.Rows.{image_if_read};
@@ -93,6 +93,7 @@ fn image_at(
         path: job.image.as_str(),
         bytes,
         image,
+        isa: job.isa,
     }))
 }
 
@@ -111,7 +112,7 @@ fn image_bytes(plan: &Plan, place: usize) -> Option<&[u8]>
 // The image that bytes are read as, where they are one.
 fn image_of_bytes(alloc: Global, isa: Isa, bytes: &[u8]) -> Result<Option<Image>, AllocError>
     ensures value { IfOk result (λ image. image ≡ image_if_read isa (Some bytes.now)) }
-    ensures of_bytes { IfOk result (λ image. IfSome image (IsImageOf bytes.now)) }
+    ensures read { IfOk result (λ found. IfSome found (λ image. image_of isa bytes.now ≡ Ok image)) }
 {
     match read_image(alloc, bytes, isa) {
         Ok(image) => Ok(Some(image)),

@@ -9,5 +9,5 @@ returns-in-Some c =
     (λ same d. same ∙ found_here c.args.plan.now.answers (images_of_files c.args.files.now.items) _ _ (rw c.in-Some.is at (c.in_ok-found.ensures d)))
     c.push_image.ensures
 
-pub returns : goal.returns
-returns c = λ d. found_here c.args.plan.now.answers (images_of_files c.args.files.now.items) _ _ (rw c.in-None.is at (c.in_ok-found.ensures d))
+pub returns-in-None : goal.returns-in-None
+returns-in-None c = λ d. found_here c.args.plan.now.answers (images_of_files c.args.files.now.items) _ _ (rw c.in-None.is at (c.in_ok-found.ensures d))
