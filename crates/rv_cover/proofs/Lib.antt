@@ -7,4 +7,5 @@ pub mod Bounds
 pub mod FirstFound
 pub mod Found
 pub mod JobImages
+pub mod OtherImages
 pub mod Shown
