@@ -13,6 +13,7 @@ _rvfleet_options() {
         'rvtest diff') echo '--partial --steps --slower --color --help' ;;
         'rvtest show') echo '--partial --junit --suite --lenient --color --help' ;;
         'rvtest counts') echo '--out --help' ;;
+        'rvtest cover') echo '--only --match --exclude --failed --partial --shard --lenient --workers --group --root --counts --csv --help' ;;
         'rvtest help') echo ' --help' ;;
         'rvfleet raw') echo '--budget --help' ;;
         'rvfleet one') echo '--budget --input-hex --help' ;;
@@ -45,7 +46,7 @@ _rvfleet_choices() {
 }
 
 _rvfleet() {
-    local word=$2 before=$3 commands='run list explain console gdb check accept merge diff show counts help --version --help'
+    local word=$2 before=$3 commands='run list explain console gdb check accept merge diff show counts cover help --version --help'
     COMPREPLY=()
     [ "${1##*/}" = rvtest ] || commands='raw one run --help'
     if [ "$COMP_CWORD" = 1 ]; then

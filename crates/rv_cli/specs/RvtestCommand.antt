@@ -192,11 +192,18 @@ abbrev pub accept_app : App
 accept_app = with_threads (with_rule (with_rule (with_choice (app_of_list (codes "accept"))) (flag_rule (codes "ends")))
     (flag_rule (codes "check")))
 
+-- cover <LIST> [--only <NAME>].. [--match <REGEX>] [--exclude <REGEX>] [--failed <REPORT>] [--partial] [--shard <K/N>] [--lenient]
+-- [--workers <N>] [--group <N>] [--root <DIR>] [--counts <TABLE>] [--csv]
+abbrev pub cover_app : App
+cover_app = with_rule (with_rule (with_threads (with_rule (with_rule (with_choice (app_of_list (codes "cover")))
+    (option_rule (codes "shard"))) (flag_rule (codes "lenient")))) (option_rule (codes "counts"))) (flag_rule (codes "csv"))
+
 -- the commands whose words choose jobs
 abbrev pub choosing_app : ChoosingCommand → App
 choosing_app choosing.Run = test_run_app
 choosing_app choosing.List = list_app
 choosing_app choosing.Accept = accept_app
+choosing_app choosing.Cover = cover_app
 
 -- explain <LIST> <NAME> [--last <N>] [--budget <N>] [--root <DIR>] [--color <WHEN>]
 abbrev pub explain_app : App
@@ -267,4 +274,5 @@ help_app = with_rule (new_app (codes "help")) (word_rule (codes "topic"))
 
 -- the whole command
 abbrev pub test_app : App
-test_app = with_subcommand (with_subcommand (with_reports (with_lists test_top_app)) counts_app.top) help_app.top
+test_app = with_subcommand (with_subcommand (with_subcommand (with_reports (with_lists test_top_app)) counts_app.top) cover_app.top)
+    help_app.top

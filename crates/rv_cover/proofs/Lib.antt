@@ -4,3 +4,8 @@ pub mod Ran
 pub mod Summing
 pub mod Once
 pub mod Bounds
+pub mod FirstFound
+pub mod Found
+pub mod JobImages
+pub mod OtherImages
+pub mod Shown

@@ -3,3 +3,8 @@ pub mod Codes
 pub mod Cover
 pub mod Steps
 pub mod Text
+pub mod Csv
+pub mod Images
+pub mod JobImages
+pub mod ImageCounts
+pub mod ImagesText

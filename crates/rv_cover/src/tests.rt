@@ -1,8 +1,8 @@
 //! Functions that a person counted.
 
 use crate::{
-    cover_of_functions, each_address_once, never_run, push_cover_head, push_image_line,
-    push_never_run_line,
+    Amounts, CodeAmounts, cover_of_functions, each_address_once, never_run, push_cover_head,
+    push_csv_head, push_csv_row, push_image_line, push_never_run_line,
 };
 use rv_counts::AddressCounts;
 use rv_elf::Function;
@@ -139,6 +139,35 @@ fn functions_are_counted(rt: HostRuntime) -> Result<(), Fail> {
     push_never_run_line(&mut text, &[])?;
     if text.as_slice() != TEXT.as_bytes() {
         return Err("the text".into());
+    }
+    Ok(())
+}
+
+const CSV: &str = "\
+image,functions,functions_run,instructions,instructions_run,branches_both_ways,branches_one_way,branches_never
+build/a.elf,2,1,30,20,5,3,1
+\"a \"\"b\"\", c.elf\",2,1,30,20,5,3,1
+";
+
+#[test]
+fn a_field_with_a_comma_or_a_quote_is_quoted(rt: HostRuntime) -> Result<(), Fail> {
+    let amounts = Amounts {
+        functions: 2,
+        functions_run: 1,
+        code: CodeAmounts {
+            instructions: 30,
+            instructions_run: 20,
+            branches_both_ways: 5,
+            branches_one_way: 3,
+            branches_never: 1,
+        },
+    };
+    let mut text = Vec::new(rt.alloc());
+    push_csv_head(&mut text)?;
+    push_csv_row(&mut text, b"build/a.elf".as_slice(), &amounts)?;
+    push_csv_row(&mut text, b"a \"b\", c.elf".as_slice(), &amounts)?;
+    if text.as_slice() != CSV.as_bytes() {
+        return Err("the rows".into());
     }
     Ok(())
 }

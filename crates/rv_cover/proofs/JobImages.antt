@@ -1,0 +1,50 @@
+-- The images of jobs, of one job more, and as they are read.
+use Rattle.std.proofs.Common.{◌≡◌, ◌∙◌, ◌+◌, ◌<◌, ◌≤◌, ◌∷◌, ◌++◌, [], ℕ, List, Option, Some, Result, Ok, Err, OnOk, ap, get_or, length, option_and_then, option_map, sym, take}
+use Rattle.std.specs.Option.{option_map_or}
+use Rattle.std.proofs.lemmas.List.{map-append, take_all, take_more}
+use Rattle.std.proofs.lemmas.List.Sums.{fold-append}
+use Rattle.rv_coverage.specs.JobTables.{image_bytes, jobs_at}
+use Rattle.rv_elf.specs.declared.image.Image.{Image}
+use Rattle.rv_jobs.specs.Jobs.{single_job}
+use Rattle.rv_jobs.specs.Plans.{Planned}
+use Rattle.rv_jobs.specs.declared.answers.Answer.{Answer}
+use Rattle.rv_jobs.specs.declared_job.Job.{Job}
+use Rattle.rv_rows.specs.Rows.{image_if_read}
+use Rattle.rv_trace.specs.Trace.{job_at}
+use Rattle.rv_cover.specs.JobImages.{FileImage, image_of_job, images_of, with_image, with_image_of}
+
+jobs_more : (plan : Planned) (places : List ℕ) (i place : ℕ) → i < length places → place ≡ get_or places i place
+    → jobs_at plan (take (i + 1) places) ≡ jobs_at plan (take i places) ++ job_at plan place (single_job [] 0 []) ∷ []
+jobs_more plan places i place lt is =
+    ap (jobs_at plan) (take_more places i place lt)
+    ∙ map-append _ (take i places) (get_or places i place ∷ [])
+    ∙ ap (λ (k : ℕ). jobs_at plan (take i places) ++ jobs_at plan (k ∷ [])) (sym is)
+
+pub images_more : (plan : Planned) (places : List ℕ) (i place : ℕ) → i < length places → place ≡ get_or places i place
+    → images_of plan.answers (jobs_at plan (take (i + 1) places))
+    ≡ with_image_of plan.answers (images_of plan.answers (jobs_at plan (take i places))) (job_at plan place (single_job [] 0 []))
+images_more plan places i place lt is =
+    ap (images_of plan.answers) (jobs_more plan places i place lt is)
+    ∙ fold-append (with_image_of plan.answers) [] (jobs_at plan (take i places)) (job_at plan place (single_job [] 0 []) ∷ [])
+
+pub images_whole : (plan : Planned) (places : List ℕ) (i : ℕ) → length places ≤ i
+    → images_of plan.answers (jobs_at plan (take i places)) ≡ images_of plan.answers (jobs_at plan places)
+images_whole plan places i all = ap (λ (ps : List ℕ). images_of plan.answers (jobs_at plan ps)) (take_all i places all)
+
+-- an image that is found is that of the job, and so is none
+pub found_here : (answers : List Answer) (images : List FileImage) (job : Job) (found : Option FileImage) → found ≡ image_of_job answers job
+    → option_map_or (with_image images) found images ≡ with_image_of answers images job
+found_here answers images job found is = ap (λ (o : Option FileImage). option_map_or (with_image images) o images) is
+
+-- an image that was read is that of its job
+pub image_here : (answers : List Answer) (job : Job) (bytes : List ℕ) (image : Image) → Some bytes ≡ image_bytes answers job
+    → Some image ≡ image_if_read job.isa (Some bytes)
+    → Some (record { path = job.image; bytes = bytes; image = image }) ≡ image_of_job answers job
+image_here answers job bytes image read is =
+    ap (λ (o : Option Image). option_map (λ image. record { path = job.image; bytes = bytes; image = image }) o) is
+    ∙ ap (λ (o : Option (List ℕ)). option_and_then (λ bytes. option_map (λ image. record { path = job.image; bytes = bytes; image = image })
+    (image_if_read job.isa (Some bytes))) o) read
+
+pub on_ok : {X Y : Type 0} (r : Result X Y) (P Q : Type 0) → (P → Q) → OnOk r P → OnOk r Q
+on_ok (Ok x) P Q f p = f p
+on_ok (Err e) P Q f p = tt
