@@ -1,7 +1,6 @@
 //! What gdb sends, and what it is answered.
 
-ghost use Rattle.std.specs.Prelude.{◌≡◌, IfErr, IfOk, OnOk, false};
-ghost use Rattle.std.specs.Io.KnownBytes.{IsAtEnd};
+ghost use Rattle.std.specs.Prelude.{◌≡◌, IfErr, IfOk, OnOk, false, true};
 ghost use Rattle.rv_base.specs.Counts.{one_more};
 ghost use Rattle.rv_gdb.specs.Conversing.{IsConversed, IsEnded, IsReadAnswered};
 
@@ -50,10 +49,10 @@ pub fn converse<E: EndText, I: Read, O: Sink>(
     ensures counted { OnOk result (O.failed out.new ≡ O.failed out.old) }
 {
     cuts_are_not_seen();
+    if session.is_over() {
+        return Ok(());
+    }
     for _ in 0..u64::MAX {
-        if session.is_over() {
-            return Ok(());
-        }
         if !answer_chunk(alloc, session, end, input, out)? {
             return Ok(());
         }
@@ -62,7 +61,7 @@ pub fn converse<E: EndText, I: Read, O: Sink>(
     Err(Broken::Unread(ErrorKind::TimedOut))
 }
 
-// Reads once, and puts what the session answers. It says whether more may come.
+// Reads once, and puts what the session answers. It says whether another read may begin.
 fn answer_chunk<E: EndText, I: Read, O: Sink>(
     alloc: Global,
     session: &mut Session,
@@ -72,7 +71,8 @@ fn answer_chunk<E: EndText, I: Read, O: Sink>(
 ) -> Result<bool, Broken>
     ensures heard { OnOk result (IsReadAnswered (E.end_text end.now) session.old (I.remaining input.old) (I.remaining input.new)
         (O.taken out.old) (O.taken out.new) session.new) }
-    ensures ended { IfOk result (λ more. more ≡ false → IsAtEnd (I.remaining input.new)) }
+    ensures going { IfOk result (λ more. more ≡ true → session.new.is_over ≡ false) }
+    ensures ended { IfOk result (λ more. more ≡ false → IsEnded session.new (I.remaining input.new)) }
     ensures failed { IfErr result (λ broken. broken ≡ Broken.Unput → O.failed out.new ≡ one_more (O.failed out.old)) }
     ensures counted { OnOk result (O.failed out.new ≡ O.failed out.old) }
 {
@@ -83,7 +83,7 @@ fn answer_chunk<E: EndText, I: Read, O: Sink>(
     };
     let told = session.feed(alloc, end, &chunk[..count])?;
     match put_all(out, told.as_slice()) {
-        Ok(()) => Ok(count > 0),
+        Ok(()) => Ok(count > 0 && !session.is_over()),
         Err(_) => Err(Broken::Unput),
     }
 }

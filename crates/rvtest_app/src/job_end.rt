@@ -25,6 +25,7 @@ impl EndText for JobEnd {
     ghost end_text = { λ job. job_end_text job.plan job.unread.items job.place };
 
     // The job is run again for it.
+    #[tactic(auto, unfolding(crate::specs::Debugging::job_end_text))]
     fn push_end_text(&self, alloc: Global, text: &mut Vec<u8>) -> Result<(), AllocError> {
         let row = row_at(alloc, &self.plan, self.place)?;
         let telling = RowTelling {
