@@ -74,11 +74,7 @@ fn has_bytes(files: &[ImageFile<'_>], bytes: &[u8]) -> bool
 }
 
 // The image of the job at a place, where its file was read and is one.
-fn image_at(
-    alloc: Global,
-    plan: &Plan,
-    place: usize,
-) -> Result<Option<ImageFile<'_>>, AllocError>
+fn image_at(alloc: Global, plan: &Plan, place: usize) -> Result<Option<ImageFile<'_>>, AllocError>
     requires within { place < length plan.now.jobs }
     requires small { AreSmall plan.now.answers }
     ensures { IfOk result (λ file. (d : AJob) → option_map image_of_file file

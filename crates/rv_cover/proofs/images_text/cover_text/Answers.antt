@@ -5,8 +5,7 @@ use Rattle.rv_cover.proofs.images_text.cover_text.Goals as goal
 pub loop-image-preserved : goal.loop-image-preserved
 loop-image-preserved c =
     let before = c.loop-image.invariant in
-    let one = c.in_ok-push_image.ensures in
-    (
+    let one = c.in_ok-push_image.ensures in (
       before.0 ++ one.0,
       (
         file_more c.args.csv c.args.table.now c.args.images.now c.loop-image.image-index c.image-item.result before.0 one.0
@@ -17,8 +16,7 @@ loop-image-preserved c =
 
 pub returns : goal.returns
 returns c =
-    let shown = c.loop-image.invariant in
-    (
+    let shown = c.loop-image.invariant in (
       shown.0,
       (
         all_shown c.args.csv c.args.table.now c.args.images.now c.loop-image.image-index shown.0 (omega arith) shown.1.0,
