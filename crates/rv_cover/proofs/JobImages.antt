@@ -1,8 +1,11 @@
 -- The images of jobs, of one job more, and as they are read.
-use Rattle.std.proofs.Common.{◌≡◌, ◌∙◌, ◌+◌, ◌<◌, ◌≤◌, ◌∷◌, ◌++◌, [], ℕ, List, Option, Some, Result, Ok, Err, OnOk, ap, get_or, length, option_and_then, option_map, sym, take}
+use Rattle.std.proofs.Common.{◌≡◌, ◌∙◌, ◌+◌, ◌<◌, ◌≤◌, ◌∷◌, ◌++◌, [], ℕ, List, Option, Some, IfSome, Result, Ok, Err, OnOk, ◌||◌, ap, get_or, length, map, option_and_then, option_map, refl, subst, sym, take}
+use Rattle.std.specs.List.{list_any}
 use Rattle.std.specs.Option.{option_map_or}
+use Rattle.std.specs.Str.{bytes_eq}
 use Rattle.std.proofs.lemmas.List.{map-append, take_all, take_more}
 use Rattle.std.proofs.lemmas.List.Sums.{fold-append}
+use Rattle.rv_base.specs.Limits.{most_bytes}
 use Rattle.rv_coverage.specs.JobTables.{image_bytes, jobs_at}
 use Rattle.rv_elf.specs.declared.image.Image.{Image}
 use Rattle.rv_jobs.specs.Jobs.{single_job}
@@ -11,7 +14,8 @@ use Rattle.rv_jobs.specs.declared.answers.Answer.{Answer}
 use Rattle.rv_jobs.specs.declared_job.Job.{Job}
 use Rattle.rv_rows.specs.Rows.{image_if_read}
 use Rattle.rv_trace.specs.Trace.{job_at}
-use Rattle.rv_cover.specs.JobImages.{FileImage, image_of_job, images_of, with_image, with_image_of}
+use Rattle.rv_cover.specs.JobImages.{AreSmall, FileImage, image_of_job, images_of, images_of_files, with_image, with_image_of}
+use Rattle.rv_cover.specs.declared.image_file.ImageFile.{ImageFile}
 
 jobs_more : (plan : Planned) (places : List ℕ) (i place : ℕ) → i < length places → place ≡ get_or places i place
     → jobs_at plan (take (i + 1) places) ≡ jobs_at plan (take i places) ++ job_at plan place (single_job [] 0 []) ∷ []
@@ -44,6 +48,17 @@ image_here answers job bytes image read is =
     ap (λ (o : Option Image). option_map (λ image. record { path = job.image; bytes = bytes; image = image }) o) is
     ∙ ap (λ (o : Option (List ℕ)). option_and_then (λ bytes. option_map (λ image. record { path = job.image; bytes = bytes; image = image })
     (image_if_read job.isa (Some bytes))) o) read
+
+-- an image with the same file is among those of files
+pub any_file : (bytes : List ℕ) (files : List ImageFile)
+    → list_any (λ other. bytes_eq bytes other.bytes) (images_of_files files) ≡ list_any (λ file. bytes_eq bytes file.bytes.now) files
+any_file bytes [] = refl
+any_file bytes (file ∷ files) = ap (λ rest. bytes_eq bytes file.bytes.now || rest) (any_file bytes files)
+
+-- its file is not larger than those of the plan
+pub small_here : (answers : List Answer) (job : Job) (bytes : List ℕ) → AreSmall answers → Some bytes ≡ image_bytes answers job
+    → length bytes ≤ most_bytes
+small_here answers job bytes small is = subst (λ (o : Option (List ℕ)). IfSome o (λ read. length read ≤ most_bytes)) (sym is) (small job)
 
 pub on_ok : {X Y : Type 0} (r : Result X Y) (P Q : Type 0) → (P → Q) → OnOk r P → OnOk r Q
 on_ok (Ok x) P Q f p = f p

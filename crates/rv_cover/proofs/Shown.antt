@@ -24,13 +24,14 @@ shown_more csv table (first ∷ images) image lines line shown one = (
 )
 
 -- of the images so far, and one more
-pub file_more : (csv : Bool) (table : CountTable) (files : List ImageFile) (i : ℕ) (d : ImageFile) (lines line : List ℕ) → i < length files
-    → AreShown csv table (images_of_files (take i files)) lines → IsShownOf csv table (image_of_file (get_or files i d)) line
-    → AreShown csv table (images_of_files (take (i + 1) files)) (lines ++ line)
-file_more csv table files i d lines line lt shown one =
+pub file_more : (csv : Bool) (table : CountTable) (files : List ImageFile) (i : ℕ) (file : ImageFile) (lines line : List ℕ)
+    → i < length files → file ≡ get_or files i file → AreShown csv table (images_of_files (take i files)) lines
+    → IsShownOf csv table (image_of_file file) line → AreShown csv table (images_of_files (take (i + 1) files)) (lines ++ line)
+file_more csv table files i file lines line lt is shown one =
     subst (λ (images : List FileImage). AreShown csv table images (lines ++ line))
-    (sym (ap images_of_files (take_more files i d lt) ∙ map-append image_of_file (take i files) (get_or files i d ∷ [])))
-    (shown_more csv table (images_of_files (take i files)) (image_of_file (get_or files i d)) lines line shown one)
+    (sym (ap images_of_files (take_more files i file lt) ∙ map-append image_of_file (take i files) (get_or files i file ∷ [])))
+    (shown_more csv table (images_of_files (take i files)) (image_of_file (get_or files i file)) lines line shown
+    (subst (λ (f : ImageFile). IsShownOf csv table (image_of_file f) line) is one))
 
 -- of all of them
 pub all_shown : (csv : Bool) (table : CountTable) (files : List ImageFile) (i : ℕ) (lines : List ℕ) → length files ≤ i

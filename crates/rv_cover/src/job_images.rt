@@ -55,28 +55,26 @@ fn push_image_at<'a>(
 }
 
 // Appends an image, unless its file is there.
+#[tactic(auto, using(crate::proofs::JobImages::any_file))]
 fn push_image<'a>(files: &mut Vec<ImageFile<'a>>, file: ImageFile<'a>) -> Result<(), AllocError>
-    ensures { OnOk result (images_of_files files.new.items ≡ with_image (images_of_files files.old.items) (image_of_file file)) }
+    ensures { OnOk result (images_of_files files.new.items ≡ with_image (images_of_files files.old.items) (image_of_file file.entry)) }
 {
-    if !has_bytes(files.as_slice(), file.bytes) {
-        files.push(file)?;
+    if has_bytes(files.as_slice(), file.bytes) {
+        return Ok(());
     }
+    files.push(file)?;
     Ok(())
 }
 
 // Whether one of the files has these bytes.
 fn has_bytes(files: &[ImageFile<'_>], bytes: &[u8]) -> bool
-    ensures { result ≡ list_any (λ other. bytes_eq bytes.now other.bytes) (images_of_files files.now) }
+    ensures { result ≡ list_any (λ file. bytes_eq bytes.now file.bytes.now) files.now }
 {
     files.iter().any(|file| bytes == file.bytes)
 }
 
 // The image of the job at a place, where its file was read and is one.
-fn image_at(
-    alloc: Global,
-    plan: &Plan,
-    place: usize,
-) -> Result<Option<ImageFile<'_>>, AllocError>
+fn image_at(alloc: Global, plan: &Plan, place: usize) -> Result<Option<ImageFile<'_>>, AllocError>
     requires within { place < length plan.now.jobs }
     requires small { AreSmall plan.now.answers }
     ensures { IfOk result (λ file. (d : AJob) → option_map image_of_file file

@@ -32,11 +32,7 @@ pub(crate) fn cover_requested_jobs<
     F: Outputs + Drop,
     O: Sink + Drop,
     E: Sink + Drop,
->(
-    host: &Host<'_, R, D>,
-    asked: &CoverAsked<'_>,
-    to: &mut Destinations<F, O, E>,
-) -> Result<u8, Stop>
+>(host: &Host<'_, R, D>, asked: &CoverAsked<'_>, to: &mut Destinations<F, O, E>) -> Result<u8, Stop>
     ensures put { IfOk result (λ status. IsCoverPut (D.contents host.now.inputs.now) asked.now status
         (said F.placed O.taken E.taken E.failed to.old) (said F.placed O.taken E.taken E.failed to.new)) }
     ensures low { IfOk result (λ status. status ≤ 1) }

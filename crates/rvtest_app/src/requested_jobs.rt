@@ -27,10 +27,7 @@ use rv_report::Shard;
 
 impl<'x, R, D: Inputs> ListRun<'x, R, D> {
     /// The jobs of the list, with marks for those that are to run. A refusal of words shows the usage of the command.
-    pub(crate) fn requested_jobs(
-        &self,
-        command: ChoosingCommand,
-    ) -> Result<RequestedJobs, Stop>
+    pub(crate) fn requested_jobs(&self, command: ChoosingCommand) -> Result<RequestedJobs, Stop>
         requires { self.now.rule ≡ failure_rule self.now.asked.now.lenient }
         ensures asked { IfOk result (λ requested. AreRequestedJobs (D.contents self.now.host.now.inputs.now)
             self.now.asked.now requested.jobs (option_map (λ marks. marks.items) requested.marks)
@@ -42,7 +39,13 @@ impl<'x, R, D: Inputs> ListRun<'x, R, D> {
         let text = read_list_text(self.host.inputs, alloc, asked.list)?;
         let jobs = parse_list(alloc, asked.list, text.as_slice())?;
         let old = self.old_rows(jobs.as_slice())?;
-        match requested_shard(alloc, asked, command, text.as_slice(), jobs.as_slice().len())? {
+        match requested_shard(
+            alloc,
+            asked,
+            command,
+            text.as_slice(),
+            jobs.as_slice().len(),
+        )? {
             Some(shard) => self.jobs_of_shard(jobs, shard, old),
             None => self.jobs_of_choice(command, jobs, old),
         }

@@ -29,8 +29,7 @@ returns-in_err-text-clause-stopped g c =
 
 pub returns-clause-put : goal.returns-clause-put
 returns-clause-put g c =
-    let found = c.in_ok-plan.ensures in
-    (
+    let found = c.in_ok-plan.ensures in (
       refl,
       record {
         plan = c.in_ok-plan.plan;
