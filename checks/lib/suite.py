@@ -30,6 +30,7 @@ SCRIPTS = {
     "growths": (["--quick"], True),
     "merge": ([], True),
     "accepts": (["200"], True),
+    "client": ([], True),
     "launch": ([], False),
     "streams": ([], True),
     "docs": ([], True),
