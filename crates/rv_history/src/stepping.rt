@@ -54,11 +54,11 @@ pub(crate) fn step_beside(
     Ok(Stepped::Changed)
 }
 
-/// One step of a machine: nothing where it completes, else the ending. It is a run of one step: a second caller of the machine's loop
-/// would slow each run of the program.
+/// One step of a machine: nothing where it completes, else the ending, with the machine as it was. It is a run of one step: a second
+/// caller of the machine's loop would slow each run of the program.
 pub(crate) fn step(machine: &mut Machine) -> Option<Ending>
     ensures { MatchOption result (step_of (state_of machine.old) ≡ Ok (state_of machine.new))
-        (λ e. step_of (state_of machine.old) ≡ Err e) }
+        (λ e. (step_of (state_of machine.old) ≡ Err e) × (state_of machine.new ≡ state_of machine.old)) }
 {
     let ran = machine.run(1);
     if ran.steps == 1 {
