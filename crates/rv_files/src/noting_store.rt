@@ -56,7 +56,7 @@ impl<'a, D: Inputs> NotingStore<'a, D> {
 
     /// The same, for good.
     pub fn into_unread_paths(self) -> Vec<Unread>
-        ensures { result.items ≡ self.unread.items }
+        ensures { result.items ≡ self.entry.unread.items }
     {
         self.unread
     }
