@@ -1,5 +1,5 @@
 -- The images of jobs, of one job more, and as they are read.
-use Rattle.std.proofs.Common.{◌≡◌, ◌∙◌, ◌+◌, ◌<◌, ◌≤◌, ◌∷◌, ◌++◌, [], ℕ, List, Option, Some, IfSome, Result, Ok, Err, OnOk, ◌||◌, ap, get_or, length, map, option_and_then, option_map, refl, subst, sym, take}
+use Rattle.std.proofs.Common.{◌≡◌, ◌∙◌, ◌+◌, ◌<◌, ◌≤◌, ◌∷◌, ◌++◌, [], ℕ, Bool, true, false, if◌then◌else◌, List, Option, Some, IfSome, Result, Ok, Err, OnOk, ◌||◌, ap, get_or, length, map, option_and_then, option_map, refl, subst, sym, take}
 use Rattle.std.specs.List.{list_any}
 use Rattle.std.specs.Option.{option_map_or}
 use Rattle.std.specs.Str.{bytes_eq}
@@ -14,7 +14,7 @@ use Rattle.rv_jobs.specs.declared.answers.Answer.{Answer}
 use Rattle.rv_jobs.specs.declared_job.Job.{Job}
 use Rattle.rv_rows.specs.Rows.{image_if_read}
 use Rattle.rv_trace.specs.Trace.{job_at}
-use Rattle.rv_cover.specs.JobImages.{AreSmall, FileImage, image_of_job, images_of, images_of_files, with_image, with_image_of}
+use Rattle.rv_cover.specs.JobImages.{AreSmall, FileImage, image_of_file, image_of_job, images_of, images_of_files, with_image, with_image_of}
 use Rattle.rv_cover.specs.declared.image_file.ImageFile.{ImageFile}
 
 jobs_more : (plan : Planned) (places : List ℕ) (i place : ℕ) → i < length places → place ≡ get_or places i place
@@ -54,6 +54,24 @@ pub any_file : (bytes : List ℕ) (files : List ImageFile)
     → list_any (λ other. bytes_eq bytes other.bytes) (images_of_files files) ≡ list_any (λ file. bytes_eq bytes file.bytes.now) files
 any_file bytes [] = refl
 any_file bytes (file ∷ files) = ap (λ rest. bytes_eq bytes file.bytes.now || rest) (any_file bytes files)
+
+-- an image is added by whether its file is there
+added_by : (files : List ImageFile) (file : ImageFile) (there : Bool)
+    → list_any (λ other. bytes_eq file.bytes.now other.bytes.now) files ≡ there
+    → with_image (images_of_files files) (image_of_file file)
+    ≡ (if there then images_of_files files else images_of_files files ++ image_of_file file ∷ [])
+added_by files file there is =
+    ap (λ (b : Bool). if b then images_of_files files else images_of_files files ++ image_of_file file ∷ []) (any_file file.bytes.now files ∙ is)
+
+pub added_there : (files : List ImageFile) (file : ImageFile)
+    → list_any (λ other. bytes_eq file.bytes.now other.bytes.now) files ≡ true
+    → images_of_files files ≡ with_image (images_of_files files) (image_of_file file)
+added_there files file is = sym (added_by files file true is)
+
+pub added_new : (files : List ImageFile) (file : ImageFile)
+    → list_any (λ other. bytes_eq file.bytes.now other.bytes.now) files ≡ false
+    → images_of_files (files ++ file ∷ []) ≡ with_image (images_of_files files) (image_of_file file)
+added_new files file is = map-append image_of_file files (file ∷ []) ∙ sym (added_by files file false is)
 
 -- its file is not larger than those of the plan
 pub small_here : (answers : List Answer) (job : Job) (bytes : List ℕ) → AreSmall answers → Some bytes ≡ image_bytes answers job

@@ -55,7 +55,6 @@ fn push_image_at<'a>(
 }
 
 // Appends an image, unless its file is there.
-#[tactic(auto, using(crate::proofs::JobImages::any_file))]
 fn push_image<'a>(files: &mut Vec<ImageFile<'a>>, file: ImageFile<'a>) -> Result<(), AllocError>
     ensures { OnOk result (images_of_files files.new.items ≡ with_image (images_of_files files.old.items) (image_of_file file.entry)) }
 {
