@@ -55,23 +55,29 @@ pub any_file : (bytes : List ℕ) (files : List ImageFile)
 any_file bytes [] = refl
 any_file bytes (file ∷ files) = ap (λ rest. bytes_eq bytes file.bytes.now || rest) (any_file bytes files)
 
+-- one of some files has the bytes of this one
+abbrev pub IsThere : List ImageFile → ImageFile → Bool → Type 0
+IsThere files file there = there ≡ list_any (λ other. bytes_eq file.bytes.now other.bytes.now) files
+
 -- an image is added by whether its file is there
-added_by : (files : List ImageFile) (file : ImageFile) (there : Bool)
-    → list_any (λ other. bytes_eq file.bytes.now other.bytes.now) files ≡ there
+added_by : (files : List ImageFile) (file : ImageFile) (there : Bool) → IsThere files file there
     → with_image (images_of_files files) (image_of_file file)
     ≡ (if there then images_of_files files else images_of_files files ++ image_of_file file ∷ [])
 added_by files file there is =
-    ap (λ (b : Bool). if b then images_of_files files else images_of_files files ++ image_of_file file ∷ []) (any_file file.bytes.now files ∙ is)
+    ap (λ (b : Bool). if b then images_of_files files else images_of_files files ++ image_of_file file ∷ [])
+    (any_file file.bytes.now files ∙ sym is)
 
-pub added_there : (files : List ImageFile) (file : ImageFile)
-    → list_any (λ other. bytes_eq file.bytes.now other.bytes.now) files ≡ true
+pub added_there : (files slice : List ImageFile) (file : ImageFile) (there : Bool) → slice ≡ files → IsThere slice file there → there ≡ true
     → images_of_files files ≡ with_image (images_of_files files) (image_of_file file)
-added_there files file is = sym (added_by files file true is)
+added_there files slice file there same is found =
+    sym (added_by files file true (sym found ∙ subst (λ (fs : List ImageFile). IsThere fs file there) same is))
 
-pub added_new : (files : List ImageFile) (file : ImageFile)
-    → list_any (λ other. bytes_eq file.bytes.now other.bytes.now) files ≡ false
-    → images_of_files (files ++ file ∷ []) ≡ with_image (images_of_files files) (image_of_file file)
-added_new files file is = map-append image_of_file files (file ∷ []) ∙ sym (added_by files file false is)
+pub added_new : (files slice new : List ImageFile) (file : ImageFile) (there : Bool) → slice ≡ files → IsThere slice file there → there ≡ false
+    → new ≡ files ++ file ∷ [] → images_of_files new ≡ with_image (images_of_files files) (image_of_file file)
+added_new files slice new file there same is absent pushed =
+    ap images_of_files pushed
+    ∙ map-append image_of_file files (file ∷ [])
+    ∙ sym (added_by files file false (sym absent ∙ subst (λ (fs : List ImageFile). IsThere fs file there) same is))
 
 -- its file is not larger than those of the plan
 pub small_here : (answers : List Answer) (job : Job) (bytes : List ℕ) → AreSmall answers → Some bytes ≡ image_bytes answers job
