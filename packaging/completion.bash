@@ -59,7 +59,7 @@ _rvfleet() {
         mapfile -t COMPREPLY < <(compgen -W "$(_rvfleet_jobs)" -- "$word")
     elif [ -n "$(_rvfleet_choices "${1##*/} $COMP_CWORD $before")" ]; then
         mapfile -t COMPREPLY < <(compgen -W "$(_rvfleet_choices "${1##*/} $COMP_CWORD $before")" -- "$word")
-    elif [[ " --budget --exclude --group --input-hex --last --match --shard --slower --stamp --stop-after --suite --workers -j " != *" $before "* ]]; then
+    elif [[ " --budget --exclude --group --input-hex --last --match --memory --shard --slower --stamp --stop-after --suite --workers -j " != *" $before "* ]]; then
         mapfile -t COMPREPLY < <(compgen -f -- "$word")
     fi
 }
