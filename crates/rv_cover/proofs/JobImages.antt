@@ -82,7 +82,7 @@ added_new files slice new file there same is absent pushed =
 -- its file is not larger than those of the plan
 pub small_here : (answers : List Answer) (job : Job) (bytes : List ℕ) → AreSmall answers → Some bytes ≡ image_bytes answers job
     → length bytes ≤ most_bytes
-small_here answers job bytes small is = subst (λ (o : Option (List ℕ)). IfSome o (λ read. length read ≤ most_bytes)) (sym is) (small job.image)
+small_here answers job bytes small is = subst (λ (o : Option (List ℕ)). IfSome o (λ read. length read ≤ most_bytes)) (sym is) (small job)
 
 pub on_ok : {X Y : Type 0} (r : Result X Y) (P Q : Type 0) → (P → Q) → OnOk r P → OnOk r Q
 on_ok (Ok x) P Q f p = f p

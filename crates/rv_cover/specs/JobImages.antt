@@ -7,9 +7,8 @@ use Rattle.rv_base.specs.Limits.{most_bytes}
 use Rattle.rv_coverage.specs.JobTables.{image_bytes}
 use Rattle.rv_elf.specs.declared.image.Image.{Image}
 use Rattle.rv_jobs.specs.declared.answers.Answer.{Answer}
-use Rattle.rv_jobs.specs.Plans.{kept_for}
 use Rattle.rv_jobs.specs.declared_job.Job.{Job}
-use Rattle.rv_rows.specs.Rows.{content_if_read, image_if_read}
+use Rattle.rv_rows.specs.Rows.{image_if_read}
 use Rattle.rv_cover.specs.declared.image_file.ImageFile.{ImageFile}
 
 -- an image with the path that a list names it by, and its file
@@ -35,9 +34,9 @@ with_image_of answers images job = option_map_or (with_image images) (image_of_j
 abbrev pub images_of : List Answer → List Job → List FileImage
 images_of answers jobs = fold (with_image_of answers) [] jobs
 
--- the files that were read are not larger than a store reads
+-- the files of images are not larger than a store reads
 abbrev pub AreSmall : List Answer → Type 0
-AreSmall answers = (path : List ℕ) → IfSome (content_if_read (Some (kept_for answers path))) (λ bytes. length bytes ≤ most_bytes)
+AreSmall answers = (job : Job) → IfSome (image_bytes answers job) (λ bytes. length bytes ≤ most_bytes)
 
 -- ---- as the program has them
 

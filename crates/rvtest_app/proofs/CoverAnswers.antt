@@ -66,7 +66,7 @@ kept_small known path (answer ∷ answers) are =
 
 -- what is kept of paths is not larger than a store reads
 pub all_small : (known : Option FileContents) (answers : List Answer) → AreKept known answers → AreSmall answers
-all_small known answers are path = kept_small known path answers are
+all_small known answers are job = kept_small known job.image answers are
 
 -- ---- tables
 
