@@ -49,17 +49,20 @@ content_small known path (kept.Content bytes) of = of.0
 content_small known path kept.Unreadable of = tt
 content_small known path kept.TooLong of = tt
 
+kept_small_by : (known : Option FileContents) (path : List ℕ) (answer : Answer) (answers : List Answer) (same : Bool)
+    → bytes_eq path answer.path ≡ same → IsKeptOf known answer.path answer.kept
+    → IfSome (content_if_read (Some (kept_for answers path))) (λ bytes. length bytes ≤ most_bytes)
+    → IfSome (content_if_read (Some (kept_for (answer ∷ answers) path))) (λ bytes. length bytes ≤ most_bytes)
+kept_small_by known path answer answers true same of rest = rw same (content_small known answer.path answer.kept of)
+kept_small_by known path answer answers false same of rest = rw same rest
+
 kept_small : (known : Option FileContents) (path : List ℕ) (answers : List Answer) → AreKept known answers
     → IfSome (content_if_read (Some (kept_for answers path))) (λ bytes. length bytes ≤ most_bytes)
 kept_small known path [] are = tt
-kept_small known path (answer ∷ answers) are = go (bytes_eq path answer.path) refl
-  where
-    go : (same : Bool) → bytes_eq path answer.path ≡ same
-        → IfSome (content_if_read (Some (kept_for (answer ∷ answers) path))) (λ bytes. length bytes ≤ most_bytes)
-    go true same = rw same (content_small known answer.path answer.kept
-        (All-head (λ (a : Answer). IsKeptOf known a.path a.kept) answer answers are))
-    go false same = rw same (kept_small known path answers
-        (All-tail (λ (a : Answer). IsKeptOf known a.path a.kept) answer answers are))
+kept_small known path (answer ∷ answers) are =
+    kept_small_by known path answer answers (bytes_eq path answer.path) refl
+    (All-head (λ (a : Answer). IsKeptOf known a.path a.kept) answer answers are)
+    (kept_small known path answers (All-tail (λ (a : Answer). IsKeptOf known a.path a.kept) answer answers are))
 
 -- what is kept of paths is not larger than a store reads
 pub all_small : (known : Option FileContents) (answers : List Answer) → AreKept known answers → AreSmall answers

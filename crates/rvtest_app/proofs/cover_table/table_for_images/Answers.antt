@@ -16,6 +16,3 @@ returns-in-Some-clause-stopped g c =
     rw c.in-Some.is
     (IfErr-map c.read_table_for_images.result _ _ (λ why is. inr is)
     (rw c.requires.images at c.read_table_for_images.ensures.stopped))
-
-pub returns-clause-counts : goal.returns-clause-counts
-returns-clause-counts g c = rw c.in-None.is c.in_ok-counts_of_jobs.ensures
