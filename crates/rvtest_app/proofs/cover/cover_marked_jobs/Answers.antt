@@ -8,7 +8,7 @@ use Rattle.rvtest_app.proofs.CoverAnswers.{all_small}
 use Rattle.rvtest_app.proofs.cover.cover_marked_jobs.Goals as goal
 
 pub planned_cover_text-requires-clause-small : goal.planned_cover_text-requires-clause-small
-planned_cover_text-requires-clause-small g c = λ _. all_small _ c.in_ok-plan.plan.answers c.in_ok-plan.ensures.kept
+planned_cover_text-requires-clause-small g c = λ _ _. all_small _ c.in_ok-plan.plan.answers c.in_ok-plan.ensures.kept
 
 pub returns-in_err-text-clause-stopped : goal.returns-in_err-text-clause-stopped
 returns-in_err-text-clause-stopped g c =
