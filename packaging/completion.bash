@@ -6,13 +6,14 @@ _rvfleet_options() {
         'rvtest list') echo '--only --match --exclude --failed --partial --lenient --help' ;;
         'rvtest explain') echo '--last --budget --root --color --help' ;;
         'rvtest console') echo '--root --help' ;;
-        'rvtest gdb') echo '--root --help' ;;
+        'rvtest gdb') echo '--root --memory --help' ;;
         'rvtest check') echo '--root --help' ;;
         'rvtest accept') echo '--only --match --exclude --failed --partial --ends --check --workers --group --root --help' ;;
         'rvtest merge') echo '--report --junit --suite --lenient --help' ;;
         'rvtest diff') echo '--partial --steps --slower --color --help' ;;
         'rvtest show') echo '--partial --junit --suite --lenient --color --help' ;;
         'rvtest counts') echo '--out --help' ;;
+        'rvtest cover') echo '--only --match --exclude --failed --partial --shard --lenient --workers --group --root --counts --csv --help' ;;
         'rvtest help') echo ' --help' ;;
         'rvfleet raw') echo '--budget --help' ;;
         'rvfleet one') echo '--budget --input-hex --help' ;;
@@ -45,7 +46,7 @@ _rvfleet_choices() {
 }
 
 _rvfleet() {
-    local word=$2 before=$3 commands='run list explain console gdb check accept merge diff show counts help --version --help'
+    local word=$2 before=$3 commands='run list explain console gdb check accept merge diff show counts cover help --version --help'
     COMPREPLY=()
     [ "${1##*/}" = rvtest ] || commands='raw one run --help'
     if [ "$COMP_CWORD" = 1 ]; then
@@ -58,7 +59,7 @@ _rvfleet() {
         mapfile -t COMPREPLY < <(compgen -W "$(_rvfleet_jobs)" -- "$word")
     elif [ -n "$(_rvfleet_choices "${1##*/} $COMP_CWORD $before")" ]; then
         mapfile -t COMPREPLY < <(compgen -W "$(_rvfleet_choices "${1##*/} $COMP_CWORD $before")" -- "$word")
-    elif [[ " --budget --exclude --group --input-hex --last --match --shard --slower --stamp --stop-after --suite --workers -j " != *" $before "* ]]; then
+    elif [[ " --budget --exclude --group --input-hex --last --match --memory --shard --slower --stamp --stop-after --suite --workers -j " != *" $before "* ]]; then
         mapfile -t COMPREPLY < <(compgen -f -- "$word")
     fi
 }

@@ -27,6 +27,7 @@ _rvfleet_behind_rvtest() {
         'diff:Says in which jobs two reports differ'
         'show:Shows what failed in a report'
         'counts:Adds up tables of counts, as run --counts writes them'
+        'cover:Runs jobs, and shows what of their images ran'
         'help:Tells the keys of a list'
     )
     if (( CURRENT == 2 )); then
@@ -87,6 +88,7 @@ _rvfleet_behind_rvtest() {
                 ':NAME:_rvfleet_jobs' ;;
         gdb) _arguments \
                 '--root[Takes the paths in the list from this folder]:DIR:_directories' \
+                '--memory[Megabytes at most, from 64 to 4096; else 256]:N: ' \
                 '--help[Print help]' \
                 ':LIST:_files' \
                 ':NAME:_rvfleet_jobs' ;;
@@ -134,6 +136,21 @@ _rvfleet_behind_rvtest() {
                 '--out[Writes the sum to this file; else to standard output]:FILE:_files' \
                 '--help[Print help]' \
                 '*:TABLE:_files' ;;
+        cover) _arguments \
+                '*--only[Chooses the job of this name; may come again]:NAME:_rvfleet_jobs' \
+                '--match[Chooses the jobs in whose names it is found]:REGEX: ' \
+                '--exclude[Leaves out the jobs in whose names it is found]:REGEX: ' \
+                '--failed[Chooses the jobs that failed in a report]:REPORT:_files' \
+                '--partial[Takes a report that is cut off by its whole rows]' \
+                '--shard[Runs the K-th of N parts of the list]:K/N: ' \
+                '--lenient[Counts as failed only what misses an expectation]' \
+                ''{-j,--workers}'[Threads, from 1 to 64; else one a processor]:N: ' \
+                '--group[Jobs that a thread takes at once, from 1 to 4096 \[default\: 1\]]:N: ' \
+                '--root[Takes the paths in the list from this folder]:DIR:_directories' \
+                '--counts[Reads the counts in this table, and runs nothing]:TABLE:_files' \
+                '--csv[Writes a row of CSV for each image]' \
+                '--help[Print help]' \
+                ':LIST:_files' ;;
         help) _arguments \
                 '--help[Print help]' \
                 ':TOPIC:(list)' ;;

@@ -190,16 +190,7 @@ def check_added(row):
 
 def check_counted(row):
     """The status of a run that counts, and its table; the report and what is shown are as without it."""
-    made = {}
-    for line in lines_in(row["jobs"]):
-        name, *words = line.split()
-        if words[0] == "=":
-            made[name] = words[1]
-        elif words[0] != "gone":
-            row.write(f"{name}.elf", images.image(" ".join(words)))
-    keys = "\n".join(lines_of_keys(row["keys"]))
-    row.write("list.toml", "".join(f"[[job]]\nname = '{line.split()[0]}'\nimage = '{made.get(line.split()[0], line.split()[0])}.elf'\n{keys}\n"
-                                   for line in lines_in(row["jobs"])))
+    write_counted_jobs(row)
     words = ["run", "list.toml", *row["words"].split()]
     plain, report = ([], []) if "--budget" in words else (["--report", "plain"], ["--report", "report"])
     status, shown, told = row.run([*words, *plain])
@@ -212,6 +203,20 @@ def check_counted(row):
     row.wants([*words, "--counts", "-"], int(row["status"]), found, told + shown)
 
 
+def write_counted_jobs(row):
+    """Makes the images and the list that rows state by a line a job."""
+    made = {}
+    for line in lines_in(row["jobs"]):
+        name, *words = line.split()
+        if words[0] == "=":
+            made[name] = words[1]
+        elif words[0] != "gone":
+            row.write(f"{name}.elf", images.image(" ".join(words)))
+    keys = "\n".join(lines_of_keys(row["keys"]))
+    row.write("list.toml", "".join(f"[[job]]\nname = '{line.split()[0]}'\nimage = '{made.get(line.split()[0], line.split()[0])}.elf'\n{keys}\n"
+                                   for line in lines_in(row["jobs"])))
+
+
 def lines_of_keys(keys):
     return [key.strip() for key in keys.split(",")]
 
@@ -220,13 +225,30 @@ def table_of_counts(row, stated):
     """The table that lines state, with its images in the order of their digests."""
     parts = []
     for line in stated[:-1]:
-        if line.startswith("image "):
+        if line.startswith("image ") and len(line.split()) == 3:
+            parts.append([line])
+        elif line.startswith("image "):
             name = line.split()[1]
             digest = hashlib.sha256((row.folder / f"{name}.elf").read_bytes()).hexdigest()
             parts.append([f"image {digest} {name}.elf"])
         else:
             parts[-1].append(line)
     return "\n".join(["rvcounts 1", *(line for part in sorted(parts) for line in part), stated[-1]]) + "\n"
+
+
+# ---- what ran of images
+
+def check_covered(row):
+    """What `cover` shows and says, by a run and by the table of one; or by a table that is stated, in which an image may have a digest."""
+    write_counted_jobs(row)
+    words, said = row["words"].split(), lines(*lines_in(row["said"]))
+    if row["table"]:
+        row.write("table", table_of_counts(row, lines_in(row["table"])))
+        words += ["--counts", "table"]
+    row.wants(["cover", "list.toml", *words], int(row["status"]), lines(*lines_in(row["shown"])), said, squeezed)
+    if not row["table"]:
+        row.run(["run", "list.toml", *(word for word in words if word != "--csv"), "--counts", "counts"])
+        row.wants(["cover", "list.toml", *words, "--counts", "counts"], int(row["status"]), lines(*lines_in(row["shown"])), said, squeezed)
 
 
 # ---- lines
@@ -250,6 +272,7 @@ FORMS = {
     "added": Form(check_added, "words status shown told out a b c"),
     "choices": Form(check_choice, "jobs words failed status chosen said"),
     "counted": Form(check_counted, "jobs keys words status counts"),
+    "covered": Form(check_covered, "jobs keys words table status shown said"),
     "full": Form(check_full_disk, "words said not_there"),
     "help": Form(check_help, "words shown"),
     "into": Form(check_into, "jobs words old status shown said then whole junit"),

@@ -11,10 +11,11 @@ def little(number):
 
 
 class Session:
-    """A session over the states of a run, which ends with a reply."""
+    """A session over the states of a run, which ends with a reply; what is said of the job goes in front of that."""
 
-    def __init__(self, states, end):
+    def __init__(self, states, end, text):
         self.states, self.end = states, end
+        self.text = [f"O{text.encode().hex()}"]
         self.place = self.shown = 0
         self.breaks, self.watches = [], []
         self.last = "T05"
@@ -73,12 +74,13 @@ class Session:
         return self.place - 1, "T05"
 
     def moved(self, stop, is_forward):
-        """What a move says: what is printed up to there, once, and the stop."""
+        """What a move says: what is printed up to there, once, what is said of the end, and the stop."""
         self.place, self.last = stop
         printed = b""
         if is_forward:
             printed, self.shown = self.here().printed[self.shown:], max(self.shown, len(self.here().printed))
-        return [*([f"O{printed.hex()}"] if printed else []), self.last]
+        ended = self.text if is_forward and self.last == self.end and self.at_end(self.place) else []
+        return [*([f"O{printed.hex()}"] if printed else []), *ended, self.last]
 
     # ---- requests
 

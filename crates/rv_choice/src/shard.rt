@@ -25,6 +25,7 @@ use std::alloc::{AllocError, Global};
 pub fn requested_shard(
     alloc: Global,
     asked: &RunAsked<'_>,
+    command: ChoosingCommand,
     text: &[u8],
     jobs: usize,
 ) -> Result<Option<Shard>, Stop>
@@ -42,11 +43,11 @@ pub fn requested_shard(
         return Ok(None);
     };
     let Some((number, shards)) = shard_numbers(words) else {
-        return Err(bad_shard_stop(alloc, words));
+        return Err(bad_shard_stop(alloc, command, words));
     };
     let stamp = match asked.stamp {
         Some(stamp) if is_name(stamp.as_bytes()) => String::from_str(alloc, stamp)?,
-        Some(stamp) => return Err(bad_stamp_stop(alloc, stamp)),
+        Some(stamp) => return Err(bad_stamp_stop(alloc, command, stamp)),
         None => list_digest(alloc, text)?,
     };
     Ok(Some(Shard {
@@ -100,18 +101,18 @@ fn list_digest(alloc: Global, text: &[u8]) -> Result<String, AllocError>
     hex::encode(alloc, &digest[..8])
 }
 
-fn bad_shard_stop(alloc: Global, words: &str) -> Stop
+fn bad_shard_stop(alloc: Global, command: ChoosingCommand, words: &str) -> Stop
     ensures { IsUsageStop (bad_shard_text words.now) result }
 {
     let reason = "K and N are numbers, 1 <= K <= N <= 4096";
     let what = bad_value_text(alloc, "--shard <K/N>", words, reason);
-    bad_value_stop(alloc, ChoosingCommand::Run, what)
+    bad_value_stop(alloc, command, what)
 }
 
-fn bad_stamp_stop(alloc: Global, stamp: &str) -> Stop
+fn bad_stamp_stop(alloc: Global, command: ChoosingCommand, stamp: &str) -> Stop
     ensures { IsUsageStop (bad_stamp_text stamp.now) result }
 {
     let reason = "1 to 64 letters, digits, '.', '_' and '-'";
     let what = bad_value_text(alloc, "--stamp <TEXT>", stamp, reason);
-    bad_value_stop(alloc, ChoosingCommand::Run, what)
+    bad_value_stop(alloc, command, what)
 }

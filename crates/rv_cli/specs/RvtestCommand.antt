@@ -95,6 +95,10 @@ explain_last_rule = record last_rule { defaults = codes "16" ∷ [] }
 abbrev pub job_budget_rule : Rule
 job_budget_rule = number_rule (codes "budget") (pos 1) (pos most_budget) []
 
+-- --memory <N>, of megabytes
+abbrev pub memory_rule : Rule
+memory_rule = number_rule (codes "memory") (pos 64) (pos 4096) []
+
 -- a command with an argument more, and with several in their order
 abbrev pub with_argument : App → Argument → App
 with_argument app argument = with_rule app (argument_rule argument)
@@ -188,11 +192,18 @@ abbrev pub accept_app : App
 accept_app = with_threads (with_rule (with_rule (with_choice (app_of_list (codes "accept"))) (flag_rule (codes "ends")))
     (flag_rule (codes "check")))
 
+-- cover <LIST> [--only <NAME>].. [--match <REGEX>] [--exclude <REGEX>] [--failed <REPORT>] [--partial] [--shard <K/N>] [--lenient]
+-- [--workers <N>] [--group <N>] [--root <DIR>] [--counts <TABLE>] [--csv]
+abbrev pub cover_app : App
+cover_app = with_rule (with_rule (with_threads (with_rule (with_rule (with_choice (app_of_list (codes "cover")))
+    (option_rule (codes "shard"))) (flag_rule (codes "lenient")))) (option_rule (codes "counts"))) (flag_rule (codes "csv"))
+
 -- the commands whose words choose jobs
 abbrev pub choosing_app : ChoosingCommand → App
 choosing_app choosing.Run = test_run_app
 choosing_app choosing.List = list_app
 choosing_app choosing.Accept = accept_app
+choosing_app choosing.Cover = cover_app
 
 -- explain <LIST> <NAME> [--last <N>] [--budget <N>] [--root <DIR>] [--color <WHEN>]
 abbrev pub explain_app : App
@@ -203,9 +214,10 @@ explain_app = with_color (with_rule (with_rule (with_rule (with_rule (app_of_lis
 abbrev pub console_app : App
 console_app = with_rule (with_rule (app_of_list (codes "console")) (word_rule (codes "name"))) (option_rule (codes "root"))
 
--- gdb <LIST> <NAME> [--root <DIR>]
+-- gdb <LIST> <NAME> [--root <DIR>] [--memory <MB>]
 abbrev pub gdb_app : App
-gdb_app = with_rule (with_rule (app_of_list (codes "gdb")) (word_rule (codes "name"))) (option_rule (codes "root"))
+gdb_app = with_rule (with_rule (with_rule (app_of_list (codes "gdb")) (word_rule (codes "name"))) (option_rule (codes "root")))
+    memory_rule
 
 -- check <LIST> [--root <DIR>]
 abbrev pub check_app : App
@@ -262,4 +274,5 @@ help_app = with_rule (new_app (codes "help")) (word_rule (codes "topic"))
 
 -- the whole command
 abbrev pub test_app : App
-test_app = with_subcommand (with_subcommand (with_reports (with_lists test_top_app)) counts_app.top) help_app.top
+test_app = with_subcommand (with_subcommand (with_subcommand (with_reports (with_lists test_top_app)) counts_app.top) cover_app.top)
+    help_app.top

@@ -21,6 +21,7 @@ use Rattle.rv_cli.specs.declared.rvtest.requests.Asked.TheVariants as asked
 use Rattle.rv_cli.specs.declared.rvtest.run.RunAsked.{RunAsked}
 use Rattle.rv_cli.specs.declared.rvtest.accept.AcceptAsked.{AcceptAsked}
 use Rattle.rv_cli.specs.declared.rvtest.counts.CountsAsked.{CountsAsked}
+use Rattle.rv_cli.specs.declared.rvtest.cover.CoverAsked.{CoverAsked}
 use Rattle.rv_cli.specs.declared.rvtest.explain.ExplainAsked.{ExplainAsked}
 use Rattle.rv_cli.specs.declared.rvtest.merge.MergeAsked.{MergeAsked}
 use Rattle.rv_cli.specs.declared.rvtest.show.ShowAsked.{ShowAsked}
@@ -103,29 +104,36 @@ pub record CountsWords : Type 0 where
   pub tables : List Text
   pub out : Option Text
 
+-- jobs of a list of whose images it is shown what ran, for tools where words ask for that; the counts of a run are the path of a table
+-- that is read in place of one
+pub record CoverWords : Type 0 where
+  pub run : RunWords
+  pub csv : Bool
+
 -- to run jobs; to say which jobs a run of these words would run; to explain one; to write the console of one, or to show its run to
--- gdb, whose paths are taken from a folder; to say all that is wrong with a list, whose paths are taken from a
+-- gdb within some megabytes, whose paths are taken from a folder; to say all that is wrong with a list, whose paths are taken from a
 -- folder; to accept what runs came to; to merge parts; to compare two reports, with their steps or without, or by which jobs are slower; to show one; to add up tables of counts; to
--- tell of something that is no command
+-- show what of images ran; to tell of something that is no command
 pub data Words : Type 0 where
   run : RunWords → Words
   names : RunWords → Words
   explain : ExplainWords → Words
   console : Text → Text → Option Text → Words
-  gdb : Text → Text → Option Text → Words
+  gdb : Text → Text → Option Text → Option ℕ → Words
   check : Text → Option Text → Words
   accept : AcceptWords → Words
   merge : MergeWords → Words
   diff : DiffWords → Words
   show : ShowWords → Words
   counts : CountsWords → Words
+  cover : CoverWords → Words
   help : Text → Words
 
 -- the budget that each job takes in place of its own
 abbrev pub requested_budget : List Row → Option ℕ
 requested_budget rows = number_value (codes "budget") 1 most_budget rows
 
--- what the values of `run` ask for, of a list, in pieces of so many jobs; those of `list` and of `accept` are without the values that it has no
+-- what the values of `run` ask for, of a list, in pieces of so many jobs; those of `list`, `accept` and `cover` are without the values that it has no
 -- option for
 unfoldable pub run_words : Text → ℕ → List Row → RunWords
 run_words list group rows = record {
@@ -182,7 +190,8 @@ console_request rows = option_and_then (λ list. option_map (λ name. console li
     (first_of (codes "name") rows)) (first_of (codes "list") rows)
 
 abbrev pub gdb_request : List Row → Option Words
-gdb_request rows = option_and_then (λ list. option_map (λ name. gdb list name (first_of (codes "root") rows))
+gdb_request rows = option_and_then (λ list. option_map (λ name.
+    gdb list name (first_of (codes "root") rows) (number_value (codes "memory") 64 4096 rows))
     (first_of (codes "name") rows)) (first_of (codes "list") rows)
 
 abbrev pub check_request : List Row → Option Words
@@ -242,6 +251,13 @@ counts_request rows = counts (record {
   out = first_of (codes "out") rows;
 })
 
+abbrev pub cover_words : Text → List Row → ℕ → Words
+cover_words list rows group = cover (record { run = run_words list group rows; csv = is_flag_set (codes "csv") rows })
+
+abbrev pub cover_request : List Row → Option Words
+cover_request rows = option_and_then (λ list. option_map (cover_words list rows)
+    (number_value (codes "group") 1 most_group rows)) (first_of (codes "list") rows)
+
 abbrev pub help_request : List Row → Option Words
 help_request rows = option_map help (first_of (codes "topic") rows)
 
@@ -258,6 +274,7 @@ subcommand_words name rows = if bytes_eq name (codes "run") then test_run_reques
     else if bytes_eq name (codes "diff") then diff_request rows
     else if bytes_eq name (codes "show") then show_request rows
     else if bytes_eq name (codes "counts") then Some (counts_request rows)
+    else if bytes_eq name (codes "cover") then cover_request rows
     else if bytes_eq name (codes "help") then help_request rows
     else None
 
@@ -378,6 +395,11 @@ run_misuse rows = if is_flag_set (codes "verbose") rows && is_flag_set (codes "q
     else if are_counts_put_over rows then Some misuse.CountsOneFile
     else files_misuse rows
 
+-- of `cover`: a shard does not stand beside a choice, and a report that may be cut off chooses jobs
+abbrev pub cover_misuse : List Row → Option Misuse
+cover_misuse rows = if is_option_given (codes "shard") rows && is_choice_given rows then Some misuse.ShardAndChoice
+    else choice_misuse rows
+
 -- steps are compared exactly, or by which jobs are slower
 abbrev pub diff_misuse : List Row → Option Misuse
 diff_misuse rows = if is_flag_set (codes "steps") rows && is_option_given (codes "slower") rows
@@ -430,6 +452,7 @@ abbrev pub subcommand_misuse : Text → List Row → Option Misuse
 subcommand_misuse name rows = if bytes_eq name (codes "run") then run_misuse rows
     else if bytes_eq name (codes "list") then choice_misuse rows
     else if bytes_eq name (codes "accept") then choice_misuse rows
+    else if bytes_eq name (codes "cover") then cover_misuse rows
     else if bytes_eq name (codes "merge") then files_misuse rows
     else if bytes_eq name (codes "diff") then diff_misuse rows
     else if bytes_eq name (codes "show") then show_misuse rows
@@ -545,18 +568,22 @@ accept_asked_words value = record {
   check = value.check;
 }
 
+abbrev pub cover_asked_words : CoverAsked → CoverWords
+cover_asked_words value = record { run = run_asked_words value.run; csv = value.csv }
+
 abbrev pub asked_words : Asked → Words
 asked_words (asked.Run value) = run (run_asked_words value)
 asked_words (asked.List value) = names (run_asked_words value)
 asked_words (asked.Explain value) = explain (explain_asked_words value)
 asked_words (asked.Console value) = console value.list.now value.name.now (borrowed_text value.root)
-asked_words (asked.Gdb value) = gdb value.list.now value.name.now (borrowed_text value.root)
+asked_words (asked.Gdb value) = gdb value.list.now value.name.now (borrowed_text value.root) value.memory
 asked_words (asked.Check value) = check value.list.now (borrowed_text value.root)
 asked_words (asked.Accept value) = accept (accept_asked_words value)
 asked_words (asked.Merge value) = merge (merge_asked_words value)
 asked_words (asked.Diff value) = diff (diff_asked_words value)
 asked_words (asked.Show value) = show (show_asked_words value)
 asked_words (asked.Counts value) = counts (counts_asked_words value)
+asked_words (asked.Cover value) = cover (cover_asked_words value)
 asked_words (asked.Help value) = help value.topic.now
 
 -- a job of a list may have this budget
@@ -573,6 +600,7 @@ abbrev pub IsAskedInRange : Asked → Type 0
 IsAskedInRange (asked.Run value) = IsRunAskedInRange value
 IsAskedInRange (asked.List value) = IsRunAskedInRange value
 IsAskedInRange (asked.Accept value) = IsRunAskedInRange value.run
+IsAskedInRange (asked.Cover value) = IsRunAskedInRange value.run
 IsAskedInRange (asked.Explain value) = (value.last ≤ most_last_instructions) × IsBudgetInRange value.budget
 IsAskedInRange (asked.Diff value) = IfSome value.slower (λ percent. percent ≤ most_slower)
 IsAskedInRange _ = Unit {0}

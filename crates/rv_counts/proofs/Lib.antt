@@ -13,4 +13,5 @@ pub mod Refusing
 pub mod ReadingLines
 pub mod ReadTable
 pub mod ToldImages
+pub mod Lookups
 pub mod Public

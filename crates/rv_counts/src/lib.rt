@@ -9,6 +9,7 @@
 mod growth;
 mod law;
 mod line_parts;
+mod lookup;
 mod order;
 mod read;
 mod read_lines;
@@ -25,6 +26,7 @@ pub use law::{
     one_table_has_this_text, sums_of_counts_associate, sums_of_counts_commute,
     sums_of_tables_are_sums,
 };
+pub use lookup::{counts_at, has_begun_within, place_of_address};
 pub use read::{ReadError, read_table};
 pub use sum::{SumError, sum_of_tables};
 pub use table::{AddressCounts, Addresses, CountTable, Digest, ImageCounts, Images};

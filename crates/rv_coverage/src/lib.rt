@@ -22,3 +22,4 @@ pub use law::{
     tables_of_parts_sum_to_that_of_the_list, tables_of_shards_sum_to_that_of_all,
 };
 pub use places::count_places;
+pub use step::is_branch;

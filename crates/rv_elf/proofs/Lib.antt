@@ -10,4 +10,5 @@ pub mod Texts
 pub mod Ranking
 pub mod Standing
 pub mod Narrower
+pub mod Coding
 pub mod Public

@@ -19,7 +19,7 @@ use Rattle.rv_elf.proofs.Placing.{opening_memory_more}
 
 -- what a search for a segment past the last one gives
 abbrev pub no_segment : Segment
-no_segment = record { offset = 0; vaddr = 0; paddr = 0; filesz = 0; memsz = 0 }
+no_segment = record { offset = 0; vaddr = 0; paddr = 0; filesz = 0; memsz = 0; flags = 0 }
 
 -- where a map is accepted, each segment fits it and no two share a byte
 map_accepted : (ss : List Segment) (rs : List Region) (at : LoadAt) → map_check ss rs at ≡ accepted

@@ -62,6 +62,9 @@ p_filesz file at = word_at file (at + 16)
 abbrev pub p_memsz : List ℕ → ℕ → ℕ
 p_memsz file at = word_at file (at + 20)
 
+abbrev pub p_flags : List ℕ → ℕ → ℕ
+p_flags file at = word_at file (at + 24)
+
 -- the segment of the entry at a place
 unfoldable pub segment_at : List ℕ → ℕ → Segment
 segment_at file at = record {
@@ -70,6 +73,7 @@ segment_at file at = record {
   paddr = p_paddr file at;
   filesz = p_filesz file at;
   memsz = p_memsz file at;
+  flags = p_flags file at;
 }
 
 unfoldable pub program_entry_at : List ℕ → ℕ → ProgramHeader

@@ -7,4 +7,5 @@ pub mod Loading
 pub mod Sections
 pub mod Symbols
 pub mod SymbolSearch
+pub mod Functions
 pub use Rattle.rv_memory.specs.Regions

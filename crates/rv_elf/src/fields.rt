@@ -44,6 +44,8 @@ pub(crate) const P_FILESZ: usize = 16;
 
 pub(crate) const P_MEMSZ: usize = 20;
 
+pub(crate) const P_FLAGS: usize = 24;
+
 // Where a section header has its fields (System V ABI, "Sections").
 pub(crate) const SH_TYPE: usize = 4;
 

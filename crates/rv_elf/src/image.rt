@@ -26,6 +26,8 @@ pub struct Segment {
     pub filesz: u32,
     /// How many bytes it has in memory; those past the file's are zero.
     pub memsz: u32,
+    /// What its bytes are for: bit 0 (PF_X) is set where they are code.
+    pub flags: u32,
 }
 
 /// Segments in the order of the file's table.

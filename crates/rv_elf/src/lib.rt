@@ -12,6 +12,7 @@
 
 mod error;
 mod fields;
+mod function;
 mod header;
 mod image;
 mod loading;
@@ -21,6 +22,7 @@ mod symbol_search;
 mod symbols;
 
 pub use error::ImageError;
+pub use function::{Function, functions};
 pub use image::{Image, Segment, Segments, read_image};
 pub use loading::{LoadAt, check_map, load, segment_fits, segments_overlap, unfit_segment};
 pub use symbol_search::{SymbolAt, symbol_at, symbol_of_value};

@@ -7,7 +7,8 @@ ghost use Rattle.rv_elf.specs.ImageParts.{entry_check};
 
 use crate::error::ImageError;
 use crate::fields::{
-    E_PHNUM, E_PHOFF, P_FILESZ, P_MEMSZ, P_OFFSET, P_PADDR, P_TYPE, P_VADDR, half_field, word_field,
+    E_PHNUM, E_PHOFF, P_FILESZ, P_FLAGS, P_MEMSZ, P_OFFSET, P_PADDR, P_TYPE, P_VADDR, half_field,
+    word_field,
 };
 use crate::image::Segment;
 use std::alloc::{AllocError, Global};
@@ -113,6 +114,7 @@ fn segment_at(file: &[u8], at: usize) -> Segment
         paddr: word_field(file, at + P_PADDR),
         filesz: word_field(file, at + P_FILESZ),
         memsz: word_field(file, at + P_MEMSZ),
+        flags: word_field(file, at + P_FLAGS),
     }
 }
 

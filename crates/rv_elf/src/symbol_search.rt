@@ -119,7 +119,7 @@ fn nearest_candidate(
 }
 
 // The place behind the last zero byte: a name begins at each place before it, and at no other.
-fn names_end(strings: &[u8]) -> usize
+pub(crate) fn names_end(strings: &[u8]) -> usize
     ensures { IsNamesEnd strings.now result }
 {
     let mut end = strings.len();
@@ -199,7 +199,7 @@ impl Symbol {
                 && u64::from(addr) < end
     }
 
-    fn is_function(&self) -> bool
+    pub(crate) fn is_function(&self) -> bool
         ensures { result ≡ is_function self.now }
     {
         self.kind == STT_FUNC
@@ -217,14 +217,14 @@ impl Symbol {
         self.is_function() || self.kind == STT_NOTYPE
     }
 
-    fn has_section(&self) -> bool
+    pub(crate) fn has_section(&self) -> bool
         ensures { result ≡ has_section self.now }
     {
         SHN_UNDEF < self.section && self.section < SHN_LORESERVE
     }
 
     // Its name begins in front of the end of all names, and its first byte is no end, `.` or `$`.
-    fn has_usable_name(&self, strings: &[u8], end: usize) -> bool
+    pub(crate) fn has_usable_name(&self, strings: &[u8], end: usize) -> bool
         requires { IsNamesEnd strings.now end }
         ensures { result ≡ has_usable_name strings.now self.now }
     {
@@ -247,7 +247,7 @@ fn segment_holds_address(addr: u32, segment: &Segment) -> bool
 }
 
 // The text that bytes begin with, up to a zero byte.
-fn text_before_zero(bytes: &[u8]) -> Option<&[u8]>
+pub(crate) fn text_before_zero(bytes: &[u8]) -> Option<&[u8]>
     ensures { MatchOption result (text_before_zero bytes.now ≡ None) (λ t. text_before_zero bytes.now ≡ Some t.now) }
 {
     let end = first_zero_byte(bytes)?;

@@ -54,6 +54,13 @@ impl<'a, D: Inputs> NotingStore<'a, D> {
         &self.unread
     }
 
+    /// The same, for good.
+    pub fn into_unread_paths(self) -> Vec<Unread>
+        ensures { result.items ≡ self.entry.unread.items }
+    {
+        self.unread
+    }
+
     // What stands at the path's place; a path that is unreadable is noted.
     fn read_noting_failure(&mut self, alloc: Global, path: &str) -> Result<Vec<u8>, WholeError>
         ensures same { (self.new.inputs ≡ self.old.inputs) × (self.new.folder ≡ self.old.folder) }

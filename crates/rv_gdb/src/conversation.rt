@@ -1,11 +1,11 @@
 //! What gdb sends, and what it is answered.
 
-ghost use Rattle.std.specs.Prelude.{◌≡◌, IfErr, IfOk, OnOk, false};
+ghost use Rattle.std.specs.Prelude.{◌≡◌, IfErr, IfOk, OnOk, false, true};
 ghost use Rattle.rv_base.specs.Counts.{one_more};
-ghost use Rattle.rv_gdb.specs.Conversing.{IsConversed, IsEnded};
+ghost use Rattle.rv_gdb.specs.Conversing.{IsConversed, IsEnded, IsReadAnswered};
 
 use rv_base::{Sink, put_all};
-use rv_session::{Session, cuts_are_not_seen};
+use rv_session::{EndText, Session, cuts_are_not_seen};
 use std::alloc::{AllocError, Global};
 use std::io::{ErrorKind, Read};
 
@@ -33,23 +33,27 @@ impl From<AllocError> for Broken {
 // A read asks for as many bytes at most: gdb's packets have up to 16,384.
 const CHUNK: usize = 16_384;
 
-/// Hears the bytes of a reader, and puts what the session answers to them, until gdb ends the session or the reader has no more.
-pub fn converse<I: Read, O: Sink>(
+/// Hears the bytes of a reader, and puts what the session answers to them, until gdb ends the session or the reader has no more. No
+/// read begins once the session is over.
+pub fn converse<E: EndText, I: Read, O: Sink>(
     alloc: Global,
     session: &mut Session,
+    end: &E,
     input: &mut I,
     out: &mut O,
 ) -> Result<(), Broken>
-    ensures heard { OnOk result (IsConversed session.old (I.remaining input.old) (I.remaining input.new)
+    ensures heard { OnOk result (IsConversed (E.end_text end.now) session.old (I.remaining input.old) (I.remaining input.new)
         (O.taken out.old) (O.taken out.new) session.new) }
     ensures ended { OnOk result (IsEnded session.new (I.remaining input.new)) }
     ensures failed { IfErr result (λ broken. broken ≡ Broken.Unput → O.failed out.new ≡ one_more (O.failed out.old)) }
     ensures counted { OnOk result (O.failed out.new ≡ O.failed out.old) }
 {
     cuts_are_not_seen();
-    let mut chunk = [0u8; CHUNK];
+    if session.is_over() {
+        return Ok(());
+    }
     for _ in 0..u64::MAX {
-        if !answer_chunk(alloc, session, input, out, &mut chunk)? {
+        if !answer_chunk(alloc, session, end, input, out)? {
             return Ok(());
         }
     }
@@ -57,25 +61,27 @@ pub fn converse<I: Read, O: Sink>(
     Err(Broken::Unread(ErrorKind::TimedOut))
 }
 
-// Reads once, and puts what the session answers. More may come if it says so.
-fn answer_chunk<I: Read, O: Sink>(
+// Reads once, and puts what the session answers. It says whether another read may begin.
+fn answer_chunk<E: EndText, I: Read, O: Sink>(
     alloc: Global,
     session: &mut Session,
+    end: &E,
     input: &mut I,
     out: &mut O,
-    chunk: &mut [u8; CHUNK],
 ) -> Result<bool, Broken>
-    ensures heard { OnOk result (IsConversed session.old (I.remaining input.old) (I.remaining input.new)
+    ensures heard { OnOk result (IsReadAnswered (E.end_text end.now) session.old (I.remaining input.old) (I.remaining input.new)
         (O.taken out.old) (O.taken out.new) session.new) }
+    ensures going { IfOk result (λ more. more ≡ true → session.new.is_over ≡ false) }
     ensures ended { IfOk result (λ more. more ≡ false → IsEnded session.new (I.remaining input.new)) }
     ensures failed { IfErr result (λ broken. broken ≡ Broken.Unput → O.failed out.new ≡ one_more (O.failed out.old)) }
     ensures counted { OnOk result (O.failed out.new ≡ O.failed out.old) }
 {
-    let count = match input.read(chunk) {
+    let mut chunk = [0u8; CHUNK];
+    let count = match input.read(&mut chunk) {
         Ok(count) => count,
         Err(error) => return Err(Broken::Unread(error.kind())),
     };
-    let told = session.feed(alloc, &chunk[..count])?;
+    let told = session.feed(alloc, end, &chunk[..count])?;
     match put_all(out, told.as_slice()) {
         Ok(()) => Ok(count > 0 && !session.is_over()),
         Err(_) => Err(Broken::Unput),

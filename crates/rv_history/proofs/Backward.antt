@@ -1,7 +1,7 @@
 -- Searches backward.
-use Rattle.std.proofs.Common.{◌≡◌, ◌∙◌, ◌+◌, ◌<◌, ◌≤◌, ℕ, Bool, true, false, Ok, ap, sym, refl, subst, arith, inl, inr}
+use Rattle.std.proofs.Common.{◌≡◌, ◌∙◌, ◌+◌, ◌-◌, ◌<◌, ◌≤◌, ℕ, zero, suc, Bool, true, false, Ok, Option, Some, None, ap, sym, refl, subst, arith, add-zero, inl, inr}
 use Rattle.std.specs.Prelude.{◌≢◌}
-use Rattle.std.proofs.lemmas.Bool.{both_ways, cases_eq}
+use Rattle.std.proofs.lemmas.Bool.{both_ways, cases_eq, cases_lt}
 use Rattle.rv_machine.specs.Run.{run_of, step_of}
 use Rattle.rv_machine.specs.State.{State}
 use Rattle.rv_trace.specs.Trace.{state_after}
@@ -12,7 +12,7 @@ use Rattle.rv_history.specs.declared.found.Found.TheVariants as found
 use Rattle.rv_history.specs.declared.stepping.Stepped.{Stepped}
 use Rattle.rv_history.specs.declared.stepping.Stepped.TheVariants as stepped
 use Rattle.rv_history.specs.declared.stops.Stops.{Stops}
-use Rattle.rv_history.specs.LastStop.{last_at, last_behind}
+use Rattle.rv_history.specs.LastStop.{AreQuiet, IsLastOn, IsQuietAt, last_at, last_behind}
 use Rattle.rv_history.specs.Moves.{GoesOnBack, IsChangeBefore, IsStepBefore, IsStopBefore, MeetsBack}
 use Rattle.rv_history.specs.Places.{IsBreakAt, IsChangeAt, IsReached, last_place}
 use Rattle.rv_history.specs.Stepping.{IsStepped}
@@ -32,7 +32,7 @@ change_before stops budget place start change =
     subst (λ (k : ℕ). IsChangeAt stops budget start k) same change.change
 
 -- at the start there is nothing before
-pub begins : (stops : Stops) (budget : ℕ) (start : State) → IsStopBefore stops budget start 0 0 found.Begin
+begins : (stops : Stops) (budget : ℕ) (start : State) → IsStopBefore stops budget start 0 0 found.Begin
 begins stops budget start = record {
   order = omega arith;
   meets = (refl, λ below. absurd (omega arith));
@@ -108,26 +108,74 @@ last_changes stops budget from start change = record {
   between = λ j low high. absurd (omega arith);
 }
 
+-- before a step that is quiet nothing else comes to be the last stop
+last_stays_on : (stops : Stops) (budget begin from : ℕ) (start : State) (last : Option Arrival) → IsQuietAt stops budget start from
+    → IsLastOn stops budget start begin from last → IsLastOn stops budget start begin (from + 1) last
+last_stays_on stops budget begin from start None quiet stop = λ j low high. elim (cases_eq j from) [
+  | inl here ↦ rw here quiet
+  | inr other ↦ stop j low (omega arith)
+]
+last_stays_on stops budget begin from start (Some last) quiet stop =
+    last_stays stops budget from start last quiet.no_break quiet.no_change stop
+
 -- with a breakpoint or without one
-last_quiet : (stops : Stops) (budget from : ℕ) (start s : State) (last : Arrival) (is : Bool) → IsReached start from s
-    → is ≡ is_break stops s.pc → (IsChangeAt stops budget start from → ⊥) → IsLastStop stops budget start from last
-    → IsLastStop stops budget start (from + 1) (last_at last from is)
-last_quiet stops budget from start s last true reached told none stop =
+last_quiet : (stops : Stops) (budget begin from : ℕ) (start s : State) (last : Option Arrival) (is : Bool) → IsReached start from s
+    → is ≡ is_break stops s.pc → (IsChangeAt stops budget start from → ⊥) → IsLastOn stops budget start begin from last
+    → IsLastOn stops budget start begin (from + 1) (last_at last from is)
+last_quiet stops budget begin from start s last true reached told none stop =
     last_breaks stops budget from start (ap (λ (t : State). is_break stops t.pc) (sym reached.same) ∙ sym told) none
-last_quiet stops budget from start s last false reached told none stop =
-    last_stays stops budget from start last
-    (λ is. both_ways (is_break stops s.pc) (sym told) (ap (λ (t : State). is_break stops t.pc) reached.same ∙ is)) none stop
+last_quiet stops budget begin from start s last false reached told none stop =
+    last_stays_on stops budget begin from start last (record {
+      no_break = λ is. both_ways (is_break stops s.pc) (sym told) (ap (λ (t : State). is_break stops t.pc) reached.same ∙ is);
+      no_change = none;
+    }) stop
 
 -- behind a step of any kind
-pub last_more : (stops : Stops) (budget from : ℕ) (start s t : State) (last : Arrival) (is : Bool) (kind : Stepped)
-    → IsReached start from s → from < last_place budget start → is ≡ is_break stops s.pc → IsStepped stops s t kind
-    → from < budget → IsLastStop stops budget start from last → IsLastStop stops budget start (from + 1) (last_behind last from is kind)
-last_more stops budget from start s t last is stepped.Changed reached goes told did within stop =
+pub last_more : (stops : Stops) (budget begin from : ℕ) (start s t : State) (last : Option Arrival) (is : Bool) (kind : Stepped)
+    → IsReached start from s → from < last_place budget start → is ≡ is_break stops s.pc → IsStepped stops s t kind → from < budget
+    → IsLastOn stops budget start begin from last → IsLastOn stops budget start begin (from + 1) (last_behind last from is kind)
+last_more stops budget begin from start s t last is stepped.Changed reached goes told did within stop =
     last_changes stops budget from start (change_at stops budget from start s t reached within did.0 did.1)
-last_more stops budget from start s t last is stepped.Quiet reached goes told did within stop =
-    last_quiet stops budget from start s last is reached told (no_change_at stops budget from start s t reached did.0 did.1) stop
-last_more stops budget from start s t last is (stepped.Ended ending) reached goes told did within stop =
+last_more stops budget begin from start s t last is stepped.Quiet reached goes told did within stop =
+    last_quiet stops budget begin from start s last is reached told (no_change_at stops budget from start s t reached did.0 did.1) stop
+last_more stops budget begin from start s t last is (stepped.Ended ending) reached goes told did within stop =
     let ok = ap step_of reached.same ∙ each_completes budget from start goes in absurd (cc (sym did, ok))
+
+-- ---- the parts of a search
+
+-- the last stop before a place is that before a later one, if the steps between them are quiet
+stays_over : (stops : Stops) (budget end more : ℕ) (start : State) (last : Arrival) → AreQuiet stops budget start end (end + more)
+    → IsLastStop stops budget start end last → IsLastStop stops budget start (end + more) last
+stays_over stops budget end zero start last quiet stop =
+    subst (λ (k : ℕ). IsLastStop stops budget start k last) (sym (add-zero end)) stop
+stays_over stops budget end (suc more) start last quiet stop =
+    let before : end + more + 1 ≡ end + suc more = omega arith in
+    let here = quiet (end + more) (omega arith) (omega arith) in
+    subst (λ (k : ℕ). IsLastStop stops budget start k last) before
+    (last_stays stops budget (end + more) start last here.no_break here.no_change
+    (stays_over stops budget end more start last (λ j low high. quiet j low (omega arith)) stop))
+
+pub last_before : (stops : Stops) (budget end from : ℕ) (start : State) (last : Arrival) → end ≤ from
+    → AreQuiet stops budget start end from → IsLastStop stops budget start end last → IsLastStop stops budget start from last
+last_before stops budget end from start last order quiet stop =
+    let more = from - end in
+    let sum : end + more ≡ from = omega arith in
+    subst (λ (k : ℕ). IsLastStop stops budget start k last) sum
+    (stays_over stops budget end more start last (subst (λ (k : ℕ). AreQuiet stops budget start end k) (sym sum) quiet) stop)
+
+-- two parts where nothing is met
+pub quiet_joined : (stops : Stops) (budget begin end from : ℕ) (start : State) → AreQuiet stops budget start begin end
+    → AreQuiet stops budget start end from → AreQuiet stops budget start begin from
+quiet_joined stops budget begin end from start one other j low high = elim (cases_lt j end) [
+  | inl before ↦ one j low before
+  | inr behind ↦ other j behind high
+]
+
+-- where nothing is met at all, there is the beginning
+pub begins_over : (stops : Stops) (budget from : ℕ) (start : State) → AreQuiet stops budget start 0 from
+    → IsStopBefore stops budget start from 0 found.Begin
+begins_over stops budget from start quiet =
+    last_before stops budget 0 from start (record { place = 0; found = found.Begin }) (omega arith) quiet (begins stops budget start)
 
 -- the machine behind a step that completes
 pub stepped_place : (stops : Stops) (budget from : ℕ) (start s t : State) (kind : Stepped) → IsReached start from s

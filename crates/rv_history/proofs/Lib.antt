@@ -1,8 +1,11 @@
 mod Bytes
+mod Watched
 mod Reaching
 mod SingleSteps
+mod Standing
 mod Forward
 mod Backward
+mod Unstopped
 mod Arriving
 mod Counting
 mod Differing

@@ -1,5 +1,5 @@
 -- Places that a run comes to.
-use Rattle.std.proofs.Common.{◌≡◌, ◌∙◌, ◌+◌, ◌-◌, ◌<◌, ◌≤◌, ℕ, zero, suc, Ok, Err, ap, sym, refl, arith, zero-add, add-one}
+use Rattle.std.proofs.Common.{◌≡◌, ◌∙◌, ◌+◌, ◌-◌, ◌<◌, ◌≤◌, ℕ, zero, suc, Ok, Err, ap, sym, refl, subst, arith, zero-add, add-one}
 use Rattle.rv_machine.specs.declared.ending.Ending.{Ending}
 use Rattle.rv_machine.specs.declared.ending.Ending.TheVariants.{Budget}
 use Rattle.rv_machine.specs.Run.{Ran, go_on, run_of, step_of}
@@ -93,12 +93,59 @@ comes_within budget place start h within =
 pub comes : (budget place : ℕ) (start : State) → place ≤ last_place budget start → (run_of place start).steps ≡ place
 comes budget place start within = completes budget place start within
 
+-- the state behind all the steps that a run completes is its last one
+same_end : (budget : ℕ) (s : State) → state_after (run_of budget s).steps s ≡ (run_of budget s).state
+same_end zero s = ap (λ k. state_after k s) (ap (λ r. r.steps) (run_none s))
+same_end (suc n) s = by_step s (state_after (run_of (suc n) s).steps s ≡ (run_of (suc n) s).state)
+    (λ t e. ap (λ k. state_after k s) (steps_first n s t e) ∙ state_first (run_of n t).steps s t e ∙ same_end n t
+    ∙ sym (state_first n s t e))
+    (λ e is. ap (λ k. state_after k s) (steps_end n s e is) ∙ after_none s ∙ sym (state_end n s e is))
+
+same_ran : (r : Ran) (ending : Ending) (steps : ℕ) (state : State) → r.ending ≡ ending → r.steps ≡ steps → r.state ≡ state
+    → r ≡ record { ending = ending; steps = steps; state = state }
+same_ran r ending steps state first second third = rw (← first) (rw (← second) (rw (← third) refl))
+
+-- a run that goes on at a place
+pub run_from : (start s t : State) (from place steps : ℕ) (ending : Ending) → IsReached start from s → from ≤ place
+    → run_of (place - from) s ≡ record { ending = ending; steps = steps; state = t }
+    → run_of place start ≡ record { ending = ending; steps = from + steps; state = t }
+run_from start s t from place steps ending reached order ran =
+    let rest = place - from in
+    let sum : from + rest ≡ place = omega arith in
+    let more = steps_more from rest start reached.completed in
+    let here : run_of rest (state_after from start) ≡ record { ending = ending; steps = steps; state = t } =
+    ap (λ u. run_of rest u) (sym reached.same) ∙ ran in
+    subst (λ (k : ℕ). run_of k start ≡ record { ending = ending; steps = from + steps; state = t }) sum
+    (same_ran (run_of (from + rest) start) ending (from + steps) t
+    (ending_more from rest start reached.completed ∙ ap (λ r. r.ending) here)
+    (more ∙ ap (λ (r : Ran). from + r.steps) here)
+    (after_more from rest start reached.completed ∙ ap (λ r. r.state) here))
+
+-- where a run ends is a place of it
+pub ran_to : (start t : State) (place steps : ℕ) (ending : Ending)
+    → run_of place start ≡ record { ending = ending; steps = steps; state = t } → IsReached start steps t
+ran_to start t place steps ending ran =
+    let count : (run_of place start).steps ≡ steps = ap (λ r. r.steps) ran in record {
+      completed = completes place steps start (omega arith);
+      same = sym (sym (ap (λ k. state_after k start) count) ∙ same_end place start ∙ ap (λ r. r.state) ran);
+    }
+
 -- a run completes no more steps than its budget has
 pub within_budget : (n : ℕ) (s : State) → (run_of n s).steps ≤ n
 within_budget zero s = let none = ap (λ r. r.steps) (run_none s) in omega arith
 within_budget (suc n) s = by_step s ((run_of (suc n) s).steps ≤ suc n)
     (λ t e. let first = steps_first n s t e in let rest = within_budget n t in omega arith)
     (λ e is. let none = steps_end n s e is in omega arith)
+
+-- so it comes to a place, if it completes as many steps
+pub ran_there : (start t : State) (place steps : ℕ) (ending : Ending)
+    → run_of place start ≡ record { ending = ending; steps = steps; state = t } → place ≤ steps → IsReached start place t
+ran_there start t place steps ending ran far =
+    let count = ap (λ r. r.steps) ran in
+    let few = within_budget place start in record {
+      completed = omega (arith, count, few, far);
+      same = sym (ap (λ r. r.state) ran);
+    }
 
 -- a step that completes within the budget is not the last
 pub goes_on : (budget place : ℕ) (start s t : State) → IsReached start place s → place < budget → step_of s ≡ Ok t

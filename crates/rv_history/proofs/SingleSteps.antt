@@ -6,27 +6,29 @@ use Rattle.rv_machine.specs.declared.ending.Ending.{Ending}
 use Rattle.rv_machine.specs.Run.{Ran, go_on, step_of, run_of}
 use Rattle.rv_machine.specs.State.{State}
 
--- what the steps of it tell: where there is one, the step completed with the state at the end, and else it gave the ending
-abbrev Told : ℕ → Ending → Result State Ending → State → Type 0
-Told n e r t = MatchBool (n == 1) (r ≡ Ok t) (r ≡ Err e)
+-- what the steps of it tell: where there is one, the step completed with the state at the end, and else it gave the ending and left the state
+abbrev Told : State → ℕ → Ending → Result State Ending → State → Type 0
+Told s n e r t = MatchBool (n == 1) (r ≡ Ok t) ((r ≡ Err e) × (t ≡ s))
 
 told_by : (s : State) (r : Result State Ending)
-    → Told (go_on r s (λ t. run_of 0 t)).steps (go_on r s (λ t. run_of 0 t)).ending r (go_on r s (λ t. run_of 0 t)).state
+    → Told s (go_on r s (λ t. run_of 0 t)).steps (go_on r s (λ t. run_of 0 t)).ending r (go_on r s (λ t. run_of 0 t)).state
 unfolding run_of
 told_by s (Ok t) = refl
-told_by s (Err e) = refl
+told_by s (Err e) = (refl, refl)
 
-one_run : (s : State) → Told (run_of 1 s).steps (run_of 1 s).ending (step_of s) (run_of 1 s).state
+one_run : (s : State) → Told s (run_of 1 s).steps (run_of 1 s).ending (step_of s) (run_of 1 s).state
 unfolding run_of
 one_run s = told_by s (step_of s)
 
 one_step : (s t : State) (n : ℕ) (e : Ending) → run_of 1 s ≡ record { ending = e; steps = n; state = t }
-    → Told n e (step_of s) t
-one_step s t n e ran = subst (λ (r : Ran). Told r.steps r.ending (step_of s) r.state) ran (one_run s)
+    → Told s n e (step_of s) t
+one_step s t n e ran = subst (λ (r : Ran). Told s r.steps r.ending (step_of s) r.state) ran (one_run s)
 
 pub went : (s t : State) (n : ℕ) (e : Ending) → run_of 1 s ≡ record { ending = e; steps = n; state = t } → n ≡ 1 → step_of s ≡ Ok t
-went s t n e ran one = subst (λ (b : Bool). MatchBool b (step_of s ≡ Ok t) (step_of s ≡ Err e)) (eq-eqb n 1 one) (one_step s t n e ran)
+went s t n e ran one = subst (λ (b : Bool). MatchBool b (step_of s ≡ Ok t) ((step_of s ≡ Err e) × (t ≡ s))) (eq-eqb n 1 one)
+    (one_step s t n e ran)
 
 pub ended : (s t : State) (n : ℕ) (e : Ending) → run_of 1 s ≡ record { ending = e; steps = n; state = t } → n ≢ 1
-    → step_of s ≡ Err e
-ended s t n e ran none = subst (λ (b : Bool). MatchBool b (step_of s ≡ Ok t) (step_of s ≡ Err e)) (ne_eqb n 1 none) (one_step s t n e ran)
+    → (step_of s ≡ Err e) × (t ≡ s)
+ended s t n e ran none = subst (λ (b : Bool). MatchBool b (step_of s ≡ Ok t) ((step_of s ≡ Err e) × (t ≡ s))) (ne_eqb n 1 none)
+    (one_step s t n e ran)

@@ -1,15 +1,33 @@
 -- The last stop on the way.
-use Rattle.std.specs.Prelude.{ℕ, ◌+◌, Bool, if◌then◌else◌}
+use Rattle.std.specs.Prelude.{ℕ, ◌+◌, ◌<◌, ◌≤◌, Bool, Option, Some, None, if◌then◌else◌}
+use Rattle.rv_machine.specs.State.{State}
+use Rattle.rv_history.specs.Moves.{IsStopBefore}
+use Rattle.rv_history.specs.Places.{IsBreakAt, IsChangeAt}
 use Rattle.rv_history.specs.declared.found.Arrival.{Arrival}
 use Rattle.rv_history.specs.declared.found.Found.TheVariants as found
 use Rattle.rv_history.specs.declared.stepping.Stepped.{Stepped}
 use Rattle.rv_history.specs.declared.stepping.Stepped.TheVariants as stepped
+use Rattle.rv_history.specs.declared.stops.Stops.{Stops}
 
-abbrev pub last_at : Arrival → ℕ → Bool → Arrival
-last_at last place is_break = if is_break then record { place = place; found = found.Break } else last
+abbrev pub last_at : Option Arrival → ℕ → Bool → Option Arrival
+last_at last place is_break = if is_break then Some (record { place = place; found = found.Break }) else last
 
 -- behind the step at a place
-abbrev pub last_behind : Arrival → ℕ → Bool → Stepped → Arrival
-last_behind last place is_break stepped.Changed = record { place = place + 1; found = found.Change }
+abbrev pub last_behind : Option Arrival → ℕ → Bool → Stepped → Option Arrival
+last_behind last place is_break stepped.Changed = Some (record { place = place + 1; found = found.Change })
 last_behind last place is_break stepped.Quiet = last_at last place is_break
 last_behind last place is_break (stepped.Ended ending) = last_at last place is_break
+
+-- the step at a place begins at no breakpoint, and changes nothing
+pub record IsQuietAt (stops : Stops) (budget : ℕ) (start : State) (place : ℕ) : Type 0 where
+  pub no_break : IsBreakAt stops start place → ⊥
+  pub no_change : IsChangeAt stops budget start place → ⊥
+
+-- each of the steps between two places is such a one
+abbrev pub AreQuiet : Stops → ℕ → State → ℕ → ℕ → Type 0
+AreQuiet stops budget start begin end = (j : ℕ) → begin ≤ j → j < end → IsQuietAt stops budget start j
+
+-- the last stop before a place, where a step from another place on is none of these
+abbrev pub IsLastOn : Stops → ℕ → State → ℕ → ℕ → Option Arrival → Type 0
+IsLastOn stops budget start begin end (Some last) = IsStopBefore stops budget start end last.place last.found
+IsLastOn stops budget start begin end None = AreQuiet stops budget start begin end

@@ -8,3 +8,5 @@ pub mod Counts
 pub mod Stands
 pub mod StandInside
 pub mod Printing
+pub mod Kept
+pub mod Ends

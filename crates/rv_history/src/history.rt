@@ -11,15 +11,16 @@ use crate::search::{Leg, next_step, next_stop};
 use crate::search_back::{step_before, stop_before};
 use crate::start::Start;
 use crate::stops::Stops;
+use crate::track::Track;
 use rv_machine::Machine;
 use std::alloc::{AllocError, Global};
 use std::marker::Model;
 
-/// A place in the run from a start within a budget, and the machine there. Each move takes the time of the run up to where it begins
-/// and to where it ends, and no move changes the run.
+/// A place in the run from a start within a budget, and the machine there. No move changes the run, and what it answers does not depend
+/// on which states of the run are at hand.
 #[derive(Drop)]
 pub struct History {
-    start: Start,
+    track: Track,
     budget: u32,
     place: u32,
     machine: Machine,
@@ -31,20 +32,20 @@ impl Model for History {
     ghost use Rattle.rv_history.specs.Places.{IsReached};
     ghost use Rattle.rv_history.specs.StandInside.{stand_code};
     ghost use Rattle.rv_history.specs.Stands.{Stand};
-    ghost use Rattle.rv_history.specs.Starts.{start_of};
 
     ghost Value = { Stand };
 
     ghost coded = { stand_code };
 
-    ghost view = { λ h. record { start = start_of h.start; budget = h.budget; place = h.place } };
+    ghost view = { λ h. record { start = h.track; budget = h.budget; place = h.place } };
 
-    ghost invariant = { λ h. IsReached (start_of h.start) h.place (state_of h.machine) × (h.place ≤ h.budget) };
+    ghost invariant = { λ h. IsReached h.track h.place (state_of h.machine) × (h.place ≤ h.budget) };
 }
 
 impl History {
     ghost use Rattle.rv_history.specs.Counts.{IsFirstWith, IsFound};
     ghost use Rattle.rv_history.specs.Moves.{IsNextStep, IsNextStop, IsStepBefore, IsStopBefore};
+    ghost use Rattle.rv_history.specs.Ends.{IsFoundEnd};
     ghost use Rattle.rv_history.specs.Places.{IsReached, last_place};
     ghost use Rattle.rv_history.specs.Starts.{start_of};
     ghost use Rattle.rv_history.specs.Stops.{first_differing};
@@ -55,11 +56,19 @@ impl History {
     {
         let machine = start.machine(alloc)?;
         Ok(History {
-            start,
+            track: Track::new(alloc, start),
             budget,
             place: 0,
             machine,
         })
+    }
+
+    /// From now on it takes so many megabytes at most, from 64 to 4,096, and 256 if it is told nothing: the more, the fewer steps are run
+    /// again on a move back. What is kept goes.
+    pub fn set_memory(&mut self, alloc: Global, megabytes: u32)
+        ensures { self.new ≡ self.old }
+    {
+        self.track.set_memory(alloc, megabytes);
     }
 
     /// How many steps are done.
@@ -94,7 +103,11 @@ impl History {
             budget: self.budget,
             bounds,
         };
-        let arrival = next_stop(alloc, &self.start, leg, stops)?;
+        // With nothing to look for on the way, the run goes at its full speed.
+        if bounds.are_all() && stops.are_none() {
+            return self.go_to_end(alloc);
+        }
+        let arrival = next_stop(alloc, &self.track, leg, stops)?;
         self.arrive(alloc, arrival)
     }
 
@@ -104,7 +117,7 @@ impl History {
         ensures run { self.new ≡ record self.old { place = self.new.place } }
         ensures same { OnErr result (self.new ≡ self.old) }
     {
-        let arrival = next_step(alloc, &self.start, self.budget, self.place, stops)?;
+        let arrival = next_step(alloc, &self.track, self.budget, self.place, stops)?;
         self.arrive(alloc, arrival)
     }
 
@@ -114,7 +127,7 @@ impl History {
         ensures run { self.new ≡ record self.old { place = self.new.place } }
         ensures same { OnErr result (self.new ≡ self.old) }
     {
-        let arrival = stop_before(alloc, &self.start, self.place, stops)?;
+        let arrival = stop_before(alloc, &self.track, self.place, stops)?;
         self.arrive(alloc, arrival)
     }
 
@@ -124,7 +137,7 @@ impl History {
         ensures run { self.new ≡ record self.old { place = self.new.place } }
         ensures same { OnErr result (self.new ≡ self.old) }
     {
-        let arrival = step_before(alloc, &self.start, self.place, stops)?;
+        let arrival = step_before(alloc, &self.track, self.place, stops)?;
         self.arrive(alloc, arrival)
     }
 
@@ -139,14 +152,13 @@ impl History {
         if place > self.budget {
             return Ok(false);
         }
-        match self.start.machine_at(alloc, place)? {
-            Some(machine) => {
-                self.machine = machine;
-                self.place = place;
-                Ok(true)
-            }
-            None => Ok(false),
+        let (at, _) = self.track.reach(alloc, place)?;
+        if at.place < place {
+            return Ok(false);
         }
+        self.machine = at.machine;
+        self.place = place;
+        Ok(true)
     }
 
     /// Goes to the first place with a count, where the run comes to one, and says whether it does.
@@ -162,7 +174,7 @@ impl History {
         ensures run { self.new ≡ record self.old { place = self.new.place } }
         ensures same { OnErr result (self.new ≡ self.old) }
     {
-        match first_with(alloc, &self.start, self.budget, count, value)? {
+        match first_with(alloc, self.track.start(), self.budget, count, value)? {
             Some(place) => {
                 let found = Found::Done;
                 let _ = self.arrive(alloc, Arrival { place, found })?;
@@ -179,7 +191,7 @@ impl History {
             (state_after (self.now.place + 1) self.now.start).bus) }
     {
         let steps = self.budget.min(self.place.saturating_add(1));
-        let ahead = self.start.machine_after(alloc, steps)?;
+        let ahead = self.track.machine_after(alloc, steps)?;
         stops.differing_watch(alloc, self.machine.bus(), ahead.bus())
     }
 
@@ -190,9 +202,21 @@ impl History {
             (state_after self.now.place self.now.start).bus) }
     {
         let behind = self
-            .start
+            .track
             .machine_after(alloc, self.place.saturating_sub(1))?;
         stops.differing_watch(alloc, behind.bus(), self.machine.bus())
+    }
+
+    // Goes to the end of the run.
+    fn go_to_end(&mut self, alloc: Global) -> Result<Found, AllocError>
+        ensures end { IfOk result (λ found. IsFoundEnd self.old.budget self.old.start self.new.place found) }
+        ensures run { self.new ≡ record self.old { place = self.new.place } }
+        ensures same { OnErr result (self.new ≡ self.old) }
+    {
+        let (at, ending) = self.track.reach(alloc, self.budget)?;
+        self.machine = at.machine;
+        self.place = at.place;
+        Ok(Found::End(ending))
     }
 
     // Goes to where a search ended.
@@ -202,7 +226,8 @@ impl History {
         ensures moved { IfOk result (λ found. self.new ≡ record self.old { place = arrival.place }) }
         ensures same { OnErr result (self.new ≡ self.old) }
     {
-        self.machine = self.start.machine_behind(alloc, arrival.place)?;
+        let (at, _) = self.track.reach(alloc, arrival.place)?;
+        self.machine = at.machine;
         self.place = arrival.place;
         Ok(arrival.found)
     }

@@ -1,20 +1,23 @@
 //! The places of a run, and the moves of a debugger among them, forwards and backwards.
 //!
-//! A run is exact, so the state behind any number of its steps can be had again by a run of so many steps from its start. A
-//! [`History`] stands at a place of a run, and moves to where a search for the next or the last stop ends: a breakpoint, a step that
-//! changes a watched byte ([`Stops`]), or an end of the run. No move changes the run.
+//! A run is exact, so the state behind any number of its steps can be had again by a run of so many steps from its start, or of fewer
+//! from a state that was kept on the way. A [`History`] stands at a place of a run, and moves to where a search for the next or the last
+//! stop ends: a breakpoint, a step that changes a watched byte ([`Stops`]), or an end of the run. No move changes the run.
 #![tactic(auto)]
 
 mod bounds;
 mod counts;
 mod found;
 mod history;
+mod kept_states;
 mod law;
+mod machine_at;
 mod search;
 mod search_back;
 mod start;
 mod stepping;
 mod stops;
+mod track;
 
 pub use bounds::Bounds;
 pub use counts::Count;

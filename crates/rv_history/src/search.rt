@@ -4,14 +4,13 @@ ghost use Rattle.std.specs.Prelude.{◌≡◌, ◌≤◌, ◌&&◌, IfOk, nat_lt
 ghost use Rattle.rv_machine.specs.Machine.{state_of};
 ghost use Rattle.rv_machine.specs.Run.{run_of};
 ghost use Rattle.rv_history.specs.Moves.{IsNextStep, IsNextStop};
-ghost use Rattle.rv_history.specs.Starts.{start_of};
 ghost use Rattle.rv_history.specs.Stops.{is_halt};
 
 use crate::bounds::Bounds;
 use crate::found::{Arrival, Found};
-use crate::start::Start;
-use crate::stepping::{Stepped, step_watched};
+use crate::stepping::{Stepped, step_beside, step_watched};
 use crate::stops::Stops;
+use crate::track::Track;
 use rv_machine::{Ending, Machine};
 use std::alloc::{AllocError, Global};
 
@@ -24,19 +23,20 @@ pub(crate) struct Leg {
     pub bounds: Bounds,
 }
 
-/// The next stop on a leg. It takes the time of the run up to there.
+/// The next stop on a leg, which it goes through step by step.
 pub(crate) fn next_stop(
     alloc: Global,
-    start: &Start,
+    track: &Track,
     leg: Leg,
     stops: &Stops,
 ) -> Result<Arrival, AllocError>
-    requires comes { (run_of leg.from (start_of start.now)).steps ≡ leg.from }
+    requires comes { (run_of leg.from track.now).steps ≡ leg.from }
     requires within { leg.from ≤ leg.budget }
     ensures { IfOk result
-        (λ arrival. IsNextStop stops.now leg.bounds leg.budget (start_of start.now) leg.from arrival.place arrival.found) }
+        (λ arrival. IsNextStop stops.now leg.bounds leg.budget track.now leg.from arrival.place arrival.found) }
 {
-    let mut machine = start.machine_behind(alloc, leg.from)?;
+    let mut machine = track.machine_after(alloc, leg.from)?;
+    let mut watched = stops.watched_bytes(alloc, machine.bus())?;
     for place in leg.from..leg.budget {
         if is_halt_behind(stops, leg, &machine, place) {
             return Ok(Arrival {
@@ -44,7 +44,7 @@ pub(crate) fn next_stop(
                 found: Found::Break,
             });
         }
-        match step_watched(alloc, &mut machine, stops)? {
+        match step_beside(alloc, &mut machine, stops, &mut watched)? {
             Stepped::Ended(ending) => {
                 return Ok(Arrival {
                     place,
@@ -85,17 +85,17 @@ fn is_halt(stops: &Stops, bounds: Bounds, pc: u32) -> bool
     stops.has_break(pc) || bounds.is_outside(pc)
 }
 
-/// A step forward from a place. It takes the time of the run up to there.
+/// A step forward from a place.
 pub(crate) fn next_step(
     alloc: Global,
-    start: &Start,
+    track: &Track,
     budget: u32,
     from: u32,
     stops: &Stops,
 ) -> Result<Arrival, AllocError>
-    requires comes { (run_of from (start_of start.now)).steps ≡ from }
+    requires comes { (run_of from track.now).steps ≡ from }
     requires within { from ≤ budget }
-    ensures { IfOk result (λ arrival. IsNextStep stops.now budget (start_of start.now) from arrival.place arrival.found) }
+    ensures { IfOk result (λ arrival. IsNextStep stops.now budget track.now from arrival.place arrival.found) }
 {
     if from == budget {
         return Ok(Arrival {
@@ -103,7 +103,7 @@ pub(crate) fn next_step(
             found: Found::End(Ending::Budget),
         });
     }
-    let mut machine = start.machine_behind(alloc, from)?;
+    let mut machine = track.machine_after(alloc, from)?;
     match step_watched(alloc, &mut machine, stops)? {
         Stepped::Ended(ending) => Ok(Arrival {
             place: from,

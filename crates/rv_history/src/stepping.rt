@@ -1,9 +1,10 @@
 //! A step, and whether it changes a watched byte.
 
-ghost use Rattle.std.specs.Prelude.{◌≡◌, IfOk, MatchOption, Ok, Err};
+ghost use Rattle.std.specs.Prelude.{◌≡◌, IfOk, MatchOption, OnOk, Ok, Err};
 ghost use Rattle.rv_machine.specs.Machine.{state_of};
 ghost use Rattle.rv_machine.specs.Run.{step_of};
 ghost use Rattle.rv_history.specs.Stepping.{IsStepped};
+ghost use Rattle.rv_history.specs.Stops.{watched_bytes};
 
 use crate::stops::Stops;
 use rv_machine::{Ending, Machine};
@@ -28,23 +29,36 @@ pub(crate) fn step_watched(
 ) -> Result<Stepped, AllocError>
     ensures { IfOk result (IsStepped stops.now (state_of machine.old) (state_of machine.new)) }
 {
-    let before = stops.watched_bytes(alloc, machine.bus())?;
+    let mut watched = stops.watched_bytes(alloc, machine.bus())?;
+    step_beside(alloc, machine, stops, &mut watched)
+}
+
+/// The same where the watched bytes are known, as they are again behind the step.
+pub(crate) fn step_beside(
+    alloc: Global,
+    machine: &mut Machine,
+    stops: &Stops,
+    watched: &mut Vec<u8>,
+) -> Result<Stepped, AllocError>
+    requires { watched.old.items ≡ watched_bytes stops.now (state_of machine.old).bus }
+    ensures step { IfOk result (IsStepped stops.now (state_of machine.old) (state_of machine.new)) }
+    ensures known { OnOk result (watched.new.items ≡ watched_bytes stops.now (state_of machine.new).bus) }
+{
     if let Some(ending) = step(machine) {
         return Ok(Stepped::Ended(ending));
     }
-    let after = stops.watched_bytes(alloc, machine.bus())?;
-    if before.as_slice() == after.as_slice() {
-        Ok(Stepped::Quiet)
-    } else {
-        Ok(Stepped::Changed)
+    if stops.stand_as(machine.bus(), watched.as_slice()) {
+        return Ok(Stepped::Quiet);
     }
+    *watched = stops.watched_bytes(alloc, machine.bus())?;
+    Ok(Stepped::Changed)
 }
 
-/// One step of a machine: nothing where it completes, else the ending. It is a run of one step: a second caller of the machine's loop
-/// would slow each run of the program.
+/// One step of a machine: nothing where it completes, else the ending, with the machine as it was. It is a run of one step: a second
+/// caller of the machine's loop would slow each run of the program.
 pub(crate) fn step(machine: &mut Machine) -> Option<Ending>
     ensures { MatchOption result (step_of (state_of machine.old) ≡ Ok (state_of machine.new))
-        (λ e. step_of (state_of machine.old) ≡ Err e) }
+        (λ e. (step_of (state_of machine.old) ≡ Err e) × (state_of machine.new ≡ state_of machine.old)) }
 {
     let ran = machine.run(1);
     if ran.steps == 1 {

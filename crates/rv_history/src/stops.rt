@@ -1,6 +1,6 @@
 //! Where a run is to stop.
 
-ghost use Rattle.std.specs.Prelude.{◌≡◌, ◌≤◌, ◌+◌, ◌^◌, ◌++◌, IfOk, OnOk};
+ghost use Rattle.std.specs.Prelude.{◌≡◌, ◌≤◌, ◌+◌, ◌^◌, ◌++◌, ◌↔◌, [], ℕ, List, IfOk, IfSome, IsTrue, MatchOption, OnOk, drop, length};
 
 use rv_base::Sequence;
 use rv_memory::Bus;
@@ -25,6 +25,20 @@ pub struct Stops {
 impl Stops {
     ghost use Rattle.rv_history.specs.Stops.{first_differing, is_break, watched_bytes};
 
+    /// Whether there are none at all.
+    pub(crate) fn are_none(&self) -> bool
+        ensures { IsTrue result ↔ ((self.now.breaks ≡ []) × (self.now.watches ≡ [])) }
+    {
+        self.breaks.as_slice().is_empty() && self.have_no_watch()
+    }
+
+    /// Whether no byte is watched.
+    pub(crate) fn have_no_watch(&self) -> bool
+        ensures { IsTrue result ↔ (self.now.watches ≡ []) }
+    {
+        self.watches.as_slice().is_empty()
+    }
+
     /// Whether an address is a breakpoint.
     pub(crate) fn has_break(&self, pc: u32) -> bool
         ensures { result ≡ is_break self.now pc }
@@ -42,6 +56,21 @@ impl Stops {
             watch.push_bytes(&mut bytes, bus)?;
         }
         Ok(bytes)
+    }
+
+    /// Whether the watched bytes that stand in regions are these. It takes no memory.
+    #[tactic(auto, unfolding(crate::specs::Stops::watched_bytes))]
+    pub(crate) fn stand_as(&self, bus: &Bus, bytes: &[u8]) -> bool
+        ensures { IsTrue result ↔ (watched_bytes self.now bus.now ≡ bytes.now) }
+    {
+        let mut seen = 0;
+        for watch in self.watches.as_slice() {
+            match watch.seen_in(bus, bytes, seen) {
+                Some(more) => seen = more,
+                None => return false,
+            }
+        }
+        seen == bytes.len()
     }
 
     /// The address of the first watch whose bytes differ between two buses.
@@ -69,6 +98,26 @@ impl Stops {
 
 impl Watch {
     ghost use Rattle.rv_history.specs.Stops.{watch_bytes};
+
+    // Where the bytes that stand in regions end in others, if they stand there from a place on.
+    fn seen_in(&self, bus: &Bus, bytes: &[u8], from: usize) -> Option<usize>
+        requires { from ≤ length bytes.now }
+        ensures within { IfSome result (λ end. end ≤ length bytes.now) }
+        ensures bytes { MatchOption result
+            ((rest : List ℕ) → drop from bytes.now ≡ watch_bytes bus.now self.now ++ rest → ⊥)
+            (λ end. drop from bytes.now ≡ watch_bytes bus.now self.now ++ drop end bytes.now) }
+    {
+        let mut seen = from;
+        for offset in 0..self.count {
+            if let Some(byte) = bus.byte(self.address + offset) {
+                if seen == bytes.len() || bytes[seen] != byte {
+                    return None;
+                }
+                seen += 1;
+            }
+        }
+        Some(seen)
+    }
 
     // Appends the bytes that stand in regions.
     fn push_bytes(&self, bytes: &mut Vec<u8>, bus: &Bus) -> Result<(), AllocError>

@@ -113,6 +113,16 @@ row_lines_of_job telling row (Some job) = row_lines telling job row
 unfoldable pub row_lines_at : Telling → ℕ → Row → List ℕ
 row_lines_at telling place row = row_lines_of_job telling row (slice_get telling.plan.jobs place)
 
+-- ---- what a job came to
+
+-- the expectations that the run of a row does not meet
+abbrev pub unmet_if_run : Planned → Job → Row → List ℕ
+unmet_if_run plan job row = if did_run row.ending then expectation_lines detail.Unmet plan job row else []
+
+-- the line of a row, and behind it the expectations that its run does not meet
+unfoldable pub outcome_text : Planned → List Unread → Judging → Job → Row → List ℕ
+outcome_text plan unread judging job row = row_line plan unread judging job row ++ unmet_if_run plan job row
+
 -- ---- a job that is explained
 
 -- the calls that have not returned where the run of a job ended, in a line, where there are any

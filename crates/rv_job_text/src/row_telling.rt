@@ -8,7 +8,7 @@ ghost use Rattle.rv_jobs.specs.declared_job.Job.{Job as AJob};
 ghost use Rattle.rv_trace.specs.Trace.{job_at};
 ghost use Rattle.rv_job_text.specs.ImageSymbols.{fault_symbol};
 ghost use Rattle.rv_job_text.specs.Telling.{compared_lines, expectation_lines, explanation_text, image_bytes, row_line};
-ghost use Rattle.rv_job_text.specs.Telling.{run_explanation, run_lines, telling_of, row_lines};
+ghost use Rattle.rv_job_text.specs.Telling.{outcome_text, run_explanation, run_lines, telling_of, row_lines};
 
 use crate::budget_use_line::push_budget_use_line;
 use crate::console_tail::push_console_tail;
@@ -122,6 +122,36 @@ impl<'a> RowTelling<'a> {
             file,
         }
         .push_run_explanation(alloc, way, text)
+    }
+
+    /// Appends what the job at a place came to, whatever the verbosity: the line of its row, and where it ran the expectations that it
+    /// does not meet.
+    #[tactic(auto, unfolding(crate::specs::Telling::outcome_text))]
+    pub fn push_outcome(
+        &self,
+        alloc: Global,
+        place: usize,
+        row: &Row,
+        text: &mut Vec<u8>,
+    ) -> Result<(), AllocError>
+        requires { place < length self.now.plan.now.jobs }
+        ensures { OnOk result ((d : AJob) → text.new.items ≡ text.old.items
+            ++ outcome_text self.now.plan.now self.now.unread.now (judging_of self.now.judge)
+            (job_at self.now.plan.now place d) row.now) }
+    {
+        if !did_run(row.ending) {
+            return self.push_lone_row_line(alloc, place, row, text);
+        }
+        let plan = self.plan;
+        let file = &JobFile::read(alloc, plan, place)?;
+        self.push_row_line(alloc, place, row, file.fault_symbol(row.ending), text)?;
+        JobRow {
+            plan,
+            place,
+            row,
+            file,
+        }
+        .push_expectation_lines(alloc, Detail::Unmet, text)
     }
 
     /// Appends the line of the row of the job at a place, and nothing behind it, whatever the verbosity. The image is read for the

@@ -5,3 +5,4 @@ pub use Rattle.rv_machine.proofs.Regions.{run_keeps}
 pub use Rattle.rv_machine.proofs.Loads.{byte_loaded, half_loaded, word_loaded}
 pub use Rattle.rv_machine.proofs.Right.{ok_is}
 pub use Rattle.rv_machine.proofs.Even.{effect_even, fetched_steady}
+pub use Rattle.rv_machine.specs.StateInside.{state_code}

@@ -30,8 +30,8 @@ use Rattle.rv_remote.specs.declared.request.Trap.{Trap}
 use Rattle.rv_remote.specs.declared.request.Trap.TheVariants as trap
 use Rattle.rv_session.specs.Answers.{IsAnswered, IsSet, IsSought, IsSoughtAs, IsTrapAsked, IsWritten}
 use Rattle.rv_session.specs.Heard.{IsByteFed, IsFed, IsJudged, IsRespondedTo, IsResponse, IsResponseUnless, IsTaken, acknowledgement, byte_first, is_wrong, no_bytes, packets_of, with_sent}
-use Rattle.rv_session.specs.Moved.{IsGone, IsMoved, printed_on, shown_on, stop_of}
-use Rattle.rv_session.specs.Replies.{granted_if, printing}
+use Rattle.rv_session.specs.Moved.{IsGone, IsMoved, end_text_at, printed_on, shown_on, stop_of}
+use Rattle.rv_session.specs.Replies.{granted_if, stopping}
 use Rattle.rv_session.specs.Sessions.{at_place, state_at}
 use Rattle.rv_session.specs.Traps.{IsAdded, IsAddedUnless, IsTrapped, is_on, is_set, trap_refusal}
 use Rattle.rv_session.specs.declared.reply.Reply.{Reply}
@@ -52,13 +52,14 @@ gone_one move.ContinueBack stops budget from p q start one other first second =
 gone_one move.StepBack stops budget from p q start one other first second =
     one_step_before stops budget from p q start one other first second
 
-moved_one : (session one other : Session) (asked : Move) (reply again : Reply) → IsMoved session asked reply one
-    → IsMoved session asked again other → (reply ≡ again) × (one ≡ other)
-moved_one session one other asked reply again first second =
+moved_one : (end_text : List ℕ) (session one other : Session) (asked : Move) (reply again : Reply) → IsMoved end_text session asked reply one
+    → IsMoved end_text session asked again other → (reply ≡ again) × (one ≡ other)
+moved_one end_text session one other asked reply again first second =
     let same = gone_one asked session.stops session.history.budget session.history.place first.place second.place
     session.history.start first.found second.found first.gone second.gone in
     let said : ℕ → Found → Reply = λ place found.
-    printing (printed_on session asked (state_at session place)) (stop_text (stop_of session asked place found)) in
+    stopping (printed_on session asked (state_at session place)) (end_text_at end_text found)
+    (stop_text (stop_of session asked place found)) in
     let stands : ℕ → Found → Session = λ place found. record session {
       history = record session.history { place = place };
       shown = shown_on session asked (state_at session place);
@@ -173,63 +174,63 @@ trap_one session one other place reply again first second =
 
 -- ---- answers
 
-answered_one : (session one other : Session) (request : Request) (reply again : Reply) → IsAnswered session request reply one
-    → IsAnswered session request again other → (reply ≡ again) × (one ≡ other)
-answered_one session one other (ask.Move asked) reply again first second =
-    moved_one session one other asked reply again first second
-answered_one session one other (ask.WriteRegister register value) reply again first second =
+answered_one : (end_text : List ℕ) (session one other : Session) (request : Request) (reply again : Reply) → IsAnswered end_text session request reply one
+    → IsAnswered end_text session request again other → (reply ≡ again) × (one ≡ other)
+answered_one end_text session one other (ask.Move asked) reply again first second =
+    moved_one end_text session one other asked reply again first second
+answered_one end_text session one other (ask.WriteRegister register value) reply again first second =
     written_one session one other register value reply again first second
-answered_one session one other (ask.Set place) reply again first second =
+answered_one end_text session one other (ask.Set place) reply again first second =
     trap_one session one other place reply again first second
-answered_one session one other request reply again first second = (first.0 ∙ sym second.0, first.1 ∙ sym second.1)
+answered_one end_text session one other request reply again first second = (first.0 ∙ sym second.0, first.1 ∙ sym second.1)
 
-taken_one : (session one other : Session) (body out more : List ℕ) → IsTaken session body out one
-    → IsTaken session body more other → (out ≡ more) × (one ≡ other)
-taken_one session one other body out more first second =
-    let same = answered_one session first.behind second.behind (request_of body) first.reply second.reply
+taken_one : (end_text : List ℕ) (session one other : Session) (body out more : List ℕ) → IsTaken end_text session body out one
+    → IsTaken end_text session body more other → (out ≡ more) × (one ≡ other)
+taken_one end_text session one other body out more first second =
+    let same = answered_one end_text session first.behind second.behind (request_of body) first.reply second.reply
     first.answered second.answered in (
       first.out_is ∙ ap (λ (reply : Reply). acknowledgement session ++ packets_of reply) same.0 ∙ sym second.out_is,
       first.next_is ∙ ap (with_sent first.behind) same.0 ∙ ap (λ (s : Session). with_sent s second.reply) same.1
           ∙ sym second.next_is,
     )
 
-judged_one : (session one other : Session) (again : Bool) (body out more : List ℕ) → IsJudged session again body out one
-    → IsJudged session again body more other → (out ≡ more) × (one ≡ other)
-judged_one session one other true body out more first second = (first.0 ∙ sym second.0, first.1 ∙ sym second.1)
-judged_one session one other false body out more first second = taken_one session one other body out more first second
+judged_one : (end_text : List ℕ) (session one other : Session) (again : Bool) (body out more : List ℕ) → IsJudged end_text session again body out one
+    → IsJudged end_text session again body more other → (out ≡ more) × (one ≡ other)
+judged_one end_text session one other true body out more first second = (first.0 ∙ sym second.0, first.1 ∙ sym second.1)
+judged_one end_text session one other false body out more first second = taken_one end_text session one other body out more first second
 
-response_one : (session one other : Session) (heard : Heard) (out more : List ℕ) → IsResponse session heard out one
-    → IsResponse session heard more other → (out ≡ more) × (one ≡ other)
-response_one session one other (heard.Packet body sum) out more first second =
-    judged_one session one other (session.acknowledges && is_wrong sum) body out more first second
-response_one session one other heard.Interrupt out more first second = (first.0 ∙ sym second.0, first.1 ∙ sym second.1)
-response_one session one other heard.Arrived out more first second = (first.0 ∙ sym second.0, first.1 ∙ sym second.1)
-response_one session one other heard.Again out more first second = (first.0 ∙ sym second.0, first.1 ∙ sym second.1)
-response_one session one other heard.TooLong out more first second = (first.0 ∙ sym second.0, first.1 ∙ sym second.1)
+response_one : (end_text : List ℕ) (session one other : Session) (heard : Heard) (out more : List ℕ) → IsResponse end_text session heard out one
+    → IsResponse end_text session heard more other → (out ≡ more) × (one ≡ other)
+response_one end_text session one other (heard.Packet body sum) out more first second =
+    judged_one end_text session one other (session.acknowledges && is_wrong sum) body out more first second
+response_one end_text session one other heard.Interrupt out more first second = (first.0 ∙ sym second.0, first.1 ∙ sym second.1)
+response_one end_text session one other heard.Arrived out more first second = (first.0 ∙ sym second.0, first.1 ∙ sym second.1)
+response_one end_text session one other heard.Again out more first second = (first.0 ∙ sym second.0, first.1 ∙ sym second.1)
+response_one end_text session one other heard.TooLong out more first second = (first.0 ∙ sym second.0, first.1 ∙ sym second.1)
 
-unless_one : (session one other : Session) (over : Bool) (heard : Heard) (out more : List ℕ)
-    → IsResponseUnless over session heard out one → IsResponseUnless over session heard more other → (out ≡ more) × (one ≡ other)
-unless_one session one other true heard out more first second = (first.0 ∙ sym second.0, first.1 ∙ sym second.1)
-unless_one session one other false heard out more first second = response_one session one other heard out more first second
+unless_one : (end_text : List ℕ) (session one other : Session) (over : Bool) (heard : Heard) (out more : List ℕ)
+    → IsResponseUnless end_text over session heard out one → IsResponseUnless end_text over session heard more other → (out ≡ more) × (one ≡ other)
+unless_one end_text session one other true heard out more first second = (first.0 ∙ sym second.0, first.1 ∙ sym second.1)
+unless_one end_text session one other false heard out more first second = response_one end_text session one other heard out more first second
 
-responded_one : (session one other : Session) (heard : Option Heard) (out more : List ℕ) → IsRespondedTo session heard out one
-    → IsRespondedTo session heard more other → (out ≡ more) × (one ≡ other)
-responded_one session one other None out more first second = (first.0 ∙ sym second.0, first.1 ∙ sym second.1)
-responded_one session one other (Some heard) out more first second =
-    unless_one session one other session.is_over heard out more first second
+responded_one : (end_text : List ℕ) (session one other : Session) (heard : Option Heard) (out more : List ℕ) → IsRespondedTo end_text session heard out one
+    → IsRespondedTo end_text session heard more other → (out ≡ more) × (one ≡ other)
+responded_one end_text session one other None out more first second = (first.0 ∙ sym second.0, first.1 ∙ sym second.1)
+responded_one end_text session one other (Some heard) out more first second =
+    unless_one end_text session one other session.is_over heard out more first second
 
-byte_one : (session one other : Session) (byte : ℕ) (out more : List ℕ) → IsByteFed session byte out one
-    → IsByteFed session byte more other → (out ≡ more) × (one ≡ other)
-byte_one session one other byte out more first second =
-    responded_one (record session { reader = frame_behind session.reader byte }) one other (heard_at session.reader byte) out more
+byte_one : (end_text : List ℕ) (session one other : Session) (byte : ℕ) (out more : List ℕ) → IsByteFed end_text session byte out one
+    → IsByteFed end_text session byte more other → (out ≡ more) × (one ≡ other)
+byte_one end_text session one other byte out more first second =
+    responded_one end_text (record session { reader = frame_behind session.reader byte }) one other (heard_at session.reader byte) out more
     first second
 
-pub fed_one : (session one other : Session) (bytes out more : List ℕ) → IsFed session bytes out one
-    → IsFed session bytes more other → (out ≡ more) × (one ≡ other)
-fed_one session one other bytes out more (no_bytes same) (no_bytes again) = (refl, refl)
-fed_one session one other bytes out more (byte_first same between last byte rest told sent first later)
+pub fed_one : (end_text : List ℕ) (session one other : Session) (bytes out more : List ℕ) → IsFed end_text session bytes out one
+    → IsFed end_text session bytes more other → (out ≡ more) × (one ≡ other)
+fed_one end_text session one other bytes out more (no_bytes same) (no_bytes again) = (refl, refl)
+fed_one end_text session one other bytes out more (byte_first same between last byte rest told sent first later)
     (byte_first again middle end again_byte again_rest said shown second further) =
-    let here = byte_one session between middle byte told said first second in
-    let there = fed_one between one other rest sent shown later
-    (subst (λ (s : Session). IsFed s rest shown other) (sym here.1) further) in
+    let here = byte_one end_text session between middle byte told said first second in
+    let there = fed_one end_text between one other rest sent shown later
+    (subst (λ (s : Session). IsFed end_text s rest shown other) (sym here.1) further) in
     (ap (λ (front : List ℕ). front ++ sent) here.0 ∙ ap (λ (behind : List ℕ). said ++ behind) there.0, there.1)

@@ -1,14 +1,16 @@
 -- The stop that is told tells the ending.
-use Rattle.std.proofs.Common.{◌≡◌, ◌∙◌, ◌+◌, ◌-◌, ℕ, Option, Some, None, ap, refl}
+use Rattle.std.proofs.Common.{◌≡◌, ◌∙◌, ◌+◌, ◌-◌, ℕ, List, Option, Some, None, ap, refl, sym}
 use Rattle.std.specs.Prelude.{if◌then◌else◌}
 use Rattle.rv_history.specs.declared.found.Found.{Found}
 use Rattle.rv_history.specs.declared.found.Found.TheVariants as found
 use Rattle.rv_machine.specs.declared.ending.Ending.{Ending}
 use Rattle.rv_machine.specs.declared.ending.Ending.TheVariants as ending
-use Rattle.rv_remote.specs.Stops.{NoEnding, told_by}
+use Rattle.rv_machine.specs.declared.ending.FaultKind.{FaultKind}
+use Rattle.rv_machine.specs.declared.ending.FaultKind.TheVariants as fault
+use Rattle.rv_remote.specs.Stops.{NoEnding, Told, told_by, told_by_fault}
 use Rattle.rv_remote.specs.declared.request.Move.{Move}
-use Rattle.rv_session.specs.Endings.{told_by_ending, told_by_found}
-use Rattle.rv_session.specs.Moved.{IsMoved, end_stop, is_forward, stop_of, watch_between, watch_told}
+use Rattle.rv_session.specs.Endings.{text_with, told_by_ending, told_by_found}
+use Rattle.rv_session.specs.Moved.{IsMoved, end_stop, end_text_at, is_forward, stop_of, watch_between, watch_told}
 use Rattle.rv_session.specs.declared.reply.Reply.{Reply}
 use Rattle.rv_session.specs.declared.session.Session.{Session}
 
@@ -30,7 +32,35 @@ stop_is_told session asked place found.Change = watch_is_none
 stop_is_told session asked place (found.End ending) = end_is_told ending
 stop_is_told session asked place found.Begin = refl
 
-pub end_told : (session next : Session) (asked : Move) (reply : Reply) (moved : IsMoved session asked reply next)
-    → told_by next.last ≡ told_by_found moved.found
-end_told session next asked reply moved =
-    ap (λ (s : Session). told_by s.last) moved.next_is ∙ stop_is_told session asked moved.place moved.found
+fault_has_text : (kind : FaultKind) (end_text : List ℕ) → text_with (told_by_fault kind) end_text ≡ end_text
+fault_has_text fault.FetchAccess end_text = refl
+fault_has_text fault.LoadAccess end_text = refl
+fault_has_text fault.StoreAccess end_text = refl
+fault_has_text fault.FetchMisaligned end_text = refl
+fault_has_text fault.LoadMisaligned end_text = refl
+fault_has_text fault.StoreMisaligned end_text = refl
+fault_has_text fault.Illegal end_text = refl
+fault_has_text fault.StaleCode end_text = refl
+fault_has_text fault.Breakpoint end_text = refl
+fault_has_text fault.UnknownCall end_text = refl
+fault_has_text fault.ConsoleFull end_text = refl
+
+text_is_told : (end_text : List ℕ) (found : Found) → end_text_at end_text found ≡ text_with (told_by_found found) end_text
+text_is_told end_text (found.End (ending.Exit code)) = refl
+text_is_told end_text (found.End (ending.Fault kind pc value)) = sym (fault_has_text kind end_text)
+text_is_told end_text (found.End ending.Budget) = refl
+text_is_told end_text found.Done = refl
+text_is_told end_text found.Break = refl
+text_is_told end_text found.Change = refl
+text_is_told end_text found.Begin = refl
+
+pub end_told : (end_text : List ℕ) (session next : Session) (asked : Move) (reply : Reply)
+    (moved : IsMoved end_text session asked reply next)
+    → (told_by next.last ≡ told_by_found moved.found) × (reply.end_text ≡ text_with (told_by next.last) end_text)
+end_told end_text session next asked reply moved =
+    let told : told_by next.last ≡ told_by_found moved.found =
+    ap (λ (s : Session). told_by s.last) moved.next_is ∙ stop_is_told session asked moved.place moved.found in (
+      told,
+      ap (λ (r : Reply). r.end_text) moved.reply_is ∙ text_is_told end_text moved.found
+          ∙ ap (λ (t : Told). text_with t end_text) (sym told),
+    )

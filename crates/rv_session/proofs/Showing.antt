@@ -92,9 +92,9 @@ shows_on session asked place found shown true forward gone before =
 shows_on session asked place found shown false forward gone before =
     rw forward (append-nil shown ∙ before.first_bytes, before.within)
 
-pub shown_once : (session next : Session) (asked : Move) (reply : Reply) (shown : List ℕ) → HasShown session shown
-    → IsMoved session asked reply next → HasShown next (shown ++ reply.printed)
-shown_once session next asked reply shown before moved =
+pub shown_once : (end_text : List ℕ) (session next : Session) (asked : Move) (reply : Reply) (shown : List ℕ) → HasShown session shown
+    → IsMoved end_text session asked reply next → HasShown next (shown ++ reply.printed)
+shown_once end_text session next asked reply shown before moved =
     let last = last_place session.history.budget session.history.start in
     let shows = shows_on session asked moved.place moved.found shown (is_forward asked) refl moved.gone before in
     let printed : reply.printed ≡ printed_on session asked (state_at session moved.place) =

@@ -168,17 +168,17 @@ IsCommanded session text reply next =
     (reply ≡ command_reply session text) × (next ≡ (if is_reset text then at_place session 0 else session))
 
 -- what a session answers, and how it stands behind the answer
-abbrev pub IsAnswered : Session → Request → Reply → Session → Type 0
-IsAnswered session (ask.Move asked) reply next = IsMoved session asked reply next
-IsAnswered session (ask.WriteRegister register value) reply next = IsWritten session register value reply next
-IsAnswered session (ask.Set place) reply next = IsTrapAsked session place reply next
-IsAnswered session (ask.Clear place) reply next =
+abbrev pub IsAnswered : List ℕ → Session → Request → Reply → Session → Type 0
+IsAnswered end_text session (ask.Move asked) reply next = IsMoved end_text session asked reply next
+IsAnswered end_text session (ask.WriteRegister register value) reply next = IsWritten session register value reply next
+IsAnswered end_text session (ask.Set place) reply next = IsTrapAsked session place reply next
+IsAnswered end_text session (ask.Clear place) reply next =
     (reply ≡ granted) × (next ≡ record session { stops = without_trap session.stops place })
-IsAnswered session (ask.Command text) reply next = IsCommanded session text reply next
-IsAnswered session ask.Restart reply next =
+IsAnswered end_text session (ask.Command text) reply next = IsCommanded session text reply next
+IsAnswered end_text session ask.Restart reply next =
     (reply ≡ saying (stop_text stop.Here)) × (next ≡ record (at_place session 0) { last = stop.Here })
-IsAnswered session ask.NoAcknowledgements reply next = (reply ≡ granted) × (next ≡ record session { acknowledges = false })
-IsAnswered session ask.Detach reply next = (reply ≡ granted) × (next ≡ record session { is_over = true })
-IsAnswered session ask.Kill reply next =
-    (reply ≡ record { printed = []; body = None }) × (next ≡ record session { is_over = true })
-IsAnswered session request reply next = (reply ≡ shown_reply session request) × (next ≡ session)
+IsAnswered end_text session ask.NoAcknowledgements reply next = (reply ≡ granted) × (next ≡ record session { acknowledges = false })
+IsAnswered end_text session ask.Detach reply next = (reply ≡ granted) × (next ≡ record session { is_over = true })
+IsAnswered end_text session ask.Kill reply next =
+    (reply ≡ record { printed = []; end_text = []; body = None }) × (next ≡ record session { is_over = true })
+IsAnswered end_text session request reply next = (reply ≡ shown_reply session request) × (next ≡ session)

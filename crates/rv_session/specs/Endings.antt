@@ -1,9 +1,10 @@
 -- What gdb is told of the run's end.
+use Rattle.std.specs.Prelude.{ℕ, List, []}
 use Rattle.rv_history.specs.declared.found.Found.{Found}
 use Rattle.rv_history.specs.declared.found.Found.TheVariants as found
 use Rattle.rv_machine.specs.declared.ending.Ending.{Ending}
 use Rattle.rv_machine.specs.declared.ending.Ending.TheVariants as ending
-use Rattle.rv_remote.specs.Stops.{Exited, NoEnding, Told, UsedUp, told_by_fault}
+use Rattle.rv_remote.specs.Stops.{Aborted, BadCall, BusError, Exited, FileTooLarge, IllegalInstruction, NoEnding, SegmentFault, Told, UsedUp, told_by_fault}
 
 abbrev pub told_by_ending : Ending → Told
 told_by_ending (ending.Exit code) = Exited
@@ -17,3 +18,15 @@ told_by_found found.Done = NoEnding
 told_by_found found.Break = NoEnding
 told_by_found found.Change = NoEnding
 told_by_found found.Begin = NoEnding
+
+-- a text that goes with what tells an ending alone
+abbrev pub text_with : Told → List ℕ → List ℕ
+text_with NoEnding text = []
+text_with Exited text = text
+text_with UsedUp text = text
+text_with SegmentFault text = text
+text_with BusError text = text
+text_with IllegalInstruction text = text
+text_with Aborted text = text
+text_with BadCall text = text
+text_with FileTooLarge text = text

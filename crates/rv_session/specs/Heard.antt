@@ -37,7 +37,7 @@ body_packet None = []
 
 -- the packets of a reply
 abbrev pub packets_of : Reply → List ℕ
-packets_of reply = printed_packets reply.printed ++ body_packet reply.body
+packets_of reply = printed_packets reply.printed ++ (printed_packets reply.end_text ++ body_packet reply.body)
 
 -- the last packet is kept, to be sent again
 abbrev pub sent_behind : List ℕ → Option (List ℕ) → List ℕ
@@ -64,48 +64,48 @@ pub record IsAppended (old new : List ℕ) (IsSuch : List ℕ → Type 0) : Type
 -- ---- what is heard
 
 -- a whole packet is acknowledged, read and answered
-pub record IsTaken (session : Session) (body out : List ℕ) (next : Session) : Type 0 where
+pub record IsTaken (end_text : List ℕ) (session : Session) (body out : List ℕ) (next : Session) : Type 0 where
   pub reply : Reply
   pub behind : Session
-  pub answered : IsAnswered session (request_of body) reply behind
+  pub answered : IsAnswered end_text session (request_of body) reply behind
   pub out_is : out ≡ acknowledgement session ++ packets_of reply
   pub next_is : next ≡ with_sent behind reply
 
 -- a packet whose sum is wrong is asked for again, while packets are acknowledged
-abbrev pub IsJudged : Session → Bool → List ℕ → List ℕ → Session → Type 0
-IsJudged session true body out next = (out ≡ 45 ∷ []) × (next ≡ session)
-IsJudged session false body out next = IsTaken session body out next
+abbrev pub IsJudged : List ℕ → Session → Bool → List ℕ → List ℕ → Session → Type 0
+IsJudged end_text session true body out next = (out ≡ 45 ∷ []) × (next ≡ session)
+IsJudged end_text session false body out next = IsTaken end_text session body out next
 
 abbrev pub is_wrong : Sum → Bool
 is_wrong verdict.Wrong = true
 is_wrong verdict.Right = false
 
 -- Ctrl-C finds no move under way
-abbrev pub IsResponse : Session → Heard → List ℕ → Session → Type 0
-IsResponse session heard.Interrupt out next = (out ≡ []) × (next ≡ session)
-IsResponse session heard.Arrived out next = (out ≡ []) × (next ≡ session)
-IsResponse session heard.Again out next = (out ≡ sent_again session) × (next ≡ session)
-IsResponse session heard.TooLong out next =
+abbrev pub IsResponse : List ℕ → Session → Heard → List ℕ → Session → Type 0
+IsResponse end_text session heard.Interrupt out next = (out ≡ []) × (next ≡ session)
+IsResponse end_text session heard.Arrived out next = (out ≡ []) × (next ≡ session)
+IsResponse end_text session heard.Again out next = (out ≡ sent_again session) × (next ≡ session)
+IsResponse end_text session heard.TooLong out next =
     (out ≡ acknowledgement session ++ packets_of (refused refusal.TooLong)) × (next ≡ with_sent session (refused refusal.TooLong))
-IsResponse session (heard.Packet body sum) out next =
-    IsJudged session (session.acknowledges && is_wrong sum) body out next
+IsResponse end_text session (heard.Packet body sum) out next =
+    IsJudged end_text session (session.acknowledges && is_wrong sum) body out next
 
 -- what is heard once the session is over is not answered
-abbrev pub IsResponseUnless : Bool → Session → Heard → List ℕ → Session → Type 0
-IsResponseUnless true session heard out next = (out ≡ []) × (next ≡ session)
-IsResponseUnless false session heard out next = IsResponse session heard out next
+abbrev pub IsResponseUnless : List ℕ → Bool → Session → Heard → List ℕ → Session → Type 0
+IsResponseUnless end_text true session heard out next = (out ≡ []) × (next ≡ session)
+IsResponseUnless end_text false session heard out next = IsResponse end_text session heard out next
 
-abbrev pub IsRespondedTo : Session → Option Heard → List ℕ → Session → Type 0
-IsRespondedTo session None out next = (out ≡ []) × (next ≡ session)
-IsRespondedTo session (Some heard) out next = IsResponseUnless session.is_over session heard out next
+abbrev pub IsRespondedTo : List ℕ → Session → Option Heard → List ℕ → Session → Type 0
+IsRespondedTo end_text session None out next = (out ≡ []) × (next ≡ session)
+IsRespondedTo end_text session (Some heard) out next = IsResponseUnless end_text session.is_over session heard out next
 
 -- a byte is heard
-abbrev pub IsByteFed : Session → ℕ → List ℕ → Session → Type 0
-IsByteFed session byte out next = IsRespondedTo (record session { reader = frame_behind session.reader byte })
+abbrev pub IsByteFed : List ℕ → Session → ℕ → List ℕ → Session → Type 0
+IsByteFed end_text session byte out next = IsRespondedTo end_text (record session { reader = frame_behind session.reader byte })
     (heard_at session.reader byte) out next
 
 -- bytes are heard one behind the other
-pub data IsFed : Session → List ℕ → List ℕ → Session → Type 0 where
-  no_bytes : (session : Session) → IsFed session [] [] session
-  byte_first : (session between next : Session) (byte : ℕ) (rest out more : List ℕ) → IsByteFed session byte out between
-      → IsFed between rest more next → IsFed session (byte ∷ rest) (out ++ more) next
+pub data IsFed (end_text : List ℕ) : Session → List ℕ → List ℕ → Session → Type 0 where
+  no_bytes : (session : Session) → IsFed end_text session [] [] session
+  byte_first : (session between next : Session) (byte : ℕ) (rest out more : List ℕ) → IsByteFed end_text session byte out between
+      → IsFed end_text between rest more next → IsFed end_text session (byte ∷ rest) (out ++ more) next

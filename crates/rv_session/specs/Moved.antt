@@ -15,7 +15,7 @@ use Rattle.rv_remote.specs.declared.request.Move.{Move}
 use Rattle.rv_remote.specs.declared.request.Move.TheVariants as move
 use Rattle.rv_remote.specs.declared.stop.Stop.{Stop}
 use Rattle.rv_remote.specs.declared.stop.Stop.TheVariants as stop
-use Rattle.rv_session.specs.Replies.{printing}
+use Rattle.rv_session.specs.Replies.{stopping}
 use Rattle.rv_session.specs.Sessions.{state_at}
 use Rattle.rv_session.specs.declared.reply.Reply.{Reply}
 use Rattle.rv_session.specs.declared.session.Session.{Session}
@@ -77,12 +77,21 @@ printed_on session asked s = if is_forward asked then drop session.shown s.bus.o
 abbrev pub shown_on : Session → Move → State → ℕ
 shown_on session asked s = if is_forward asked then max session.shown (length s.bus.output) else session.shown
 
--- a session moved, and what it says
-pub record IsMoved (session : Session) (asked : Move) (reply : Reply) (next : Session) : Type 0 where
+-- the text of the run's end goes out in front of the stop there, and of no other
+abbrev pub end_text_at : List ℕ → Found → List ℕ
+end_text_at end_text (found.End ending) = end_text
+end_text_at end_text found.Done = []
+end_text_at end_text found.Break = []
+end_text_at end_text found.Change = []
+end_text_at end_text found.Begin = []
+
+-- a session over a run of whose end this is the text moved, and what it says
+pub record IsMoved (end_text : List ℕ) (session : Session) (asked : Move) (reply : Reply) (next : Session) : Type 0 where
   pub place : ℕ
   pub found : Found
   pub gone : IsGone asked session.stops session.history.budget session.history.start session.history.place place found
-  pub reply_is : reply ≡ printing (printed_on session asked (state_at session place)) (stop_text (stop_of session asked place found))
+  pub reply_is : reply ≡ stopping (printed_on session asked (state_at session place)) (end_text_at end_text found)
+      (stop_text (stop_of session asked place found))
   pub next_is : next ≡ record session {
     history = record session.history { place = place };
     shown = shown_on session asked (state_at session place);

@@ -6,11 +6,15 @@ use Rattle.rv_session.specs.declared.reply.Reply.{Reply}
 
 -- a body alone
 abbrev pub saying : List ℕ → Reply
-saying body = record { printed = []; body = Some body }
+saying body = record { printed = []; end_text = []; body = Some body }
 
 -- printed bytes, and a body behind them
 abbrev pub printing : List ℕ → List ℕ → Reply
-printing printed body = record { printed = printed; body = Some body }
+printing printed body = record { printed = printed; end_text = []; body = Some body }
+
+-- a stop, behind what was printed up to it and what is said of the run at its end
+abbrev pub stopping : List ℕ → List ℕ → List ℕ → Reply
+stopping printed end_text body = record { printed = printed; end_text = end_text; body = Some body }
 
 abbrev pub granted : Reply
 granted = saying (codes "OK")

@@ -9,6 +9,7 @@ ghost use Rattle.rv_session.specs.Replies.{granted, saying};
 ghost use Rattle.rv_session.specs.Sessions.{at_place};
 ghost use Rattle.rv_session.specs.Traps.{without_trap};
 
+use crate::end_text::EndText;
 use crate::reply::Reply;
 use crate::session::Session;
 use crate::traps::{with_trap, without_trap};
@@ -18,8 +19,13 @@ use std::alloc::{AllocError, Global};
 
 impl Session {
     /// Answers a request.
-    pub(crate) fn answer(&mut self, alloc: Global, request: &Request) -> Result<Reply, AllocError>
-        ensures { IfOk result (λ reply. IsAnswered self.old request.now reply self.new) }
+    pub(crate) fn answer<E: EndText>(
+        &mut self,
+        alloc: Global,
+        end: &E,
+        request: &Request,
+    ) -> Result<Reply, AllocError>
+        ensures { IfOk result (λ reply. IsAnswered (E.end_text end.now) self.old request.now reply self.new) }
     {
         match request {
             Request::WriteRegister(register, value) => {
@@ -27,7 +33,7 @@ impl Session {
             }
             Request::Set(trap) => self.set(alloc, *trap),
             Request::Clear(trap) => self.clear(alloc, *trap),
-            Request::Move(asked) => self.move_as(alloc, *asked),
+            Request::Move(asked) => self.move_as(alloc, end, *asked),
             Request::Command(text) => self.command(alloc, text.as_slice()),
             Request::Restart => self.restart(alloc),
             Request::NoAcknowledgements => self.end_acknowledgements(alloc),
@@ -122,12 +128,13 @@ impl Session {
 
     // `k`
     fn end(&mut self, alloc: Global) -> Reply
-        ensures reply { result ≡ record { printed = []; body = None } }
+        ensures reply { result ≡ record { printed = []; end_text = []; body = None } }
         ensures next { self.new ≡ record self.old { is_over = true } }
     {
         self.is_over = true;
         Reply {
             printed: Bytes::new(Vec::new(alloc)),
+            end_text: Bytes::new(Vec::new(alloc)),
             body: None,
         }
     }

@@ -1,12 +1,13 @@
 //! What is heard from gdb, and the packets that go out.
 
-ghost use Rattle.std.specs.Prelude.{◌≡◌, ◌++◌, ◌&&◌, IfOk, OnOk, Some};
+ghost use Rattle.std.specs.Prelude.{◌≡◌, ◌++◌, ◌∷◌, ◌&&◌, [], IfOk, OnOk, Some};
 ghost use Rattle.rv_remote.specs.Sums.{framed};
-ghost use Rattle.rv_session.specs.Heard.{IsAppended, IsByteFed, IsFed, IsJudged, IsRespondedTo, IsTaken, acknowledgement, is_wrong, packets_of, printed_packet, printed_packets, printed_part, sent_again, with_sent};
+ghost use Rattle.rv_session.specs.Heard.{IsAppended, IsByteFed, IsFed, IsRespondedTo, IsTaken, acknowledgement, is_wrong, packets_of, printed_packet, printed_packets, printed_part, sent_again, with_sent};
 ghost use Rattle.rv_session.specs.Replies.{refused};
 ghost use Rattle.rv_session.specs.Sessions.{IsSameRun};
 ghost use Rattle.rv_remote.specs.declared.request.Refusal.TheVariants as refusal;
 
+use crate::end_text::EndText;
 use crate::reply::Reply;
 use crate::session::Session;
 use rv_base::Bytes;
@@ -19,30 +20,48 @@ const MOST_PRINTED: usize = 8184;
 impl Session {
     /// Hears bytes of gdb, in any cuts, and gives the bytes that go out. A move runs to its end within the call. After an error the
     /// session is to be given up.
-    pub fn feed(&mut self, alloc: Global, bytes: &[u8]) -> Result<Vec<u8>, AllocError>
-        ensures fed { IfOk result (λ out. IsFed self.old bytes.now out.items self.new) }
+    pub fn feed<E: EndText>(
+        &mut self,
+        alloc: Global,
+        end: &E,
+        bytes: &[u8],
+    ) -> Result<Vec<u8>, AllocError>
+        ensures fed { IfOk result (λ out. IsFed (E.end_text end.now) self.old bytes.now out.items self.new) }
         ensures run { OnOk result (IsSameRun self.old self.new) }
     {
         let mut out = Vec::new(alloc);
         for byte in bytes {
-            self.hear_byte(alloc, &mut out, *byte)?;
+            self.hear_byte(alloc, end, &mut out, *byte)?;
         }
         Ok(out)
     }
 
-    fn hear_byte(&mut self, alloc: Global, out: &mut Vec<u8>, byte: u8) -> Result<(), AllocError>
-        ensures { OnOk result (IsAppended out.old.items out.new.items (λ told. IsByteFed self.old byte told self.new)) }
+    fn hear_byte<E: EndText>(
+        &mut self,
+        alloc: Global,
+        end: &E,
+        out: &mut Vec<u8>,
+        byte: u8,
+    ) -> Result<(), AllocError>
+        ensures { OnOk result (IsAppended out.old.items out.new.items
+            (λ told. IsByteFed (E.end_text end.now) self.old byte told self.new)) }
     {
         match self.reader.take(alloc, byte)? {
-            Some(heard) => self.respond(alloc, out, &heard),
+            Some(heard) => self.respond(alloc, end, out, &heard),
             None => Ok(()),
         }
     }
 
     // Appends what goes out for what is heard. Ctrl-C finds no move under way.
-    fn respond(&mut self, alloc: Global, out: &mut Vec<u8>, heard: &Heard) -> Result<(), AllocError>
+    fn respond<E: EndText>(
+        &mut self,
+        alloc: Global,
+        end: &E,
+        out: &mut Vec<u8>,
+        heard: &Heard,
+    ) -> Result<(), AllocError>
         ensures { OnOk result (IsAppended out.old.items out.new.items
-            (λ told. IsRespondedTo self.old (Some heard.now) told self.new)) }
+            (λ told. IsRespondedTo (E.end_text end.now) self.old (Some heard.now) told self.new)) }
     {
         if self.is_over {
             return Ok(());
@@ -52,7 +71,12 @@ impl Session {
             Heard::Arrived => Ok(()),
             Heard::Again => self.send_again(out),
             Heard::TooLong => self.refuse_long(alloc, out),
-            Heard::Packet(body, sum) => self.take_packet(alloc, out, body.as_slice(), *sum),
+            Heard::Packet(body, sum) => {
+                if self.is_refused(*sum) {
+                    return ask_again(out);
+                }
+                self.take_body(alloc, end, out, body.as_slice())
+            }
         }
     }
 
@@ -76,25 +100,7 @@ impl Session {
         self.send(alloc, out, &reply)
     }
 
-    // A packet. Without acknowledgements its sum is not looked at.
-    fn take_packet(
-        &mut self,
-        alloc: Global,
-        out: &mut Vec<u8>,
-        body: &[u8],
-        sum: Sum,
-    ) -> Result<(), AllocError>
-        ensures { OnOk result (IsAppended out.old.items out.new.items
-            (λ told. IsJudged self.old (self.old.acknowledges && is_wrong sum) body.now told self.new)) }
-    {
-        if self.is_refused(sum) {
-            out.push(b'-')?;
-            return Ok(());
-        }
-        self.take_body(alloc, out, body)
-    }
-
-    // Whether a packet is to be sent again.
+    // Whether a packet is to be sent again. Without acknowledgements its sum is not looked at.
     fn is_refused(&self, sum: Sum) -> bool
         ensures { result ≡ (self.now.acknowledges && is_wrong sum) }
     {
@@ -102,12 +108,19 @@ impl Session {
     }
 
     // A packet that is acknowledged.
-    fn take_body(&mut self, alloc: Global, out: &mut Vec<u8>, body: &[u8]) -> Result<(), AllocError>
-        ensures { OnOk result (IsAppended out.old.items out.new.items (λ told. IsTaken self.old body.now told self.new)) }
+    fn take_body<E: EndText>(
+        &mut self,
+        alloc: Global,
+        end: &E,
+        out: &mut Vec<u8>,
+        body: &[u8],
+    ) -> Result<(), AllocError>
+        ensures { OnOk result (IsAppended out.old.items out.new.items
+            (λ told. IsTaken (E.end_text end.now) self.old body.now told self.new)) }
     {
         self.acknowledge(out)?;
         let request = parse_request(alloc, body)?;
-        let reply = self.answer(alloc, &request)?;
+        let reply = self.answer(alloc, end, &request)?;
         self.send(alloc, out, &reply)
     }
 
@@ -126,6 +139,7 @@ impl Session {
         ensures next { OnOk result (self.new ≡ with_sent self.old reply.now) }
     {
         push_printed_packets(alloc, out, reply.printed.as_slice())?;
+        push_printed_packets(alloc, out, reply.end_text.as_slice())?;
         match &reply.body {
             Some(body) => self.send_body(alloc, out, body.as_slice()),
             None => Ok(()),
@@ -143,6 +157,14 @@ impl Session {
         self.sent = Bytes::new(packet);
         Ok(())
     }
+}
+
+// Asks for a packet again.
+fn ask_again(out: &mut Vec<u8>) -> Result<(), AllocError>
+    ensures { OnOk result (out.new.items ≡ out.old.items ++ 45 ∷ []) }
+{
+    out.push(b'-')?;
+    Ok(())
 }
 
 fn is_wrong(sum: Sum) -> bool

@@ -1,10 +1,11 @@
 //! A session with gdb over a run: bytes that come and bytes that go.
 //!
 //! A [`Session`] stands at a place of a run, forwards and backwards of which gdb moves it. It shows registers and memory as they stand
-//! there, and refuses every write that would change something.
+//! there, and refuses every write that would change something. What is said of the run at its end is an [`EndText`].
 #![tactic(auto)]
 
 mod answer;
+mod end_text;
 mod files;
 mod hearing;
 mod law;
@@ -18,6 +19,7 @@ mod session;
 mod traps;
 mod writing;
 
+pub use end_text::EndText;
 pub use law::{
     answers_are_determined, cuts_are_not_seen, ends_are_told, printed_bytes_go_out_once,
 };

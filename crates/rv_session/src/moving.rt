@@ -3,10 +3,11 @@
 ghost use Rattle.std.specs.Prelude.{◌≡◌, IfOk, OnOk};
 ghost use Rattle.rv_history.specs.declared.found.Found.TheVariants as found;
 ghost use Rattle.rv_remote.specs.Stops.{stop_text};
-ghost use Rattle.rv_session.specs.Moved.{CanTell, IsGone, IsMoved, end_stop, is_forward, printed_on, shown_on, stop_of, watch_stop, watch_told};
-ghost use Rattle.rv_session.specs.Replies.{printing};
+ghost use Rattle.rv_session.specs.Moved.{CanTell, IsGone, IsMoved, end_stop, end_text_at, is_forward, printed_on, shown_on, stop_of, watch_stop, watch_told};
+ghost use Rattle.rv_session.specs.Replies.{stopping};
 ghost use Rattle.rv_session.specs.Sessions.{at_place, here};
 
+use crate::end_text::EndText;
 use crate::reply::Reply;
 use crate::session::Session;
 use rv_base::Bytes;
@@ -17,12 +18,18 @@ use std::alloc::{AllocError, Global};
 
 impl Session {
     // `vCont;`, `c`, `s`, `bc`, `bs`: moves, and tells the stop.
-    pub(crate) fn move_as(&mut self, alloc: Global, asked: Move) -> Result<Reply, AllocError>
-        ensures { IfOk result (λ reply. IsMoved self.old asked reply self.new) }
+    pub(crate) fn move_as<E: EndText>(
+        &mut self,
+        alloc: Global,
+        end: &E,
+        asked: Move,
+    ) -> Result<Reply, AllocError>
+        ensures { IfOk result (λ reply. IsMoved (E.end_text end.now) self.old asked reply self.new) }
     {
         let found = self.go(alloc, asked)?;
         let stop = self.stop_of(alloc, asked, found)?;
-        self.tell(alloc, asked, stop)
+        let text = end_text_at(alloc, end, found)?;
+        self.tell(alloc, asked, stop, text)
     }
 
     fn go(&mut self, alloc: Global, asked: Move) -> Result<Found, AllocError>
@@ -68,10 +75,16 @@ impl Session {
         }
     }
 
-    // Says a stop, and what is printed up to it.
-    fn tell(&mut self, alloc: Global, asked: Move, stop: Stop) -> Result<Reply, AllocError>
+    // Says a stop, what is printed up to it, and what is said of the run there.
+    fn tell(
+        &mut self,
+        alloc: Global,
+        asked: Move,
+        stop: Stop,
+        text: Vec<u8>,
+    ) -> Result<Reply, AllocError>
         ensures reply { IfOk result
-            (λ reply. reply ≡ printing (printed_on self.old asked (here self.old)) (stop_text stop)) }
+            (λ reply. reply ≡ stopping (printed_on self.old asked (here self.old)) text.items (stop_text stop)) }
         ensures next { OnOk result (self.new ≡ record self.old { shown = shown_on self.old asked (here self.old); last = stop }) }
     {
         let mut body = Vec::new(alloc);
@@ -80,6 +93,7 @@ impl Session {
         self.last = stop;
         Ok(Reply {
             printed: Bytes::new(printed),
+            end_text: Bytes::new(text),
             body: Some(Bytes::new(body)),
         })
     }
@@ -97,6 +111,18 @@ impl Session {
         self.shown = self.shown.max(console.len());
         Ok(printed)
     }
+}
+
+// What is said of the run where a move comes to its end, and nothing elsewhere.
+fn end_text_at<E: EndText>(alloc: Global, end: &E, found: Found) -> Result<Vec<u8>, AllocError>
+    ensures { IfOk result (λ text. text.items ≡ end_text_at (E.end_text end.now) found) }
+{
+    let mut text = Vec::new(alloc);
+    match found {
+        Found::End(_) => end.push_end_text(alloc, &mut text)?,
+        Found::Done | Found::Break | Found::Change | Found::Begin => {}
+    }
+    Ok(text)
 }
 
 fn is_forward(asked: Move) -> bool

@@ -11,6 +11,8 @@ use std::alloc::{AllocError, Global};
 pub struct Reply {
     /// Bytes that gdb shows, in packets of their own in front of the body.
     pub printed: Bytes,
+    /// What is said of the run at its end, which gdb shows behind them.
+    pub end_text: Bytes,
     /// The body, if anything is said.
     pub body: Option<Bytes>,
 }
@@ -24,6 +26,7 @@ impl Reply {
     {
         Reply {
             printed: Bytes::new(Vec::new(alloc)),
+            end_text: Bytes::new(Vec::new(alloc)),
             body: Some(Bytes::new(body)),
         }
     }
@@ -35,6 +38,7 @@ impl Reply {
         let granted = Vec::from_slice(alloc, b"OK")?;
         Ok(Reply {
             printed: Bytes::new(text),
+            end_text: Bytes::new(Vec::new(alloc)),
             body: Some(Bytes::new(granted)),
         })
     }

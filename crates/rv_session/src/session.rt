@@ -59,6 +59,13 @@ impl Session {
         })
     }
 
+    /// From now on it takes so many megabytes at most, from 64 to 4,096, and 256 if it is told nothing. No answer depends on it.
+    pub fn set_memory(&mut self, alloc: Global, megabytes: u32)
+        ensures { self.new ≡ self.old }
+    {
+        self.history.set_memory(alloc, megabytes);
+    }
+
     /// How many steps of the run are done.
     pub fn place(&self) -> u32
         ensures value { result ≡ self.now.history.place }

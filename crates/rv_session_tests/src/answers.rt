@@ -4,9 +4,9 @@ use rv_history::Start;
 use rv_isa::Isa;
 use rv_memory::{Bus, Map, Misaligned, Region};
 use rv_remote::push_frame;
-use rv_session::{Program, Session};
+use rv_session::{EndText, Program, Session};
 use samples::{agree, cell_of, has_lines, numbers};
-use std::alloc::Global;
+use std::alloc::{AllocError, Global};
 use std::test::Fail;
 
 // x5 is 80000100, and x6 counts from 3 down: the store at 8000000c is the steps 3, 6 and 9, with 3, 2 and 1. The exit call is the
@@ -22,14 +22,14 @@ not known | LOOP | 100 | qHostInfo > empty / vMustReplyEmpty > empty / Z9,0,4 > 
 the first stop | LOOP | 100 | ? > T05
 registers | LOOP | 100 | p20 > 00000080 / p21 > 00000000 / p0 > 00000000 / s > T05 / p20 > 04000080 / p5 > 00000080 / p21 > 01000000 / p24 > E01
 memory | LOOP | 100 | m80000000,4 > 97020000 / m80000ffe,8 > 0000 / m0,4 > E01 / m10000000,4 > E01 / m80000000,0 > E01 / mffffffff,9 > E01 / m > E01
-breakpoints forward | LOOP | 100 | Z0,8000000c,4 > OK / c > T05 / p21 > 03000000 / c > T05 / p21 > 06000000 / z0,8000000c,4 > OK / c > T05replaylog:end; / p21 > 0d000000 / s > T05replaylog:end;
-breakpoints backward | LOOP | 100 | c > T05replaylog:end; / Z1,8000000c,4 > OK / bc > T05 / p21 > 09000000 / bs > T05 / p21 > 08000000 / z1,8000000c,4 > OK / bc > T05replaylog:begin; / bs > T05replaylog:begin; / ? > T05replaylog:begin;
+breakpoints forward | LOOP | 100 | Z0,8000000c,4 > OK / c > T05 / p21 > 03000000 / c > T05 / p21 > 06000000 / z0,8000000c,4 > OK / c > O656e640a & T05replaylog:end; / p21 > 0d000000 / s > O656e640a & T05replaylog:end;
+breakpoints backward | LOOP | 100 | c > O656e640a & T05replaylog:end; / Z1,8000000c,4 > OK / bc > T05 / p21 > 09000000 / bs > T05 / p21 > 08000000 / z1,8000000c,4 > OK / bc > T05replaylog:begin; / bs > T05replaylog:begin; / ? > T05replaylog:begin;
 a watch forward | LOOP | 100 | Z2,80000100,4 > OK / c > T05watch:80000100; / p21 > 03000000 / s > T05watch:80000100; / z2,80000100,4 > OK / s > T05 / Z2,80000100,4 > OK / c > T05watch:80000100; / p21 > 06000000
-a watch backward | LOOP | 100 | c > T05replaylog:end; / Z2,80000100,4 > OK / bc > T05watch:80000100; / p21 > 0a000000 / bs > T05watch:80000100; / z2,80000100,4 > OK / bs > T05 / p21 > 09000000
+a watch backward | LOOP | 100 | c > O656e640a & T05replaylog:end; / Z2,80000100,4 > OK / bc > T05watch:80000100; / p21 > 0a000000 / bs > T05watch:80000100; / z2,80000100,4 > OK / bs > T05 / p21 > 09000000
 the right watch | LOOP | 100 | Z2,80000200,4 > OK / Z2,80000100,1 > OK / c > T05watch:80000100;
 a range | LOOP | 100 | vCont;r80000000,8000000c:1;c > T05 / p21 > 03000000 / vCont;r8000000c,80000018 > T05 / p21 > 0c000000 / p20 > 18000080
 a range with a break | LOOP | 100 | Z0,80000008,4 > OK / vCont;r80000000,8000000c > T05 / p21 > 02000000
-the budget | LOOP | 5 | vCont;c > T18 / p21 > 05000000 / s > T18 / bs > T05 / p21 > 04000000
+the budget | LOOP | 5 | vCont;c > O656e640a & T18 / p21 > 05000000 / s > O656e640a & T18 / bs > T05 / p21 > 04000000
 seeks | LOOP | 100 | P21=03000000 > OK / p20 > 0c000080 / P21=0e000000 > E.the run does not come there / p21 > 03000000 / P22=00000000 > OK / p21 > 00000000 / P23=01000000 > E.the run does not come there
 writes | LOOP | 100 | P0=00000000 > OK / P0=01000000 > E.the run is what it is: the debugger does not change it / M80000000,2:9702 > OK / M80000000,2:9703 > E.the run is what it is: the debugger does not change it / M0,1:00 > E.the run is what it is: the debugger does not change it / X80000000,0: > OK / c80000000 > E.the run is what it is: the debugger does not change it
 bad input | LOOP | 100 | P0 > E.malformed / P63=00000000 > E.malformed / M80000000,2:97 > E.malformed / Z0 > E.malformed / Z2,80000100,0 > E.malformed / Z2,0,4 > E.malformed / vCont; > E.malformed / qRcmd,7 > E01 / qXfer:features:read:other.xml:0,4 > E00 / qXfer:features:read:target.xml:0 > E01 / qXfer:features:read:target.xml:ffff,4 > l
@@ -37,15 +37,15 @@ the image | LOOP | 100 | qXfer:exec-file:read:1:0,100 > la.elf / vFile:setfs:0 >
 from the start | LOOP | 100 | s > T05 / vRun > T05 / p21 > 00000000
 monitor reset | LOOP | 100 | s > T05 / qRcmd,72657365742068616c74 > OK / p21 > 00000000
 the end | LOOP | 100 | D > OK / g > nothing / ? > nothing
-printed bytes go out once | 100002b7 04100313 0062a023 0062a023 X | 100 | s > T05 / s > T05 / s > O41 & T05 / bs > T05 / s > T05 / c > O41 & T05replaylog:end; / p22 > 02000000 / bc > T05replaylog:begin; / p22 > 00000000 / c > T05replaylog:end;
+printed bytes go out once | 100002b7 04100313 0062a023 0062a023 X | 100 | s > T05 / s > T05 / s > O41 & T05 / bs > T05 / s > T05 / c > O41 & O656e640a & T05replaylog:end; / p22 > 02000000 / bc > T05replaylog:begin; / p22 > 00000000 / c > O656e640a & T05replaylog:end;
 to a printed byte | 100002b7 04100313 0062a023 0062a023 X | 100 | P22=01000000 > OK / p21 > 03000000 / bs > T05 / p22 > 00000000 / p20 > 08000080 / P22=02000000 > OK / p21 > 04000000 / P22=03000000 > E.the run does not come there / qRcmd,636f6e736f6c65 > O4141 & OK / qRcmd,7768656e > O342073746570732061726520646f6e650a & OK
 to a byte of the script | 100002b7 0002a383 0002a383 X | 100 | P23=01000000 > OK / p21 > 02000000 / p7 > 68000000 / qRcmd,696e707574 > O31206f662032206279746573206172652074616b656e0a & OK / P23=02000000 > OK / p7 > 69000000 / P23=03000000 > E.the run does not come there
-a breakpoint of the program | 00100073 | 100 | c > T06 / p21 > 00000000 / s > T06
-no instruction | 00000297 00000000 | 100 | c > T04 / p21 > 01000000 / bc > T05replaylog:begin;
-a misaligned load | 00000297 0012a383 | 100 | c > T0a / p20 > 04000080
-a call of nothing | 000000e7 | 100 | c > T0b / p20 > 00000000 / bs > T05 / p20 > 00000080
-a store into nothing | 00602023 | 100 | c > T0b
-a call that there is not | 00000073 | 100 | c > T0c
+a breakpoint of the program | 00100073 | 100 | c > O656e640a & T06 / p21 > 00000000 / s > O656e640a & T06
+no instruction | 00000297 00000000 | 100 | c > O656e640a & T04 / p21 > 01000000 / bc > T05replaylog:begin;
+a misaligned load | 00000297 0012a383 | 100 | c > O656e640a & T0a / p20 > 04000080
+a call of nothing | 000000e7 | 100 | c > O656e640a & T0b / p20 > 00000000 / bs > T05 / p20 > 00000080
+a store into nothing | 00602023 | 100 | c > O656e640a & T0b
+a call that there is not | 00000073 | 100 | c > O656e640a & T0c
 ";
 
 // What LLDB 19 sends first, and what it was answered, as they were recorded.
@@ -71,6 +71,19 @@ $qOffsets#4b > $#00
 $qStructuredDataPlugins#02 > $#00
 $qSymbol::#5b > $#00
 ";
+
+// Of each run `end` and a line feed are said at its end.
+struct End;
+
+impl EndText for End {
+    ghost use Rattle.std.specs.Prelude.{codes};
+
+    ghost end_text = { λ _. codes "end\n" };
+
+    fn push_end_text(&self, _alloc: Global, text: &mut Vec<u8>) -> Result<(), AllocError> {
+        text.extend_from_slice(b"end\n")
+    }
+}
 
 fn bus_of(alloc: Global, code: &str) -> Result<Bus, Fail> {
     let memory = Region {
@@ -104,7 +117,7 @@ fn session_of(alloc: Global, code: &str, budget: u32) -> Result<Session, Fail> {
 
 // What goes out for the bytes of gdb.
 fn answered(alloc: Global, session: &mut Session, heard: &[u8]) -> Result<String, Fail> {
-    let sent = session.feed(alloc, heard)?;
+    let sent = session.feed(alloc, &End, heard)?;
     let text = std::str::from_utf8(sent.as_slice())?;
     Ok(String::from_str(alloc, text)?)
 }

@@ -8,6 +8,7 @@ mod AddedTables
 mod BegunSums
 mod ChosenTexts
 mod CountedRuns
+mod CoverAnswers
 mod Numbers
 mod Sent
 mod Results

@@ -10,6 +10,7 @@ use Rattle.rvtest_app.specs.Accepts.{IsAcceptedAt}
 use Rattle.rvtest_app.specs.Colors.{IsSaidInColors, asked_colors}
 use Rattle.rvtest_app.specs.Consoles.{IsConsolePut}
 use Rattle.rvtest_app.specs.CountSums.{IsSumPut}
+use Rattle.rvtest_app.specs.Covers.{IsCoverPut}
 use Rattle.rvtest_app.specs.Debugging.{IsGdbAnswered}
 use Rattle.rvtest_app.specs.HelpTopics.{IsTopicTold}
 use Rattle.rvtest_app.specs.Lists.{IsListPut}
@@ -46,6 +47,8 @@ IsDone known input is_terminal (asked.Show words) status before after =
     IsShownAt known words status before after
 IsDone known input is_terminal (asked.Counts words) status before after =
     IsSumPut known words status before after
+IsDone known input is_terminal (asked.Cover words) status before after =
+    IsCoverPut known words status before after
 IsDone known input is_terminal (asked.Help words) status before after =
     (text : List ℕ) × (IsTopicTold words.topic.now text status
     × IsOnlyPut text before after)

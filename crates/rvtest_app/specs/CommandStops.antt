@@ -30,6 +30,7 @@ use Rattle.rvtest_app.specs.AcceptStops.{IsUnacceptedStop}
 use Rattle.rvtest_app.specs.Answers.{AskForHelp}
 use Rattle.rvtest_app.specs.Commands.{failure_rule}
 use Rattle.rvtest_app.specs.CountStops.{IsCountsStop}
+use Rattle.rvtest_app.specs.CoverStops.{IsCoverStop}
 use Rattle.rvtest_app.specs.Debugging.{IsBrokenStop, IsNoGdbStop, IsUnopenedOfStop}
 use Rattle.rvtest_app.specs.HelpTopics.{IsNoTopicStop}
 use Rattle.rvtest_app.specs.MergeStops.{IsMergeStop}
@@ -109,6 +110,7 @@ IsCommandStop known is_terminal (asked.Accept words) why = IsAcceptStop known wo
 IsCommandStop known is_terminal (asked.Merge words) why = IsMergeStop known words why
 IsCommandStop known is_terminal (asked.Show words) why = IsShowStop known words why
 IsCommandStop known is_terminal (asked.Counts words) why = IsCountsStop known words why
+IsCommandStop known is_terminal (asked.Cover words) why = (why ≡ stop.WriteFailed) ⊎ IsCoverStop known words why
 
 -- words have a fault of some kind, which is not that they ask for help
 abbrev pub AreFaulty : List (List ℕ) → Type 0

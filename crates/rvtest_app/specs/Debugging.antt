@@ -1,5 +1,5 @@
 -- What `gdb` answers gdb, of a job.
-use Rattle.std.specs.Prelude.{◌≡◌, ◌⊎◌, ℕ, Bool, List, [], ◌∷◌, Option, Ok, codes, false, is_ok, slice_index_or}
+use Rattle.std.specs.Prelude.{◌≡◌, ◌⊎◌, ℕ, Bool, List, [], ◌∷◌, Option, Some, None, Ok, codes, false, is_ok, slice_get, slice_index_or}
 use Rattle.std.specs.Io.KnownBytes.{Consumes}
 use Rattle.std.specs.declared.io.ErrorKind.{ErrorKind}
 use Rattle.rv_base.specs.Files.{FileContents}
@@ -13,11 +13,11 @@ use Rattle.rv_expect.specs.Judgement.{judging_by_rule}
 use Rattle.rv_expect.specs.declared.passing.Rule.TheVariants.{Strict}
 use Rattle.rv_files.specs.UnreadPaths.{contents_below, resolved_path}
 use Rattle.rv_files.specs.declared.noting_store.Unread.{Unread}
-use Rattle.rv_gdb.specs.Conversing.{IsEnded}
+use Rattle.rv_gdb.specs.Conversing.{IsEnded, IsReadWhileOpen}
 use Rattle.rv_gdb.specs.declared.conversation.Broken.{Broken}
 use Rattle.rv_gdb.specs.declared.conversation.Broken.TheVariants as broken
 use Rattle.rv_gdb.specs.JobSessions.{IsSessionOf}
-use Rattle.rv_job_text.specs.Telling.{row_line}
+use Rattle.rv_job_text.specs.Telling.{outcome_text, row_line}
 use Rattle.rv_jobs.specs.Plans.{AreKept, Planned, jobs_needed_for, paths_of, paths_used}
 use Rattle.rv_lists.specs.JobList.{job_list_of}
 use Rattle.rv_lists.specs.declared.job.Job.{Job}
@@ -27,43 +27,58 @@ use Rattle.rv_session.specs.declared.session.Session.{Session}
 use Rattle.rvtest_app.specs.Reports.{AreNotesOf, IsFirstNamed}
 use Rattle.rvtest_app.specs.Said.{IsOnlyPut, Said}
 
+-- what `run` says of a job: its line, and the expectations that it does not meet
+abbrev pub end_text_of_job : Planned → List Unread → Option Job → List ℕ
+end_text_of_job plan unread None = []
+end_text_of_job plan unread (Some job) = outcome_text plan unread (judging_by_rule Strict) job (row_of plan job)
+
+-- the same of the job at a place
+unfoldable pub job_end_text : Planned → List Unread → ℕ → List ℕ
+job_end_text plan unread place = end_text_of_job plan unread (slice_get plan.jobs place)
+
 -- the session is over the run of the job at a place, whose image's path is taken from a folder, over answers for the paths that its
--- row needs, which agree with what stands there
-pub record IsJobOpened (known : Option FileContents) (root : Option (List ℕ)) (jobs : List Job) (place : ℕ) (session : Session)
-    : Type 0 where
+-- row needs, which agree with what stands there; and the text is what is said of the job
+pub record IsJobOpened (known : Option FileContents) (root : Option (List ℕ)) (jobs : List Job) (place : ℕ) (end_text : List ℕ)
+    (session : Session) : Type 0 where
   pub plan : Planned
   pub listed : plan.jobs ≡ jobs
   pub paths : paths_of plan.answers ≡ paths_used (jobs_needed_for jobs (place ∷ []))
   pub kept : AreKept known plan.answers
+  pub unread : List Unread
+  pub noted : AreNotesOf plan.answers unread
   pub over : (d : Job) → IsSessionOf plan.answers (slice_index_or plan.jobs place d)
       (resolved_path root (slice_index_or plan.jobs place d).image) session
+  pub said : end_text ≡ job_end_text plan unread place
 
 -- the same of the first job of a name in the list that a text is
-pub record IsOpenedOf (known : Option FileContents) (words : GdbAsked) (bytes : List ℕ) (session : Session) : Type 0 where
+pub record IsOpenedOf (known : Option FileContents) (words : GdbAsked) (bytes end_text : List ℕ) (session : Session) : Type 0 where
   pub jobs : List Job
   pub listed : job_list_of bytes ≡ Ok jobs
   pub place : ℕ
   pub first : IsFirstNamed jobs words.name.now place
-  pub of_job : IsJobOpened (contents_below (optional_text words.root) known) (optional_text words.root) jobs place session
+  pub of_job : IsJobOpened (contents_below (optional_text words.root) known) (optional_text words.root) jobs place end_text session
 
 -- the same of the list at the path that words name
-pub record IsOpenedAt (known : Option FileContents) (words : GdbAsked) (session : Session) : Type 0 where
+pub record IsOpenedAt (known : Option FileContents) (words : GdbAsked) (end_text : List ℕ) (session : Session) : Type 0 where
   pub bytes : List ℕ
   pub read : IsTextAt known words.list.now bytes
-  pub of_list : IsOpenedOf known words bytes session
+  pub of_list : IsOpenedOf known words bytes end_text session
 
--- bytes of standard input were read, up to the end of the session or of the bytes, and what the session answers to them went to
--- standard output, which is no terminal, and nothing else did
+-- bytes of standard input were read, up to the end of the session or of the bytes, none once the session was over, and what the session answers to them went to
+-- standard output, which is no terminal, and nothing else did; in front of each stop at the end of the run goes what `run` says of the
+-- job
 pub record IsGdbAnswered (known : Option FileContents) (is_terminal : Bool) (words : GdbAsked) (input rest : Option (List ℕ))
     (status : ℕ) (before after : Said) : Type 0 where
   pub spoken : is_terminal ≡ false
+  pub end_text : List ℕ
   pub first : Session
-  pub opened : IsOpenedAt known words first
+  pub opened : IsOpenedAt known words end_text first
   pub heard : List ℕ
   pub read : Consumes input rest heard
+  pub while_open : IsReadWhileOpen end_text first heard
   pub told : List ℕ
   pub last : Session
-  pub fed : IsFed first heard told last
+  pub fed : IsFed end_text first heard told last
   pub ended : IsEnded last rest
   pub put : IsOnlyPut told before after
   pub done : status ≡ 0

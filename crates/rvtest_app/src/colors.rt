@@ -33,6 +33,7 @@ pub(crate) fn asked_colors(asked: &Asked<'_>, is_terminal: bool) -> Colors
         | Asked::Accept(_)
         | Asked::Merge(_)
         | Asked::Counts(_)
+        | Asked::Cover(_)
         | Asked::Help(_) => Colors::Without,
     }
 }

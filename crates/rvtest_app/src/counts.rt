@@ -81,8 +81,8 @@ fn sum_with_path<D: Inputs>(
     }
 }
 
-// The table that the text at a path is.
-fn table_of_text(alloc: Global, path: &str, text: &[u8]) -> Result<CountTable, Stop>
+/// The table that the text at a path is.
+pub(crate) fn table_of_text(alloc: Global, path: &str, text: &[u8]) -> Result<CountTable, Stop>
     ensures table { IfOk result (λ table. IsTable table × (table_text table ≡ text.now)) }
     ensures stopped { IfErr result (IsTableFaultStop path.now text.now) }
 {

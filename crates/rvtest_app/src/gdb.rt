@@ -11,11 +11,12 @@ ghost use Rattle.rv_gdb.specs.JobSessions.{IsSessionOf};
 ghost use Rattle.rv_job_text.specs.Telling.{row_line};
 ghost use Rattle.rv_rows.specs.Rows.{row_of, start_in};
 ghost use Rattle.rvtest_app.specs.CommandStops.{IsGdbStop, IsNoJobStop, IsUnopenedAtStop};
-ghost use Rattle.rvtest_app.specs.Debugging.{IsBrokenStop, IsGdbAnswered, IsJobOpened, IsNoGdbStop, IsOpenedAt, IsOpenedOf, IsUnopenedOfStop, IsUnopenedStop};
+ghost use Rattle.rvtest_app.specs.Debugging.{IsBrokenStop, IsGdbAnswered, IsJobOpened, IsNoGdbStop, IsOpenedAt, IsOpenedOf, IsUnopenedOfStop, IsUnopenedStop, job_end_text};
 ghost use Rattle.rvtest_app.specs.Said.{said};
 
 use crate::destinations::Destinations;
 use crate::host::Host;
+use crate::job_end::JobEnd;
 use crate::named_job::{NamedJob, find_named_job};
 use rv_base::Bytes;
 use rv_cli::rvtest::GdbAsked;
@@ -30,6 +31,13 @@ use rv_session::Session;
 use std::alloc::{AllocError, Global};
 use std::io::Read;
 use std::path::Path;
+
+/// A session over the run of a job, and the job.
+#[derive(Drop)]
+struct Opened {
+    session: Session,
+    job: JobEnd,
+}
 
 /// Shows the run of the job of a name to gdb, whose bytes the reader has, and puts the replies to standard output, until gdb ends the
 /// session or sends no more. The status is 0. Where standard output is a terminal nobody there would understand them.
@@ -57,10 +65,21 @@ pub(crate) fn show_job_to_gdb<
     if is_terminal {
         return Err(no_gdb_stop(alloc));
     }
-    let mut session = session_of_named_job(host.inputs, alloc, asked)?;
-    match converse(alloc, &mut session, input, &mut to.out) {
+    let opened = session_of_named_job(host.inputs, alloc, asked)?;
+    let Opened { mut session, job } = opened;
+    set_memory(alloc, &mut session, asked.memory);
+    match converse(alloc, &mut session, &job, input, &mut to.out) {
         Ok(()) => Ok(DONE),
         Err(broken) => Err(broken_stop(alloc, broken)),
+    }
+}
+
+// What the session takes at most is what is asked for, if anything is.
+fn set_memory(alloc: Global, session: &mut Session, megabytes: Option<u32>)
+    ensures { session.new ≡ session.old }
+{
+    if let Some(megabytes) = megabytes {
+        session.set_memory(alloc, megabytes);
     }
 }
 
@@ -91,8 +110,9 @@ fn session_of_named_job<D: Inputs>(
     inputs: &D,
     alloc: Global,
     asked: GdbAsked<'_>,
-) -> Result<Session, Stop>
-    ensures opened { IfOk result (IsOpenedAt (D.contents inputs.now) asked.entry) }
+) -> Result<Opened, Stop>
+    ensures opened { IfOk result (λ opened. IsOpenedAt (D.contents inputs.now) asked.entry
+        (job_end_text opened.job.plan opened.job.unread.items opened.job.place) opened.session) }
     ensures stopped { IfErr result (IsUnopenedAtStop (D.contents inputs.now) asked.entry) }
 {
     let text = read_list_text(inputs, alloc, asked.list)?;
@@ -105,8 +125,9 @@ fn session_of_text<D: Inputs>(
     alloc: Global,
     asked: GdbAsked<'_>,
     text: &[u8],
-) -> Result<Session, Stop>
-    ensures opened { IfOk result (IsOpenedOf (D.contents inputs.now) asked.entry text.now) }
+) -> Result<Opened, Stop>
+    ensures opened { IfOk result (λ opened. IsOpenedOf (D.contents inputs.now) asked.entry text.now
+        (job_end_text opened.job.plan opened.job.unread.items opened.job.place) opened.session) }
     ensures stopped { IfErr result (λ why. IsNoJobStop asked.entry.list.now text.now asked.entry.name.now why
         ⊎ IsUnopenedOfStop (D.contents inputs.now) asked.entry text.now why) }
 {
@@ -120,10 +141,11 @@ fn session_of_job<D: Inputs>(
     alloc: Global,
     asked: GdbAsked<'_>,
     named: NamedJob,
-) -> Result<Session, Stop>
+) -> Result<Opened, Stop>
     requires { named.place < length named.jobs }
-    ensures opened { IfOk result (IsJobOpened (contents_below (optional_text asked.entry.root) (D.contents inputs.now))
-        (optional_text asked.entry.root) named.jobs named.place) }
+    ensures opened { IfOk result (λ opened. IsJobOpened
+        (contents_below (optional_text asked.entry.root) (D.contents inputs.now)) (optional_text asked.entry.root) named.jobs
+        named.place (job_end_text opened.job.plan opened.job.unread.items opened.job.place) opened.session) }
     ensures stopped { IfErr result (IsUnopenedStop (contents_below (optional_text asked.entry.root) (D.contents inputs.now))
         named.jobs named.place) }
 {
@@ -132,7 +154,15 @@ fn session_of_job<D: Inputs>(
     let mut store = NotingStore::new(inputs, alloc, asked.root);
     let plan = gather_places(alloc, jobs, places, &mut store)?;
     match session_over_plan(alloc, &plan, place, asked.root)? {
-        Some(session) => Ok(session),
+        Some(session) => {
+            let unread = store.into_unread_paths();
+            let job = JobEnd {
+                plan,
+                unread,
+                place,
+            };
+            Ok(Opened { session, job })
+        }
         None => Err(refused_job_stop(alloc, &plan, store.unread_paths(), place)),
     }
 }

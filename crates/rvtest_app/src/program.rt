@@ -15,6 +15,7 @@ use crate::check::check_list;
 use crate::colors::asked_colors;
 use crate::console::put_job_console;
 use crate::counts::put_sum_of_tables;
+use crate::cover::cover_requested_jobs;
 use crate::destinations::Destinations;
 use crate::diff::diff_reports;
 use crate::explain::explain_named_job;
@@ -223,6 +224,7 @@ where
         Asked::Diff(asked) => diff_reports(inputs, alloc, asked, &mut to),
         Asked::Show(asked) => show_report(inputs, alloc, asked, &mut to),
         Asked::Counts(asked) => put_sum_of_tables(inputs, alloc, &asked, &mut to),
+        Asked::Cover(asked) => cover_requested_jobs(host, &asked, &mut to),
         Asked::Help(asked) => put_findings(&mut to.out, tell_topic(alloc, asked)),
     };
     (to, answer)

@@ -26,8 +26,8 @@ use rv_merge::shard_marks;
 use rv_report::Shard;
 
 impl<'x, R, D: Inputs> ListRun<'x, R, D> {
-    /// The jobs of the list, with marks for those that are to run.
-    pub(crate) fn requested_jobs(&self) -> Result<RequestedJobs, Stop>
+    /// The jobs of the list, with marks for those that are to run. A refusal of words shows the usage of the command.
+    pub(crate) fn requested_jobs(&self, command: ChoosingCommand) -> Result<RequestedJobs, Stop>
         requires { self.now.rule ≡ failure_rule self.now.asked.now.lenient }
         ensures asked { IfOk result (λ requested. AreRequestedJobs (D.contents self.now.host.now.inputs.now)
             self.now.asked.now requested.jobs (option_map (λ marks. marks.items) requested.marks)
@@ -39,9 +39,15 @@ impl<'x, R, D: Inputs> ListRun<'x, R, D> {
         let text = read_list_text(self.host.inputs, alloc, asked.list)?;
         let jobs = parse_list(alloc, asked.list, text.as_slice())?;
         let old = self.old_rows(jobs.as_slice())?;
-        match requested_shard(alloc, asked, text.as_slice(), jobs.as_slice().len())? {
+        match requested_shard(
+            alloc,
+            asked,
+            command,
+            text.as_slice(),
+            jobs.as_slice().len(),
+        )? {
             Some(shard) => self.jobs_of_shard(jobs, shard, old),
-            None => self.jobs_of_choice(jobs, old),
+            None => self.jobs_of_choice(command, jobs, old),
         }
     }
 
@@ -86,7 +92,12 @@ impl<'x, R, D: Inputs> ListRun<'x, R, D> {
         })
     }
 
-    fn jobs_of_choice(&self, jobs: JobList, old: Option<Rows>) -> Result<RequestedJobs, Stop>
+    fn jobs_of_choice(
+        &self,
+        command: ChoosingCommand,
+        jobs: JobList,
+        old: Option<Rows>,
+    ) -> Result<RequestedJobs, Stop>
         requires { ForSome old (λ rows. length rows ≡ length jobs) }
         ensures old { IfOk result (λ requested. requested.frame.old ≡ old) }
         ensures chosen { IfOk result (λ requested. (requested.jobs ≡ jobs) × (requested.frame.shard ≡ None)
@@ -100,7 +111,7 @@ impl<'x, R, D: Inputs> ListRun<'x, R, D> {
             alloc: self.host.alloc,
             asked: self.asked,
             rule: self.rule,
-            command: ChoosingCommand::Run,
+            command,
         };
         let Choice { marks, notes } = chooser.choose(jobs.as_slice())?;
         Ok(RequestedJobs {

@@ -16,7 +16,7 @@ use crate::missing_images::missing_images_note;
 use crate::planned_run::{MarkedJobs, RequestedJobs};
 use crate::rules::failure_rule;
 use crate::terminals::Terminals;
-use rv_cli::rvtest::RunAsked;
+use rv_cli::rvtest::{ChoosingCommand, RunAsked};
 use rv_command::{DONE, Stop, put_message};
 use rv_expect::{Judge, Rule};
 use rv_files::{Inputs, NotingStore, Outputs};
@@ -76,7 +76,7 @@ where
         frame,
         notes,
         ..
-    } = match run.requested_jobs() {
+    } = match run.requested_jobs(ChoosingCommand::Run) {
         Ok(requested) => requested,
         Err(stop) => return (to, Err(stop)),
     };

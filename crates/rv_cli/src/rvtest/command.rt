@@ -4,12 +4,12 @@ ghost use Rattle.std.specs.Prelude.{◌≡◌, ◌++◌, IfOk, codes, false, str
 ghost use Rattle.clap.specs.Words.{App, app_of, new_app};
 ghost use Rattle.clap.specs.declared.builder.command.Command.TheViews.{out-Command};
 ghost use Rattle.rv_cli.specs.CommandBuilder.{HasApp, HasHelpEnd, HasUsageOf, HasVersion, IsBuilt};
-ghost use Rattle.rv_cli.specs.RvtestCommand.{accept_app, choosing_app, diff_app, explain_app, list_app, subcommand_app, merge_app, show_app, test_run_app, test_app};
+ghost use Rattle.rv_cli.specs.RvtestCommand.{accept_app, choosing_app, cover_app, diff_app, explain_app, list_app, subcommand_app, merge_app, show_app, test_run_app, test_app};
 ghost use Rattle.rv_cli.specs.RvtestCommand.{test_top_app, with_subcommands};
 
 use crate::command_builder::{Built, with_subcommand};
 use crate::rvtest::arguments::{Argument, with_arguments};
-use crate::rvtest::table::{ACCEPT, COMMANDS, DIFF, EXPLAIN, LIST, MERGE, RUN, SHOW};
+use crate::rvtest::table::{ACCEPT, COMMANDS, COVER, DIFF, EXPLAIN, LIST, MERGE, RUN, SHOW};
 use clap::Command;
 use std::alloc::{AllocError, Global};
 
@@ -90,6 +90,7 @@ pub enum ChoosingCommand {
     Run,
     List,
     Accept,
+    Cover,
 }
 
 impl ChoosingCommand {
@@ -102,6 +103,7 @@ impl ChoosingCommand {
             ChoosingCommand::Run => run_command(alloc),
             ChoosingCommand::List => list_command(alloc),
             ChoosingCommand::Accept => accept_command(alloc),
+            ChoosingCommand::Cover => cover_command(alloc),
         }
     }
 }
@@ -120,6 +122,14 @@ pub(crate) fn accept_command<'a>(alloc: Global) -> Result<Command<'a>, AllocErro
         (app_of command ≡ accept_app) × ((out-Command command).has_globals ≡ false)) }
 {
     subcommand_of_table(alloc, &ACCEPT)
+}
+
+/// The command `rvtest cover`, whose usage a refusal of its words shows.
+pub(crate) fn cover_command<'a>(alloc: Global) -> Result<Command<'a>, AllocError>
+    ensures { IfOk result (λ command.
+        (app_of command ≡ cover_app) × ((out-Command command).has_globals ≡ false)) }
+{
+    subcommand_of_table(alloc, &COVER)
 }
 
 /// The command `rvtest run`, whose usage a refusal of its words shows.

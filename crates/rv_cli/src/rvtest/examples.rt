@@ -117,6 +117,16 @@ Status:
   2  The words or a table is refused, or a sum is 2^64 or more
   3  The system failed: memory or a file";
 
+pub(crate) const COVER: &str = "\
+Examples:
+  rvtest cover tests.toml
+  rvtest cover tests.toml --counts whole.counts --csv >cover.csv
+
+Status:
+  0  What ran was shown, whatever the verdicts
+  2  The words, the list, a report or the table is refused
+  3  The system failed: memory, a thread or a file";
+
 pub(crate) const HELP: &str = "\
 Examples:
   rvtest help list

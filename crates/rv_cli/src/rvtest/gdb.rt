@@ -4,7 +4,7 @@ ghost use Rattle.clap.specs.Words.{found_of, rows_of};
 ghost use Rattle.rv_cli.specs.RvtestWords.{AsksFor, gdb_request};
 
 use crate::rvtest::requests::Asked;
-use crate::values::text_value;
+use crate::values::{number_value, text_value};
 use clap::ArgMatches;
 
 /// The job whose run is to be shown to gdb.
@@ -16,6 +16,8 @@ pub struct GdbAsked<'a> {
     pub name: &'a str,
     /// The folder from which the paths in the list are taken.
     pub root: Option<&'a str>,
+    /// How many megabytes the session takes at most, from 64 to 4,096.
+    pub memory: Option<u32>,
 }
 
 /// What the values of `gdb` ask for.
@@ -25,5 +27,11 @@ pub(crate) fn gdb_request<'a>(values: &ArgMatches<'a>) -> Option<Asked<'a>>
     let list = text_value(values, "list")?;
     let name = text_value(values, "name")?;
     let root = text_value(values, "root");
-    Some(Asked::Gdb(GdbAsked { list, name, root }))
+    let memory = number_value(values, "memory", 64, 4_096);
+    Some(Asked::Gdb(GdbAsked {
+        list,
+        name,
+        root,
+        memory,
+    }))
 }

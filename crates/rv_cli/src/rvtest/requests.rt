@@ -12,6 +12,7 @@ use crate::rvtest::check::{CheckAsked, check_request};
 use crate::rvtest::command::test_command;
 use crate::rvtest::console::{ConsoleAsked, console_request};
 use crate::rvtest::counts::{CountsAsked, counts_request};
+use crate::rvtest::cover::{CoverAsked, cover_request};
 use crate::rvtest::diff::{DiffAsked, diff_request};
 use crate::rvtest::explain::{ExplainAsked, explain_request};
 use crate::rvtest::gdb::{GdbAsked, gdb_request};
@@ -50,6 +51,8 @@ pub enum Asked<'a> {
     Show(ShowAsked<'a>),
     /// To add up tables of counts.
     Counts(CountsAsked<'a>),
+    /// To show what of the images of jobs ran.
+    Cover(CoverAsked<'a>),
     /// To tell of something that is no command.
     Help(HelpAsked<'a>),
 }
@@ -111,6 +114,7 @@ fn subcommand_request<'a>(
         "diff" => diff_request(alloc, values),
         "show" => show_request(alloc, values),
         "counts" => counts_request(alloc, values),
+        "cover" => cover_request(alloc, values),
         "help" => Ok(help_request(values)),
         _ => Ok(None),
     }

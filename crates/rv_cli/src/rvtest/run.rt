@@ -225,7 +225,8 @@ fn are_counts_put_over(values: &ArgMatches<'_>) -> bool
     }
 }
 
-fn is_choice_given(values: &ArgMatches<'_>) -> bool
+/// Whether jobs are chosen by their names or by a report, or left out.
+pub(crate) fn is_choice_given(values: &ArgMatches<'_>) -> bool
     ensures { result ≡ is_choice_given (rows_of (found_of values.now)) }
 {
     is_option_given(values, "only")

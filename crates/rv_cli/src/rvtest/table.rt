@@ -6,8 +6,8 @@ use crate::rvtest::examples;
 use rv_base::limits::{MOST_BUDGET, MOST_JOBS, MOST_WORKERS};
 
 /// The commands of `rvtest`, in the order in which help names them.
-pub(crate) const COMMANDS: [Subcommand<'static>; 12] = [
-    RUN, LIST, EXPLAIN, CONSOLE, GDB, CHECK, ACCEPT, MERGE, DIFF, SHOW, COUNTS, HELP,
+pub(crate) const COMMANDS: [Subcommand<'static>; 13] = [
+    RUN, LIST, EXPLAIN, CONSOLE, GDB, CHECK, ACCEPT, MERGE, DIFF, SHOW, COUNTS, COVER, HELP,
 ];
 
 pub(crate) const RUN: Subcommand<'static> = Subcommand {
@@ -21,7 +21,7 @@ pub(crate) const RUN: Subcommand<'static> = Subcommand {
         Argument::Option("exclude", "REGEX", EXCLUDE),
         Argument::Option("failed", "REPORT", FAILED),
         Argument::Flag("partial", None, PARTIAL),
-        Argument::Option("shard", "K/N", "Runs the K-th of N parts of the list"),
+        Argument::Option("shard", "K/N", SHARD),
         Argument::Option(
             "stamp",
             "TEXT",
@@ -102,6 +102,7 @@ const GDB: Subcommand<'static> = Subcommand {
         Argument::Word("list", "LIST", LIST_PATH),
         Argument::Word("name", "NAME", NAME),
         Argument::Option("root", "DIR", ROOT),
+        Argument::Number("memory", None, MEMORY, MEMORY_BOUNDS, &[]),
     ],
 };
 
@@ -202,6 +203,31 @@ const COUNTS: Subcommand<'static> = Subcommand {
     ],
 };
 
+pub(crate) const COVER: Subcommand<'static> = Subcommand {
+    name: "cover",
+    about: "Runs jobs, and shows what of their images ran",
+    after: examples::COVER,
+    arguments: &[
+        Argument::Word("list", "LIST", LIST_PATH),
+        Argument::Again("only", "NAME", ONLY),
+        Argument::Option("match", "REGEX", MATCH),
+        Argument::Option("exclude", "REGEX", EXCLUDE),
+        Argument::Option("failed", "REPORT", FAILED),
+        Argument::Flag("partial", None, PARTIAL),
+        Argument::Option("shard", "K/N", SHARD),
+        Argument::Flag("lenient", None, LENIENT),
+        Argument::Number("workers", Some('j'), THREADS, WORKERS, &[]),
+        Argument::Group,
+        Argument::Option("root", "DIR", ROOT),
+        Argument::Option(
+            "counts",
+            "TABLE",
+            "Reads the counts in this table, and runs nothing",
+        ),
+        Argument::Flag("csv", None, "Writes a row of CSV for each image"),
+    ],
+};
+
 const HELP: Subcommand<'static> = Subcommand {
     name: "help",
     about: "Tells the keys of a list",
@@ -222,6 +248,8 @@ const EXCLUDE: &str = "Leaves out the jobs in whose names it is found";
 const FAILED: &str = "Chooses the jobs that failed in a report";
 
 const PARTIAL: &str = "Takes a report that is cut off by its whole rows";
+
+const SHARD: &str = "Runs the K-th of N parts of the list";
 
 const THREADS: &str = "Threads, from 1 to 64; else one a processor";
 
@@ -267,6 +295,13 @@ const SLOWER: Bounds = Bounds {
 const STOP_AFTER_BOUNDS: Bounds = Bounds {
     least: 1,
     most: MOST_JOBS as i64,
+};
+
+const MEMORY: &str = "Megabytes at most, from 64 to 4096; else 256";
+
+const MEMORY_BOUNDS: Bounds = Bounds {
+    least: 64,
+    most: 4_096,
 };
 
 const LAST_BOUNDS: Bounds = Bounds {

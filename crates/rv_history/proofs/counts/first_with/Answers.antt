@@ -28,10 +28,10 @@ returns-then-is_some c =
     let t = state_of c.step.new.machine in
     let here = told_here c.args.count c.script_left-script.result (length start.bus.script) c.count_in.result c.bus.result.now s.bus
     c.count_in.ensures c.script_left-script.ensures c.bus.ensures in
-    let ended = step_ended c.step.result (step_of s ≡ Ok t) (λ e. step_of s ≡ Err e) (sym c.is_some.ensures ∙ c.if-is_some.true)
+    let ended = step_ended c.step.result (step_of s ≡ Ok t) (λ e. (step_of s ≡ Err e) × (t ≡ s)) (sym c.is_some.ensures ∙ c.if-is_some.true)
     c.step.ensures in
     none_at_end c.args.count c.args.value c.args.budget c.loop-place.place start s ended.0 c.loop-place.invariant.reached
-    (omega arith) ended.1 (λ is. c.if-count_in-value.false (sym here ∙ is)) c.loop-place.invariant.lacks
+    (omega arith) ended.1.0 (λ is. c.if-count_in-value.false (sym here ∙ is)) c.loop-place.invariant.lacks
 
 pub loop-place-preserved : goal.loop-place-preserved
 loop-place-preserved c =
@@ -40,7 +40,7 @@ loop-place-preserved c =
     let t = state_of c.step.new.machine in
     let here = told_here c.args.count c.script_left-script.result (length start.bus.script) c.count_in.result c.bus.result.now s.bus
     c.count_in.ensures c.script_left-script.ensures c.bus.ensures in
-    let went = step_went c.step.result (step_of s ≡ Ok t) (λ e. step_of s ≡ Err e) (sym c.is_some.ensures ∙ c.if-is_some.false)
+    let went = step_went c.step.result (step_of s ≡ Ok t) (λ e. (step_of s ≡ Err e) × (t ≡ s)) (sym c.is_some.ensures ∙ c.if-is_some.false)
     c.step.ensures in record {
       reached = next_place start s t c.loop-place.place c.loop-place.invariant.reached went;
       lacks = lacks_more c.args.count c.args.value c.loop-place.place start s c.loop-place.invariant.reached

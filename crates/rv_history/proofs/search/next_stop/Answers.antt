@@ -1,48 +1,56 @@
-use Rattle.std.proofs.Common.{◌∙◌, arith, sym}
+use Rattle.std.proofs.Common.{◌∙◌, ap, arith, sym}
 use Rattle.rv_machine.specs.Machine.{state_of}
-use Rattle.rv_history.specs.Starts.{start_of}
+use Rattle.rv_history.specs.Stops.{watched_bytes}
 use Rattle.rv_history.proofs.Forward.{breaks_at_budget, quiet_more, stops_by_break, stops_by_budget, stops_by_change, stops_by_end}
 use Rattle.rv_history.proofs.Reaching.{next_place}
 use Rattle.rv_history.proofs.search.next_stop.Goals as goal
 
+pub loop-place-init : goal.loop-place-init
+loop-place-init c = record {
+  reached = record { completed = c.requires.comes; same = c.in_ok-machine.ensures };
+  watched = c.in_ok-watched.ensures ∙ ap (watched_bytes c.args.stops.now) c.bus.ensures;
+  quiet = λ j low high. absurd (omega arith);
+}
+
 pub returns-then-is_halt_behind : goal.returns-then-is_halt_behind
 returns-then-is_halt_behind c =
-    stops_by_break c.args.stops.now c.args.leg.bounds c.args.leg.budget c.args.leg.from c.loop-place.place (start_of c.args.start.now)
+    stops_by_break c.args.stops.now c.args.leg.bounds c.args.leg.budget c.args.leg.from c.loop-place.place c.args.track.now
     (state_of c.loop-place.machine) c.loop-place.invariant.reached (omega arith) (omega arith)
     (sym c.is_halt_behind.ensures ∙ c.if-is_halt_behind.true) c.loop-place.invariant.quiet
 
 pub returns-in-Ended : goal.returns-in-Ended
 returns-in-Ended c =
-    let did = rw c.in-Ended.is at c.in_ok-ending.ensures in
-    stops_by_end c.args.stops.now c.args.leg.bounds c.args.leg.budget c.args.leg.from c.loop-place.place (start_of c.args.start.now)
+    let did = rw c.in-Ended.is at c.in_ok-ending.ensures.step in
+    stops_by_end c.args.stops.now c.args.leg.bounds c.args.leg.budget c.args.leg.from c.loop-place.place c.args.track.now
     (state_of c.loop-place.machine) c.in-Ended.ending c.loop-place.invariant.reached (omega arith) (omega arith) did
     (sym c.is_halt_behind.ensures ∙ c.if-is_halt_behind.false) c.loop-place.invariant.quiet
 
 pub returns-in-Changed : goal.returns-in-Changed
 returns-in-Changed c =
-    let did = rw c.in-Changed.is at c.in_ok-ending.ensures in
-    stops_by_change c.args.stops.now c.args.leg.bounds c.args.leg.budget c.args.leg.from c.loop-place.place (start_of c.args.start.now)
-    (state_of c.loop-place.machine) (state_of c.step_watched.new.machine) c.loop-place.invariant.reached (omega arith)
+    let did = rw c.in-Changed.is at c.in_ok-ending.ensures.step in
+    stops_by_change c.args.stops.now c.args.leg.bounds c.args.leg.budget c.args.leg.from c.loop-place.place c.args.track.now
+    (state_of c.loop-place.machine) (state_of c.step_beside.new.machine) c.loop-place.invariant.reached (omega arith)
     (omega arith) did.0 did.1 (sym c.is_halt_behind.ensures ∙ c.if-is_halt_behind.false) c.loop-place.invariant.quiet
 
 pub loop-place-preserved : goal.loop-place-preserved
 loop-place-preserved c =
-    let did = rw c.in-Quiet.is at c.in_ok-ending.ensures in record {
-      reached = next_place (start_of c.args.start.now) (state_of c.loop-place.machine) (state_of c.step_watched.new.machine)
+    let did = rw c.in-Quiet.is at c.in_ok-ending.ensures.step in record {
+      reached = next_place c.args.track.now (state_of c.loop-place.machine) (state_of c.step_beside.new.machine)
           c.loop-place.place c.loop-place.invariant.reached did.0;
-      quiet = quiet_more c.args.stops.now c.args.leg.bounds c.args.leg.budget c.args.leg.from c.loop-place.place (start_of c.args.start.now)
-          (state_of c.loop-place.machine) (state_of c.step_watched.new.machine) c.loop-place.invariant.reached (omega arith) did.0
+      watched = c.in_ok-ending.ensures.known;
+      quiet = quiet_more c.args.stops.now c.args.leg.bounds c.args.leg.budget c.args.leg.from c.loop-place.place c.args.track.now
+          (state_of c.loop-place.machine) (state_of c.step_beside.new.machine) c.loop-place.invariant.reached (omega arith) did.0
           did.1 (sym c.is_halt_behind.ensures ∙ c.if-is_halt_behind.false) c.loop-place.invariant.quiet;
     }
 
 pub returns-then-is_halt_behind-2 : goal.returns-then-is_halt_behind-2
 returns-then-is_halt_behind-2 c =
-    breaks_at_budget c.args.stops.now c.args.leg.bounds c.args.leg.budget c.args.leg.from c.loop-place.place (start_of c.args.start.now)
+    breaks_at_budget c.args.stops.now c.args.leg.bounds c.args.leg.budget c.args.leg.from c.loop-place.place c.args.track.now
     (state_of c.loop-place.machine) c.loop-place.invariant.reached c.requires.within (omega arith)
     (sym c.is_halt_behind-2.ensures ∙ c.if-is_halt_behind-2.true) c.loop-place.invariant.quiet
 
 pub returns : goal.returns
 returns c =
-    stops_by_budget c.args.stops.now c.args.leg.bounds c.args.leg.budget c.args.leg.from c.loop-place.place (start_of c.args.start.now)
+    stops_by_budget c.args.stops.now c.args.leg.bounds c.args.leg.budget c.args.leg.from c.loop-place.place c.args.track.now
     (state_of c.loop-place.machine) c.loop-place.invariant.reached c.requires.within (omega arith)
     (sym c.is_halt_behind-2.ensures ∙ c.if-is_halt_behind-2.false) c.loop-place.invariant.quiet

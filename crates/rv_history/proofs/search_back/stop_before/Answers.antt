@@ -1,40 +1,39 @@
-use Rattle.std.proofs.Common.{ℕ, ◌≡◌, ◌∙◌, ◌+◌, ◌<◌, ◌≤◌, ap, arith, subst, sym}
-use Rattle.rv_machine.specs.Machine.{state_of}
-use Rattle.rv_history.specs.declared.found.Arrival.{Arrival}
-use Rattle.rv_history.specs.Moves.{IsStopBefore}
-use Rattle.rv_history.specs.Places.{last_place}
-use Rattle.rv_history.specs.Starts.{start_of}
-use Rattle.rv_history.specs.Stops.{is_break}
-use Rattle.rv_history.proofs.Backward.{IsLastStop, begins, last_more, stepped_place}
-use Rattle.rv_history.proofs.Reaching.{at_start, comes_within}
+use Rattle.std.proofs.Common.{ℕ, ◌≡◌, arith, subst}
+use Rattle.rv_trace.proofs.Public.{completes}
+use Rattle.rv_history.specs.LastStop.{AreQuiet}
+use Rattle.rv_history.proofs.Backward.{begins_over, last_before, quiet_joined}
+use Rattle.rv_history.proofs.Unstopped.{begins_unstopped}
 use Rattle.rv_history.proofs.search_back.stop_before.Goals as goal
 
-pub loop-place-init : goal.loop-place-init
-loop-place-init c = record {
-  reached = at_start (start_of c.args.start.now) (state_of c.in_ok-machine.machine) c.in_ok-machine.ensures;
-  last = λ budget within. begins c.args.stops.now budget (start_of c.args.start.now);
-}
+pub search_part-requires-clause-comes : goal.search_part-requires-clause-comes
+search_part-requires-clause-comes c =
+    completes c.args.from c.loop-end.end c.args.track.now (let order = c.loop-end.invariant.order in omega (arith, c.requires))
 
-pub loop-place-preserved : goal.loop-place-preserved
-loop-place-preserved c =
-    let stops = c.args.stops.now in
-    let start = start_of c.args.start.now in
-    let s = state_of c.loop-place.machine in
-    let t = state_of c.step_watched.new.machine in
-    let place = c.loop-place.place in
-    let reached = c.loop-place.invariant.reached in
-    let goes : place < last_place c.args.from start = omega (arith, c.requires) in record {
-      reached = stepped_place stops c.args.from place start s t c.in_ok-stepped.stepped reached goes c.in_ok-stepped.ensures;
-      last = λ budget within.
-          let far : c.args.from ≤ last_place budget start = comes_within budget c.args.from start c.requires within in
-          let more = last_more stops budget place start s t c.loop-place.last c.has_break-is_break.result c.in_ok-stepped.stepped
-          reached (omega arith) (c.has_break-is_break.ensures ∙ ap (is_break stops) c.pc.ensures) c.in_ok-stepped.ensures
-          (omega arith) (c.loop-place.invariant.last budget within) in
-          subst (λ (last : Arrival). IsLastStop stops budget start (place + 1) last) (sym c.last_behind-last.ensures) more;
+pub returns-then-are_none : goal.returns-then-are_none
+returns-then-are_none c = λ budget within.
+    begins_unstopped c.args.stops.now budget c.args.from c.args.track.now (c.are_none.ensures.0 c.if-are_none.true)
+
+pub returns-in-Some : goal.returns-in-Some
+returns-in-Some c = λ budget within.
+    let order = c.loop-end.invariant.order in
+    let found = c.in_ok-part.ensures.last budget (omega (arith, order, within)) in
+    last_before c.args.stops.now budget c.loop-end.end c.args.from c.args.track.now c.in-Some.last order
+    (c.loop-end.invariant.quiet budget within) (rw c.in-Some.is at found)
+
+pub loop-end-preserved : goal.loop-end-preserved
+loop-end-preserved c =
+    let order = c.loop-end.invariant.order in
+    let before = c.in_ok-part.ensures.begin in record {
+      order = omega (arith, order, before);
+      quiet = λ budget within.
+          let found = c.in_ok-part.ensures.last budget (omega (arith, order, within)) in
+          quiet_joined c.args.stops.now budget c.in_ok-part.part.begin c.loop-end.end c.args.from c.args.track.now
+          (rw c.in_default.is at found) (c.loop-end.invariant.quiet budget within);
     }
 
 pub returns : goal.returns
 returns c = λ budget within.
-    let end : c.loop-place.place ≡ c.args.from = omega arith in
-    subst (λ (k : ℕ). IsStopBefore c.args.stops.now budget (start_of c.args.start.now) k c.loop-place.last.place c.loop-place.last.found)
-    end (c.loop-place.invariant.last budget within)
+    let none : c.loop-end.end ≡ 0 = omega arith in
+    begins_over c.args.stops.now budget c.args.from c.args.track.now
+    (subst (λ (k : ℕ). AreQuiet c.args.stops.now budget c.args.track.now k c.args.from) none
+    (c.loop-end.invariant.quiet budget within))

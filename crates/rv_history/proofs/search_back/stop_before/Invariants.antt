@@ -1,12 +1,12 @@
 use Rattle.std.proofs.Common.{ℕ, ◌≤◌}
-use Rattle.rv_machine.specs.Machine.{state_of}
-use Rattle.rv_history.specs.Places.{IsReached}
-use Rattle.rv_history.specs.Starts.{start_of}
-use Rattle.rv_history.proofs.Backward.{IsLastStop}
+use Rattle.rv_history.specs.LastStop.{AreQuiet}
 use Rattle.rv_history.proofs.search_back.stop_before.Given as goal
 
-abbrev pub invariant-loop-place : goal.invariant-loop-place
-invariant-loop-place l = record {
-  reached : IsReached (start_of l.start) l.place (state_of l.machine);
-  last : (budget : ℕ) → l.from ≤ budget → IsLastStop l.stops budget (start_of l.start) l.place l.last;
+abbrev pub invariant-loop-end : goal.invariant-loop-end
+invariant-loop-end l = record {
+  order : l.end ≤ l.from;
+  quiet : (budget : ℕ) → l.from ≤ budget → AreQuiet l.stops budget l.track l.end l.from;
 }
+
+abbrev pub decreases-loop-end : goal.decreases-loop-end
+decreases-loop-end l = l.end

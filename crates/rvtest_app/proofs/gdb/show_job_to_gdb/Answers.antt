@@ -1,15 +1,18 @@
 use Rattle.std.proofs.Common.{inl, inr, refl}
 use Rattle.std.proofs.lemmas.Result.{err_from_is_err_and}
+use Rattle.rvtest_app.specs.Debugging.{job_end_text}
 use Rattle.rvtest_app.proofs.gdb.show_job_to_gdb.Goals as goal
 
 pub returns-in-Ok-clause-answered : goal.returns-in-Ok-clause-answered
 returns-in-Ok-clause-answered g c =
-    let heard = rw c.in-Ok.is at c.converse.ensures.heard in record {
+    let heard = rw (c.in-Ok.is, c.set_memory.ensures) at c.converse.ensures.heard in record {
       spoken = c.if-is_terminal.false;
-      first = c.in_ok-session.session;
-      opened = c.in_ok-session.ensures.opened;
+      end_text = job_end_text c.in_ok-opened.opened.job.plan c.in_ok-opened.opened.job.unread.items c.in_ok-opened.opened.job.place;
+      first = c.in_ok-opened.opened.session;
+      opened = c.in_ok-opened.ensures.opened;
       heard = heard.heard;
       read = heard.read;
+      while_open = heard.while_open;
       told = heard.told;
       last = c.converse.new.session;
       fed = heard.fed;
@@ -18,10 +21,10 @@ returns-in-Ok-clause-answered g c =
       done = refl;
     }
 
-pub returns-in_err-session-clause-stopped : goal.returns-in_err-session-clause-stopped
-returns-in_err-session-clause-stopped g c =
+pub returns-in_err-opened-clause-stopped : goal.returns-in_err-opened-clause-stopped
+returns-in_err-opened-clause-stopped g c =
     let is = err_from_is_err_and c.from_residual.result c.from_residual.ensures.1 in
-    rw (is.1, is.2) (inr (c.if-is_terminal.false, inl c.in_err-session.ensures.stopped))
+    rw (is.1, is.2) (inr (c.if-is_terminal.false, inl c.in_err-opened.ensures.stopped))
 
 pub returns-clause-stopped : goal.returns-clause-stopped
 returns-clause-stopped g c =

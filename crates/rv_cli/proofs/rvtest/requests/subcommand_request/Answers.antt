@@ -25,6 +25,9 @@ returns-in-show c = rw c.in-show.is c.show_request.ensures
 pub returns-in-counts : goal.returns-in-counts
 returns-in-counts c = rw c.in-counts.is c.counts_request.ensures
 
+pub returns-in-cover : goal.returns-in-cover
+returns-in-cover c = rw c.in-cover.is c.cover_request.ensures
+
 pub returns-in-help : goal.returns-in-help
 returns-in-help c = rw c.in-help.is (c.help_request.ensures, refl)
 

@@ -1,7 +1,6 @@
 use Rattle.std.proofs.Common.{◌≤◌, arith}
 use Rattle.rv_history.specs.Moves.{IsStopBefore}
 use Rattle.rv_history.specs.Places.{last_place}
-use Rattle.rv_history.specs.Starts.{start_of}
 use Rattle.rv_history.proofs.Arriving.{arrived}
 use Rattle.rv_history.proofs.Reaching.{comes_within}
 use Rattle.rv_history.proofs.history.History.go_back.Goals as goal
@@ -9,7 +8,7 @@ use Rattle.rv_history.proofs.history.History.go_back.Goals as goal
 pub arrive-requires : goal.arrive-requires
 arrive-requires c =
     let here = c.self.inside in
-    let start = start_of here.start in
+    let start = here.track in
     let stop = c.in_ok-arrival.ensures here.budget c.self.invariant.1 in
     let near : c.in_ok-arrival.arrival.place ≤ here.place = stop.order in
     let there : here.place ≤ last_place here.budget start =

@@ -5,4 +5,5 @@ use Rattle.rv_history.proofs.Reaching.{at_start}
 use Rattle.rv_history.proofs.history.History.new.Goals as goal
 
 pub invariant_of-result : goal.invariant_of-result
-invariant_of-result c = (at_start (start_of c.args.start) (state_of c.in_ok-machine.machine) c.in_ok-machine.ensures, omega arith)
+invariant_of-result c = rw c.new.ensures
+    (at_start (start_of c.args.start) (state_of c.in_ok-machine.machine) c.in_ok-machine.ensures, omega arith)

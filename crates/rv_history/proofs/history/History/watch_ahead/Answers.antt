@@ -2,14 +2,13 @@ use Rattle.std.proofs.Common.{◌≡◌, ◌∙◌, ◌+◌, ℕ, ap, arith}
 use Rattle.rv_machine.specs.Machine.{state_of}
 use Rattle.rv_machine.specs.State.{State}
 use Rattle.rv_trace.specs.Trace.{state_after}
-use Rattle.rv_history.specs.Starts.{start_of}
 use Rattle.rv_history.proofs.Differing.{differing_in}
 use Rattle.rv_history.proofs.Reaching.{within_budget}
 use Rattle.rv_history.proofs.history.History.watch_ahead.Goals as goal
 
 pub returns : goal.returns
 returns c = rw (← c.self.view_is) (λ before.
-    let start = start_of c.self.inside.start in
+    let start = c.self.inside.track in
     let place = c.self.inside.place in
     let few = within_budget c.self.inside.budget start in
     let one_more : c.min-steps.result ≡ place + 1 = omega arith in

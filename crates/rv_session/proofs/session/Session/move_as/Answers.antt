@@ -1,12 +1,19 @@
+use Rattle.std.proofs.Common.{◌∙◌, ℕ, List, ap}
+use Rattle.rv_remote.specs.Stops.{stop_text}
+use Rattle.rv_session.specs.Moved.{printed_on}
+use Rattle.rv_session.specs.Replies.{stopping}
+use Rattle.rv_session.specs.Sessions.{here}
 use Rattle.rv_session.proofs.Appending.{both_if}
 use Rattle.rv_session.proofs.Gone.{can_tell, moved}
 use Rattle.rv_session.proofs.session.Session.move_as.Goals as goal
 
 pub stop_of-requires : goal.stop_of-requires
-stop_of-requires c =
+stop_of-requires g c =
     can_tell c.args.self.now c.go.new.self c.args.asked c.in_ok-found.found c.go.ensures.same c.in_ok-found.ensures.gone
 
 pub returns : goal.returns
-returns c = both_if _ _ _ c.tell.result c.tell.ensures.reply c.tell.ensures.next
-    (λ reply said stands. moved c.args.self.now c.go.new.self c.tell.new.self c.args.asked reply c.in_ok-found.found
-    c.in_ok-stop.stop c.go.ensures.same c.in_ok-found.ensures.gone c.in_ok-stop.ensures said stands)
+returns g c = both_if _ _ _ c.tell.result c.tell.ensures.reply c.tell.ensures.next
+    (λ reply said stands. moved (g.E.EndText.end_text c.args.end.now) c.args.self.now c.go.new.self c.tell.new.self c.args.asked reply
+    c.in_ok-found.found c.in_ok-stop.stop c.go.ensures.same c.in_ok-found.ensures.gone c.in_ok-stop.ensures
+    (said ∙ ap (λ (text : List ℕ). stopping (printed_on c.go.new.self c.args.asked (here c.go.new.self)) text
+    (stop_text c.in_ok-stop.stop)) c.in_ok-text.ensures) stands)

@@ -1,0 +1,11 @@
+pub mod Parts
+pub mod Codes
+pub mod Ran
+pub mod Summing
+pub mod Once
+pub mod Bounds
+pub mod FirstFound
+pub mod Found
+pub mod JobImages
+pub mod OtherImages
+pub mod Shown

@@ -1,0 +1,10 @@
+pub mod Functions
+pub mod Codes
+pub mod Cover
+pub mod Steps
+pub mod Text
+pub mod Csv
+pub mod Images
+pub mod JobImages
+pub mod ImageCounts
+pub mod ImagesText

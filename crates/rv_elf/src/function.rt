@@ -1,0 +1,146 @@
+//! The functions of an image, with their code.
+ghost use Rattle.std.specs.Prelude.{◌≡◌, ◌<◌, ◌++◌, ◌∷◌, [], IfOk, OnOk, find, length, map, option_map, take, true};
+ghost use Rattle.std.specs.List.{filter_map, list_all};
+ghost use Rattle.rv_elf.specs.Functions.{code_of_symbol, function_of_symbol, functions, functions_in, is_code_segment_of, is_in_file, is_sized_function, name_in};
+ghost use Rattle.rv_elf.specs.Image.{IsImageOf};
+ghost use Rattle.rv_elf.specs.SymbolSearch.{IsNamesEnd};
+
+use crate::image::{Image, Segment};
+use crate::symbol_search::{names_end, text_before_zero};
+use crate::symbols::{SYMBOL_SIZE, Symbol, bytes_from, symbol_and_string_bytes, symbol_entry};
+use std::alloc::{AllocError, Global};
+
+/// A function of an image.
+#[derive(Clone, Copy)]
+pub struct Function<'a> {
+    /// Its name: at most the first 1,024 bytes.
+    pub name: &'a [u8],
+    /// The address of its first byte.
+    pub address: u32,
+    /// Its bytes, at least one.
+    pub code: &'a [u8],
+}
+
+// A name is shown by so many bytes at most, so that long names do not cost time for each function.
+const MOST_NAME: usize = 1_024;
+
+/// The functions of the file's first symbol table that have a size, and whose bytes an executable segment has in the file, in the order
+/// of the table (System V ABI, "Symbol Table"). A symbol is none where [`symbol_at`](crate::symbol_at) passes it over. There are none
+/// where [`find_symbol`](crate::find_symbol) would refuse the tables.
+pub fn functions<'a>(
+    alloc: Global,
+    image: &Image,
+    file: &'a [u8],
+) -> Result<Vec<Function<'a>>, AllocError>
+    requires image { IsImageOf file.now image.now }
+    ensures { IfOk result (λ found. map (λ f. (f.name.now, (f.address, f.code.now))) found.items ≡ functions image.now file.now) }
+{
+    let Ok((table, strings)) = symbol_and_string_bytes(file) else {
+        return Ok(Vec::new(alloc));
+    };
+    functions_in(alloc, image.segments.as_slice(), file, table, strings)
+}
+
+// The functions among the symbols of a table.
+fn functions_in<'a>(
+    alloc: Global,
+    segments: &[Segment],
+    file: &'a [u8],
+    table: &[u8],
+    strings: &'a [u8],
+) -> Result<Vec<Function<'a>>, AllocError>
+    requires { list_all (is_in_file (length file.now)) segments.now ≡ true }
+    ensures { IfOk result (λ found. map (λ f. (f.name.now, (f.address, f.code.now))) found.items
+        ≡ functions_in segments.now file.now table.now strings.now) }
+{
+    let end = names_end(strings);
+    let mut found = Vec::new(alloc);
+    for k in 0..table.len() / SYMBOL_SIZE {
+        let symbol = symbol_entry(table, SYMBOL_SIZE * k);
+        if symbol.is_sized_function(strings, end) {
+            push_function(&mut found, &symbol, segments, file, strings)?;
+        }
+    }
+    Ok(found)
+}
+
+// Appends the function that a symbol is, if an executable segment has its bytes.
+fn push_function<'a>(
+    found: &mut Vec<Function<'a>>,
+    symbol: &Symbol,
+    segments: &[Segment],
+    file: &'a [u8],
+    strings: &'a [u8],
+) -> Result<(), AllocError>
+    requires in_file { list_all (is_in_file (length file.now)) segments.now ≡ true }
+    requires sized { is_sized_function strings.now symbol.now ≡ true }
+    ensures { OnOk result (map (λ f. (f.name.now, (f.address, f.code.now))) found.new.items
+        ≡ map (λ f. (f.name.now, (f.address, f.code.now))) found.old.items
+        ++ filter_map (function_of_symbol segments.now file.now strings.now) (symbol.now ∷ [])) }
+{
+    if let Some(code) = symbol.code(segments, file) {
+        let name = name_in(bytes_from(strings, symbol.name as usize));
+        found.push(Function {
+            name,
+            address: symbol.value,
+            code,
+        })?;
+    }
+    Ok(())
+}
+
+impl Symbol {
+    fn is_sized_function(&self, strings: &[u8], end: usize) -> bool
+        requires { IsNamesEnd strings.now end }
+        ensures { result ≡ is_sized_function strings.now self.now }
+    {
+        self.is_function()
+            && self.has_section()
+            && 0 < self.size
+            && self.has_usable_name(strings, end)
+    }
+
+    // Its bytes in the file, in the first executable segment that has them.
+    fn code<'a>(&self, segments: &[Segment], file: &'a [u8]) -> Option<&'a [u8]>
+        requires in_file { list_all (is_in_file (length file.now)) segments.now ≡ true }
+        requires sized { 0 < self.now.size }
+        ensures { option_map (λ code. code.now) result ≡ code_of_symbol segments.now file.now self.now }
+    {
+        let segment = self.code_segment(segments)?;
+        let at = segment.offset as usize + (self.value - segment.vaddr) as usize;
+        Some(&file[at..at + self.size as usize])
+    }
+
+    fn code_segment<'s>(&self, segments: &'s [Segment]) -> Option<&'s Segment>
+        ensures { option_map (λ segment. segment.now) result ≡ find (is_code_segment_of self.now) segments.now }
+    {
+        segments.iter().find(|segment| self.is_code_in(segment))
+    }
+
+    // Whether a segment is executable and has its bytes in the file.
+    fn is_code_in(&self, segment: &Segment) -> bool
+        ensures { result ≡ is_code_segment_of self.now segment.now }
+    {
+        let end = u64::from(self.value) + u64::from(self.size);
+        segment.flags % 2 == 1
+            && segment.vaddr <= self.value
+            && end <= u64::from(segment.vaddr) + u64::from(segment.filesz)
+    }
+}
+
+// The bytes in front of the first zero byte, if it is among the first so many; else these.
+fn name_in(bytes: &[u8]) -> &[u8]
+    ensures { result.now ≡ name_in bytes.now }
+{
+    let near = first_bytes(bytes);
+    match text_before_zero(near) {
+        Some(name) => name,
+        None => near,
+    }
+}
+
+fn first_bytes(bytes: &[u8]) -> &[u8]
+    ensures { result.now ≡ take MOST_NAME bytes.now }
+{
+    &bytes[..MOST_NAME.min(bytes.len())]
+}

@@ -1,0 +1,15 @@
+use Rattle.std.proofs.Common.{◌-◌, ap, arith}
+use Rattle.rv_machine.specs.Machine.{state_of}
+use Rattle.rv_history.proofs.Reaching.{run_from, within_budget}
+use Rattle.rv_history.proofs.machine_at.MachineAt.go_to.Goals as goal
+
+pub overflow_add-self : goal.overflow_add-self
+overflow_add-self c =
+    let few = within_budget (c.args.place - c.args.self.now.place) (state_of c.args.self.now.machine) in
+    let steps = ap (λ r. r.steps) c.run-ran.ensures in
+    omega (arith, few, steps, c.requires, c.ranges.place)
+
+pub returns : goal.returns
+returns c = λ start at.
+    run_from start (state_of c.args.self.now.machine) (state_of c.run-ran.new.self) c.args.self.now.place c.args.place
+    c.run-ran.result.steps c.run-ran.result.ending at c.requires c.run-ran.ensures

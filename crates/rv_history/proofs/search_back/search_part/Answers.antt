@@ -1,0 +1,43 @@
+use Rattle.std.proofs.Common.{ℕ, ◌≡◌, ◌∙◌, ◌+◌, ◌<◌, ◌≤◌, Option, ap, arith, subst, sym}
+use Rattle.rv_machine.specs.Machine.{state_of}
+use Rattle.rv_history.specs.declared.found.Arrival.{Arrival}
+use Rattle.rv_history.specs.LastStop.{IsLastOn}
+use Rattle.rv_history.specs.Places.{last_place}
+use Rattle.rv_history.specs.Stops.{is_break, watched_bytes}
+use Rattle.rv_history.proofs.Backward.{last_more, stepped_place}
+use Rattle.rv_history.proofs.Reaching.{comes_within}
+use Rattle.rv_history.proofs.search_back.search_part.Goals as goal
+
+pub loop-place-init : goal.loop-place-init
+loop-place-init c = record {
+  reached = c.in_ok-at.ensures.0;
+  watched = c.in_ok-watched.ensures ∙ ap (watched_bytes c.args.stops.now) c.bus.ensures;
+  last = λ budget within j low high. absurd (omega arith);
+}
+
+pub loop-place-preserved : goal.loop-place-preserved
+loop-place-preserved c =
+    let stops = c.args.stops.now in
+    let start = c.args.track.now in
+    let s = state_of c.loop-place.at.machine in
+    let t = state_of c.step_beside.new.machine in
+    let place = c.loop-place.place in
+    let reached = c.loop-place.invariant.reached in
+    let goes : place < last_place c.args.end start = omega (arith, c.requires.comes) in record {
+      reached = stepped_place stops c.args.end place start s t c.in_ok-stepped.stepped reached goes c.in_ok-stepped.ensures.step;
+      watched = c.in_ok-stepped.ensures.known;
+      last = λ budget within.
+          let far : c.args.end ≤ last_place budget start = comes_within budget c.args.end start c.requires.comes within in
+          let more = last_more stops budget c.in_ok-at.at.place place start s t c.loop-place.last c.has_break-is_break.result
+          c.in_ok-stepped.stepped reached (omega arith) (c.has_break-is_break.ensures ∙ ap (is_break stops) c.pc.ensures)
+          c.in_ok-stepped.ensures.step (omega arith) (c.loop-place.invariant.last budget within) in
+          subst (λ (last : Option Arrival). IsLastOn stops budget start c.in_ok-at.at.place (place + 1) last)
+          (sym c.last_behind-last.ensures) more;
+    }
+
+pub returns-clause-last : goal.returns-clause-last
+returns-clause-last c = λ budget within.
+    let near = c.in_ok-at.ensures.1 in
+    let end : c.loop-place.place ≡ c.args.end = omega (arith, near, c.requires.some) in
+    subst (λ (k : ℕ). IsLastOn c.args.stops.now budget c.args.track.now c.in_ok-at.at.place k c.loop-place.last) end
+    (c.loop-place.invariant.last budget within)

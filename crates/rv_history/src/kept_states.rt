@@ -1,0 +1,83 @@
+//! States of a run that are kept.
+
+ghost use Rattle.std.specs.Prelude.{◌≡◌, ◌≤◌, ◌<◌, [], All, IfNone, IfSome};
+ghost use Rattle.rv_machine.specs.State.{State};
+ghost use Rattle.rv_history.specs.Kept.{AreStates, IsAt, IsLastUpTo};
+
+use crate::machine_at::MachineAt;
+use std::alloc::{AllocError, Global};
+use std::marker::Model;
+
+/// A few states of a run, at falling places, and at most so many.
+#[derive(Drop)]
+pub(crate) struct KeptStates {
+    most: usize,
+    items: Vec<MachineAt>,
+}
+
+impl Model for KeptStates {
+    ghost use Rattle.std.specs.Prelude.{◌<◌, ◌≤◌, List, length};
+    ghost use Rattle.rv_history.specs.Kept.{AreFalling};
+    ghost use Rattle.rv_history.specs.declared.machine_at.MachineAt.{MachineAt};
+    ghost use Rattle.rv_history.specs.StandInside.{state_code};
+    ghost use Rattle.std.specs.Coded.{codes};
+
+    ghost Value = { List MachineAt };
+
+    ghost coded = { Prim.hlevel (codes, state_code) };
+
+    ghost view = { λ kept. kept.items.items };
+
+    ghost invariant = { λ kept. (0 < kept.most) × ((length kept.items.items ≤ kept.most) × AreFalling kept.items.items) };
+}
+
+impl KeptStates {
+    /// None yet. One is always room for.
+    pub(crate) fn new(alloc: Global, most: usize) -> KeptStates
+        ensures { result ≡ [] }
+    {
+        KeptStates {
+            most: most.max(1),
+            items: Vec::new(alloc),
+        }
+    }
+
+    /// Whether one more would be too many.
+    pub(crate) fn is_full(&self) -> bool {
+        self.most <= self.items.len()
+    }
+
+    /// The last state up to a place.
+    pub(crate) fn last_up_to(&self, place: u32) -> Option<&MachineAt>
+        ensures state { (start : State) → AreStates start self.now → IfSome result (λ at. IsAt start at.now) }
+        ensures before { IfSome result (λ at. at.now.place ≤ place) }
+        ensures last { IfSome result (λ at. IsLastUpTo self.now place at.now.place) }
+        ensures none { IfNone result (All (λ other. place < other.place) self.now) }
+    {
+        for at in &self.items {
+            if at.place <= place {
+                return Some(at);
+            }
+        }
+        None
+    }
+
+    /// Keeps one more in place of those that are not before it, and of the first where there are too many.
+    pub(crate) fn keep(&mut self, at: MachineAt) -> Result<(), AllocError>
+        ensures { (start : State) → AreStates start self.old → IsAt start at → AreStates start self.new }
+    {
+        let place = at.place;
+        self.items.retain(|other| other.place < place);
+        self.items.truncate(self.most - 1);
+        self.items.insert(0, at)?;
+        Ok(())
+    }
+
+    /// Keeps those alone whose places are multiples of a number.
+    pub(crate) fn keep_multiples(&mut self, number: u32)
+        requires { 0 < number }
+        ensures { (start : State) → AreStates start self.old → AreStates start self.new }
+    {
+        self.items.retain(|at| at.place % number == 0);
+    }
+}

@@ -1,0 +1,42 @@
+//! Machines at places of a run.
+
+ghost use Rattle.std.specs.Prelude.{◌≡◌, ◌≤◌, IfOk};
+ghost use Rattle.rv_machine.specs.Machine.{state_of};
+ghost use Rattle.rv_machine.specs.Run.{run_of};
+ghost use Rattle.rv_machine.specs.State.{State};
+ghost use Rattle.rv_history.specs.Kept.{IsAt};
+
+use rv_machine::{Ending, Machine};
+use std::alloc::{AllocError, Global};
+
+/// A machine, and how many steps of its run are done.
+#[derive(Drop)]
+pub(crate) struct MachineAt {
+    pub place: u32,
+    pub machine: Machine,
+}
+
+impl MachineAt {
+    /// The same in memory of its own, so that it stays where it is when the other one goes on.
+    pub(crate) fn copied(&self, alloc: Global) -> Result<MachineAt, AllocError>
+        ensures place { IfOk result (λ at. at.place ≡ self.now.place) }
+        ensures state { IfOk result (λ at. state_of at.machine ≡ state_of self.now.machine) }
+    {
+        let machine = self.machine.copied(alloc)?;
+        Ok(MachineAt {
+            place: self.place,
+            machine,
+        })
+    }
+
+    /// Goes on to a place, or to where the run ends before it.
+    pub(crate) fn go_to(&mut self, place: u32) -> Ending
+        requires { self.old.place ≤ place }
+        ensures { (start : State) → IsAt start self.old → run_of place start
+            ≡ record { ending = result; steps = self.new.place; state = state_of self.new.machine } }
+    {
+        let ran = self.machine.run(place - self.place);
+        self.place += ran.steps;
+        ran.ending
+    }
+}
