@@ -2,7 +2,7 @@
 # What bash offers behind `rvtest` and `rvfleet`: their commands, the options of each, files, and the names of a list's jobs.
 _rvfleet_options() {
     case "$1 $2" in
-        'rvtest run') echo '--only --match --exclude --failed --partial --shard --stamp --workers --group --budget --root --into --report --junit --suite --lenient --counts --known --stop-after --verbose --quiet --last --color --help' ;;
+        'rvtest run') echo '--only --match --exclude --failed --partial --shard --stamp --workers --group --budget --root --into --report --junit --suite --lenient --counts --stacks --known --stop-after --verbose --quiet --last --color --help' ;;
         'rvtest list') echo '--only --match --exclude --failed --partial --lenient --help' ;;
         'rvtest explain') echo '--last --budget --root --color --help' ;;
         'rvtest console') echo '--root --help' ;;
@@ -14,6 +14,7 @@ _rvfleet_options() {
         'rvtest show') echo '--partial --junit --suite --lenient --color --help' ;;
         'rvtest counts') echo '--out --help' ;;
         'rvtest cover') echo '--only --match --exclude --failed --partial --shard --lenient --workers --group --root --counts --csv --help' ;;
+        'rvtest profile') echo '--only --match --exclude --failed --partial --shard --lenient --workers --group --root --counts --top --csv --help' ;;
         'rvtest help') echo ' --help' ;;
         'rvfleet raw') echo '--budget --help' ;;
         'rvfleet one') echo '--budget --input-hex --help' ;;
@@ -34,7 +35,7 @@ _rvfleet_jobs() {
 
 # Whether the word is the second one of a command that takes a list and a job's name.
 _rvfleet_is_named() {
-    [[ " explain console gdb " = *" ${COMP_WORDS[1]} "* && $COMP_CWORD -gt 2 && -f ${COMP_WORDS[COMP_CWORD - 1]} ]]
+    [[ " explain console gdb profile " = *" ${COMP_WORDS[1]} "* && $COMP_CWORD -gt 2 && -f ${COMP_WORDS[COMP_CWORD - 1]} ]]
 }
 
 # The words of which one is wanted behind another word: by the program, the place, and the word before.
@@ -46,7 +47,7 @@ _rvfleet_choices() {
 }
 
 _rvfleet() {
-    local word=$2 before=$3 commands='run list explain console gdb check accept merge diff show counts cover help --version --help'
+    local word=$2 before=$3 commands='run list explain console gdb check accept merge diff show counts cover profile help --version --help'
     COMPREPLY=()
     [ "${1##*/}" = rvtest ] || commands='raw one run --help'
     if [ "$COMP_CWORD" = 1 ]; then
@@ -59,7 +60,7 @@ _rvfleet() {
         mapfile -t COMPREPLY < <(compgen -W "$(_rvfleet_jobs)" -- "$word")
     elif [ -n "$(_rvfleet_choices "${1##*/} $COMP_CWORD $before")" ]; then
         mapfile -t COMPREPLY < <(compgen -W "$(_rvfleet_choices "${1##*/} $COMP_CWORD $before")" -- "$word")
-    elif [[ " --budget --exclude --group --input-hex --last --match --memory --shard --slower --stamp --stop-after --suite --workers -j " != *" $before "* ]]; then
+    elif [[ " --budget --exclude --group --input-hex --last --match --memory --shard --slower --stamp --stop-after --suite --top --workers -j " != *" $before "* ]]; then
         mapfile -t COMPREPLY < <(compgen -f -- "$word")
     fi
 }

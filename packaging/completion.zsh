@@ -28,6 +28,7 @@ _rvfleet_behind_rvtest() {
         'show:Shows what failed in a report'
         'counts:Adds up tables of counts, as run --counts writes them'
         'cover:Runs jobs, and shows what of their images ran'
+        'profile:Runs jobs, and shows in which functions their steps were'
         'help:Tells the keys of a list'
     )
     if (( CURRENT == 2 )); then
@@ -56,6 +57,7 @@ _rvfleet_behind_rvtest() {
                 '--suite[Names the suite in JUnit XML, in place of the file]:NAME: ' \
                 '--lenient[Counts as failed only what misses an expectation]' \
                 '--counts[Writes counts of instructions to this file; - is standard output]:FILE:_files' \
+                '--stacks[Counts the stacks of functions, too; beside --counts]' \
                 '--known[Names jobs that are known to fail, one a line, # REASON behind]:FILE:_files' \
                 '--stop-after[Ends behind the N-th failure, from 1 to 4096]:N: ' \
                 ''{-v,--verbose}'[Shows the jobs that pass, too; not beside --quiet]' \
@@ -151,6 +153,23 @@ _rvfleet_behind_rvtest() {
                 '--csv[Writes a row of CSV for each image]' \
                 '--help[Print help]' \
                 ':LIST:_files' ;;
+        profile) _arguments \
+                '*--only[Chooses the job of this name; may come again]:NAME:_rvfleet_jobs' \
+                '--match[Chooses the jobs in whose names it is found]:REGEX: ' \
+                '--exclude[Leaves out the jobs in whose names it is found]:REGEX: ' \
+                '--failed[Chooses the jobs that failed in a report]:REPORT:_files' \
+                '--partial[Takes a report that is cut off by its whole rows]' \
+                '--shard[Runs the K-th of N parts of the list]:K/N: ' \
+                '--lenient[Counts as failed only what misses an expectation]' \
+                ''{-j,--workers}'[Threads, from 1 to 64; else one a processor]:N: ' \
+                '--group[Jobs that a thread takes at once, from 1 to 4096 \[default\: 1\]]:N: ' \
+                '--root[Takes the paths in the list from this folder]:DIR:_directories' \
+                '--counts[Reads the counts in this table, and runs nothing]:TABLE:_files' \
+                '--top[Shows the first N functions of each image; else all]:N: ' \
+                '--csv[Writes a row of CSV for each function]' \
+                '--help[Print help]' \
+                ':LIST:_files' \
+                ':NAME:_rvfleet_jobs' ;;
         help) _arguments \
                 '--help[Print help]' \
                 ':TOPIC:(list)' ;;

@@ -193,7 +193,7 @@ def check_counted(row):
     write_counted_jobs(row)
     words = ["run", "list.toml", *row["words"].split()]
     plain, report = ([], []) if "--budget" in words else (["--report", "plain"], ["--report", "report"])
-    status, shown, told = row.run([*words, *plain])
+    status, shown, told = row.run([*(word for word in words if word != "--stacks"), *plain])
     row.wants([*words, *report, "--counts", "counts"], int(row["status"]), shown, told)
     if report and (row.folder / "report").read_bytes() != (row.folder / "plain").read_bytes():
         raise ValueError("the report is another one than without --counts")
@@ -251,6 +251,28 @@ def check_covered(row):
         row.wants(["cover", "list.toml", *words, "--counts", "counts"], int(row["status"]), lines(*lines_in(row["shown"])), said, squeezed)
 
 
+# ---- where steps were
+
+def check_profiled(row):
+    """What `profile` shows and says, by a run and by the table of one; or by a table that is stated, in which an image may have a digest."""
+    write_counted_jobs(row)
+    words, shown, said = row["words"].split(), lines(*lines_in(row["shown"])), lines(*lines_in(row["said"]))
+    if row["table"]:
+        row.write("table", table_of_counts(row, lines_in(row["table"])))
+        words += ["--counts", "table"]
+    row.wants(["profile", "list.toml", *words], int(row["status"]), shown, said, squeezed)
+    if not row["table"]:
+        row.run(["run", "list.toml", *words_of_run(words), "--counts", "counts", "--stacks"])
+        if (row.folder / "counts").exists() and "spot " in (row.folder / "counts").read_text(encoding="utf-8"):
+            row.wants(["profile", "list.toml", *words, "--counts", "counts"], int(row["status"]), shown, said, squeezed)
+
+
+def words_of_run(words):
+    """The words by which `run` runs the jobs that these words of `profile` choose."""
+    words = ["--only", *words] if words and words[0][0] != "-" else words
+    return [word for place, word in enumerate(words) if word not in ("--csv", "--top") and words[place - 1:place] != ["--top"]]
+
+
 # ---- lines
 
 def check_lines(row):
@@ -279,6 +301,7 @@ FORMS = {
     "known": Form(check_known, "known words status shown said junit"),
     "lines": Form(check_lines, "list begins"),
     "misused": Form(check_misused, "words begins has"),
+    "profiled": Form(check_profiled, "jobs keys words table status shown said"),
     "stopped": Form(check_stopped, "jobs words status shown last"),
     "words": Form(check_words, "words status shown said files"),
 }

@@ -9,17 +9,21 @@ HEAD = "rvcounts 1"
 NUMBER = "(0|[1-9][0-9]{0,19})"
 IMAGE = re.compile("image ([0-9a-f]{64}) (.*)")
 COUNT = re.compile(f"([0-9a-f]{{8}}) {NUMBER} {NUMBER}")
+SPOT = re.compile(f"spot {NUMBER} ([0-9a-f]{{8}}) {NUMBER} {NUMBER} (.*)")
 DONE = re.compile(f"done {NUMBER} {NUMBER}")
 MOST = 2**64 - 1
 WHY_UNREAD = {FileNotFoundError: "missing", IsADirectoryError: "a folder", PermissionError: "no permission"}
 
 
 class Image(NamedTuple):
-    """An image: its digest and path, and of each address BEGUN and TAKEN."""
+    """An image: its digest and path, of each address BEGUN and TAKEN, the names of the functions of its stacks, and of each list of
+    functions, by rising lists, ARRIVALS and STEPS."""
 
     digest: str
     path: str
     counts: dict
+    names: dict
+    spots: dict
 
 
 class Reader:
@@ -35,20 +39,24 @@ class Reader:
         if not self.begun:
             self.begun = line == HEAD
             return self.begun
-        for form, take in ((COUNT, self.takes_count), (IMAGE, self.takes_image), (DONE, self.takes_done)):
+        for form, take in self.lines():
             found = form.fullmatch(line)
             if found and self.runs is None:
                 return take(*found.groups())
         return False
 
+    def lines(self):
+        """Each form of a line, and what takes it."""
+        return (COUNT, self.takes_count), (SPOT, self.takes_spot), (IMAGE, self.takes_image), (DONE, self.takes_done)
+
     def takes_image(self, digest, path):
         if self.images and digest <= self.images[-1].digest:
             return False
-        self.images.append(Image(digest, path, {}))
+        self.images.append(Image(digest, path, {}, {}, {}))
         return True
 
     def takes_count(self, address, begun, taken):
-        if not self.images:
+        if not self.images or self.images[-1].spots:
             return False
         counts = self.images[-1].counts
         place, begun, taken = int(address, 16), int(begun), int(taken)
@@ -56,6 +64,18 @@ class Reader:
             return False
         counts[place] = begun, taken
         return True
+
+    def takes_spot(self, depth, function, arrivals, steps, name):
+        if not self.images:
+            return False
+        names, spots = self.images[-1].names, self.images[-1].spots
+        front = next(reversed(spots)) if spots else ()
+        depth, arrivals, steps = int(depth), int(arrivals), int(steps)
+        path = (*front[:depth], int(function, 16))
+        if depth > len(front) or path[:-1] != front[:depth] or path <= front or not 0 < arrivals <= MOST or steps > MOST:
+            return False
+        spots[path] = arrivals, steps
+        return names.setdefault(path[-1], name) == name
 
     def takes_done(self, images, runs):
         if int(images) != len(self.images) or int(runs) > MOST:
@@ -122,4 +142,13 @@ def added(first, second, path):
         counts[address] = before[0] + begun, before[1] + taken
         if counts[address][0] > MOST:
             raise Refused(f"{path}: a count of {address:08x} does not fit in 64 bits")
-    return Image(first.digest, min(first.path, second.path), dict(sorted(counts.items())))
+    names = dict(first.names)
+    for function, name in sorted(second.names.items()):
+        if names.setdefault(function, name) != name:
+            raise Refused(f"{path}: {function:08x} has two names in one image")
+    spots = dict(first.spots)
+    for functions, numbers in second.spots.items():
+        spots[functions] = tuple(a + b for a, b in zip(numbers, spots.get(functions, (0, 0))))
+        if max(spots[functions]) > MOST:
+            raise Refused(f"{path}: a count in the stacks of {functions[-1]:08x} does not fit in 64 bits")
+    return Image(first.digest, min(first.path, second.path), *(dict(sorted(it.items())) for it in (counts, names, spots)))

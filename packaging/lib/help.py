@@ -31,7 +31,7 @@ class Command:
         usage = next(line for line in parts[""] if line.startswith("Usage: "))
         # The words behind the program and the command.
         self.usage = usage.split()[3:]
-        self.arguments = [(re.sub("[<>]", "", shown), text) for shown, text in entries(parts.get("Arguments", []))]
+        self.arguments = [(re.sub(r"[<>\[\]]", "", shown), text) for shown, text in entries(parts.get("Arguments", []))]
         options = [Option(*entry) for entry in entries(parts["Options"])]
         self.options = [option for option in options if option.name != "help"]
         self.examples = [line.strip() for line in parts.get("Examples", [])]

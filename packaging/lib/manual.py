@@ -19,7 +19,7 @@ def synopsis(command):
             continue
         again = "..." if option.may_come_again else ""
         lines.append(f".RB [ {asked} ]{again}" if option.value is None else f".RB [ {asked}\n.IR {roff(option.value)} ]{again}")
-    lines += [f".I {roff(name)}" for name, _ in command.arguments]
+    lines += [f".RI [ {roff(name)} ]" if f"[{name}]" in command.usage else f".I {roff(name)}" for name, _ in command.arguments]
     return "\n".join(lines)
 
 

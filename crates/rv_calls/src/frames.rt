@@ -30,7 +30,7 @@ pub const MOST_FRAMES: usize = 4096;
 pub fn pass_control(frames: &mut Vec<Frame>, transfer: Transfer) -> Result<(), AllocError>
     ensures { OnOk result (frames.new.items ≡ after_transfer frames.old.items transfer) }
 {
-    let left = depth_left(frames.as_slice(), transfer);
+    let left = frames_left(frames.as_slice(), transfer);
     frames.truncate(left);
     if transfer.action.pushes_frame() && frames.len() < MOST_FRAMES {
         frames.push(frame_of(transfer))?;
@@ -49,8 +49,8 @@ fn frame_of(transfer: Transfer) -> Frame
     }
 }
 
-// How many frames a transfer leaves where it pops any.
-fn depth_left(frames: &[Frame], transfer: Transfer) -> usize
+/// How many frames a transfer leaves where it pops any.
+pub fn frames_left(frames: &[Frame], transfer: Transfer) -> usize
     ensures { result ≡ depth_left transfer.action transfer.to transfer.sp frames.now }
 {
     match transfer.action {

@@ -14,7 +14,7 @@ mod transfer;
 
 pub use action::{StackAction, action_of_code};
 pub use calls_line::push_calls_text;
-pub use frames::{Frame, Frames, MOST_FRAMES, pass_control};
+pub use frames::{Frame, Frames, MOST_FRAMES, frames_left, pass_control};
 pub use law::frames_are_few;
 pub use run::{Calls, calls_at_end, calls_of_run};
-pub use transfer::Transfer;
+pub use transfer::{Transfer, next_transfer};

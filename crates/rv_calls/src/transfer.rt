@@ -28,7 +28,7 @@ pub struct Transfer {
 const SP: u8 = 2;
 
 /// How the next instruction of a machine passes control, which is done, if it completes.
-pub(crate) fn next_transfer(machine: &mut Machine) -> Option<Transfer>
+pub fn next_transfer(machine: &mut Machine) -> Option<Transfer>
     ensures { MatchOption result
         ((is_ok (step_of (state_of machine.old)) ≡ false)
         × (state_of machine.new ≡ state_of machine.old))

@@ -51,9 +51,14 @@ letter_of_verbose = 118
 abbrev pub most_last_instructions : ℕ
 most_last_instructions = 100000
 
+-- a word that stands for itself, as [NAME], and may be absent
+abbrev pub optional_word_rule : Text → Rule
+optional_word_rule name = record (new_rule name) { value_names = 1 }
+
 -- the rule of an argument
 abbrev pub argument_rule : Argument → Rule
 argument_rule (argument.Word name value help) = word_rule name.now
+argument_rule (argument.OptionalWord name value help) = optional_word_rule name.now
 argument_rule (argument.Words name value help) = repeated_rule (word_rule name.now)
 argument_rule (argument.Option name value help) = option_rule name.now
 argument_rule (argument.File name help) = file_rule name.now
@@ -145,9 +150,9 @@ with_junit app = with_rule (with_rule (with_rule app (file_rule (codes "junit"))
 abbrev pub with_files : App → App
 with_files app = with_junit (with_rule app (file_rule (codes "report")))
 
--- [--counts <FILE>]
+-- [--counts <FILE>] [--stacks]
 abbrev pub with_counts : App → App
-with_counts app = with_rule app (file_rule (codes "counts"))
+with_counts app = with_rule (with_rule app (file_rule (codes "counts"))) (flag_rule (codes "stacks"))
 
 -- [--known <FILE>]
 abbrev pub with_known : App → App
@@ -198,12 +203,24 @@ abbrev pub cover_app : App
 cover_app = with_rule (with_rule (with_threads (with_rule (with_rule (with_choice (app_of_list (codes "cover")))
     (option_rule (codes "shard"))) (flag_rule (codes "lenient")))) (option_rule (codes "counts"))) (flag_rule (codes "csv"))
 
+-- the most functions of an image that may be asked for
+abbrev pub most_functions : ℕ
+most_functions = 1000000
+
+-- profile <LIST> [NAME] [--only <NAME>].. [--match <REGEX>] [--exclude <REGEX>] [--failed <REPORT>] [--partial] [--shard <K/N>] [--lenient]
+-- [--workers <N>] [--group <N>] [--root <DIR>] [--counts <TABLE>] [--top <N>] [--csv]
+abbrev pub profile_app : App
+profile_app = with_rule (with_rule (with_rule (with_threads (with_rule (with_rule (with_choice (with_rule (app_of_list (codes "profile"))
+    (optional_word_rule (codes "name")))) (option_rule (codes "shard"))) (flag_rule (codes "lenient")))) (option_rule (codes "counts")))
+    (number_rule (codes "top") (pos 1) (pos most_functions) [])) (flag_rule (codes "csv"))
+
 -- the commands whose words choose jobs
 abbrev pub choosing_app : ChoosingCommand → App
 choosing_app choosing.Run = test_run_app
 choosing_app choosing.List = list_app
 choosing_app choosing.Accept = accept_app
 choosing_app choosing.Cover = cover_app
+choosing_app choosing.Profile = profile_app
 
 -- explain <LIST> <NAME> [--last <N>] [--budget <N>] [--root <DIR>] [--color <WHEN>]
 abbrev pub explain_app : App
@@ -274,5 +291,5 @@ help_app = with_rule (new_app (codes "help")) (word_rule (codes "topic"))
 
 -- the whole command
 abbrev pub test_app : App
-test_app = with_subcommand (with_subcommand (with_subcommand (with_reports (with_lists test_top_app)) counts_app.top) cover_app.top)
-    help_app.top
+test_app = with_subcommand (with_subcommand (with_subcommand (with_subcommand (with_reports (with_lists test_top_app)) counts_app.top)
+    cover_app.top) profile_app.top) help_app.top

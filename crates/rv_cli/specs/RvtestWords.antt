@@ -9,7 +9,7 @@ use Rattle.clap.specs.Kinds.{or_else}
 use Rattle.clap.specs.Words.{Kinds, Row, Text, fault_of, first_of, subcommand_of}
 use Rattle.clap.specs.declared.error.kind.ErrorKind.TheVariants as kind
 use Rattle.rv_base.specs.Limits.{most_budget, most_group, most_jobs, most_workers}
-use Rattle.rv_cli.specs.RvtestCommand.{most_last_instructions, most_slower, test_app}
+use Rattle.rv_cli.specs.RvtestCommand.{most_functions, most_last_instructions, most_slower, test_app}
 use Rattle.rv_cli.specs.declared.rvtest.refusals.Misuse.{Misuse}
 use Rattle.rv_cli.specs.declared.rvtest.refusals.Misuse.TheVariants as misuse
 use Rattle.rv_cli.specs.WordsErrors.{IsUsageText}
@@ -24,6 +24,7 @@ use Rattle.rv_cli.specs.declared.rvtest.counts.CountsAsked.{CountsAsked}
 use Rattle.rv_cli.specs.declared.rvtest.cover.CoverAsked.{CoverAsked}
 use Rattle.rv_cli.specs.declared.rvtest.explain.ExplainAsked.{ExplainAsked}
 use Rattle.rv_cli.specs.declared.rvtest.merge.MergeAsked.{MergeAsked}
+use Rattle.rv_cli.specs.declared.rvtest.profile.ProfileAsked.{ProfileAsked}
 use Rattle.rv_cli.specs.declared.rvtest.show.ShowAsked.{ShowAsked}
 use Rattle.rv_cli.specs.declared.rvtest.diff.DiffAsked.{DiffAsked}
 use Rattle.std.specs.Borrow.{Bor}
@@ -50,6 +51,7 @@ pub record RunWords : Type 0 where
   pub suite : Option Text
   pub lenient : Bool
   pub counts : Option Text
+  pub stacks : Bool
   pub known : Option Text
   pub stop_after : Option ℕ
   pub verbose : Bool
@@ -110,10 +112,17 @@ pub record CoverWords : Type 0 where
   pub run : RunWords
   pub csv : Bool
 
+-- jobs of a list in whose images it is shown where their steps were, in so many functions, for tools where words ask for that; the counts
+-- of a run are the path of a table that is read in place of one
+pub record ProfileWords : Type 0 where
+  pub run : RunWords
+  pub top : Option ℕ
+  pub csv : Bool
+
 -- to run jobs; to say which jobs a run of these words would run; to explain one; to write the console of one, or to show its run to
 -- gdb within some megabytes, whose paths are taken from a folder; to say all that is wrong with a list, whose paths are taken from a
 -- folder; to accept what runs came to; to merge parts; to compare two reports, with their steps or without, or by which jobs are slower; to show one; to add up tables of counts; to
--- show what of images ran; to tell of something that is no command
+-- show what of images ran; to show where in images steps were; to tell of something that is no command
 pub data Words : Type 0 where
   run : RunWords → Words
   names : RunWords → Words
@@ -127,14 +136,15 @@ pub data Words : Type 0 where
   show : ShowWords → Words
   counts : CountsWords → Words
   cover : CoverWords → Words
+  profile : ProfileWords → Words
   help : Text → Words
 
 -- the budget that each job takes in place of its own
 abbrev pub requested_budget : List Row → Option ℕ
 requested_budget rows = number_value (codes "budget") 1 most_budget rows
 
--- what the values of `run` ask for, of a list, in pieces of so many jobs; those of `list`, `accept` and `cover` are without the values that it has no
--- option for
+-- what the values of `run` ask for, of a list, in pieces of so many jobs; those of `list`, `accept`, `cover` and
+-- `profile` are without the values that it has no option for
 unfoldable pub run_words : Text → ℕ → List Row → RunWords
 run_words list group rows = record {
   list = list;
@@ -155,6 +165,7 @@ run_words list group rows = record {
   suite = first_of (codes "suite") rows;
   lenient = is_flag_set (codes "lenient") rows;
   counts = first_of (codes "counts") rows;
+  stacks = is_flag_set (codes "stacks") rows;
   known = first_of (codes "known") rows;
   stop_after = number_value (codes "stop-after") 1 most_jobs rows;
   verbose = is_flag_set (codes "verbose") rows;
@@ -258,6 +269,24 @@ abbrev pub cover_request : List Row → Option Words
 cover_request rows = option_and_then (λ list. option_map (cover_words list rows)
     (number_value (codes "group") 1 most_group rows)) (first_of (codes "list") rows)
 
+-- the job that is named, or those that are chosen by their exact names
+abbrev pub named_or_only : List Row → List Text
+named_or_only rows = if is_option_given (codes "name") rows then argument_values (codes "name") rows else argument_values (codes "only") rows
+
+abbrev pub named_run_words : Text → ℕ → List Row → RunWords
+named_run_words list group rows = record (run_words list group rows) { only = named_or_only rows }
+
+abbrev pub profile_words : Text → List Row → ℕ → Words
+profile_words list rows group = profile (record {
+  run = named_run_words list group rows;
+  top = number_value (codes "top") 1 most_functions rows;
+  csv = is_flag_set (codes "csv") rows;
+})
+
+abbrev pub profile_request : List Row → Option Words
+profile_request rows = option_and_then (λ list. option_map (profile_words list rows)
+    (number_value (codes "group") 1 most_group rows)) (first_of (codes "list") rows)
+
 abbrev pub help_request : List Row → Option Words
 help_request rows = option_map help (first_of (codes "topic") rows)
 
@@ -275,6 +304,7 @@ subcommand_words name rows = if bytes_eq name (codes "run") then test_run_reques
     else if bytes_eq name (codes "show") then show_request rows
     else if bytes_eq name (codes "counts") then Some (counts_request rows)
     else if bytes_eq name (codes "cover") then cover_request rows
+    else if bytes_eq name (codes "profile") then profile_request rows
     else if bytes_eq name (codes "help") then help_request rows
     else None
 
@@ -319,6 +349,10 @@ is_failed_path path rows = option_map_or (bytes_eq path) (first_of (codes "faile
 abbrev pub are_counts_put_over : List Row → Bool
 are_counts_put_over rows = option_map_or (λ path. is_report_path path rows || (is_into_path path rows
     || (is_junit_path path rows || is_failed_path path rows))) (first_of (codes "counts") rows) false
+
+-- stacks are to stand in a table that is not asked for
+abbrev pub are_stacks_alone : List Row → Bool
+are_stacks_alone rows = is_flag_set (codes "stacks") rows && not (is_option_given (codes "counts") rows)
 
 -- jobs are chosen by their names or by a report, or left out
 abbrev pub is_choice_given : List Row → Bool
@@ -377,7 +411,7 @@ choice_misuse rows = if is_partial_alone rows then Some misuse.PartialAlone else
 -- the first of the rules that options of `run` break: --verbose and --quiet do not stand beside
 -- one another, nor a shard beside a choice, nor a budget beside what makes rows that a list is known by, nor an end behind a failure
 -- beside a shard, nor a report of the rows beside one that they are put into, which is a file; a stamp is a shard's; a report that
--- chooses jobs keeps its other rows, and may be cut off; the files are not one, and a suite is JUnit's
+-- chooses jobs keeps its other rows, and may be cut off; stacks stand in a table of counts; the files are not one, and a suite is JUnit's
 abbrev pub run_misuse : List Row → Option Misuse
 run_misuse rows = if is_flag_set (codes "verbose") rows && is_flag_set (codes "quiet") rows
     then Some misuse.VerboseAndQuiet
@@ -392,6 +426,7 @@ run_misuse rows = if is_flag_set (codes "verbose") rows && is_flag_set (codes "q
     else if is_choice_overwritten rows then Some misuse.FailedIsReport
     else if is_partial_alone rows then Some misuse.PartialAlone
     else if is_color_unknown rows then Some misuse.UnknownColor
+    else if are_stacks_alone rows then Some misuse.StacksAlone
     else if are_counts_put_over rows then Some misuse.CountsOneFile
     else files_misuse rows
 
@@ -399,6 +434,14 @@ run_misuse rows = if is_flag_set (codes "verbose") rows && is_flag_set (codes "q
 abbrev pub cover_misuse : List Row → Option Misuse
 cover_misuse rows = if is_option_given (codes "shard") rows && is_choice_given rows then Some misuse.ShardAndChoice
     else choice_misuse rows
+
+-- one job is named, and jobs are chosen in another way
+abbrev pub is_name_beside_choice : List Row → Bool
+is_name_beside_choice rows = is_option_given (codes "name") rows && (is_choice_given rows || is_option_given (codes "shard") rows)
+
+-- of `profile`: a name does not stand beside a choice, and else as of `cover`
+abbrev pub profile_misuse : List Row → Option Misuse
+profile_misuse rows = if is_name_beside_choice rows then Some misuse.NameAndChoice else cover_misuse rows
 
 -- steps are compared exactly, or by which jobs are slower
 abbrev pub diff_misuse : List Row → Option Misuse
@@ -413,6 +456,7 @@ abbrev pub misuse_kinds : Option Misuse → Kinds
 misuse_kinds None = []
 misuse_kinds (Some misuse.StampAlone) = kind.MissingRequiredArgument ∷ []
 misuse_kinds (Some misuse.PartialAlone) = kind.MissingRequiredArgument ∷ []
+misuse_kinds (Some misuse.StacksAlone) = kind.MissingRequiredArgument ∷ []
 misuse_kinds (Some misuse.SuiteAlone) = kind.MissingRequiredArgument ∷ []
 misuse_kinds (Some misuse.NamelessSuite) = kind.InvalidValue ∷ []
 misuse_kinds (Some misuse.UnknownColor) = kind.InvalidValue ∷ []
@@ -424,6 +468,8 @@ abbrev pub misuse_text : Misuse → Text
 misuse_text misuse.VerboseAndQuiet = codes "the argument '--verbose' cannot be used with '--quiet'"
 misuse_text misuse.ShardAndChoice =
     codes "the argument '--shard <K/N>' cannot be used with '--only <NAME>', '--match <REGEX>', '--exclude <REGEX>' or '--failed <REPORT>'"
+misuse_text misuse.NameAndChoice =
+    codes "the argument '[NAME]' cannot be used with '--only <NAME>', '--match <REGEX>', '--exclude <REGEX>', '--failed <REPORT>' or '--shard <K/N>': it is one job"
 misuse_text misuse.StampAlone = codes "the argument '--stamp <TEXT>' cannot be used without '--shard <K/N>'"
 misuse_text misuse.BudgetAndRows =
     codes "the argument '--budget <N>' cannot be used with '--into <FILE>', '--report <FILE>', '--junit <FILE>' or '--shard <K/N>': such rows are not the list's"
@@ -437,6 +483,7 @@ misuse_text misuse.FailedIsReport =
     codes "the argument '--report <FILE>' cannot be used with '--failed <REPORT>' of the same name: the rows of the other jobs would be lost; '--into <FILE>' keeps them"
 misuse_text misuse.PartialAlone = codes "the argument '--partial' cannot be used without '--failed <REPORT>'"
 misuse_text misuse.StepsAndSlower = codes "the argument '--steps' cannot be used with '--slower <N>'"
+misuse_text misuse.StacksAlone = codes "the argument '--stacks' cannot be used without '--counts <FILE>'"
 misuse_text misuse.SuiteAlone = codes "the argument '--suite <NAME>' cannot be used without '--junit <FILE>'"
 misuse_text misuse.NamelessSuite = codes "a value is required for '--suite <NAME>' but none was supplied"
 misuse_text misuse.UnknownColor = codes "the value of '--color <WHEN>' is always, never or auto"
@@ -453,6 +500,7 @@ subcommand_misuse name rows = if bytes_eq name (codes "run") then run_misuse row
     else if bytes_eq name (codes "list") then choice_misuse rows
     else if bytes_eq name (codes "accept") then choice_misuse rows
     else if bytes_eq name (codes "cover") then cover_misuse rows
+    else if bytes_eq name (codes "profile") then profile_misuse rows
     else if bytes_eq name (codes "merge") then files_misuse rows
     else if bytes_eq name (codes "diff") then diff_misuse rows
     else if bytes_eq name (codes "show") then show_misuse rows
@@ -508,6 +556,7 @@ run_asked_words value = record {
   suite = borrowed_text value.suite;
   lenient = value.lenient;
   counts = borrowed_text value.counts;
+  stacks = value.stacks;
   known = borrowed_text value.known;
   stop_after = value.stop_after;
   verbose = value.verbose;
@@ -571,6 +620,9 @@ accept_asked_words value = record {
 abbrev pub cover_asked_words : CoverAsked → CoverWords
 cover_asked_words value = record { run = run_asked_words value.run; csv = value.csv }
 
+abbrev pub profile_asked_words : ProfileAsked → ProfileWords
+profile_asked_words value = record { run = run_asked_words value.run; top = value.top; csv = value.csv }
+
 abbrev pub asked_words : Asked → Words
 asked_words (asked.Run value) = run (run_asked_words value)
 asked_words (asked.List value) = names (run_asked_words value)
@@ -584,6 +636,7 @@ asked_words (asked.Diff value) = diff (diff_asked_words value)
 asked_words (asked.Show value) = show (show_asked_words value)
 asked_words (asked.Counts value) = counts (counts_asked_words value)
 asked_words (asked.Cover value) = cover (cover_asked_words value)
+asked_words (asked.Profile value) = profile (profile_asked_words value)
 asked_words (asked.Help value) = help value.topic.now
 
 -- a job of a list may have this budget
@@ -601,6 +654,7 @@ IsAskedInRange (asked.Run value) = IsRunAskedInRange value
 IsAskedInRange (asked.List value) = IsRunAskedInRange value
 IsAskedInRange (asked.Accept value) = IsRunAskedInRange value.run
 IsAskedInRange (asked.Cover value) = IsRunAskedInRange value.run
+IsAskedInRange (asked.Profile value) = IsRunAskedInRange value.run × IfSome value.top (λ number. (1 ≤ number) × (number ≤ most_functions))
 IsAskedInRange (asked.Explain value) = (value.last ≤ most_last_instructions) × IsBudgetInRange value.budget
 IsAskedInRange (asked.Diff value) = IfSome value.slower (λ percent. percent ≤ most_slower)
 IsAskedInRange _ = Unit {0}

@@ -7,9 +7,9 @@ use Rattle.std.specs.Prelude.{◌&&◌, nat_le}
 use Rattle.std.specs.List.{AllByRecursion}
 use Rattle.rv_counts.specs.declared.table.AddressCounts.{AddressCounts}
 use Rattle.rv_counts.specs.declared.sum.SumError.{SumError}
-use Rattle.rv_counts.specs.declared.sum.SumError.TheVariants.{OutOfMemory, Count, Runs}
+use Rattle.rv_counts.specs.declared.sum.SumError.TheVariants.{OutOfMemory, Count, Spot, Runs, Names}
 use Rattle.rv_counts.specs.Table.{begun_at, taken_at, rise_from, IsCounted, AreCounts}
-use Rattle.rv_counts.specs.Sum.{IsSumOfCounts, IsTooGreatAt}
+use Rattle.rv_counts.specs.Sum.{IsSumOfCounts, CountsHaveNoSum}
 use Rattle.rv_counts.specs.SumSteps.{AddsUp, IsNextCount}
 use Rattle.rv_counts.proofs.Told.{low, behind}
 
@@ -168,11 +168,13 @@ some_left (suc n) address [] = omega arith
 some_left (suc n) address (c ∷ cs) = let h = some_left n address cs in omega (arith, h)
 
 pub too_great_behind : (n m : ℕ) (a b : List AddressCounts) (error : SumError)
-    → IsTooGreatAt error (drop n a) (drop m b) → IsTooGreatAt error a b
+    → CountsHaveNoSum error (drop n a) (drop m b) → CountsHaveNoSum error a b
 too_great_behind n m a b OutOfMemory h = tt
 too_great_behind n m a b (Count address) h =
     let p = some_left n address a in let q = some_left m address b in omega (arith, h, p, q)
+too_great_behind n m a b (Spot function) h = h
 too_great_behind n m a b Runs h = h
+too_great_behind n m a b (Names function) h = h
 
 -- nothing and nothing is nothing
 pub none_adds_up : AddsUp [] [] []

@@ -13,7 +13,7 @@ use Rattle.rv_counts.specs.declared.read.ReadError.TheVariants.{Line, CutOff}
 use Rattle.rv_counts.specs.Lines.{lacks, count_of_line_feeds, whole_line}
 use Rattle.rv_counts.specs.Table.{IsTable}
 use Rattle.rv_counts.specs.Text.{line, first_line, image_text, last_line, table_text}
-use Rattle.rv_counts.specs.ReadSteps.{lowest_in, last_digest, IsNoAddress, IsNoImage, AreImageLines}
+use Rattle.rv_counts.specs.ReadSteps.{nowhere, place_in, last_digest, IsNoEntry, IsNoImage, AreImageLines}
 use Rattle.rv_counts.specs.Read.{IsLeast, IsLeastRefusedLine, read_error_at}
 use Rattle.rv_counts.proofs.Pieces.{cases_line, line_at, no_line}
 use Rattle.rv_counts.proofs.Reading.{feeds-append}
@@ -40,7 +40,7 @@ pub record IsBehind (bytes : List ℕ) (images : List ImageCounts) (place : ℕ)
   pub all : bytes ≡ text_so_far images ++ drop place bytes
   pub front : take place bytes ≡ text_so_far images
   pub are : AreImages images
-  pub address : IsNoAddress (lowest_in None images) (whole_line (drop place bytes))
+  pub entry : IsNoEntry (place_in nowhere images) (whole_line (drop place bytes))
   pub image : IsNoImage (last_digest None images) (whole_line (drop place bytes))
 
 pub behind_images : (bytes : List ℕ) (read : ImageLines) (place : ℕ) → whole_line bytes ≡ first_line
@@ -69,7 +69,7 @@ behind_images bytes read place first h few e =
       all = all;
       front = ap (take place) all ∙ take_at (text_so_far read.images) (drop place bytes) place long;
       are = record { each = h.images; rising = h.rising; few = few };
-      address = subst (λ (s : List ℕ). IsNoAddress (lowest_in None read.images) (whole_line s)) rest h.address;
+      entry = subst (λ (s : List ℕ). IsNoEntry (place_in nowhere read.images) (whole_line s)) rest h.entry;
       image = subst (λ (s : List ℕ). IsNoImage (last_digest None read.images) (whole_line s)) rest h.image;
     }
 
@@ -117,7 +117,7 @@ told_refused : (bytes : List ℕ) (images : List ImageCounts) (place : ℕ) (fro
 told_refused bytes images place front rest h no_last plain e =
     let w : whole_line (drop place bytes) ≡ line front = ap whole_line e ∙ line_at front rest plain in
     refused_line images front rest bytes (count_of_line_feeds (take place bytes) + 1) h.are plain
-    (subst (λ (s : List ℕ). IsNoAddress (lowest_in None images) s) w h.address)
+    (subst (λ (s : List ℕ). IsNoEntry (place_in nowhere images) s) w h.entry)
     (subst (λ (s : List ℕ). IsNoImage (last_digest None images) s) w h.image)
     (λ r small same. no_last r small (w ∙ same))
     (h.all ∙ ap (λ (s : List ℕ). text_so_far images ++ s) e)

@@ -2,17 +2,17 @@
 use Rattle.std.proofs.Common.{◌≡◌, ◌∙◌, ◌==◌, ◌+◌, ◌-◌, ◌<◌, ◌≤◌, ◌^◌, ℕ, zero, suc, Bool, true, false, not, cond, List, [], ◌∷◌, ◌++◌, Option, Some, None, length, drop, take, get_or, refl, sym, ap, subst, append_assoc, append-nil, arith, inl, inr}
 use Rattle.std.proofs.lemmas.Bool.{and_parts, and_from, false≢true, cases_Bool, eqb-true}
 use Rattle.std.specs.List.{AllByRecursion, flat_map}
-use Rattle.rv_counts.specs.declared.table.AddressCounts.{AddressCounts}
 use Rattle.rv_counts.specs.declared.table.ImageCounts.{ImageCounts}
 use Rattle.rv_counts.specs.declared.table.CountTable.{CountTable}
 use Rattle.rv_counts.specs.Lines.{lacks, count_of_line_feeds, first_lines}
-use Rattle.rv_counts.specs.Table.{digests_rise, IsCounted, IsImage, IsTable}
-use Rattle.rv_counts.specs.Text.{line, first_line, address_line, image_line, image_text, last_line, table_text}
-use Rattle.rv_counts.specs.ReadSteps.{lowest_in, last_digest, IsNoAddress, IsNoImage}
+use Rattle.rv_counts.specs.Table.{digests_rise, IsImage, IsTable}
+use Rattle.rv_counts.specs.Text.{line, first_line, image_line, image_text, last_line, table_text}
+use Rattle.rv_counts.specs.ReadSteps.{Entry, IsEntry, entry_line, entries_of}
+use Rattle.rv_counts.proofs.Entries.{entries_fit, same_parts, AreSame}
 use Rattle.rv_counts.specs.Read.{BeginsTable, IsLeastRefusedLine}
-use Rattle.rv_counts.proofs.LineTexts.{address_words, image_words, last_words, address_is_line, image_is_line, last_is_line, lacks-address, lacks-image, lacks-last, same_address, same_digest, same_path, same_runs}
-use Rattle.rv_counts.proofs.LineTexts.{address_is_no_image, address_is_not_last, image_is_not_last}
-use Rattle.rv_counts.proofs.Decode.{same_line, first_address, first_image, IsRest, behind_images, rest_of_table, no_rest}
+use Rattle.rv_counts.proofs.LineTexts.{entry_words, image_words, last_words, entry_is_line, image_is_line, last_is_line, lacks-entry, lacks-image, lacks-last, same_entry_line, same_digest, same_path, same_runs}
+use Rattle.rv_counts.proofs.LineTexts.{entry_is_no_image, entry_is_not_last, image_is_not_last}
+use Rattle.rv_counts.proofs.Decode.{same_line, first_entry, first_image, IsRest, behind_images, rest_of_table, no_rest}
 
 -- ---- first lines
 
@@ -118,32 +118,38 @@ no_feeds (b ∷ bs) h =
 
 -- ---- one table has a text
 
--- the line of no address stands first
-abbrev NoAddressFirst : List ℕ → Type 0
-NoAddressFirst text = (c : AddressCounts) (s : List ℕ) → text ≡ address_line c ++ s → ⊥
+-- the line of no entry stands first
+abbrev NoEntryFirst : List ℕ → Type 0
+NoEntryFirst text = (e : Entry) (s : List ℕ) → text ≡ entry_line e ++ s → ⊥
 
-no_address_first : (is : List ImageCounts) (n r : ℕ) → NoAddressFirst (flat_map image_text is ++ last_line n r)
-no_address_first [] n r c s e = address_is_not_last c n r s [] (sym e ∙ sym (append-nil (last_line n r)))
-no_address_first (i ∷ is) n r c s e = address_is_no_image c i s _ (sym e ∙ first_image i is (last_line n r))
+no_entry_first : (is : List ImageCounts) (n r : ℕ) → NoEntryFirst (flat_map image_text is ++ last_line n r)
+no_entry_first [] n r e s h = entry_is_not_last e n r s [] (sym h ∙ sym (append-nil (last_line n r)))
+no_entry_first (i ∷ is) n r e s h = entry_is_no_image e i s _ (sym h ∙ first_image i is (last_line n r))
 
-same_addresses : (cs ds : List AddressCounts) (s t : List ℕ) → AllByRecursion IsCounted cs → AllByRecursion IsCounted ds
-    → NoAddressFirst s → NoAddressFirst t → flat_map address_line cs ++ s ≡ flat_map address_line ds ++ t
+same_entries : (cs ds : List Entry) (s t : List ℕ) → AllByRecursion IsEntry cs → AllByRecursion IsEntry ds
+    → NoEntryFirst s → NoEntryFirst t → flat_map entry_line cs ++ s ≡ flat_map entry_line ds ++ t
     → (cs ≡ ds) × (s ≡ t)
-same_addresses [] [] s t p q h k e = (refl, e)
-same_addresses [] (d ∷ ds) s t p q h k e = absurd (h d (flat_map address_line ds ++ t) (e ∙ first_address d ds t))
-same_addresses (c ∷ cs) [] s t p q h k e =
-    absurd (k c (flat_map address_line cs ++ s) (sym e ∙ first_address c cs s))
-same_addresses (c ∷ cs) (d ∷ ds) s t p q h k e =
-    let same = same_line (address_words c) (address_words d) (flat_map address_line cs ++ s) (flat_map address_line ds ++ t)
-    (lacks-address c p.0) (lacks-address d q.0)
-    (ap (λ (x : List ℕ). x ++ (flat_map address_line cs ++ s)) (sym (address_is_line c)) ∙ sym (first_address c cs s) ∙ e
-    ∙ first_address d ds t ∙ ap (λ (x : List ℕ). x ++ (flat_map address_line ds ++ t)) (address_is_line d)) in
-    let one : c ≡ d = same_address c d p.0 q.0 (address_is_line c ∙ same.0 ∙ sym (address_is_line d)) in
-    let rest = same_addresses cs ds s t p.1 q.1 h k same.1 in
+same_entries [] [] s t p q h k e = (refl, e)
+same_entries [] (d ∷ ds) s t p q h k e = absurd (h d (flat_map entry_line ds ++ t) (e ∙ first_entry d ds t))
+same_entries (c ∷ cs) [] s t p q h k e =
+    absurd (k c (flat_map entry_line cs ++ s) (sym e ∙ first_entry c cs s))
+same_entries (c ∷ cs) (d ∷ ds) s t p q h k e =
+    let same = same_line (entry_words c) (entry_words d) (flat_map entry_line cs ++ s) (flat_map entry_line ds ++ t)
+    (lacks-entry c p.0) (lacks-entry d q.0)
+    (ap (λ (x : List ℕ). x ++ (flat_map entry_line cs ++ s)) (sym (entry_is_line c)) ∙ sym (first_entry c cs s) ∙ e
+    ∙ first_entry d ds t ∙ ap (λ (x : List ℕ). x ++ (flat_map entry_line ds ++ t)) (entry_is_line d)) in
+    let one : c ≡ d = same_entry_line c d p.0 q.0 (entry_is_line c ∙ same.0 ∙ sym (entry_is_line d)) in
+    let rest = same_entries cs ds s t p.1 q.1 h k same.1 in
     (λ i. one i ∷ rest.0 i, rest.1)
 
-same_image : (i j : ImageCounts) → i.digest ≡ j.digest → i.path ≡ j.path → i.addresses ≡ j.addresses → i ≡ j
-same_image i j d p a = λ k. record { digest = d k; path = p k; addresses = a k }
+same_image : (i j : ImageCounts) → i.digest ≡ j.digest → i.path ≡ j.path → AreSame i j → i ≡ j
+same_image i j d p a = λ k. record {
+  digest = d k;
+  path = p k;
+  addresses = a.addresses k;
+  functions = a.functions k;
+  spots = a.spots k;
+}
 
 same_images : (is js : List ImageCounts) (n m r q : ℕ) → AllByRecursion IsImage is → AllByRecursion IsImage js
     → flat_map image_text is ++ last_line n r ≡ flat_map image_text js ++ last_line m q
@@ -156,16 +162,17 @@ same_images (i ∷ is) [] n m r q h k e =
 same_images (i ∷ is) (j ∷ js) n m r q h k e =
     let s = flat_map image_text is ++ last_line n r in
     let t = flat_map image_text js ++ last_line m q in
-    let same = same_line (image_words i) (image_words j) (flat_map address_line i.addresses ++ s)
-    (flat_map address_line j.addresses ++ t) (lacks-image i h.0) (lacks-image j k.0)
-    (ap (λ (x : List ℕ). x ++ (flat_map address_line i.addresses ++ s)) (sym (image_is_line i))
+    let same = same_line (image_words i) (image_words j) (flat_map entry_line (entries_of i) ++ s)
+    (flat_map entry_line (entries_of j) ++ t) (lacks-image i h.0) (lacks-image j k.0)
+    (ap (λ (x : List ℕ). x ++ (flat_map entry_line (entries_of i) ++ s)) (sym (image_is_line i))
     ∙ sym (first_image i is (last_line n r)) ∙ e ∙ first_image j js (last_line m q)
-    ∙ ap (λ (x : List ℕ). x ++ (flat_map address_line j.addresses ++ t)) (image_is_line j)) in
+    ∙ ap (λ (x : List ℕ). x ++ (flat_map entry_line (entries_of j) ++ t)) (image_is_line j)) in
     let lines : image_line i ≡ image_line j = image_is_line i ∙ same.0 ∙ sym (image_is_line j) in
-    let inside = same_addresses i.addresses j.addresses s t h.0.counts.each k.0.counts.each (no_address_first is n r)
-    (no_address_first js m q) same.1 in
+    let inside = same_entries (entries_of i) (entries_of j) s t (entries_fit i h.0) (entries_fit j k.0) (no_entry_first is n r)
+    (no_entry_first js m q) same.1 in
     let others = same_images is js n m r q h.1 k.1 inside.1 in
-    let one : i ≡ j = same_image i j (same_digest i j h.0 k.0 lines) (same_path i j h.0 k.0 lines) inside.0 in
+    let one : i ≡ j = same_image i j (same_digest i j h.0 k.0 lines) (same_path i j h.0 k.0 lines)
+    (same_parts i j h.0 k.0 inside.0) in
     (λ x. one x ∷ others.0 x, others.1)
 
 behind_first : (t : CountTable) → drop 11 (table_text t) ≡ flat_map image_text t.images ++ last_line (length t.images) t.runs

@@ -13,14 +13,18 @@ use Rattle.rv_counts.specs.declared.table.ImageCounts.{ImageCounts}
 use Rattle.rv_counts.specs.declared.read_lines.AddressLines.{AddressLines}
 use Rattle.rv_counts.specs.declared.read_lines.ImageLines.{ImageLines}
 use Rattle.rv_counts.specs.declared.read_lines.OneImage.{OneImage}
+use Rattle.rv_counts.specs.declared.read_stacks.SpotLines.{SpotLines}
+use Rattle.rv_counts.specs.declared.table.FunctionName.{FunctionName}
 use Rattle.rv_counts.specs.Lines.{lacks, whole_line}
 use Rattle.rv_counts.specs.Table.{is_before, is_behind, digests_rise, rise_from, IsCounted, IsImage}
-use Rattle.rv_counts.specs.Text.{line, address_line, image_line, image_text, last_line}
-use Rattle.rv_counts.specs.ReadSteps.{lowest_behind, lowest_in, last_digest, is_from, IsNoAddress, IsNoImage, AreAddressLines, AreImageLines, IsOneImage}
+use Rattle.rv_counts.specs.Text.{line, address_line, image_line, image_text, last_line, line_of_spot}
+use Rattle.rv_counts.specs.ReadSteps.{lowest_behind, last_digest, nowhere, at_image, place_in, place_behind, entries_of, Place, IsNoAddress, IsNoEntry, IsNoImage, AreAddressLines, AreImageLines, AreSpotLines, IsOneImage}
+use Rattle.rv_spots.specs.declared.spot.Spot.{Spot}
 use Rattle.rv_counts.proofs.Pieces.{cases_line, line_at, no_line, same_cut}
 use Rattle.rv_counts.proofs.Told.{low, behind}
 use Rattle.rv_counts.proofs.Adding.{raised}
 use Rattle.rv_counts.proofs.AddingImages.{image_low, images_behind, images_rise, no_images_rise}
+use Rattle.rv_counts.proofs.Entries.{all_entries, no_entry, nothing_nowhere}
 use Rattle.rv_counts.proofs.LineTexts.{address_is_line, image_is_line, address_words, image_words}
 
 -- ---- the first line of a text, and what stands behind it
@@ -43,7 +47,7 @@ whole_within text =
     let f = length-append (whole_line text) (drop (length (whole_line text)) text) in
     omega (arith, e, f)
 
-line_is_long : (xs : List ℕ) → 0 < length (line xs)
+pub line_is_long : (xs : List ℕ) → 0 < length (line xs)
 line_is_long xs = let e = length-append xs (10 ∷ []) in omega (arith, e)
 
 pub address_is_long : (c : AddressCounts) → 0 < length (address_line c)
@@ -59,7 +63,7 @@ pub each_push : {X : Type 0} (P : X → Type 0) (xs : List X) (x : X) → AllByR
 each_push P [] x h p = (p, tt)
 each_push P (y ∷ ys) x h p = (h.0, each_push P ys x h.1 p)
 
-lines_push : {X : Type 0} (f : X → List ℕ) (xs : List X) (x : X) (text rest tail : List ℕ)
+pub lines_push : {X : Type 0} (f : X → List ℕ) (xs : List X) (x : X) (text rest tail : List ℕ)
     → text ≡ flat_map f xs ++ rest → rest ≡ f x ++ tail → text ≡ flat_map f (xs ++ x ∷ []) ++ tail
 lines_push f xs x text rest tail p q =
     p ∙ ap (λ (s : List ℕ). flat_map f xs ++ s) q ∙ sym (append_assoc (flat_map f xs) (f x) tail)
@@ -84,10 +88,10 @@ pub digest_push : (last : Option (List ℕ)) (is : List ImageCounts) (i : ImageC
 digest_push last [] i = refl
 digest_push last (j ∷ js) i = digest_push (Some j.digest) js i
 
-pub lowest_in_push : (lowest : Option ℕ) (is : List ImageCounts) (i : ImageCounts)
-    → lowest_in lowest (is ++ i ∷ []) ≡ Some (lowest_behind 0 i.addresses)
-lowest_in_push lowest [] i = refl
-lowest_in_push lowest (j ∷ js) i = lowest_in_push (Some (lowest_behind 0 j.addresses)) js i
+pub place_push : (place : Place) (is : List ImageCounts) (i : ImageCounts)
+    → place_in place (is ++ i ∷ []) ≡ place_behind at_image (entries_of i)
+place_push place [] i = refl
+place_push place (j ∷ js) i = place_push (place_behind at_image (entries_of j)) js i
 
 pub digests_push : (last : Option (List ℕ)) (is : List ImageCounts) (i : ImageCounts) → digests_rise last is ≡ true
     → is_behind (last_digest last is) i.digest ≡ true → digests_rise last (is ++ i ∷ []) ≡ true
@@ -156,26 +160,30 @@ one_so_far text cs lowest n m c h counted under is e =
     }
 
 pub all_so_far : (text : List ℕ) (lowest : ℕ) (read : AddressLines) → AreSoFar text read.addresses lowest read.length
-    → IsNoAddress (Some lowest) (whole_line (drop read.length text)) → AreAddressLines text read
+    → IsNoAddress lowest (whole_line (drop read.length text)) → AreAddressLines text read
 all_so_far text lowest read h no_more = record {
   within = h.within;
   lines = h.lines;
   counts = record { each = h.each; rising = h.rising };
-  behind = subst (λ (n : ℕ). IsNoAddress (Some n) (whole_line (drop read.length text))) h.lowest no_more;
+  behind = subst (λ (n : ℕ). IsNoAddress n (whole_line (drop read.length text))) h.lowest no_more;
 }
 
 -- ---- one image
 
-image_line_is_kept : (i : ImageCounts) (cs : List AddressCounts) → image_text (record i { addresses = cs })
-    ≡ image_line i ++ flat_map address_line cs
+image_line_is_kept : (i : ImageCounts) (cs : List AddressCounts) (ns : List FunctionName) (ss : List Spot)
+    → image_text (record i { addresses = cs; functions = ns; spots = ss })
+    ≡ image_line i ++ flat_map address_line cs ++ flat_map (line_of_spot ns) ss
 unfolding image_text image_line
-image_line_is_kept i cs = refl
+image_line_is_kept i cs ns ss = refl
 
-lacks_path : (xs ys : List ℕ) → lacks 10 (xs ++ ys) ≡ true → lacks 10 ys ≡ true
+four_parts : (a b c d : List ℕ) → a ++ (b ++ (c ++ d)) ≡ (a ++ b ++ c) ++ d
+four_parts a b c d = sym (append_assoc (a ++ b) c d ∙ append_assoc a b (c ++ d))
+
+pub lacks_path : (xs ys : List ℕ) → lacks 10 (xs ++ ys) ≡ true → lacks 10 ys ≡ true
 lacks_path [] ys h = h
 lacks_path (b ∷ bs) ys h = lacks_path bs ys (and_parts (not (b == 10)) (lacks 10 (bs ++ ys)) h).1
 
-plain_line : (text : List ℕ) (xs : List ℕ) → whole_line text ≡ line xs → (front : List ℕ) × (lacks 10 front ≡ true) × (line front ≡ line xs)
+pub plain_line : (text : List ℕ) (xs : List ℕ) → whole_line text ≡ line xs → (front : List ℕ) × (lacks 10 front ≡ true) × (line front ≡ line xs)
 plain_line text xs e = elim (cases_line text) [
   | inl h ↦
       let n : length (line xs) ≡ 0 = ap (λ (s : List ℕ). length s) (sym e ∙ no_line text h) in
@@ -183,7 +191,7 @@ plain_line text xs e = elim (cases_line text) [
   | inr h ↦ (h.front, h.plain, sym (ap whole_line h.all ∙ line_at h.front h.rest h.plain) ∙ e)
 ]
 
-same_words : (xs ys : List ℕ) → line xs ≡ line ys → xs ≡ ys
+pub same_words : (xs ys : List ℕ) → line xs ≡ line ys → xs ≡ ys
 same_words xs ys e = append_cancel_right xs ys (10 ∷ []) e
 
 pub plain_image : (text : List ℕ) (i : ImageCounts) → whole_line text ≡ image_line i → lacks 10 i.path ≡ true
@@ -192,36 +200,75 @@ plain_image text i e =
     lacks_path (codes "image " ++ encode_lower i.digest ++ codes " ") i.path
     (ap (lacks 10) (sym (same_words p.0 (image_words i) p.2)) ∙ p.1)
 
-pub one_image : (last : Option (List ℕ)) (text tail : List ℕ) (image : ImageCounts) (lines : AddressLines) (n : ℕ)
-    → tail ≡ drop (length (whole_line text)) text → whole_line text ≡ image_line image → length image.digest ≡ 32
+-- what was read behind the line of an image
+pub record AreParts (text : List ℕ) (start : ℕ) (lines : AddressLines) (spots : SpotLines) (n : ℕ) : Type 0 where
+  pub addresses : AreAddressLines (drop start text) lines
+  pub stacks : AreSpotLines (drop (start + lines.length) text) spots
+  pub end : n ≡ start + lines.length + spots.length
+
+parts_within : (text : List ℕ) (start : ℕ) (lines : AddressLines) (spots : SpotLines) (n : ℕ)
+    → AreParts text start lines spots n → start ≤ length text → n ≤ length text
+parts_within text start lines spots n h le =
+    let a = h.addresses.within in
+    let b = h.stacks.within in
+    let p = length-drop start text in
+    let q = length-drop (start + lines.length) text in
+    let e = h.end in
+    omega (arith, a, b, p, q, e)
+
+parts_text : (text : List ℕ) (start : ℕ) (lines : AddressLines) (spots : SpotLines) (n : ℕ)
+    → AreParts text start lines spots n → drop start text ≡ flat_map address_line lines.addresses
+    ++ (flat_map (line_of_spot spots.functions) spots.spots ++ drop n text)
+parts_text text start lines spots n h =
+    let second : drop (start + lines.length) text ≡ flat_map (line_of_spot spots.functions) spots.spots ++ drop n text =
+    h.stacks.lines ∙ ap (λ (t : List ℕ). flat_map (line_of_spot spots.functions) spots.spots ++ t)
+    (drop-drop spots.length (start + lines.length) text ∙ ap (λ (k : ℕ). drop k text) (sym h.end)) in
+    h.addresses.lines ∙ ap (λ (t : List ℕ). flat_map address_line lines.addresses ++ t)
+    (drop-drop lines.length start text ∙ second)
+
+no_part : (text : List ℕ) (start : ℕ) (lines : AddressLines) (spots : SpotLines) (n : ℕ) → AreParts text start lines spots n
+    → IsNoEntry (place_behind at_image (all_entries lines.addresses spots.functions spots.spots)) (whole_line (drop n text))
+no_part text start lines spots n h =
+    let end = drop-drop spots.length (start + lines.length) text ∙ ap (λ (k : ℕ). drop k text) (sym h.end) in
+    subst (λ (t : List ℕ). IsNoEntry (place_behind at_image (all_entries lines.addresses spots.functions spots.spots)) (whole_line t)) end
+    (no_entry lines.addresses spots.functions spots.spots (whole_line (drop lines.length (drop start text)))
+    (whole_line (drop spots.length (drop (start + lines.length) text)))
+    h.addresses.behind h.stacks.behind h.stacks.known
+    (λ e. ap whole_line (drop-drop lines.length start text ∙ h.stacks.lines
+    ∙ ap (λ (ss : List Spot). flat_map (line_of_spot spots.functions) ss ++ drop spots.length (drop (start + lines.length) text)) e)))
+
+pub one_image : (last : Option (List ℕ)) (text : List ℕ) (image : ImageCounts) (lines : AddressLines)
+    (spots : SpotLines) (n : ℕ) → whole_line text ≡ image_line image → length image.digest ≡ 32
     → is_behind last image.digest ≡ true → AllByRecursion (λ b. b < 256) image.digest → IsUtf8 image.path
-    → AreAddressLines tail lines → n ≡ length (whole_line text) + lines.length
-    → IsOneImage last text (record { image = record image { addresses = lines.addresses }; length = n })
-one_image last text tail image lines n t is long rising bytes utf h e =
+    → AreParts text (length (whole_line text)) lines spots n
+    → IsOneImage last text (record {
+      image = record image { addresses = lines.addresses; functions = spots.functions; spots = spots.spots };
+      length = n;
+    })
+one_image last text image lines spots n is long rising bytes utf h =
     let w = whole_line text in
-    let d : drop lines.length tail ≡ drop n text =
-    ap (drop lines.length) t ∙ drop-drop lines.length (length w) text ∙ ap (λ (k : ℕ). drop k text) (sym e) in
     let split = whole_split text in
     let long_enough : 0 < length w = subst (λ (s : List ℕ). 0 < length s) (sym is) (image_is_long image) in
-    let total = ap (λ (s : List ℕ). length s) split in
-    let parts = length-append w (drop (length w) text) in
-    let same_tail = ap (λ (s : List ℕ). length s) t in
-    let inside = h.within in record {
-      within = omega (arith, total, parts, same_tail, inside, e);
+    let end = h.end in record {
+      within = parts_within text (length w) lines spots n h (whole_within text);
       lines = split ∙ ap (λ (s : List ℕ). s ++ drop (length w) text) is
-          ∙ ap (λ (s : List ℕ). image_line image ++ s) (sym t ∙ h.lines ∙ ap (λ (s : List ℕ). flat_map address_line lines.addresses ++ s) d)
-          ∙ sym (append_assoc (image_line image) (flat_map address_line lines.addresses) (drop n text))
-          ∙ ap (λ (s : List ℕ). s ++ drop n text) (sym (image_line_is_kept image lines.addresses));
-      some = omega (arith, long_enough, e);
+          ∙ ap (λ (s : List ℕ). image_line image ++ s) (parts_text text (length w) lines spots n h)
+          ∙ four_parts (image_line image) (flat_map address_line lines.addresses)
+          (flat_map (line_of_spot spots.functions) spots.spots) (drop n text)
+          ∙ ap (λ (s : List ℕ). s ++ drop n text) (sym (image_line_is_kept image lines.addresses spots.functions spots.spots));
+      some = omega (arith, long_enough, end);
       image = record {
         digest = long;
         bytes = bytes;
         path = plain_image text image is;
         text = utf;
-        counts = h.counts;
+        counts = h.addresses.counts;
+        names = h.stacks.names;
+        spots = h.stacks.spots;
+        of_spots = h.stacks.of_spots;
       };
       rising = rising;
-      behind = subst (λ (s : List ℕ). IsNoAddress (Some (lowest_behind 0 lines.addresses)) (whole_line s)) d h.behind;
+      behind = no_part text (length w) lines spots n h;
     }
 
 pub no_image_digest : (last : Option (List ℕ)) (text digest : List ℕ)
@@ -251,7 +298,7 @@ pub record ImagesSoFar (text : List ℕ) (is : List ImageCounts) (n : ℕ) : Typ
   pub lines : text ≡ flat_map image_text is ++ drop n text
   pub images : AllByRecursion IsImage is
   pub rising : digests_rise None is ≡ true
-  pub address : IsNoAddress (lowest_in None is) (whole_line (drop n text))
+  pub entry : IsNoEntry (place_in nowhere is) (whole_line (drop n text))
 
 pub no_images_so_far : (text : List ℕ) → ImagesSoFar text [] 0
 no_images_so_far text = record {
@@ -259,7 +306,7 @@ no_images_so_far text = record {
   lines = refl;
   images = tt;
   rising = no_images_rise None;
-  address = λ c h from e. false≢true from;
+  entry = nothing_nowhere (whole_line text);
 }
 
 pub image_so_far : (text : List ℕ) (is : List ImageCounts) (n m : ℕ) (read : OneImage) → ImagesSoFar text is n
@@ -276,8 +323,8 @@ image_so_far text is n m read h one e =
           (one.lines ∙ ap (λ (s : List ℕ). image_text read.image ++ s) d);
       images = each_push IsImage is read.image h.images one.image;
       rising = digests_push None is read.image h.rising one.rising;
-      address = subst (λ (k : Option ℕ). IsNoAddress k (whole_line (drop m text))) (sym (lowest_in_push None is read.image))
-          (subst (λ (s : List ℕ). IsNoAddress (Some (lowest_behind 0 read.image.addresses)) (whole_line s)) d one.behind);
+      entry = subst (λ (p : Place). IsNoEntry p (whole_line (drop m text))) (sym (place_push nowhere is read.image))
+          (subst (λ (s : List ℕ). IsNoEntry (place_behind at_image (entries_of read.image)) (whole_line s)) d one.behind);
     }
 
 pub images_read : (text : List ℕ) (read : ImageLines) → ImagesSoFar text read.images read.length
@@ -287,7 +334,7 @@ images_read text read h no_more = record {
   lines = h.lines;
   images = h.images;
   rising = h.rising;
-  address = h.address;
+  entry = h.entry;
   image = no_more;
 }
 

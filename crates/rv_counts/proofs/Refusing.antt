@@ -3,17 +3,17 @@ use Rattle.std.proofs.Common.{◌≡◌, ◌∙◌, ◌==◌, ◌+◌, ◌-◌, 
 use Rattle.std.proofs.lemmas.Bool.{and_parts, false≢true}
 use Rattle.std.specs.Prelude.{codes}
 use Rattle.std.specs.List.{AllByRecursion, flat_map}
-use Rattle.rv_counts.specs.declared.table.AddressCounts.{AddressCounts}
 use Rattle.rv_counts.specs.declared.table.ImageCounts.{ImageCounts}
 use Rattle.rv_counts.specs.declared.table.CountTable.{CountTable}
 use Rattle.rv_counts.specs.Lines.{lacks, count_of_line_feeds, first_lines}
-use Rattle.rv_counts.specs.Table.{digests_rise, IsCounted, IsImage, IsTable}
-use Rattle.rv_counts.specs.Text.{line, first_line, address_line, image_line, image_text, last_line, table_text}
-use Rattle.rv_counts.specs.ReadSteps.{lowest_in, last_digest, IsNoAddress, IsNoImage}
+use Rattle.rv_counts.specs.Table.{digests_rise, IsImage, IsTable}
+use Rattle.rv_counts.specs.Text.{line, first_line, image_line, image_text, last_line, table_text}
+use Rattle.rv_counts.specs.ReadSteps.{Entry, entry_line, entries_of, nowhere, place_in, last_digest, IsNoEntry, IsNoImage}
+use Rattle.rv_counts.proofs.Entries.{image_entries}
 use Rattle.rv_counts.specs.Read.{BeginsTable, IsLeastRefusedLine}
-use Rattle.rv_counts.proofs.LineTexts.{address_words, image_words, last_words, address_is_line, image_is_line, last_is_line, lacks-last, same_runs}
-use Rattle.rv_counts.proofs.LineTexts.{address_is_not_last, image_is_not_last}
-use Rattle.rv_counts.proofs.Decode.{same_line, first_address, first_image, IsRest, behind_images, rest_of_table, no_rest}
+use Rattle.rv_counts.proofs.LineTexts.{entry_words, image_words, last_words, entry_is_line, image_is_line, last_is_line, lacks-last, same_runs}
+use Rattle.rv_counts.proofs.LineTexts.{entry_is_not_last, image_is_not_last}
+use Rattle.rv_counts.proofs.Decode.{same_line, first_entry, first_image, IsRest, behind_images, rest_of_table, no_rest}
 use Rattle.rv_counts.proofs.Reading.{no_lines, lines_up_to, lines_past, lines_begin, feeds-append, no_feeds}
 
 -- a text that ends with a line feed
@@ -30,15 +30,15 @@ ends-append a b h = record {
 ends_front : (a : List ℕ) → EndsLine a → EndsLine (a ++ [])
 ends_front a h = subst (λ (s : List ℕ). EndsLine s) (sym (append-nil a)) h
 
-ends_addresses : (a : List ℕ) (cs : List AddressCounts) → EndsLine a → EndsLine (a ++ flat_map address_line cs)
-ends_addresses a [] h = ends_front a h
-ends_addresses a (c ∷ cs) h =
-    subst (λ (s : List ℕ). EndsLine s) (append_assoc a (address_line c) (flat_map address_line cs))
-    (ends_addresses (a ++ address_line c) cs (ends-append a (address_line c) (record { front = address_words c; all = address_is_line c })))
+ends_entries : (a : List ℕ) (es : List Entry) → EndsLine a → EndsLine (a ++ flat_map entry_line es)
+ends_entries a [] h = ends_front a h
+ends_entries a (e ∷ es) h =
+    subst (λ (s : List ℕ). EndsLine s) (append_assoc a (entry_line e) (flat_map entry_line es))
+    (ends_entries (a ++ entry_line e) es (ends-append a (entry_line e) (record { front = entry_words e; all = entry_is_line e })))
 
 image_ends : (i : ImageCounts) → EndsLine (image_text i)
-unfolding image_text
-image_ends i = ends_addresses (image_line i) i.addresses (record { front = image_words i; all = image_is_line i })
+image_ends i = subst (λ (s : List ℕ). EndsLine s) (sym (image_entries i))
+    (ends_entries (image_line i) (entries_of i) (record { front = image_words i; all = image_is_line i }))
 
 ends_images : (a : List ℕ) (is : List ImageCounts) → EndsLine a → EndsLine (a ++ flat_map image_text is)
 ends_images a [] h = ends_front a h
@@ -124,20 +124,20 @@ begins_nothing = (
 -- what a table has behind these images
 behind_so_far : (t : CountTable) (images : List ImageCounts) (s : List ℕ) → IsTable t → AreImages images
     → table_text t ≡ text_so_far images ++ s
-    → IsRest (0 + length images) (last_digest None images) (lowest_in None images) s
+    → IsRest (0 + length images) (last_digest None images) (place_in nowhere images) s
 unfolding table_text
 behind_so_far t images s h k e =
-    behind_images images 0 None None s k.each
-    (subst (λ (x : List ℕ). IsRest 0 None None x) (ap (drop 11) e) (rest_of_table t h))
+    behind_images images 0 None nowhere s k.each
+    (subst (λ (x : List ℕ). IsRest 0 None nowhere x) (ap (drop 11) e) (rest_of_table t h))
 
 -- ---- a line that is refused
 
 pub refused_line : (images : List ImageCounts) (xs rest bytes : List ℕ) (n : ℕ) → AreImages images → lacks 10 xs ≡ true
-    → IsNoAddress (lowest_in None images) (line xs) → IsNoImage (last_digest None images) (line xs)
+    → IsNoEntry (place_in nowhere images) (line xs) → IsNoImage (last_digest None images) (line xs)
     → ((r : ℕ) → r < 2 ^ 64 → line xs ≡ last_line (length images) r → ⊥)
     → bytes ≡ text_so_far images ++ (xs ++ 10 ∷ rest) → n ≡ count_of_line_feeds (text_so_far images) + 1
     → IsLeastRefusedLine n bytes
-refused_line images xs rest bytes n h plain no_address no_image no_last is number =
+refused_line images xs rest bytes n h plain no_entry no_image no_last is number =
     let text = text_so_far images in
     let before : first_lines (n - 1) bytes ≡ text =
     (let m : n - 1 ≡ count_of_line_feeds text = omega arith in
@@ -151,7 +151,7 @@ refused_line images xs rest bytes n h plain no_address no_image no_last is numbe
       refused = λ b.
           let e = b.3 ∙ ap (λ (s : List ℕ). s ++ b.1) here ∙ append_assoc text (line xs) b.1 in
           let m : 0 + length images ≡ length images = omega arith in
-          no_rest (0 + length images) (last_digest None images) (lowest_in None images) xs b.1 plain no_address no_image
+          no_rest (0 + length images) (last_digest None images) (place_in nowhere images) xs b.1 plain no_entry no_image
           (λ r small same. no_last r small (same ∙ ap (λ (k : ℕ). last_line k r) m))
           (behind_so_far b.0 images (line xs ++ b.1) b.2 h e);
     }
@@ -174,16 +174,16 @@ refused_first xs rest bytes plain other is =
     }
 
 -- something stands behind the last line
-refused_behind : (n : ℕ) (last : Option (List ℕ)) (lowest : Option ℕ) (r b : ℕ) (s : List ℕ) (cs : List AddressCounts)
+refused_behind : (n r b : ℕ) (s : List ℕ) (es : List Entry)
     (more : List ImageCounts) (runs : ℕ) → n < 2 ^ 64 → r < 2 ^ 64
-    → last_line n r ++ (b ∷ s) ≡ flat_map address_line cs ++ (flat_map image_text more ++ last_line (n + length more) runs)
+    → last_line n r ++ (b ∷ s) ≡ flat_map entry_line es ++ (flat_map image_text more ++ last_line (n + length more) runs)
     → n + length more < 2 ^ 64 → runs < 2 ^ 64 → ⊥
-refused_behind n last lowest r b s (c ∷ cs) more runs hn hr all few fits =
-    address_is_not_last c n r _ (b ∷ s)
-    (sym (all ∙ first_address c cs (flat_map image_text more ++ last_line (n + length more) runs)))
-refused_behind n last lowest r b s [] (i ∷ is) runs hn hr all few fits =
+refused_behind n r b s (e ∷ es) more runs hn hr all few fits =
+    entry_is_not_last e n r _ (b ∷ s)
+    (sym (all ∙ first_entry e es (flat_map image_text more ++ last_line (n + length more) runs)))
+refused_behind n r b s [] (i ∷ is) runs hn hr all few fits =
     image_is_not_last i n r _ (b ∷ s) (sym (all ∙ first_image i is (last_line (n + length (i ∷ is)) runs)))
-refused_behind n last lowest r b s [] [] runs hn hr all few fits =
+refused_behind n r b s [] [] runs hn hr all few fits =
     let same = same_line (last_words n r) (last_words (n + 0) runs) (b ∷ s) [] (lacks-last n r hn hr)
     (lacks-last (n + 0) runs few fits)
     (ap (λ (x : List ℕ). x ++ (b ∷ s)) (sym (last_is_line n r)) ∙ all ∙ sym (append-nil (last_line (n + 0) runs))
@@ -218,8 +218,8 @@ refused_end images runs b rest bytes n h fits is number =
           let r = behind_so_far begun.0 images (last_line (length images) runs ++ b ∷ (more.0 ++ begun.1)) begun.2 h e in
           let m : 0 + length images ≡ length images = omega arith in
           let few = h.few in
-          refused_behind (0 + length images) (last_digest None images) (lowest_in None images) runs b (more.0 ++ begun.1)
-          r.cs r.more r.runs (omega (arith, few)) fits
+          refused_behind (0 + length images) runs b (more.0 ++ begun.1)
+          r.es r.more r.runs (omega (arith, few)) fits
           (ap (λ (k : ℕ). last_line k runs ++ b ∷ (more.0 ++ begun.1)) m ∙ r.all) r.few r.fits;
     }
 
@@ -262,7 +262,7 @@ no_table_cut images rest bytes h plain is t ok e =
     line_has_feed (last_words (0 + length images + length r.more) r.runs)
     (ap (lacks 10) (sym (last_is_line (0 + length images + length r.more) r.runs))
     ∙ lacks_behind (flat_map image_text r.more) end
-    (lacks_behind (flat_map address_line r.cs) (flat_map image_text r.more ++ end)
+    (lacks_behind (flat_map entry_line r.es) (flat_map image_text r.more ++ end)
     (ap (lacks 10) (sym r.all) ∙ plain)))
 
 pub no_table_cut_first : (bytes : List ℕ) → lacks 10 bytes ≡ true → (t : CountTable) → table_text t ≡ bytes → ⊥

@@ -1,12 +1,17 @@
--- Tables of counts: how often each instruction of each image began, and which tables can be.
+-- Tables of counts: how often each instruction of each image began, in which stacks, and which tables can be.
 use Rattle.std.specs.Prelude.{◌≡◌, ◌==◌, ◌+◌, ◌%◌, ◌^◌, ◌<◌, ◌≤◌, ℕ, if◌then◌else◌, List, [], ◌∷◌, length}
 use Rattle.std.specs.Prelude.{Option, Some, None, Bool, true, false, ◌&&◌, ◌||◌, not, nat_le, nat_lt}
 use Rattle.std.specs.List.{AllByRecursion}
 use Rattle.std.specs.Str.{bytes_eq, IsUtf8}
 use Rattle.rv_counts.specs.Lines.{lacks}
 use Rattle.rv_counts.specs.declared.table.AddressCounts.{AddressCounts}
+use Rattle.rv_counts.specs.declared.table.FunctionName.{FunctionName}
 use Rattle.rv_counts.specs.declared.table.ImageCounts.{ImageCounts}
+use Rattle.rv_counts.specs.declared.table.NamedSpot.{NamedSpot}
 use Rattle.rv_counts.specs.declared.table.CountTable.{CountTable}
+use Rattle.rv_spots.specs.declared.spot.Spot.{Spot}
+use Rattle.rv_spots.specs.Profiles.{is_last_of_some}
+use Rattle.rv_spots.specs.Trees.{arrivals_at, steps_at, IsTree}
 
 -- ---- what a table says
 
@@ -52,6 +57,28 @@ path_in digest [] = None
 path_in digest (i ∷ is) =
     least_path_of (if bytes_eq i.digest digest then Some i.path else None) (path_in digest is)
 
+-- the name of a function, if it has one
+abbrev pub name_at : ℕ → List FunctionName → Option (List ℕ)
+name_at function [] = None
+name_at function (n ∷ ns) = least_path_of (if n.function == function then Some n.name else None) (name_at function ns)
+
+-- the same in the image of a digest
+abbrev pub name_in : List ℕ → ℕ → List ImageCounts → Option (List ℕ)
+name_in digest function [] = None
+name_in digest function (i ∷ is) =
+    least_path_of (if bytes_eq i.digest digest then name_at function i.functions else None) (name_in digest function is)
+
+-- how often runs came to a list of functions of the image of a digest, and how many instructions began in it
+abbrev pub arrivals_in : List ℕ → List ℕ → List ImageCounts → ℕ
+arrivals_in digest path [] = 0
+arrivals_in digest path (i ∷ is) =
+    (if bytes_eq i.digest digest then arrivals_at path i.spots else 0) + arrivals_in digest path is
+
+abbrev pub steps_in : List ℕ → List ℕ → List ImageCounts → ℕ
+steps_in digest path [] = 0
+steps_in digest path (i ∷ is) =
+    (if bytes_eq i.digest digest then steps_at path i.spots else 0) + steps_in digest path is
+
 -- ---- tables that can be
 
 -- an instruction that began, at an even address; taken as often as it began, or less often
@@ -72,6 +99,54 @@ pub record AreCounts (cs : List AddressCounts) : Type 0 where
   pub each : AllByRecursion IsCounted cs
   pub rising : rise_from 0 cs ≡ true
 
+-- the name of a function, which ends where its line does
+pub record IsName (n : FunctionName) : Type 0 where
+  pub function : n.function < 2 ^ 32
+  pub name : lacks 10 n.name ≡ true
+  pub text : IsUtf8 n.name
+
+-- functions rise, and none is below the lowest
+unfoldable pub names_rise : ℕ → List FunctionName → Bool
+names_rise lowest [] = true
+names_rise lowest (n ∷ ns) = nat_le lowest n.function && names_rise (n.function + 1) ns
+
+-- each function stands once, in order
+pub record AreNames (ns : List FunctionName) : Type 0 where
+  pub each : AllByRecursion IsName ns
+  pub rising : names_rise 0 ns ≡ true
+
+-- a list of functions that a run came to
+pub record IsSpot (s : Spot) : Type 0 where
+  pub depth : s.depth < 2 ^ 64
+  pub function : s.function < 2 ^ 32
+  pub some : 0 < s.arrivals
+  pub arrivals : s.arrivals < 2 ^ 64
+  pub steps : s.steps < 2 ^ 64
+
+-- with the name of its function
+pub record IsNamedSpot (n : NamedSpot) : Type 0 where
+  pub spot : IsSpot n.spot
+  pub name : lacks 10 n.name ≡ true
+  pub text : IsUtf8 n.name
+
+abbrev pub has_name : Option (List ℕ) → Bool
+has_name None = false
+has_name (Some name) = true
+
+-- the name that a list has of a function, if it has one
+abbrev pub name_of : ℕ → List FunctionName → Option (List ℕ)
+name_of function [] = None
+name_of function (n ∷ ns) = if n.function == function then Some n.name else name_of function ns
+
+-- each function of the spots has a name, and no other one
+abbrev pub AreNamesOf : List Spot → List FunctionName → Type 0
+AreNamesOf spots names = (function : ℕ) → has_name (name_of function names) ≡ is_last_of_some function spots
+
+-- each list of functions stands once, in order
+pub record AreSpots (ss : List Spot) : Type 0 where
+  pub each : AllByRecursion IsSpot ss
+  pub tree : IsTree ss
+
 -- a path has no line feed, for it ends where its line does
 pub record IsImage (i : ImageCounts) : Type 0 where
   pub digest : length i.digest ≡ 32
@@ -79,6 +154,9 @@ pub record IsImage (i : ImageCounts) : Type 0 where
   pub path : lacks 10 i.path ≡ true
   pub text : IsUtf8 i.path
   pub counts : AreCounts i.addresses
+  pub names : AreNames i.functions
+  pub spots : AreSpots i.spots
+  pub of_spots : AreNamesOf i.spots i.functions
 
 -- a digest stands behind the last one, if there is one
 abbrev pub is_behind : Option (List ℕ) → List ℕ → Bool

@@ -3,7 +3,7 @@
 ghost use Rattle.std.specs.Prelude.{◌≡◌, ℕ, List};
 ghost use Rattle.rv_counts.specs.declared.table.AddressCounts.{AddressCounts};
 ghost use Rattle.rv_counts.specs.declared.table.CountTable.{CountTable};
-ghost use Rattle.rv_counts.specs.Table.{AreCounts, IsTable, begun_at, taken_at, begun_in, taken_in, path_in};
+ghost use Rattle.rv_counts.specs.Table.{AreCounts, IsTable, begun_at, taken_at, begun_in, taken_in, path_in, name_in, arrivals_in, steps_in};
 ghost use Rattle.rv_counts.specs.Text.{table_text};
 ghost use Rattle.rv_counts.specs.Sum.{IsSumOfCounts, IsSum, no_counts};
 
@@ -25,12 +25,17 @@ pub fn sums_of_counts_associate()
         → IsSumOfCounts b c bc → IsSumOfCounts a bc last → first ≡ last }
 {}
 
-/// Tables that have the same numbers at each address of each image, the same paths and the same runs are one.
+/// Tables that have the same numbers at each address and in each list of functions of each image, the same paths and names, and
+/// the same runs are one.
 pub fn one_table_has_these_counts()
     ensures { (t u : CountTable) → IsTable t → IsTable u
         → ((digest : List ℕ) (address : ℕ) → begun_in digest address t.images ≡ begun_in digest address u.images)
         → ((digest : List ℕ) (address : ℕ) → taken_in digest address t.images ≡ taken_in digest address u.images)
-        → ((digest : List ℕ) → path_in digest t.images ≡ path_in digest u.images) → t.runs ≡ u.runs → t ≡ u }
+        → ((digest : List ℕ) → path_in digest t.images ≡ path_in digest u.images)
+        → ((digest : List ℕ) (function : ℕ) → name_in digest function t.images ≡ name_in digest function u.images)
+        → ((digest path : List ℕ) → arrivals_in digest path t.images ≡ arrivals_in digest path u.images)
+        → ((digest path : List ℕ) → steps_in digest path t.images ≡ steps_in digest path u.images)
+        → t.runs ≡ u.runs → t ≡ u }
 {}
 
 /// The sum of two tables does not depend on their order, nor that of three on which two are added first.

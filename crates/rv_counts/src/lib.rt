@@ -1,4 +1,4 @@
-//! Tables of counts: how often each instruction of each image began, their text, that text read back, and their sums.
+//! Tables of counts: how often each instruction of each image began, and in which stacks, their text, that text read back, and their sums.
 //!
 //! A [`CountTable`] has an entry for each address whose instruction began, by image. [`table_text`] writes a table, and
 //! [`read_table`] answers the table whose text it is given, or names the first line that no table has there
@@ -10,12 +10,15 @@ mod growth;
 mod law;
 mod line_parts;
 mod lookup;
+mod names;
 mod order;
 mod read;
 mod read_lines;
+mod read_stacks;
 mod sum;
 mod sum_of_counts;
 mod sum_of_images;
+mod sum_of_names;
 mod table;
 #[cfg(test)]
 mod tests;
@@ -27,7 +30,10 @@ pub use law::{
     sums_of_tables_are_sums,
 };
 pub use lookup::{counts_at, has_begun_within, place_of_address};
+pub use names::{add_name, name_of};
 pub use read::{ReadError, read_table};
 pub use sum::{SumError, sum_of_tables};
-pub use table::{AddressCounts, Addresses, CountTable, Digest, ImageCounts, Images};
+pub use table::{
+    AddressCounts, Addresses, CountTable, Digest, FunctionName, FunctionNames, ImageCounts, Images,
+};
 pub use text::table_text;

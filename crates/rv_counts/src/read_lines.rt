@@ -17,9 +17,11 @@ use crate::line_parts::{
     whole_line,
 };
 use crate::order::is_before;
-use crate::table::{AddressCounts, Addresses, Digest, ImageCounts, Images};
+use crate::read_stacks::read_spots;
+use crate::table::{AddressCounts, Addresses, Digest, FunctionNames, ImageCounts, Images};
 use crate::text::{push_address_line, push_image_line, push_last_line};
 use rv_base::Text;
+use rv_spots::Spots;
 use rv_text::tail_from;
 use std::alloc::{AllocError, Global};
 
@@ -84,8 +86,12 @@ fn read_image(
         return Ok(None);
     }
     let lines = read_addresses(alloc, tail_from(text, line.len()))?;
-    let length = line.len() + lines.length;
+    let addresses_end = line.len() + lines.length;
+    let spots = read_spots(alloc, tail_from(text, addresses_end))?;
+    let length = addresses_end + spots.length;
     image.addresses = lines.addresses;
+    image.functions = spots.functions;
+    image.spots = spots.spots;
     Ok(Some(OneImage { image, length }))
 }
 
@@ -131,7 +137,7 @@ fn next_counts(alloc: Global, line: &[u8], lowest: u64) -> Result<Option<Address
     ensures counted { IfOk result (λ read. IfSome read IsCounted) }
     ensures low { IfOk result (λ read. IfSome read (λ c. lowest ≤ c.address)) }
     ensures line { IfOk result (λ read. IfSome read (λ c. line.now ≡ address_line c)) }
-    ensures none { IfOk result (λ read. IfNone read (IsNoAddress (Some lowest) line.now)) }
+    ensures none { IfOk result (λ read. IfNone read (IsNoAddress lowest line.now)) }
 {
     let counts = counts_of_line(line);
     if can_stand(counts, lowest) && has_address_line(alloc, counts, line)? {
@@ -189,6 +195,8 @@ fn image_of_line(alloc: Global, line: &[u8]) -> Result<ImageCounts, AllocError>
         digest: Digest::new(digest),
         path: Text::new(path),
         addresses: Addresses::new(Vec::new(alloc)),
+        functions: FunctionNames::new(Vec::new(alloc)),
+        spots: Spots::new(Vec::new(alloc)),
     })
 }
 

@@ -2,7 +2,7 @@
 
 ghost use Rattle.std.specs.Prelude.{◌≡◌, ◌+◌, ◌^◌, ◌≤◌, ◌<◌, IfOk, IfErr, length};
 ghost use Rattle.std.specs.List.{AllByRecursion};
-ghost use Rattle.rv_counts.specs.Sum.{IsSumOfCounts, IsTooGreatAt};
+ghost use Rattle.rv_counts.specs.Sum.{IsSumOfCounts, CountsHaveNoSum};
 ghost use Rattle.rv_counts.specs.SumSteps.{IsNextCount};
 ghost use Rattle.rv_counts.specs.Table.{AreCounts, IsCounted};
 ghost use Rattle.rv_counts.specs.declared.sum.SumError.TheVariants.{Count};
@@ -21,7 +21,7 @@ pub(crate) fn sum_of_counts(
     requires a { AreCounts a.now }
     requires b { AreCounts b.now }
     ensures value { IfOk result (λ sum. IsSumOfCounts a.now b.now sum) }
-    ensures refused { IfErr result (λ error. IsTooGreatAt error a.now b.now) }
+    ensures refused { IfErr result (λ error. CountsHaveNoSum error a.now b.now) }
 {
     let mut sums = Vec::new(alloc);
     let mut from_a = 0;
@@ -49,7 +49,7 @@ fn next_count(a: &[AddressCounts], b: &[AddressCounts]) -> Result<NextCount, Sum
     requires b { AllByRecursion IsCounted b.now }
     requires some { 0 < length a.now + length b.now }
     ensures value { IfOk result (λ next. IsNextCount a.now b.now next) }
-    ensures refused { IfErr result (λ error. IsTooGreatAt error a.now b.now) }
+    ensures refused { IfErr result (λ error. CountsHaveNoSum error a.now b.now) }
 {
     if b.is_empty() {
         return Ok(count_of_first(a[0]));

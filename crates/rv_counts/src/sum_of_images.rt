@@ -3,16 +3,19 @@
 ghost use Rattle.std.specs.Prelude.{◌≡◌, ◌+◌, ◌<◌, IfOk, IfErr, length};
 ghost use Rattle.std.specs.List.{AllByRecursion};
 ghost use Rattle.rv_counts.specs.declared.sum.SumError.TheVariants.{OutOfMemory};
-ghost use Rattle.rv_counts.specs.Sum.{IsSumOfCounts, IsTooGreatAt};
-ghost use Rattle.rv_counts.specs.SumSteps.{ImagesAddUp, IsNextImage, IsTooGreatIn};
-ghost use Rattle.rv_counts.specs.Table.{AreCounts, IsImage, is_before, least_path};
+ghost use Rattle.rv_counts.specs.Sum.{IsSumOfCounts, IsSumOfNames};
+ghost use Rattle.rv_counts.specs.SumSteps.{ImagesAddUp, IsNextImage, ImagesHaveNoSum, ImageHasNoSum};
+ghost use Rattle.rv_counts.specs.Table.{AreNamesOf, AreSpots, IsImage, is_before, least_path};
+ghost use Rattle.rv_spots.specs.Sums.{IsSumOfSpots};
 
 use crate::growth::push_item;
-use crate::order::is_before;
+use crate::order::{is_before, least_path};
 use crate::sum::SumError;
 use crate::sum_of_counts::sum_of_counts;
+use crate::sum_of_names::{copy_of_names, sum_of_names};
 use crate::table::{Addresses, Digest, ImageCounts, Images};
 use rv_base::Text;
+use rv_spots::{Spots, sum_of_spots};
 use std::alloc::{AllocError, Global};
 
 /// The images of both tables, each once. Takes memory for the sum alone.
@@ -24,7 +27,7 @@ pub(crate) fn sum_of_images(
     requires a { AllByRecursion IsImage a.now }
     requires b { AllByRecursion IsImage b.now }
     ensures value { IfOk result (λ sum. ImagesAddUp a.now b.now sum) }
-    ensures refused { IfErr result (λ error. IsTooGreatIn error a.now b.now) }
+    ensures refused { IfErr result (λ error. ImagesHaveNoSum error a.now b.now) }
 {
     let mut sums = Vec::new(alloc);
     let mut from_a = 0;
@@ -52,7 +55,7 @@ fn next_image(alloc: Global, a: &[ImageCounts], b: &[ImageCounts]) -> Result<Nex
     requires b { AllByRecursion IsImage b.now }
     requires some { 0 < length a.now + length b.now }
     ensures value { IfOk result (λ next. IsNextImage a.now b.now next) }
-    ensures refused { IfErr result (λ error. IsTooGreatIn error a.now b.now) }
+    ensures refused { IfErr result (λ error. ImagesHaveNoSum error a.now b.now) }
 {
     if b.is_empty() {
         return image_of_first(alloc, &a[0]);
@@ -108,20 +111,28 @@ fn is_earlier(a: &ImageCounts, b: &ImageCounts) -> bool
 
 // The sum of two images of one digest.
 fn sum_of_image(alloc: Global, a: &ImageCounts, b: &ImageCounts) -> Result<ImageCounts, SumError>
-    requires a { AreCounts a.now.addresses }
-    requires b { AreCounts b.now.addresses }
+    requires a { IsImage a.now }
+    requires b { IsImage b.now }
     ensures digest { IfOk result (λ sum. sum.digest ≡ a.now.digest) }
     ensures path { IfOk result (λ sum. sum.path ≡ least_path a.now.path b.now.path) }
     ensures counts { IfOk result (λ sum. IsSumOfCounts a.now.addresses b.now.addresses sum.addresses) }
-    ensures refused { IfErr result (λ error. IsTooGreatAt error a.now.addresses b.now.addresses) }
+    ensures names { IfOk result (λ sum. IsSumOfNames a.now.functions b.now.functions sum.functions) }
+    ensures of_spots { IfOk result (λ sum. AreNamesOf sum.spots sum.functions) }
+    ensures tree { IfOk result (λ sum. AreSpots sum.spots) }
+    ensures spots { IfOk result (λ sum. IsSumOfSpots a.now.spots b.now.spots sum.spots) }
+    ensures refused { IfErr result (λ error. ImageHasNoSum error a.now b.now) }
 {
     let addresses = sum_of_counts(alloc, a.addresses.as_slice(), b.addresses.as_slice())?;
     let digest = Digest::new(copy_of(alloc, a.digest.as_slice())?);
     let path = Text::copy(alloc, least_path(a.path.as_str(), b.path.as_str()))?;
+    let functions = sum_of_names(alloc, a.functions.as_slice(), b.functions.as_slice())?;
+    let spots = sum_of_spots(alloc, a.spots.as_slice(), b.spots.as_slice())?;
     Ok(ImageCounts {
         digest,
         path,
         addresses,
+        functions,
+        spots,
     })
 }
 
@@ -131,10 +142,14 @@ fn copy_of_image(alloc: Global, image: &ImageCounts) -> Result<ImageCounts, Allo
     let digest = Digest::new(copy_of(alloc, image.digest.as_slice())?);
     let path = Text::copy(alloc, image.path.as_str())?;
     let addresses = Addresses::new(copy_of(alloc, image.addresses.as_slice())?);
+    let functions = copy_of_names(alloc, image.functions.as_slice())?;
+    let spots = Spots::new(copy_of(alloc, image.spots.as_slice())?);
     Ok(ImageCounts {
         digest,
         path,
         addresses,
+        functions,
+        spots,
     })
 }
 
@@ -144,15 +159,4 @@ fn copy_of<T: Copy>(alloc: Global, items: &[T]) -> Result<Vec<T>, AllocError>
     let mut copy = Vec::new(alloc);
     copy.extend_from_slice(items)?;
     Ok(copy)
-}
-
-// The path that comes first in the order of bytes.
-fn least_path<'a>(path: &'a str, other: &'a str) -> &'a str
-    ensures { result.now ≡ least_path path.now other.now }
-{
-    if is_before(other.as_bytes(), path.as_bytes()) {
-        other
-    } else {
-        path
-    }
 }

@@ -1,9 +1,13 @@
 //! The table of counts as a value.
 
 use rv_base::{Bytes, Sequence, Text};
+use rv_spots::{Spot, Spots};
 
 /// Counts of one image's addresses, of which contracts see their list.
 pub type Addresses = Sequence<AddressCounts>;
+
+/// Names of one image's functions, of which contracts see their list.
+pub type FunctionNames = Sequence<FunctionName>;
 
 /// Images with their counts, of which contracts see their list.
 pub type Images = Sequence<ImageCounts>;
@@ -22,6 +26,21 @@ pub struct AddressCounts {
     pub taken: u64,
 }
 
+/// The name of the function at an address.
+#[derive(Debug, Drop)]
+pub struct FunctionName {
+    pub function: u32,
+    /// No line feed is in it.
+    pub name: Text,
+}
+
+/// A spot with the name of its function, as a line has them.
+#[derive(Debug, Drop)]
+pub struct NamedSpot {
+    pub spot: Spot,
+    pub name: Text,
+}
+
 /// The counts of one image.
 #[derive(Debug, Drop)]
 pub struct ImageCounts {
@@ -30,6 +49,10 @@ pub struct ImageCounts {
     pub path: Text,
     /// Rising by address.
     pub addresses: Addresses,
+    /// Rising by function: those of the spots, each once.
+    pub functions: FunctionNames,
+    /// In which stacks the instructions began; none where that was not counted.
+    pub spots: Spots,
 }
 
 /// How often each instruction of each image began, in some runs.

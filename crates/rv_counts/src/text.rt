@@ -3,9 +3,12 @@
 ghost use Rattle.std.specs.Prelude.{◌≡◌, ◌++◌, IfOk, OnOk, string_bytes, length};
 ghost use Rattle.std.specs.List.{flat_map};
 ghost use Rattle.rv_text.specs.Words.{word_digits};
-ghost use Rattle.rv_counts.specs.Text.{address_line, image_line, image_text, last_line, table_text};
+ghost use Rattle.rv_counts.specs.Table.{name_of};
+ghost use Rattle.rv_counts.specs.Text.{address_line, image_line, image_text, last_line, line_of_spot, name_or_nothing, spot_line, table_text, words_of_spot};
 
-use crate::table::{AddressCounts, CountTable, ImageCounts};
+use crate::names::name_of;
+use crate::table::{AddressCounts, CountTable, FunctionName, ImageCounts};
+use rv_spots::Spot;
 use std::alloc::{AllocError, Global};
 
 /// The text of a table.
@@ -34,7 +37,13 @@ fn push_image(alloc: Global, text: &mut String, image: &ImageCounts) -> Result<(
     ensures { OnOk result (string_bytes text.new ≡ string_bytes text.old ++ image_text image.now) }
 {
     push_image_line(alloc, text, image)?;
-    push_addresses(alloc, text, image.addresses.as_slice())
+    push_addresses(alloc, text, image.addresses.as_slice())?;
+    push_spots(
+        alloc,
+        text,
+        image.functions.as_slice(),
+        image.spots.as_slice(),
+    )
 }
 
 fn push_addresses(
@@ -48,6 +57,27 @@ fn push_addresses(
         push_address_line(alloc, text, *counts)?;
     }
     Ok(())
+}
+
+fn push_spots(
+    alloc: Global,
+    text: &mut String,
+    names: &[FunctionName],
+    spots: &[Spot],
+) -> Result<(), AllocError>
+    ensures { OnOk result (string_bytes text.new ≡ string_bytes text.old ++ flat_map (line_of_spot names.now) spots.now) }
+{
+    for spot in spots {
+        push_spot_line(alloc, text, *spot, name_in_line(names, spot.function))?;
+    }
+    Ok(())
+}
+
+// The name that a line has of a function: each function of a table's spots has one.
+fn name_in_line(names: &[FunctionName], function: u32) -> &str
+    ensures { result.now ≡ name_or_nothing (name_of function names.now) }
+{
+    name_of(names, function).unwrap_or("")
 }
 
 /// Appends the line of an image, without its counts.
@@ -79,6 +109,32 @@ pub(crate) fn push_address_line(
     let begun = counts.begun;
     let taken = counts.taken;
     write!(text, "{address} {begun} {taken}\n")
+}
+
+/// Appends the line of a spot.
+#[tactic(auto, unfolding(crate::specs::Text::spot_line))]
+pub(crate) fn push_spot_line(
+    alloc: Global,
+    text: &mut String,
+    spot: Spot,
+    name: &str,
+) -> Result<(), AllocError>
+    ensures { OnOk result (string_bytes text.new ≡ string_bytes text.old ++ spot_line (record { spot = spot; name = name.now })) }
+{
+    push_words_of_spot(alloc, text, spot)?;
+    write!(text, " {name}\n")
+}
+
+#[tactic(auto, unfolding(crate::specs::Text::words_of_spot, rv_text::specs::Words::word_digits))]
+fn push_words_of_spot(alloc: Global, text: &mut String, spot: Spot) -> Result<(), AllocError>
+    ensures { OnOk result (string_bytes text.new ≡ string_bytes text.old ++ words_of_spot spot) }
+{
+    let digits = hex::encode(alloc, spot.function.to_be_bytes().as_slice())?;
+    let depth = spot.depth;
+    let function = digits.as_str();
+    let arrivals = spot.arrivals;
+    let steps = spot.steps;
+    write!(text, "spot {depth} {function} {arrivals} {steps}")
 }
 
 /// Appends the last line of a table of so many images and runs.

@@ -14,9 +14,13 @@ use Rattle.rv_cover.specs.JobImages.{FileImage}
 abbrev pub is_of_digest : List ℕ → ImageCounts → Bool
 is_of_digest digest counted = bytes_eq counted.digest digest
 
--- the counts of the image with the digest of a file; none where a table has no such image
+-- the image of a table with the digest of a file, if it has one
+abbrev pub counted_image : CountTable → List ℕ → Option ImageCounts
+counted_image table bytes = find (is_of_digest (sha256 bytes)) table.images
+
+-- its counts; none where a table has no such image
 abbrev pub counts_of : CountTable → List ℕ → List AddressCounts
-counts_of table bytes = option_map_or (λ counted. counted.addresses) (find (is_of_digest (sha256 bytes)) table.images) []
+counts_of table bytes = option_map_or (λ counted. counted.addresses) (counted_image table bytes) []
 
 -- a table has counts of another image of the same path, and none of this one
 abbrev pub is_other_image : CountTable → FileImage → Bool

@@ -78,8 +78,9 @@ fn push_csv_branches(bytes: &mut Vec<u8>, amounts: &CodeAmounts) -> Result<(), A
     )
 }
 
+/// Appends a field: between quotes where it needs them.
 #[tactic(auto, unfolding(crate::specs::Csv::csv_field))]
-fn push_csv_field(bytes: &mut Vec<u8>, field: &[u8]) -> Result<(), AllocError>
+pub fn push_csv_field(bytes: &mut Vec<u8>, field: &[u8]) -> Result<(), AllocError>
     ensures { OnOk result (bytes.new.items ≡ bytes.old.items ++ csv_field field.now) }
 {
     if !has_special(field) {

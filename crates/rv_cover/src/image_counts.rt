@@ -1,11 +1,11 @@
 //! The counts that a table has of images.
 
-ghost use Rattle.std.specs.Prelude.{◌≡◌, IfOk, find, option_map, true};
+ghost use Rattle.std.specs.Prelude.{◌≡◌, IfOk, option_map, true};
 ghost use Rattle.std.specs.List.{list_any};
 ghost use Rattle.std.specs.Str.{bytes_eq};
 ghost use Rattle.sha2.specs.Sha256.{sha256};
 ghost use Rattle.rv_counts.specs.Table.{IsTable, rise_from};
-ghost use Rattle.rv_cover.specs.ImageCounts.{counts_of, is_of_digest, is_other_image, other_image};
+ghost use Rattle.rv_cover.specs.ImageCounts.{counted_image, counts_of, is_of_digest, is_other_image, other_image};
 ghost use Rattle.rv_cover.specs.JobImages.{image_of_file, images_of_files};
 
 use crate::image_file::ImageFile;
@@ -68,14 +68,15 @@ pub(crate) fn counts_of<'t>(table: &'t CountTable, bytes: &[u8]) -> &'t [Address
     ensures counts { result.now ≡ counts_of table.now bytes.now }
     ensures rising { rise_from 0 result.now ≡ true }
 {
-    match image_of_digest(table, bytes) {
+    match counted_image(table, bytes) {
         Some(counted) => counted.addresses.as_slice(),
         None => &[],
     }
 }
 
-fn image_of_digest<'t>(table: &'t CountTable, bytes: &[u8]) -> Option<&'t ImageCounts>
-    ensures { option_map (λ counted. counted.now) result ≡ find (is_of_digest (sha256 bytes.now)) table.now.images }
+/// What a table has of the image with the digest of a file, if it has that image.
+pub fn counted_image<'t>(table: &'t CountTable, bytes: &[u8]) -> Option<&'t ImageCounts>
+    ensures { option_map (λ counted. counted.now) result ≡ counted_image table.now bytes.now }
 {
     let digest = Sha256::digest(bytes);
     let images = table.images.as_slice();

@@ -92,9 +92,9 @@ fn push_code_columns(
     push_right(alloc, bytes, 10, amounts.branches_never)
 }
 
-// Appends a number at the right end of so many places, or of more where it has more digits.
+/// Appends a number at the right end of so many places, or of more where it has more digits.
 #[tactic(auto, unfolding(crate::specs::Text::right))]
-fn push_right(
+pub fn push_right(
     alloc: Global,
     bytes: &mut Vec<u8>,
     places: usize,
@@ -108,7 +108,8 @@ fn push_right(
     bytes.extend_from_slice(&digits)
 }
 
-fn push_spaces(bytes: &mut Vec<u8>, count: usize) -> Result<(), AllocError>
+/// Appends so many spaces.
+pub fn push_spaces(bytes: &mut Vec<u8>, count: usize) -> Result<(), AllocError>
     ensures { OnOk result (bytes.new.items ≡ bytes.old.items ++ replicate count 32) }
 {
     for _ in 0..count {

@@ -58,4 +58,5 @@ module _ (some others : List Answer) where
     runs = h.runs
         ∙ same_sum (runs_by some) (runs_by others) (KeepSame some others) jobs
         (λ j k. ap (λ (r : Result State Refusal). once_if (is_ok r)) (same_start j k)) all;
+    stacks = h.stacks;
   }

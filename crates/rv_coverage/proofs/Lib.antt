@@ -18,3 +18,4 @@ pub mod Shares
 pub mod Parted
 pub mod OfShards
 pub mod Bounds
+pub mod Public

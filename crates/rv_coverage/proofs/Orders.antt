@@ -119,6 +119,7 @@ module _ (answers : List Answer) where
     taken = λ digest address. h.taken digest address ∙ sym (sum_by-IsPermutation (taken_by answers digest address) js ks p);
     paths = λ digest. h.paths digest ∙ first_moved digest js ks p;
     runs = h.runs ∙ sym (sum_by-IsPermutation (runs_by answers) js ks p);
+    stacks = h.stacks;
   }
 
   pub one_table_of_jobs : (js : List Job) (t u : CountTable) → IsTableOfJobs answers js t → IsTableOfJobs answers js u
@@ -126,7 +127,10 @@ module _ (answers : List Answer) where
   one_table_of_jobs js t u h k = one_table_of t u h.table k.table
       (λ digest address. h.begun digest address ∙ sym (k.begun digest address))
       (λ digest address. h.taken digest address ∙ sym (k.taken digest address))
-      (λ digest. h.paths digest ∙ sym (k.paths digest)) (h.runs ∙ sym k.runs)
+      (λ digest. h.paths digest ∙ sym (k.paths digest))
+      (λ digest f. h.stacks.names digest f ∙ sym (k.stacks.names digest f))
+      (λ digest path. h.stacks.arrivals digest path ∙ sym (k.stacks.arrivals digest path))
+      (λ digest path. h.stacks.steps digest path ∙ sym (k.stacks.steps digest path)) (h.runs ∙ sym k.runs)
 
   -- ---- in parts
 

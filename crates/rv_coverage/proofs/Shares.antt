@@ -17,7 +17,7 @@ use Rattle.rv_coverage.proofs.OfJobs.{few_more, joined, no_counts_are_few, no_co
 
 -- ---- one after another
 
-jobs_more : (plan : Planned) (places : List ℕ) (i place : ℕ) → i < length places → place ≡ get_or places i place
+pub jobs_more : (plan : Planned) (places : List ℕ) (i place : ℕ) → i < length places → place ≡ get_or places i place
     → jobs_at plan (take (i + 1) places) ≡ jobs_at plan (take i places) ++ job_at plan place (single_job [] 0 []) ∷ []
 jobs_more plan places i place lt is =
     ap (jobs_at plan) (take_more places i place lt)
@@ -81,7 +81,7 @@ one_added results i sum table next h lt is few sums = record {
 
 -- ---- shares
 
-jobs_of_share : (plan : Planned) (places : List ℕ) (share k : ℕ) → jobs_at plan (take ((k + 1) * share) places)
+pub jobs_of_share : (plan : Planned) (places : List ℕ) (share k : ℕ) → jobs_at plan (take ((k + 1) * share) places)
     ≡ jobs_at plan (take (k * share) places) ++ jobs_at plan (slice_chunk places share k)
 jobs_of_share plan places share k =
     let e : (k + 1) * share ≡ k * share + share = omega arith in

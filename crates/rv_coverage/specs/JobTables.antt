@@ -9,7 +9,7 @@ use Rattle.sha2.specs.Sha256.{sha256}
 use Rattle.rv_counts.specs.declared.table.AddressCounts.{AddressCounts}
 use Rattle.rv_counts.specs.declared.table.CountTable.{CountTable}
 use Rattle.rv_counts.specs.Sum.{IsSum, no_counts}
-use Rattle.rv_counts.specs.Table.{begun_in, taken_in, path_in, least_path_of, IsTable}
+use Rattle.rv_counts.specs.Table.{begun_in, taken_in, path_in, name_in, arrivals_in, steps_in, least_path_of, IsTable}
 use Rattle.rv_jobs.specs.declared.answers.Answer.{Answer}
 use Rattle.rv_jobs.specs.declared_job.Job.{Job}
 use Rattle.rv_jobs.specs.Jobs.{single_job}
@@ -71,9 +71,17 @@ table_of_run path bytes addresses = record {
     digest = sha256 bytes;
     path = printable_text path;
     addresses = addresses;
+    functions = [];
+    spots = [];
   } ∷ [];
   runs = 1;
 }
+
+-- no stacks were counted
+pub record HasNoStacks (t : CountTable) : Type 0 where
+  pub names : (digest : List ℕ) (function : ℕ) → name_in digest function t.images ≡ None
+  pub arrivals : (digest path : List ℕ) → arrivals_in digest path t.images ≡ 0
+  pub steps : (digest path : List ℕ) → steps_in digest path t.images ≡ 0
 
 -- the table of jobs: each of its numbers is the sum over the jobs
 pub record IsTableOfJobs (answers : List Answer) (jobs : List Job) (t : CountTable) : Type 0 where
@@ -84,6 +92,7 @@ pub record IsTableOfJobs (answers : List Answer) (jobs : List Job) (t : CountTab
       → taken_in digest address t.images ≡ sum_by (taken_by answers digest address) jobs
   pub paths : (digest : List ℕ) → path_in digest t.images ≡ first_path answers digest jobs
   pub runs : t.runs ≡ sum_by (runs_by answers) jobs
+  pub stacks : HasNoStacks t
 
 -- the jobs at some places of a plan, each of which is that of a job
 abbrev pub jobs_at : Planned → List ℕ → List Job
@@ -99,6 +108,7 @@ IsTableOfPlaces plan places t = IsTableOfJobs plan.answers (jobs_at plan places)
 pub record IsTableOfFew (jobs : ℕ) (t : CountTable) : Type 0 where
   pub begun : (digest : List ℕ) (address : ℕ) → begun_in digest address t.images ≤ jobs * 2 ^ 32
   pub runs : t.runs ≤ jobs
+  pub stacks : HasNoStacks t
 
 -- the table of one job
 pub record IsTableOfOne (answers : List Answer) (job : Job) (t : CountTable) : Type 0 where

@@ -1,6 +1,6 @@
 //! Laws of counts, with nothing to run.
 
-ghost use Rattle.std.specs.Prelude.{◌≡◌, ◌+◌, ◌%◌, ◌<◌, ℕ, List, Ok, true};
+ghost use Rattle.std.specs.Prelude.{◌≡◌, ◌+◌, ◌%◌, ◌<◌, ℕ, List, Ok, Err, true};
 ghost use Rattle.std.specs.List.{All, flat_map};
 ghost use Rattle.std.specs.List.Sorted.{IsPermutation};
 ghost use Rattle.rv_counts.specs.declared.table.AddressCounts.{AddressCounts};
@@ -11,6 +11,7 @@ ghost use Rattle.rv_counts.specs.Text.{table_text};
 ghost use Rattle.rv_jobs.specs.declared.answers.Answer.{Answer};
 ghost use Rattle.rv_jobs.specs.declared_job.Job.{Job};
 ghost use Rattle.rv_jobs.specs.Plans.{Planned};
+ghost use Rattle.rv_machine.specs.declared.ending.Ending.{Ending};
 ghost use Rattle.rv_machine.specs.Run.{run_of, step_of};
 ghost use Rattle.rv_machine.specs.State.{State};
 ghost use Rattle.rv_rows.specs.Wholes.{KeepSame};
@@ -20,6 +21,11 @@ ghost use Rattle.rv_coverage.specs.JobTables.{AreTablesOfParts, AreTablesOfShard
 /// An instruction that completes has begun.
 pub fn run_begins_its_steps()
     ensures { (s t : State) → step_of s ≡ Ok t → is_begun (fetch_at s) ≡ true }
+{}
+
+/// Where a step ends a run, it had begun an instruction if the ending says so.
+pub fn run_begins_its_end()
+    ensures { (s : State) (e : Ending) → step_of s ≡ Err e → is_begun (fetch_at s) ≡ begins_at_end e }
 {}
 
 /// The counts of a run sum to the steps that it completed, and one where it ended by an exit or by a fault that is none of the

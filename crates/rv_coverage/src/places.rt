@@ -7,7 +7,7 @@ ghost use Rattle.rv_counts.specs.Sum.{IsSum};
 ghost use Rattle.rv_counts.specs.Table.{IsTable, begun_in};
 ghost use Rattle.rv_fleet.specs.Choices.{AreJobPlaces};
 ghost use Rattle.rv_jobs.specs.Limits.{most_jobs};
-ghost use Rattle.rv_coverage.specs.JobTables.{AllSumTo, IsSmallTable, IsTableOfPlaces, IsTableOfShare};
+ghost use Rattle.rv_coverage.specs.JobTables.{AllSumTo, HasNoStacks, IsSmallTable, IsTableOfPlaces, IsTableOfShare};
 
 use crate::table_of_job::{count_place, empty_table};
 use rv_counts::{CountTable, SumError, sum_of_tables};
@@ -41,8 +41,8 @@ pub fn count_places<R: Threads + Sync>(
     sum_of_all(alloc, tables.as_slice())
 }
 
-// How many places each of so many threads takes: one at least, and no more than so many threads need for all.
-fn share_of(places: usize, workers: u32) -> usize
+/// How many places each of so many threads takes: one at least, and no more than so many threads need for all.
+pub fn share_of(places: usize, workers: u32) -> usize
     requires { 0 < workers }
     ensures some { 0 < result }
     ensures all { places ≤ result * workers }
@@ -92,11 +92,13 @@ fn add_table(alloc: Global, sum: &CountTable, table: &CountTable) -> Result<Coun
     requires few { (digest : List ℕ) (address : ℕ)
         → begun_in digest address sum.now.images + begun_in digest address table.now.images < 2 ^ 64 }
     requires runs { sum.now.runs + table.now.runs < 2 ^ 64 }
+    requires no_stacks { HasNoStacks sum.now × HasNoStacks table.now }
     ensures { IfOk result (IsSum sum.now table.now) }
 {
     match sum_of_tables(alloc, sum, table) {
         Ok(sum) => Ok(sum),
         Err(SumError::OutOfMemory) => Err(AllocError),
-        Err(SumError::Count(_) | SumError::Runs) => unreachable!(),
+        Err(SumError::Count(_) | SumError::Spot(_) | SumError::Runs) => unreachable!(),
+        Err(SumError::Names(_)) => unreachable!(),
     }
 }

@@ -15,10 +15,11 @@ ghost use Rattle.rv_trace.specs.Trace.{job_at};
 ghost use Rattle.rv_coverage.specs.JobTables.{IsTableOfOne, image_bytes, table_of_run};
 
 use crate::count::count_job;
-use rv_counts::{Addresses, CountTable, ImageCounts, Images};
+use rv_counts::{Addresses, CountTable, FunctionNames, ImageCounts, Images};
 use rv_elf::{Image, ImageError, read_image};
 use rv_isa::Isa;
 use rv_jobs::{Bytes, Kept, Plan, Text};
+use rv_spots::Spots;
 use rv_text::{printable_text_is_utf8_without_controls, push_printable_text};
 use rv_trace::JobImage;
 use sha2::{Digest, Sha256};
@@ -53,7 +54,7 @@ pub(crate) fn count_place(
 }
 
 /// The table of no run. Takes no memory.
-pub(crate) fn empty_table(alloc: Global) -> CountTable
+pub fn empty_table(alloc: Global) -> CountTable
     ensures { result ≡ no_counts }
 {
     CountTable {
@@ -62,8 +63,8 @@ pub(crate) fn empty_table(alloc: Global) -> CountTable
     }
 }
 
-// The bytes of a job's image, where they were read.
-fn image_bytes(plan: &Plan, place: usize) -> Option<&[u8]>
+/// The bytes of a job's image, where they were read.
+pub fn image_bytes(plan: &Plan, place: usize) -> Option<&[u8]>
     requires { place < length plan.now.jobs }
     ensures { (d : AJob) → option_map (λ bytes. bytes.now) result
         ≡ image_bytes plan.now.answers (job_at plan.now place d) }
@@ -74,8 +75,8 @@ fn image_bytes(plan: &Plan, place: usize) -> Option<&[u8]>
     }
 }
 
-// The image that bytes are read as, where they are one.
-fn image_of_bytes(alloc: Global, isa: Isa, bytes: &[u8]) -> Result<Option<Image>, AllocError>
+/// The image that bytes are read as, where they are one.
+pub fn image_of_bytes(alloc: Global, isa: Isa, bytes: &[u8]) -> Result<Option<Image>, AllocError>
     ensures { IfOk result (λ image. image ≡ image_if_read isa (Some bytes.now)) }
 {
     match read_image(alloc, bytes, isa) {
@@ -97,19 +98,22 @@ fn table_of_run(
     ensures table { IfOk result IsTable }
 {
     let digest = digest_of(alloc, bytes)?;
-    let path = shown_path(alloc, path)?;
+    let path = shown_text(alloc, path.as_bytes())?;
     let images = images_of_one(
         alloc,
         ImageCounts {
             digest,
             path,
             addresses,
+            functions: FunctionNames::new(Vec::new(alloc)),
+            spots: Spots::new(Vec::new(alloc)),
         },
     )?;
     Ok(CountTable { images, runs: 1 })
 }
 
-fn images_of_one(alloc: Global, image: ImageCounts) -> Result<Images, AllocError>
+/// A list of one image.
+pub fn images_of_one(alloc: Global, image: ImageCounts) -> Result<Images, AllocError>
     ensures { IfOk result (λ images. images ≡ image ∷ []) }
 {
     let mut images = Vec::with_capacity(alloc, 1)?;
@@ -117,7 +121,8 @@ fn images_of_one(alloc: Global, image: ImageCounts) -> Result<Images, AllocError
     Ok(Images::new(images))
 }
 
-fn digest_of(alloc: Global, bytes: &[u8]) -> Result<Bytes, AllocError>
+/// The digest by which a table knows the image of some bytes.
+pub fn digest_of(alloc: Global, bytes: &[u8]) -> Result<Bytes, AllocError>
     ensures value { IfOk result (λ digest. digest ≡ sha256 bytes.now) }
     ensures long { IfOk result (λ digest. length digest ≡ 32) }
     ensures bytes { IfOk result (λ digest. AllByRecursion (λ b. b < 256) digest) }
@@ -135,17 +140,17 @@ fn copy_of(alloc: Global, bytes: &[u8]) -> Result<Bytes, AllocError>
     Ok(Bytes::new(copy))
 }
 
-// A path as a table has it: text without line feeds.
-fn shown_path(alloc: Global, path: &str) -> Result<Text, AllocError>
-    ensures value { IfOk result (λ text. text ≡ printable_text path.now) }
+/// A text as a table has it: UTF-8 without line feeds.
+pub fn shown_text(alloc: Global, text: &[u8]) -> Result<Text, AllocError>
+    ensures value { IfOk result (λ shown. shown ≡ printable_text text.now) }
     ensures text { IfOk result IsUtf8 }
-    ensures line { IfOk result (λ text. lacks 10 text ≡ true) }
+    ensures line { IfOk result (λ shown. lacks 10 shown ≡ true) }
 {
     let mut bytes = Vec::new(alloc);
-    push_printable_text(&mut bytes, path.as_bytes())?;
+    push_printable_text(&mut bytes, text)?;
     printable_text_is_utf8_without_controls();
     match String::from_utf8(bytes) {
-        Ok(text) => Ok(Text::new(text)),
+        Ok(shown) => Ok(Text::new(shown)),
         Err(_) => unreachable!(),
     }
 }

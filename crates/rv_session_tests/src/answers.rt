@@ -135,16 +135,31 @@ fn framed(alloc: Global, bodies: &str) -> Result<Vec<u8>, Fail> {
     Ok(out)
 }
 
-fn check_answers(alloc: Global, line: &str) -> Result<(), Fail> {
+// A session of a line of the table, without acknowledgements.
+fn session_of_line(alloc: Global, line: &str) -> Result<Session, Fail> {
     let mut session = session_of(alloc, cell_of(line, 1), cell_of(line, 2).parse()?)?;
     let met = answered(alloc, &mut session, b"+$QStartNoAckMode#b0")?;
     agree(line, met.as_str(), "+$OK#9a")?;
+    Ok(session)
+}
+
+// What goes out for the packet of a body.
+fn answered_body(alloc: Global, session: &mut Session, body: &str) -> Result<String, Fail> {
+    let packet = framed(alloc, body)?;
+    answered(alloc, session, packet.as_slice())
+}
+
+fn check_answer(alloc: Global, session: &mut Session, line: &str, part: &str) -> Result<(), Fail> {
+    let (asked, wanted) = part.split_once(" > ").ok_or("a request and an answer")?;
+    let met = answered_body(alloc, session, asked)?;
+    let wanted = framed(alloc, wanted)?;
+    agree(line, met.as_str(), std::str::from_utf8(wanted.as_slice())?)
+}
+
+fn check_answers(alloc: Global, line: &str) -> Result<(), Fail> {
+    let mut session = session_of_line(alloc, line)?;
     for part in cell_of(line, 3).split(" / ") {
-        let (asked, wanted) = part.split_once(" > ").ok_or("a request and an answer")?;
-        let packet = framed(alloc, asked)?;
-        let met = answered(alloc, &mut session, packet.as_slice())?;
-        let wanted = framed(alloc, wanted)?;
-        agree(line, met.as_str(), std::str::from_utf8(wanted.as_slice())?)?;
+        check_answer(alloc, &mut session, line, part)?;
     }
     Ok(())
 }
@@ -158,6 +173,35 @@ fn requests_are_answered(rt: HostRuntime) -> Result<(), Fail> {
     Ok(())
 }
 
+// What goes out for the bytes of gdb, if they come one by one.
+fn answered_by_bytes(alloc: Global, session: &mut Session, heard: &[u8]) -> Result<String, Fail> {
+    let mut met = String::new(alloc);
+    for byte in heard {
+        met.push_str(answered(alloc, session, &[*byte])?.as_str())?;
+    }
+    Ok(met)
+}
+
+fn check_recording(
+    alloc: Global,
+    session: &mut Session,
+    cut: &mut Session,
+    line: &str,
+) -> Result<(), Fail> {
+    let (heard, wanted) = line.split_once(" > ").ok_or("a line of a recording")?;
+    let wanted = if wanted == "nothing" { "" } else { wanted };
+    agree(
+        line,
+        answered(alloc, session, heard.as_bytes())?.as_str(),
+        wanted,
+    )?;
+    agree(
+        line,
+        answered_by_bytes(alloc, cut, heard.as_bytes())?.as_str(),
+        wanted,
+    )
+}
+
 // The same whatever cuts the bytes come in.
 #[test]
 fn a_recorded_session_is_replayed(rt: HostRuntime) -> Result<(), Fail> {
@@ -165,15 +209,7 @@ fn a_recorded_session_is_replayed(rt: HostRuntime) -> Result<(), Fail> {
     let mut session = session_of(alloc, "LOOP", 100)?;
     let mut cut = session_of(alloc, "LOOP", 100)?;
     for line in LLDB.lines() {
-        let (heard, wanted) = line.split_once(" > ").ok_or("a line of a recording")?;
-        let wanted = if wanted == "nothing" { "" } else { wanted };
-        let met = answered(alloc, &mut session, heard.as_bytes())?;
-        agree(line, met.as_str(), wanted)?;
-        let mut met = String::new(alloc);
-        for byte in heard.as_bytes() {
-            met.push_str(answered(alloc, &mut cut, &[*byte])?.as_str())?;
-        }
-        agree(line, met.as_str(), wanted)?;
+        check_recording(alloc, &mut session, &mut cut, line)?;
     }
     Ok(())
 }

@@ -12,11 +12,12 @@ use Rattle.rv_report.specs.declared.row.Row.{Row}
 use Rattle.rv_report.specs.declared.saved.Shard.{Shard}
 use Rattle.rvtest_app.proofs.PutStops.{unopened}
 use Rattle.rvtest_app.specs.Outlets.{AreFilesPlaced, AreFilesPlacedInPart, HasTaken, file_path_at}
-use Rattle.rvtest_app.specs.PutStops.{IsCountsPutStop, IsUnopenedStop}
+use Rattle.rvtest_app.specs.PutStops.{IsUnopenedStop}
 use Rattle.rvtest_app.specs.Puts.{IsShown}
 use Rattle.rvtest_app.specs.RunStops.{IsRowsPutStop, IsRunPutStop}
 use Rattle.rvtest_app.specs.Runs.{AreCountsPut, AreRunFilesPlacedInPart, IsCountsText, IsRunPut, junit_file, report_file}
 use Rattle.rvtest_app.specs.Said.{Said, placed_behind, where_told}
+use Rattle.rvtest_app.specs.StackStops.{IsCountsPutStop}
 use Rattle.rvtest_app.specs.WrittenTexts.{IsWrittenAt}
 use Rattle.rvtest_app.specs.declared.outlets.Outlet.{Outlet}
 use Rattle.rvtest_app.specs.declared.outlets.Outlet.TheVariants as outlet
@@ -41,15 +42,16 @@ module _ {P W : Type 0} (place_path : P → List ℕ) (taken : W → Option (Lis
 -- ---- counts
 
 -- a table went to the path that was given
-pub counts_put : (path : Option (List ℕ)) (plan : Planned) (places text : List ℕ) (before after : Said) → is_some path ≡ true
-    → IsCountsText plan places text → IsWrittenAt path text before after → AreCountsPut path plan places before after
-counts_put None plan places text before after given is written = absurd cc
-counts_put (Some path) plan places text before after given is written = (text, (is, written))
+pub counts_put : (stacks : Bool) (path : Option (List ℕ)) (plan : Planned) (places text : List ℕ) (before after : Said)
+    → is_some path ≡ true → IsCountsText stacks plan places text → IsWrittenAt path text before after
+    → AreCountsPut stacks path plan places before after
+counts_put stacks None plan places text before after given is written = absurd cc
+counts_put stacks (Some path) plan places text before after given is written = (text, (is, written))
 
 -- none went anywhere where no path was given
-pub no_counts_put : (path : Option (List ℕ)) (plan : Planned) (places : List ℕ) (before after : Said) → path ≡ None
-    → IsWrittenAt None [] before after → AreCountsPut path plan places before after
-no_counts_put path plan places before after none written = rw none written
+pub no_counts_put : (stacks : Bool) (path : Option (List ℕ)) (plan : Planned) (places : List ℕ) (before after : Said)
+    → path ≡ None → IsWrittenAt None [] before after → AreCountsPut stacks path plan places before after
+no_counts_put stacks path plan places before after none written = rw none written
 
 -- ---- the rows that were put before the counts
 
@@ -112,8 +114,8 @@ part_of_counts words telling places shard old rows before after placed given put
 
 pub unopened_counts : (words : RunAsked) (why : Stop)
     → IsSomeAnd (file_path_at (optional_text words.counts)) (λ path. IsUnopenedStop path why) → IsRunPutStop words why
-unopened_counts words why is = inr (unopened _ why is)
+unopened_counts words why is = inr (inl (unopened _ why is))
 
-pub unput_counts : (words : RunAsked) (why : Stop) → IsCountsPutStop (file_path_at (optional_text words.counts)) why
+pub unput_counts : (words : RunAsked) (why : Stop) → IsCountsPutStop words (file_path_at (optional_text words.counts)) why
     → IsRunPutStop words why
 unput_counts words why = ⊎_elim (λ memory. inl (inr (inl memory))) (⊎_elim (λ failed. inl (inr (inr (inl failed)))) (λ is. inr is))

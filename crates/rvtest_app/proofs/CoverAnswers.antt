@@ -21,7 +21,9 @@ use Rattle.rv_jobs.specs.declared.answers.Answer.{Answer}
 use Rattle.rv_jobs.specs.declared.kept.Kept.{Kept}
 use Rattle.rv_jobs.specs.declared.kept.Kept.TheVariants as kept
 use Rattle.rv_rows.specs.Rows.{content_if_read}
-use Rattle.rvtest_app.specs.Covers.{AreCountsFor, refused_line, refused_lines}
+use Rattle.rvtest_app.specs.Covers.{AreCountsFor}
+use Rattle.rvtest_app.specs.Profiles.{AreStacksFor}
+use Rattle.rvtest_app.specs.RefusedNotes.{refused_line, refused_lines}
 
 -- ---- lines
 
@@ -74,3 +76,8 @@ pub table_of_counts : (known : Option FileContents) (path : Option (List ℕ)) (
     → AreCountsFor known path plan places table → IsTable table
 table_of_counts known None plan places table are = are.table
 table_of_counts known (Some path) plan places table are = are.0.0
+
+pub table_of_stacks : (known : Option FileContents) (path : Option (List ℕ)) (plan : Planned) (places : List ℕ) (table : CountTable)
+    → AreStacksFor known path plan places table → IsTable table
+table_of_stacks known None plan places table are = are.table
+table_of_stacks known (Some path) plan places table are = are.at.0

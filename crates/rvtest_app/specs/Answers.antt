@@ -15,6 +15,7 @@ use Rattle.rvtest_app.specs.Debugging.{IsGdbAnswered}
 use Rattle.rvtest_app.specs.HelpTopics.{IsTopicTold}
 use Rattle.rvtest_app.specs.Lists.{IsListPut}
 use Rattle.rvtest_app.specs.Merges.{IsMergedAt}
+use Rattle.rvtest_app.specs.Profiles.{IsProfilePut}
 use Rattle.rvtest_app.specs.Reports.{IsCheckAt, IsDiffPut, IsExplanationAt}
 use Rattle.rvtest_app.specs.Runs.{IsRunAt}
 use Rattle.rvtest_app.specs.Said.{IsOnlyPut, Said}
@@ -49,6 +50,8 @@ IsDone known input is_terminal (asked.Counts words) status before after =
     IsSumPut known words status before after
 IsDone known input is_terminal (asked.Cover words) status before after =
     IsCoverPut known words status before after
+IsDone known input is_terminal (asked.Profile words) status before after =
+    IsProfilePut known words status before after
 IsDone known input is_terminal (asked.Help words) status before after =
     (text : List ℕ) × (IsTopicTold words.topic.now text status
     × IsOnlyPut text before after)

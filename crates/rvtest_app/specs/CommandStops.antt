@@ -34,6 +34,7 @@ use Rattle.rvtest_app.specs.CoverStops.{IsCoverStop}
 use Rattle.rvtest_app.specs.Debugging.{IsBrokenStop, IsNoGdbStop, IsUnopenedOfStop}
 use Rattle.rvtest_app.specs.HelpTopics.{IsNoTopicStop}
 use Rattle.rvtest_app.specs.MergeStops.{IsMergeStop}
+use Rattle.rvtest_app.specs.ProfileStops.{IsProfileStop}
 use Rattle.rvtest_app.specs.PutStops.{IsOutputStop}
 use Rattle.rvtest_app.specs.RunStops.{IsRunStop}
 use Rattle.rvtest_app.specs.ToldStops.{IsHelpAsked}
@@ -111,6 +112,7 @@ IsCommandStop known is_terminal (asked.Merge words) why = IsMergeStop known word
 IsCommandStop known is_terminal (asked.Show words) why = IsShowStop known words why
 IsCommandStop known is_terminal (asked.Counts words) why = IsCountsStop known words why
 IsCommandStop known is_terminal (asked.Cover words) why = (why ≡ stop.WriteFailed) ⊎ IsCoverStop known words why
+IsCommandStop known is_terminal (asked.Profile words) why = (why ≡ stop.WriteFailed) ⊎ IsProfileStop known words why
 
 -- words have a fault of some kind, which is not that they ask for help
 abbrev pub AreFaulty : List (List ℕ) → Type 0

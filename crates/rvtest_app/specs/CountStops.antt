@@ -9,7 +9,7 @@ use Rattle.rv_command.specs.Texts.{IsTextAt, optional_text}
 use Rattle.rv_command.specs.declared.stop.Stop.{Stop}
 use Rattle.rv_command.specs.declared.stop.Stop.TheVariants as stop
 use Rattle.rv_counts.specs.Read.{IsLeast}
-use Rattle.rv_counts.specs.Sum.{IsTooGreat, no_counts}
+use Rattle.rv_counts.specs.Sum.{HaveNoSum, no_counts}
 use Rattle.rv_counts.specs.Table.{IsTable}
 use Rattle.rv_counts.specs.Text.{table_text}
 use Rattle.rv_counts.specs.declared.read.ReadError.{ReadError}
@@ -29,15 +29,23 @@ IsReadErrorStop path (read.Line line) why =
     IsStop 2 (path_number_message path (codes ":") line (codes ": no table of counts has this line here\n")) why
 IsReadErrorStop path read.CutOff why = IsStop 2 (path_message path (codes "the table is cut off")) why
 
--- a count of an address would be 2^64 or more with the table at a path
-abbrev pub great_count_message : List ℕ → ℕ → List ℕ
-great_count_message path address = codes "rvtest: " ++ printable_text path ++ codes ": a count of " ++ word_digits address
+-- a count of an address, or in the stacks of a function, would be 2^64 or more with the table at a path
+abbrev pub great_count_message : List ℕ → List ℕ → ℕ → List ℕ
+great_count_message path what address = codes "rvtest: " ++ printable_text path ++ what ++ word_digits address
     ++ codes " does not fit in 64 bits\n"
+
+-- a function has one name in the table at a path, and another in those before
+abbrev pub two_names_message : List ℕ → ℕ → List ℕ
+two_names_message path function = codes "rvtest: " ++ printable_text path ++ codes ": " ++ word_digits function
+    ++ codes " has two names in one image\n"
 
 -- a table is not added to others
 abbrev pub IsSumErrorStop : List ℕ → SumError → Stop → Type 0
 IsSumErrorStop path sum.OutOfMemory why = why ≡ stop.OutOfMemory
-IsSumErrorStop path (sum.Count address) why = IsStop 2 (great_count_message path address) why
+IsSumErrorStop path (sum.Count address) why = IsStop 2 (great_count_message path (codes ": a count of ") address) why
+IsSumErrorStop path (sum.Spot function) why =
+    IsStop 2 (great_count_message path (codes ": a count in the stacks of ") function) why
+IsSumErrorStop path (sum.Names function) why = IsStop 2 (two_names_message path function) why
 IsSumErrorStop path sum.Runs why = IsStop 2 (path_message path (codes "the number of runs does not fit in 64 bits")) why
 
 -- memory was wanting; or the text at a path is no table: the least line is told that no table has there, or that it is cut off; a
@@ -49,7 +57,7 @@ pub record IsTableFaultStop (path text : List ℕ) (why : Stop) : Type 0 where
 -- the table at a path has no sum with what was added before it
 abbrev pub IsGreatSumStop : Option FileContents → List ℕ → CountTable → Stop → Type 0
 IsGreatSumStop known path before why = (table : CountTable) × (IsTableAt known path table
-    × ((error : SumError) × (IsTooGreat error before table × IsSumErrorStop path error why)))
+    × ((error : SumError) × (HaveNoSum error before table × IsSumErrorStop path error why)))
 
 -- the path was not read; or its text is no table; or it has no sum with what was added before
 abbrev pub IsUnaddedStop : Option FileContents → List ℕ → CountTable → Stop → Type 0

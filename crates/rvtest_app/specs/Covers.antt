@@ -1,6 +1,5 @@
 -- What `cover` puts: what of the images of jobs ran that words ask for, by a run of these jobs or by a table of counts.
-use Rattle.std.specs.Prelude.{◌≡◌, ◌++◌, ℕ, Bool, if◌then◌else◌, List, [], None, Option, Some, length}
-use Rattle.std.specs.List.{flat_map}
+use Rattle.std.specs.Prelude.{◌≡◌, ℕ, Bool, List, None, Option, Some}
 use Rattle.rv_base.specs.Files.{FileContents}
 use Rattle.rv_cli.specs.declared.rvtest.cover.CoverAsked.{CoverAsked}
 use Rattle.rv_command.specs.Texts.{optional_text}
@@ -9,18 +8,14 @@ use Rattle.rv_cover.specs.ImageCounts.{other_image}
 use Rattle.rv_cover.specs.ImagesText.{IsCoverText}
 use Rattle.rv_cover.specs.JobImages.{images_of}
 use Rattle.rv_coverage.specs.JobTables.{IsTableOfPlaces, jobs_at}
-use Rattle.rv_expect.specs.Judgement.{Judging}
 use Rattle.rv_files.specs.UnreadPaths.{contents_below}
 use Rattle.rv_files.specs.declared.noting_store.Unread.{Unread}
-use Rattle.rv_job_text.specs.Telling.{row_line}
 use Rattle.rv_jobs.specs.Plans.{Planned}
 use Rattle.rv_lists.specs.declared.job.Job.{Job}
 use Rattle.rv_report.specs.declared.row.Row.{Row}
 use Rattle.rv_report.specs.declared.saved.Shard.{Shard}
-use Rattle.rv_rows.specs.Rows.{row_of}
-use Rattle.rvtest_app.specs.Commands.{is_job_refused, report_judging}
 use Rattle.rvtest_app.specs.CountSums.{IsTableAt}
-use Rattle.rvtest_app.specs.MissingImages.{missing_images_note}
+use Rattle.rvtest_app.specs.RefusedNotes.{refused_note}
 use Rattle.rvtest_app.specs.Runs.{AreRequestedJobs, IsPlanFor, places_of_marks}
 use Rattle.rvtest_app.specs.Said.{IsOnlyPut, IsOnlyTold, Said}
 
@@ -38,22 +33,6 @@ IsShownOfPlan known words plan places text = (table : CountTable)
     × (AreCountsFor known (optional_text words.run.counts) plan places table
     × IsCoverText words.csv table (images_of plan.answers (jobs_at plan places)) text)
 
--- ---- what is told
-
--- the line of a job that is refused; of another nothing
-unfoldable pub refused_line : Judging → Planned → List Unread → Job → List ℕ
-refused_line judging plan unread job =
-    if is_job_refused plan job then row_line plan unread judging job (row_of plan job) else []
-
--- the lines of the jobs that are refused among those at some places
-abbrev pub refused_lines : Judging → Planned → List Unread → List ℕ → List ℕ
-refused_lines judging plan unread places = flat_map (refused_line judging plan unread) (jobs_at plan places)
-
--- where paths are taken from, if every image is missing, and the jobs that are refused
-abbrev pub cover_note : CoverAsked → Planned → List Unread → List ℕ → List ℕ
-cover_note words plan unread places = missing_images_note plan.jobs unread (length places) (optional_text words.run.root)
-    ++ refused_lines (report_judging words.run.lenient) plan unread places
-
 -- ---- the command
 
 -- over a plan of the jobs at some places this was told, and then what is shown was put
@@ -63,7 +42,7 @@ pub record IsCoverOfPlaces (known : Option FileContents) (words : CoverAsked) (j
   pub unread : List Unread
   pub planned : IsPlanFor (contents_below (optional_text words.run.root) known) jobs places plan unread
   pub middle : Said
-  pub told : IsOnlyTold (cover_note words plan unread places) before middle
+  pub told : IsOnlyTold (refused_note words.run plan unread places) before middle
   pub text : List ℕ
   pub shown : IsShownOfPlan known words plan places text
   pub put : IsOnlyPut text middle after

@@ -49,10 +49,6 @@ IsFileStop path why = IsSomeAnd path (λ path. IsUnopenedStop path why ⊎ IsUnw
 abbrev pub IsEitherFileStop : Option (List ℕ) → Option (List ℕ) → Stop → Type 0
 IsEitherFileStop report junit why = IsFileStop report why ⊎ IsFileStop junit why
 
--- memory was wanting, standard output did not take all, or the file at a path did not come to be, if there is one
-abbrev pub IsCountsPutStop : Option (List ℕ) → Stop → Type 0
-IsCountsPutStop path why = (why ≡ stop.OutOfMemory) ⊎ ((why ≡ stop.WriteFailed) ⊎ IsFileStop path why)
-
 -- memory was wanting, a standard stream did not take all, or one of two files did not come to be
 abbrev pub IsPutStop : Option (List ℕ) → Option (List ℕ) → Stop → Type 0
 IsPutStop report junit why = (why ≡ stop.OutOfMemory) ⊎ ((why ≡ stop.WriteFailed) ⊎ IsEitherFileStop report junit why)

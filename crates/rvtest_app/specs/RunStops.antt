@@ -23,6 +23,7 @@ use Rattle.rvtest_app.specs.KnownStops.{IsKnownStop}
 use Rattle.rvtest_app.specs.Outlets.{file_path_at}
 use Rattle.rvtest_app.specs.PutStops.{IsFileStop, IsOutputStop, IsUnwrittenStop}
 use Rattle.rvtest_app.specs.Runs.{AreJobsToRun, AreRequestedJobs}
+use Rattle.rvtest_app.specs.StackStops.{IsUnstackedStop}
 
 -- the shard is refused; or no shard is asked for, and words choose no jobs
 abbrev pub IsUnmarkedStop : Option FileContents → RunAsked → List Job → Stop → Type 0
@@ -70,9 +71,10 @@ abbrev pub IsRowsPutStop : RunAsked → Stop → Type 0
 IsRowsPutStop words why = (why ≡ stop.NoWorker)
     ⊎ IsOutputStop (run_report_path words) (optional_text words.junit) why
 
--- or the table of counts did not
+-- or the table of counts did not, or the stacks that are to stand in it have no sum
 abbrev pub IsRunPutStop : RunAsked → Stop → Type 0
-IsRunPutStop words why = IsRowsPutStop words why ⊎ IsFileStop (file_path_at (optional_text words.counts)) why
+IsRunPutStop words why = IsRowsPutStop words why
+    ⊎ (IsFileStop (file_path_at (optional_text words.counts)) why ⊎ IsUnstackedStop words why)
 
 -- jobs that are to run were found, and that happened
 abbrev pub IsUnfinishedStop : Option FileContents → RunAsked → Stop → Type 0

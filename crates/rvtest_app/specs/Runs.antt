@@ -1,5 +1,5 @@
 -- The rows of a run of some jobs of a list, and its status.
-use Rattle.std.specs.Prelude.{◌≡◌, ◌⊎◌, ◌++◌, ℕ, Bool, true, List, [], Ok, Option, Some, None, IfSome, is_some, length, take}
+use Rattle.std.specs.Prelude.{◌≡◌, ◌⊎◌, ◌++◌, ℕ, Bool, true, false, List, [], Ok, Option, Some, None, IfSome, is_some, length, take}
 use Rattle.rv_base.specs.Files.{FileContents}
 use Rattle.rv_choice.specs.Chosen.{IsChoice}
 use Rattle.rv_choice.specs.Shard.{IsShardOf, stamp_for}
@@ -24,6 +24,7 @@ use Rattle.rv_stream.specs.Streams.{row_text_list}
 use Rattle.rv_counts.specs.Text.{table_text}
 use Rattle.rv_counts.specs.declared.table.CountTable.{CountTable}
 use Rattle.rv_coverage.specs.JobTables.{IsTableOfPlaces}
+use Rattle.rv_stacks.specs.StackTables.{IsTableWithStacks}
 use Rattle.rv_expect.specs.Judgement.{Judging, fails}
 use Rattle.rv_rounds.specs.Rounds.{rows_up_to}
 use Rattle.rv_known.specs.declared.known_jobs.KnownJobs.{KnownJobs}
@@ -128,22 +129,28 @@ IsRunPut words telling places shard old rows before after =
     (run_report_text old (length telling.plan.jobs) (shown_places places rows) shard rows)
     (run_junit words telling (shown_places places rows) rows) before after
 
--- the text of the table of counts of the runs of the jobs at some places
-abbrev pub IsCountsText : Planned → List ℕ → List ℕ → Type 0
-IsCountsText plan places text = (table : CountTable) × (IsTableOfPlaces plan places table × (text ≡ table_text table))
+-- the table of counts of the runs of the jobs at some places, with their stacks where those are asked for
+abbrev pub IsCountsTable : Bool → Planned → List ℕ → CountTable → Type 0
+IsCountsTable false plan places table = IsTableOfPlaces plan places table
+IsCountsTable true plan places table = IsTableWithStacks plan places table
+
+-- its text
+abbrev pub IsCountsText : Bool → Planned → List ℕ → List ℕ → Type 0
+IsCountsText stacks plan places text =
+    (table : CountTable) × (IsCountsTable stacks plan places table × (text ≡ table_text table))
 
 -- it went to a path, if one is given
-abbrev pub AreCountsPut : Option (List ℕ) → Planned → List ℕ → Said → Said → Type 0
-AreCountsPut None plan places before after = IsWrittenAt None [] before after
-AreCountsPut (Some path) plan places before after =
-    (text : List ℕ) × (IsCountsText plan places text × IsWrittenAt (Some path) text before after)
+abbrev pub AreCountsPut : Bool → Option (List ℕ) → Planned → List ℕ → Said → Said → Type 0
+AreCountsPut stacks None plan places before after = IsWrittenAt None [] before after
+AreCountsPut stacks (Some path) plan places before after =
+    (text : List ℕ) × (IsCountsText stacks plan places text × IsWrittenAt (Some path) text before after)
 
 -- that run put these rows, and then the table of its counts
 pub record IsCountedRunPut (words : RunAsked) (telling : Telling) (places : List ℕ) (shard : Option Shard) (old : Option (List Row))
     (rows : List Row) (before after : Said) : Type 0 where
   pub middle : Said
   pub put : IsRunPut words telling places shard old rows before middle
-  pub counted : AreCountsPut (optional_text words.counts) telling.plan (shown_places places rows) middle after
+  pub counted : AreCountsPut words.stacks (optional_text words.counts) telling.plan (shown_places places rows) middle after
 
 -- over such a plan of the jobs, all with the budget that words ask for, it is said where paths are taken from, if every image
 -- is missing; and the rows of the jobs at some places went out as words ask for them: their lines with the totals, the report,

@@ -34,6 +34,7 @@ pub(crate) fn asked_colors(asked: &Asked<'_>, is_terminal: bool) -> Colors
         | Asked::Merge(_)
         | Asked::Counts(_)
         | Asked::Cover(_)
+        | Asked::Profile(_)
         | Asked::Help(_) => Colors::Without,
     }
 }

@@ -5,7 +5,7 @@ ghost use Rattle.rv_command.specs.Texts.{optional_text};
 ghost use Rattle.rv_counts.specs.Sum.{no_counts};
 ghost use Rattle.rv_counts.specs.Table.{IsTable};
 ghost use Rattle.rv_counts.specs.Text.{table_text};
-ghost use Rattle.rvtest_app.specs.CountStops.{IsCountsStop, IsReadErrorStop, IsSumErrorStop, IsSumStop, IsTableFaultStop, IsUnaddedStop, great_count_message};
+ghost use Rattle.rvtest_app.specs.CountStops.{IsCountsStop, IsReadErrorStop, IsSumErrorStop, IsSumStop, IsTableFaultStop, IsUnaddedStop, great_count_message, two_names_message};
 ghost use Rattle.rvtest_app.specs.CountSums.{AreAdded, IsAdded, IsSumPut};
 ghost use Rattle.rvtest_app.specs.Outlets.{is_stdout};
 ghost use Rattle.rvtest_app.specs.Said.{said};
@@ -105,12 +105,21 @@ fn read_error_stop(alloc: Global, path: &str, error: ReadError) -> Stop
     }
 }
 
-fn sum_error_stop(alloc: Global, path: &str, error: SumError) -> Stop
+/// What is told where the table at a path has no sum with others.
+pub(crate) fn sum_error_stop(alloc: Global, path: &str, error: SumError) -> Stop
     ensures { IsSumErrorStop path.now error result }
 {
     match error {
         SumError::OutOfMemory => Stop::OutOfMemory,
-        SumError::Count(address) => { Stop::of_refusal(great_count_message(alloc, path, address)) }
+        SumError::Count(address) => {
+            let what = ": a count of ";
+            Stop::of_refusal(great_count_message(alloc, path, what, address))
+        }
+        SumError::Spot(function) => {
+            let what = ": a count in the stacks of ";
+            Stop::of_refusal(great_count_message(alloc, path, what, function))
+        }
+        SumError::Names(function) => Stop::of_refusal(two_names_message(alloc, path, function)),
         SumError::Runs => {
             let what = "the number of runs does not fit in 64 bits";
             Stop::of_refusal(path_message(alloc, path, what))
@@ -118,15 +127,35 @@ fn sum_error_stop(alloc: Global, path: &str, error: SumError) -> Stop
     }
 }
 
-fn great_count_message(alloc: Global, path: &str, address: u32) -> Result<Vec<u8>, AllocError>
-    ensures { IfOk result (λ text. text.items ≡ great_count_message path.now address) }
+fn two_names_message(alloc: Global, path: &str, function: u32) -> Result<Vec<u8>, AllocError>
+    ensures { IfOk result (λ text. text.items ≡ two_names_message path.now function) }
 {
     text_of_spans(
         alloc,
         &[
             Span::Text("rvtest: "),
             Span::Shown(path.as_bytes()),
-            Span::Text(": a count of "),
+            Span::Text(": "),
+            Span::Word(function),
+            Span::Text(" has two names in one image\n"),
+        ],
+    )
+}
+
+fn great_count_message<'a>(
+    alloc: Global,
+    path: &'a str,
+    what: &'a str,
+    address: u32,
+) -> Result<Vec<u8>, AllocError>
+    ensures { IfOk result (λ text. text.items ≡ great_count_message path.now what.now address) }
+{
+    text_of_spans(
+        alloc,
+        &[
+            Span::Text("rvtest: "),
+            Span::Shown(path.as_bytes()),
+            Span::Text(what),
             Span::Word(address),
             Span::Text(" does not fit in 64 bits\n"),
         ],

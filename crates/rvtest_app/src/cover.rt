@@ -10,11 +10,11 @@ ghost use Rattle.rvtest_app.specs.Covers.{IsCoverOfPlaces, IsCoverPut, IsShownOf
 ghost use Rattle.rvtest_app.specs.Runs.{places_of_marks};
 ghost use Rattle.rvtest_app.specs.Said.{said};
 
-use crate::cover_note::cover_note;
 use crate::cover_table::table_for_images;
 use crate::destinations::Destinations;
 use crate::host::Host;
 use crate::planned_run::RequestedJobs;
+use crate::refused_note::refused_note;
 use crate::rules::failure_rule;
 use crate::run::{ListRun, gather_jobs_at};
 use rv_cli::rvtest::{ChoosingCommand, CoverAsked};
@@ -79,7 +79,7 @@ fn cover_marked_jobs<
     let places = marked.as_slice();
     let mut store = NotingStore::new(inputs, alloc, asked.run.root);
     let plan = gather_jobs_at(alloc, jobs, places, &mut store)?;
-    let note = cover_note(alloc, asked, &plan, store.unread_paths(), places)?;
+    let note = refused_note(alloc, &asked.run, &plan, store.unread_paths(), places)?;
     put_message(&mut to.errors, note.as_slice());
     let text = planned_cover_text(host, asked, &plan, places)?;
     put_results(&mut to.out, text.as_slice())?;

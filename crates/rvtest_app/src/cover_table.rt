@@ -63,8 +63,8 @@ fn counts_of_jobs<R: Threads + Sync, D>(
     count_places(&crew, &Batch::new(plan, places))
 }
 
-// The table at a path, which has no counts of other images than these at their paths.
-fn read_table_for_images<D: Inputs>(
+/// The table at a path, which has no counts of other images than these at their paths.
+pub(crate) fn read_table_for_images<D: Inputs>(
     inputs: &D,
     alloc: Global,
     path: &str,

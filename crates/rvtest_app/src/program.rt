@@ -26,6 +26,7 @@ use crate::help_topic::tell_topic;
 use crate::host::Host;
 use crate::list::list_chosen_jobs;
 use crate::merge::merge_reports;
+use crate::profile::profile_requested_jobs;
 use crate::run::run_requested_jobs;
 use crate::show::show_report;
 use crate::terminals::Terminals;
@@ -225,6 +226,7 @@ where
         Asked::Show(asked) => show_report(inputs, alloc, asked, &mut to),
         Asked::Counts(asked) => put_sum_of_tables(inputs, alloc, &asked, &mut to),
         Asked::Cover(asked) => cover_requested_jobs(host, &asked, &mut to),
+        Asked::Profile(asked) => profile_requested_jobs(host, &asked, &mut to),
         Asked::Help(asked) => put_findings(&mut to.out, tell_topic(alloc, asked)),
     };
     (to, answer)

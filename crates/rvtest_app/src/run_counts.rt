@@ -5,23 +5,24 @@ ghost use Rattle.std.specs.List.Sorted.{IsStrictlyIncreasing};
 ghost use Rattle.rv_files.specs.Placed.{PlacedFile};
 ghost use Rattle.rv_fleet.specs.Choices.{AreJobPlaces};
 ghost use Rattle.rvtest_app.specs.Outlets.{HasTaken, outlet_path};
-ghost use Rattle.rvtest_app.specs.PutStops.{IsCountsPutStop};
-ghost use Rattle.rvtest_app.specs.Runs.{AreCountsPut, IsCountsText};
+ghost use Rattle.rvtest_app.specs.Runs.{AreCountsPut, IsCountsTable, IsCountsText};
 ghost use Rattle.rvtest_app.specs.Said.{said, where_told};
+ghost use Rattle.rvtest_app.specs.StackStops.{IsCountsPutStop, IsUncountedRunStop};
 
+use crate::counts::sum_error_stop;
 use crate::crew::requested_crew;
 use crate::destinations::Destinations;
 use crate::outlets::{Outlet, abandon_outlet};
 use crate::run::ListRun;
 use crate::written_text::put_into_outlet;
 use rv_command::Stop;
-use rv_counts::table_text;
+use rv_counts::{CountTable, table_text};
 use rv_coverage::count_places;
 use rv_files::{Inputs, Outputs};
 use rv_fleet::Batch;
 use rv_jobs::Plan;
 use rv_rows::Sink;
-use std::alloc::AllocError;
+use rv_stacks::count_places_with_stacks;
 use std::sync::Wait;
 use std::thread::Threads;
 use std::time::Clock;
@@ -41,36 +42,53 @@ impl<'x, R: Threads + Wait + Sync + Clock, D: Inputs> ListRun<'x, R, D> {
             × HasTaken F.place_path F.File.taken F.File.failed None path [] outlet }
         ensures counted { (path : Option (List ℕ)) (earlier : Option (List PlacedFile))
             → HasTaken F.place_path F.File.taken F.File.failed earlier path [] outlet.entry
-            → OnOk result (AreCountsPut path plan.now places.now
+            → OnOk result (AreCountsPut self.now.asked.now.stacks path plan.now places.now
             (where_told earlier (said F.placed O.taken E.taken E.failed to.old))
             (said F.placed O.taken E.taken E.failed to.new)) }
         ensures asked { (path : Option (List ℕ)) (earlier : Option (List PlacedFile))
             → HasTaken F.place_path F.File.taken F.File.failed earlier path [] outlet.entry
             → OnErr result (is_some path ≡ true) }
         ensures same { OnErr result (F.placed to.new.files ≡ F.placed to.old.files) }
-        ensures stopped { IfErr result (IsCountsPutStop (outlet_path outlet.entry)) }
+        ensures stopped { IfErr result (IsCountsPutStop self.now.asked.now (outlet_path outlet.entry)) }
     {
         if let Outlet::Nowhere = outlet {
             return Ok(());
         }
         match self.counts_text(plan, places) {
             Ok(text) => put_into_outlet(self.host.alloc, to, outlet, text.as_bytes()),
-            Err(error) => {
+            Err(stop) => {
                 abandon_outlet(&mut to.files, outlet);
-                Err(Stop::from(error))
+                Err(stop)
             }
         }
     }
 
-    // The text of the table of their counts.
-    fn counts_text(&self, plan: &Plan, places: &[usize]) -> Result<String, AllocError>
+    // The text of the table of their counts, with their stacks where those are asked for.
+    fn counts_text(&self, plan: &Plan, places: &[usize]) -> Result<String, Stop>
         requires within { AreJobPlaces plan.now places.now }
         requires rising { IsStrictlyIncreasing places.now }
-        ensures { IfOk result (λ text. IsCountsText plan.now places.now (string_bytes text)) }
+        ensures text { IfOk result (λ text. IsCountsText self.now.asked.now.stacks plan.now places.now (string_bytes text)) }
+        ensures stopped { IfErr result (IsUncountedRunStop self.now.asked.now) }
+    {
+        let table = self.table_of_counts(plan, places)?;
+        Ok(table_text(self.host.alloc, &table)?)
+    }
+
+    fn table_of_counts(&self, plan: &Plan, places: &[usize]) -> Result<CountTable, Stop>
+        requires within { AreJobPlaces plan.now places.now }
+        requires rising { IsStrictlyIncreasing places.now }
+        ensures table { IfOk result (IsCountsTable self.now.asked.now.stacks plan.now places.now) }
+        ensures stopped { IfErr result (IsUncountedRunStop self.now.asked.now) }
     {
         let (rt, alloc) = (self.host.rt, self.host.alloc);
         let crew = requested_crew(rt, alloc, self.asked);
-        let table = count_places(&crew, &Batch::new(plan, places))?;
-        table_text(alloc, &table)
+        let batch = Batch::new(plan, places);
+        if !self.asked.stacks {
+            return Ok(count_places(&crew, &batch)?);
+        }
+        match count_places_with_stacks(&crew, &batch) {
+            Ok(table) => Ok(table),
+            Err(error) => Err(sum_error_stop(alloc, self.asked.counts.unwrap_or("-"), error)),
+        }
     }
 }

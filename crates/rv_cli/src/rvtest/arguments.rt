@@ -3,7 +3,7 @@
 ghost use Rattle.std.specs.Prelude.{◌≡◌, false};
 ghost use Rattle.clap.specs.Words.{App, rule_of};
 ghost use Rattle.rv_cli.specs.CommandBuilder.{IsBuilt};
-ghost use Rattle.rv_cli.specs.RvtestCommand.{file_rule, flag_rule, number_rule, argument_rule};
+ghost use Rattle.rv_cli.specs.RvtestCommand.{file_rule, flag_rule, number_rule, optional_word_rule, argument_rule};
 ghost use Rattle.rv_cli.specs.RvtestCommand.{with_arguments, with_letter};
 
 use crate::arguments::{group_argument, option_argument, word_argument};
@@ -24,6 +24,8 @@ pub(crate) struct Bounds {
 pub(crate) enum Argument<'a> {
     /// A word that stands for itself.
     Word(&'a str, &'a str, &'a str),
+    /// Such a word, which may be absent.
+    OptionalWord(&'a str, &'a str, &'a str),
     /// One such word or more.
     Words(&'a str, &'a str, &'a str),
     /// An option with a value.
@@ -47,6 +49,9 @@ impl<'a> Argument<'a> {
     {
         match *self {
             Argument::Word(name, value, help) => word_argument(alloc, name, value, help),
+            Argument::OptionalWord(name, value, help) => {
+                optional_word_argument(alloc, name, value, help)
+            }
             Argument::Words(name, value, help) => {
                 word_argument(alloc, name, value, help).action(ArgAction::Append)
             }
@@ -91,6 +96,17 @@ fn with_letter<'a>(argument: Arg<'a>, letter: Option<char>) -> Arg<'a>
         Some(letter) => argument.short(letter),
         None => argument,
     }
+}
+
+fn optional_word_argument<'a>(
+    alloc: Global,
+    name: &'a str,
+    value: &'a str,
+    help: &'a str,
+) -> Arg<'a>
+    ensures { (rule_of result ≡ optional_word_rule name.entry.now) × (result.global ≡ false) }
+{
+    Arg::new(alloc, name).value_name(value).help(help)
 }
 
 fn file_argument<'a>(alloc: Global, name: &'a str, help: &'a str) -> Arg<'a>

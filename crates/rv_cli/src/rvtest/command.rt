@@ -4,12 +4,14 @@ ghost use Rattle.std.specs.Prelude.{◌≡◌, ◌++◌, IfOk, codes, false, str
 ghost use Rattle.clap.specs.Words.{App, app_of, new_app};
 ghost use Rattle.clap.specs.declared.builder.command.Command.TheViews.{out-Command};
 ghost use Rattle.rv_cli.specs.CommandBuilder.{HasApp, HasHelpEnd, HasUsageOf, HasVersion, IsBuilt};
-ghost use Rattle.rv_cli.specs.RvtestCommand.{accept_app, choosing_app, cover_app, diff_app, explain_app, list_app, subcommand_app, merge_app, show_app, test_run_app, test_app};
+ghost use Rattle.rv_cli.specs.RvtestCommand.{accept_app, choosing_app, cover_app, diff_app, explain_app, list_app, subcommand_app, merge_app, profile_app, show_app, test_run_app, test_app};
 ghost use Rattle.rv_cli.specs.RvtestCommand.{test_top_app, with_subcommands};
 
 use crate::command_builder::{Built, with_subcommand};
 use crate::rvtest::arguments::{Argument, with_arguments};
-use crate::rvtest::table::{ACCEPT, COMMANDS, COVER, DIFF, EXPLAIN, LIST, MERGE, RUN, SHOW};
+use crate::rvtest::table::{
+    ACCEPT, COMMANDS, COVER, DIFF, EXPLAIN, LIST, MERGE, PROFILE, RUN, SHOW,
+};
 use clap::Command;
 use std::alloc::{AllocError, Global};
 
@@ -91,6 +93,7 @@ pub enum ChoosingCommand {
     List,
     Accept,
     Cover,
+    Profile,
 }
 
 impl ChoosingCommand {
@@ -104,6 +107,7 @@ impl ChoosingCommand {
             ChoosingCommand::List => list_command(alloc),
             ChoosingCommand::Accept => accept_command(alloc),
             ChoosingCommand::Cover => cover_command(alloc),
+            ChoosingCommand::Profile => profile_command(alloc),
         }
     }
 }
@@ -130,6 +134,14 @@ pub(crate) fn cover_command<'a>(alloc: Global) -> Result<Command<'a>, AllocError
         (app_of command ≡ cover_app) × ((out-Command command).has_globals ≡ false)) }
 {
     subcommand_of_table(alloc, &COVER)
+}
+
+/// The command `rvtest profile`, whose usage a refusal of its words shows.
+pub(crate) fn profile_command<'a>(alloc: Global) -> Result<Command<'a>, AllocError>
+    ensures { IfOk result (λ command.
+        (app_of command ≡ profile_app) × ((out-Command command).has_globals ≡ false)) }
+{
+    subcommand_of_table(alloc, &PROFILE)
 }
 
 /// The command `rvtest run`, whose usage a refusal of its words shows.

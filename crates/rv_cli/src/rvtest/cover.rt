@@ -55,8 +55,8 @@ fn valid_cover_request<'a>(
     Ok(Some(Asked::Cover(CoverAsked { run, csv })))
 }
 
-// The first rule that the options of `cover` break.
-fn cover_misuse(values: &ArgMatches<'_>) -> Option<Misuse>
+/// The first rule that the options of `cover` break.
+pub(crate) fn cover_misuse(values: &ArgMatches<'_>) -> Option<Misuse>
     ensures { result ≡ cover_misuse (rows_of (found_of values.now)) }
 {
     if is_option_given(values, "shard") && is_choice_given(values) {

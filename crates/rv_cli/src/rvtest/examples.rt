@@ -127,6 +127,16 @@ Status:
   2  The words, the list, a report or the table is refused
   3  The system failed: memory, a thread or a file";
 
+pub(crate) const PROFILE: &str = "\
+Examples:
+  rvtest profile tests.toml uart-echo
+  rvtest profile tests.toml --counts whole.counts --top 10
+
+Status:
+  0  The functions were shown, whatever the verdicts
+  2  The words, the list, a report or the table is refused
+  3  The system failed: memory, a thread or a file";
+
 pub(crate) const HELP: &str = "\
 Examples:
   rvtest help list

@@ -19,6 +19,8 @@ pub(crate) enum Misuse {
     VerboseAndQuiet,
     /// A shard beside a choice of jobs.
     ShardAndChoice,
+    /// One job beside a choice of jobs or a shard.
+    NameAndChoice,
     /// A stamp without a shard.
     StampAlone,
     /// Another budget than the list's beside a report, JUnit's XML or a shard.
@@ -35,6 +37,8 @@ pub(crate) enum Misuse {
     PartialAlone,
     /// Steps compared exactly, and by which jobs are slower.
     StepsAndSlower,
+    /// Stacks without a table of counts.
+    StacksAlone,
     /// A suite without JUnit's XML.
     SuiteAlone,
     /// A suite whose name is empty.
@@ -65,14 +69,14 @@ impl Misuse {
         ensures { misuse_kinds (Some self) ≡ result ∷ [] }
     {
         match self {
-            Misuse::StampAlone | Misuse::PartialAlone | Misuse::SuiteAlone => {
-                ErrorKind::MissingRequiredArgument
-            }
+            Misuse::StampAlone | Misuse::PartialAlone | Misuse::StacksAlone | Misuse::SuiteAlone =>
+                ErrorKind::MissingRequiredArgument,
             Misuse::NamelessSuite | Misuse::UnknownColor | Misuse::IntoStdout => {
                 ErrorKind::InvalidValue
             }
             Misuse::VerboseAndQuiet
             | Misuse::ShardAndChoice
+            | Misuse::NameAndChoice
             | Misuse::BudgetAndRows
             | Misuse::StopAfterAndShard
             | Misuse::IntoAndReport
@@ -91,6 +95,9 @@ impl Misuse {
             Misuse::VerboseAndQuiet => "the argument '--verbose' cannot be used with '--quiet'",
             Misuse::ShardAndChoice => {
                 "the argument '--shard <K/N>' cannot be used with '--only <NAME>', '--match <REGEX>', '--exclude <REGEX>' or '--failed <REPORT>'"
+            }
+            Misuse::NameAndChoice => {
+                "the argument '[NAME]' cannot be used with '--only <NAME>', '--match <REGEX>', '--exclude <REGEX>', '--failed <REPORT>' or '--shard <K/N>': it is one job"
             }
             Misuse::StampAlone => {
                 "the argument '--stamp <TEXT>' cannot be used without '--shard <K/N>'"
@@ -115,6 +122,9 @@ impl Misuse {
             }
             Misuse::StepsAndSlower => {
                 "the argument '--steps' cannot be used with '--slower <N>'"
+            }
+            Misuse::StacksAlone => {
+                "the argument '--stacks' cannot be used without '--counts <FILE>'"
             }
             Misuse::SuiteAlone => {
                 "the argument '--suite <NAME>' cannot be used without '--junit <FILE>'"

@@ -19,6 +19,7 @@ use crate::rvtest::gdb::{GdbAsked, gdb_request};
 use crate::rvtest::help::{HelpAsked, help_request};
 use crate::rvtest::list::list_request;
 use crate::rvtest::merge::{MergeAsked, merge_request};
+use crate::rvtest::profile::{ProfileAsked, profile_request};
 use crate::rvtest::run::{RunAsked, test_run_request};
 use crate::rvtest::show::{ShowAsked, show_request};
 use crate::rvtest::words_error::WordsError;
@@ -53,6 +54,8 @@ pub enum Asked<'a> {
     Counts(CountsAsked<'a>),
     /// To show what of the images of jobs ran.
     Cover(CoverAsked<'a>),
+    /// To show in which functions the steps of jobs were.
+    Profile(ProfileAsked<'a>),
     /// To tell of something that is no command.
     Help(HelpAsked<'a>),
 }
@@ -115,6 +118,7 @@ fn subcommand_request<'a>(
         "show" => show_request(alloc, values),
         "counts" => counts_request(alloc, values),
         "cover" => cover_request(alloc, values),
+        "profile" => profile_request(alloc, values),
         "help" => Ok(help_request(values)),
         _ => Ok(None),
     }

@@ -3,7 +3,7 @@
 ghost use Rattle.std.specs.Prelude.{◌≡◌, ◌≤◌, IfOk, None};
 ghost use Rattle.clap.specs.Words.{found_of, rows_of};
 ghost use Rattle.rv_base.specs.Limits.{most_group};
-ghost use Rattle.rv_cli.specs.RvtestWords.{IsRunAskedInRange, ReadsRequest, are_counts_put_over, are_rows_kept, are_rows_put_twice, is_choice_given, is_choice_overwritten, is_report_given, is_stdout_put_into, run_asked_words};
+ghost use Rattle.rv_cli.specs.RvtestWords.{IsRunAskedInRange, ReadsRequest, are_counts_put_over, are_rows_kept, are_rows_put_twice, are_stacks_alone, is_choice_given, is_choice_overwritten, is_report_given, is_stdout_put_into, run_asked_words};
 ghost use Rattle.rv_cli.specs.RvtestWords.{run_misuse, test_run_request, run_words};
 
 use crate::rvtest::command::run_command;
@@ -57,6 +57,8 @@ pub struct RunAsked<'a> {
     pub lenient: bool,
     /// Path of the table of counts that is written; `-` is standard output.
     pub counts: Option<&'a str>,
+    /// Whether that table has stacks, too.
+    pub stacks: bool,
     /// Path of a file with the names of jobs that are known to fail.
     pub known: Option<&'a str>,
     /// The number of the failure that ends the run, from 1 to 4,096.
@@ -130,6 +132,7 @@ pub(crate) fn run_asked<'a>(
         suite: text_value(values, "suite"),
         lenient: is_flag_set(values, "lenient"),
         counts: text_value(values, "counts"),
+        stacks: is_flag_set(values, "stacks"),
         known: text_value(values, "known"),
         stop_after: number_value(values, "stop-after", 1, MOST_JOBS as u32),
         verbose: is_flag_set(values, "verbose"),
@@ -164,6 +167,8 @@ fn run_misuse(values: &ArgMatches<'_>) -> Option<Misuse>
         Some(Misuse::PartialAlone)
     } else if is_color_unknown(values) {
         Some(Misuse::UnknownColor)
+    } else if are_stacks_alone(values) {
+        Some(Misuse::StacksAlone)
     } else if are_counts_put_over(values) {
         Some(Misuse::CountsOneFile)
     } else {
@@ -208,6 +213,13 @@ fn is_choice_overwritten(values: &ArgMatches<'_>) -> bool
         Some(path) => is_report_path(values, path),
         None => false,
     }
+}
+
+// Whether stacks are to stand in a table that is not asked for.
+fn are_stacks_alone(values: &ArgMatches<'_>) -> bool
+    ensures { result ≡ are_stacks_alone (rows_of (found_of values.now)) }
+{
+    is_flag_set(values, "stacks") && !is_option_given(values, "counts")
 }
 
 // Whether the table of counts goes where a report or JUnit's XML goes, or the report stands that chooses the jobs.

@@ -3,11 +3,13 @@
 use crate::rvtest::arguments::{Argument, Bounds};
 use crate::rvtest::command::Subcommand;
 use crate::rvtest::examples;
+use crate::rvtest::profile::MOST_FUNCTIONS;
 use rv_base::limits::{MOST_BUDGET, MOST_JOBS, MOST_WORKERS};
 
 /// The commands of `rvtest`, in the order in which help names them.
-pub(crate) const COMMANDS: [Subcommand<'static>; 13] = [
-    RUN, LIST, EXPLAIN, CONSOLE, GDB, CHECK, ACCEPT, MERGE, DIFF, SHOW, COUNTS, COVER, HELP,
+pub(crate) const COMMANDS: [Subcommand<'static>; 14] = [
+    RUN, LIST, EXPLAIN, CONSOLE, GDB, CHECK, ACCEPT, MERGE, DIFF, SHOW, COUNTS, COVER, PROFILE,
+    HELP,
 ];
 
 pub(crate) const RUN: Subcommand<'static> = Subcommand {
@@ -37,6 +39,7 @@ pub(crate) const RUN: Subcommand<'static> = Subcommand {
         Argument::Option("suite", "NAME", SUITE),
         Argument::Flag("lenient", None, LENIENT),
         Argument::File("counts", COUNTS_FILE),
+        Argument::Flag("stacks", None, STACKS),
         Argument::File("known", KNOWN),
         Argument::Number("stop-after", None, STOP_AFTER, STOP_AFTER_BOUNDS, &[]),
         Argument::Flag(
@@ -219,12 +222,35 @@ pub(crate) const COVER: Subcommand<'static> = Subcommand {
         Argument::Number("workers", Some('j'), THREADS, WORKERS, &[]),
         Argument::Group,
         Argument::Option("root", "DIR", ROOT),
-        Argument::Option(
-            "counts",
-            "TABLE",
-            "Reads the counts in this table, and runs nothing",
-        ),
+        Argument::Option("counts", "TABLE", COUNTS_TABLE),
         Argument::Flag("csv", None, "Writes a row of CSV for each image"),
+    ],
+};
+
+pub(crate) const PROFILE: Subcommand<'static> = Subcommand {
+    name: "profile",
+    about: "Runs jobs, and shows in which functions their steps were",
+    after: examples::PROFILE,
+    arguments: &[
+        Argument::Word("list", "LIST", LIST_PATH),
+        Argument::OptionalWord(
+            "name",
+            "NAME",
+            "Name of the job; else of all that are chosen",
+        ),
+        Argument::Again("only", "NAME", ONLY),
+        Argument::Option("match", "REGEX", MATCH),
+        Argument::Option("exclude", "REGEX", EXCLUDE),
+        Argument::Option("failed", "REPORT", FAILED),
+        Argument::Flag("partial", None, PARTIAL),
+        Argument::Option("shard", "K/N", SHARD),
+        Argument::Flag("lenient", None, LENIENT),
+        Argument::Number("workers", Some('j'), THREADS, WORKERS, &[]),
+        Argument::Group,
+        Argument::Option("root", "DIR", ROOT),
+        Argument::Option("counts", "TABLE", COUNTS_TABLE),
+        Argument::Number("top", None, TOP, TOP_BOUNDS, &[]),
+        Argument::Flag("csv", None, "Writes a row of CSV for each function"),
     ],
 };
 
@@ -267,6 +293,10 @@ const COLOR: &str = "Colors: always, never, or auto, which is on a terminal";
 
 const COUNTS_FILE: &str = "Writes counts of instructions to this file; - is standard output";
 
+const STACKS: &str = "Counts the stacks of functions, too; beside --counts";
+
+const COUNTS_TABLE: &str = "Reads the counts in this table, and runs nothing";
+
 const KNOWN: &str = "Names jobs that are known to fail, one a line, # REASON behind";
 
 const STOP_AFTER: &str = "Ends behind the N-th failure, from 1 to 4096";
@@ -295,6 +325,13 @@ const SLOWER: Bounds = Bounds {
 const STOP_AFTER_BOUNDS: Bounds = Bounds {
     least: 1,
     most: MOST_JOBS as i64,
+};
+
+const TOP: &str = "Shows the first N functions of each image; else all";
+
+const TOP_BOUNDS: Bounds = Bounds {
+    least: 1,
+    most: MOST_FUNCTIONS as i64,
 };
 
 const MEMORY: &str = "Megabytes at most, from 64 to 4096; else 256";

@@ -7,7 +7,7 @@ use Rattle.std.specs.Str.{bytes_eq}
 use Rattle.rv_counts.specs.Lines.{whole_line}
 use Rattle.rv_counts.specs.Table.{is_behind}
 use Rattle.rv_counts.specs.Text.{image_line}
-use Rattle.rv_counts.specs.ReadSteps.{last_digest}
+use Rattle.rv_counts.specs.ReadSteps.{last_digest, AreAddressLines, AreSpotLines}
 use Rattle.rv_counts.proofs.ReadingLines.{one_image, no_image_line}
 use Rattle.rv_counts.proofs.read_lines.read_image.Goals as goal
 
@@ -23,6 +23,8 @@ pub returns-clause-found : goal.returns-clause-found
 returns-clause-found c =
     let text = c.args.text.now in
     let image = c.in_ok-image.image in
+    let lines = c.in_ok-lines.lines in
+    let spots = c.in_ok-spots.spots in
     let w = c.whole_line-line.ensures in
     let line = c.whole_line-line.result.now in
     let same : line ≡ image_line image = (bytes_decides line (image_line image)).0
@@ -30,10 +32,15 @@ returns-clause-found c =
     let d = c.as_slice.ensures in
     let both = and_parts (length c.as_slice.result.now == 32) (is_behind (last_digest None c.args.earlier.now) c.as_slice.result.now)
     (sym c.can_follow.ensures.value ∙ c.if-not-can_follow.false) in
-    one_image (last_digest None c.args.earlier.now) text c.tail_from.result.now image c.in_ok-lines.lines
-    (length line + c.in_ok-lines.lines.length)
-    (c.tail_from.ensures ∙ ap (λ (s : List ℕ). drop (length s) text) w) (sym w ∙ same)
+    one_image (last_digest None c.args.earlier.now) text image lines spots
+    _ (sym w ∙ same)
     (ap (λ (s : List ℕ). length s) (sym d) ∙ eqb-true (length c.as_slice.result.now) 32 both.0)
     (ap (is_behind (last_digest None c.args.earlier.now)) (sym d) ∙ both.1)
     (subst (λ (s : List ℕ). AllByRecursion (λ b. b < 256) s) d c.can_follow.ensures.bytes) c.in_ok-image.ensures.text
-    c.in_ok-lines.ensures (ap (λ (s : List ℕ). length s + c.in_ok-lines.lines.length) w)
+    (record {
+      addresses = subst (λ (t : List ℕ). AreAddressLines t lines)
+          (c.tail_from.ensures ∙ ap (λ (s : List ℕ). drop (length s) text) w) c.in_ok-lines.ensures;
+      stacks = subst (λ (t : List ℕ). AreSpotLines t spots)
+          (c.tail_from-2.ensures ∙ ap (λ (s : List ℕ). drop (length s + lines.length) text) w) c.in_ok-spots.ensures;
+      end = ap (λ (s : List ℕ). length s + lines.length + spots.length) w;
+    })

@@ -3,7 +3,7 @@ use Rattle.std.proofs.Common.{◌≡◌, ◌∙◌, ◌++◌, ◌≤◌, List, [
 use Rattle.std.proofs.lemmas.List.{drop_all, take_rest}
 use Rattle.std.proofs.lemmas.Result.{err_from_is_err_and}
 use Rattle.rv_counts.specs.declared.table.AddressCounts.{AddressCounts}
-use Rattle.rv_counts.specs.Sum.{IsSumOfCounts, IsTooGreatAt}
+use Rattle.rv_counts.specs.Sum.{IsSumOfCounts, CountsHaveNoSum}
 use Rattle.rv_counts.specs.SumSteps.{AddsUp}
 use Rattle.rv_counts.proofs.Adding.{too_great_behind, summed}
 use Rattle.rv_counts.proofs.sum_of_counts.sum_of_counts.Goals as goal

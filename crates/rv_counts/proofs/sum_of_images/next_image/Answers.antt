@@ -3,9 +3,9 @@ use Rattle.std.proofs.Common.{◌≡◌, ◌<◌, ◌≤◌, ℕ, Bool, true, fa
 use Rattle.std.proofs.lemmas.Bool.Decides.{nat_tests}
 use Rattle.std.proofs.lemmas.Result.{err_from_is_err_and, IfOk-weaker}
 use Rattle.rv_counts.specs.declared.sum_of_images.NextImage.{NextImage}
-use Rattle.rv_counts.specs.SumSteps.{IsNextImage, IsTooGreatIn}
+use Rattle.rv_counts.specs.SumSteps.{IsNextImage, ImagesHaveNoSum}
 use Rattle.rv_counts.proofs.AddingImages.{image_of_first_alone, image_of_second_alone, image_of_first, image_of_second}
-use Rattle.rv_counts.proofs.AddingImages.{image_of_both, too_great_first}
+use Rattle.rv_counts.proofs.AddingImages.{image_of_both, no_sum_of_first}
 use Rattle.rv_counts.proofs.sum_of_images.next_image.Goals as goal
 
 pub returns-then-is_empty-clause-value : goal.returns-then-is_empty-clause-value
@@ -50,7 +50,7 @@ returns-in_err-image-clause-refused c =
     let other : 0 < length c.args.b.now = grind (arith, nat_tests, f) in
     let error = err_from_is_err_and c.from_residual.result c.from_residual.ensures.1 in
     rw (error.1, error.2)
-    (too_great_first _ _ _ _ _ some other c.index-a-0-2.is c.index-b-0-2.is (sym c.if-is_earlier.ensures)
+    (no_sum_of_first _ _ _ _ _ some other c.index-a-0-2.is c.index-b-0-2.is (sym c.if-is_earlier.ensures)
     (sym c.if-is_earlier-2.ensures) c.in_err-image.ensures.refused)
 
 pub returns-clause-value : goal.returns-clause-value
@@ -62,3 +62,4 @@ returns-clause-value c =
     let ensures = c.in_ok-image.ensures in
     image_of_both _ _ _ _ _ c.requires.a c.requires.b some other c.index-a-0-2.is c.index-b-0-2.is
     (sym c.if-is_earlier.ensures) (sym c.if-is_earlier-2.ensures) ensures.digest ensures.path ensures.counts
+    ensures.names ensures.of_spots ensures.tree ensures.spots

@@ -9,7 +9,7 @@ pub returns-in-Some-clause-rising : goal.returns-in-Some-clause-rising
 returns-in-Some-clause-rising c =
     rw c.as_slice.ensures
     (found_rises (is_of_digest (sha256 c.args.bytes.now)) c.args.table.now.images c.in-Some.counted.now c.requires.images
-    (rw c.in-Some.is at c.image_of_digest.ensures))
+    (rw c.in-Some.is at c.counted_image.ensures))
 
 pub returns-in-None-clause-rising : goal.returns-in-None-clause-rising
 unfolding rise_from

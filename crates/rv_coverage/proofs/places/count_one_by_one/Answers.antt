@@ -24,6 +24,10 @@ add_table-requires-clause-few c =
     plan.answers (job_at plan place (single_job [] 0 [])) c.in_ok-table.table
     (c.in_ok-table.ensures (single_job [] 0 [])) c.loop-place-test.true
 
+pub add_table-requires-clause-no_stacks : goal.add_table-requires-clause-no_stacks
+add_table-requires-clause-no_stacks c =
+    (c.loop-place.invariant.few.stacks, (c.in_ok-table.ensures (single_job [] 0 [])).few.stacks)
+
 pub loop-place-preserved : goal.loop-place-preserved
 loop-place-preserved c =
     let places = c.args.places.now in

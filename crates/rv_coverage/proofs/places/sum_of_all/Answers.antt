@@ -12,6 +12,16 @@ pub loop-table-init : goal.loop-table-init
 loop-table-init c =
     subst (λ (t : CountTable). AreAdded c.args.tables.now 0 t) (sym c.empty_table-sum.ensures) (none_added c.args.tables.now)
 
+pub add_table-requires-clause-no_stacks : goal.add_table-requires-clause-no_stacks
+add_table-requires-clause-no_stacks c =
+    let tables = c.args.tables.now in
+    let i = c.loop-table.table-index in
+    let lt = c.loop-table-test.true in
+    let table = c.in-Ok.table in
+    let is = sym c.in-Ok.is ∙ get_or_read tables i c.table-item.result lt c.table-item.is (Ok table) in
+    let small = subst (λ (r : Result CountTable AllocError). IfOk r IsSmallTable) (sym is) (c.requires.each i (Ok table) lt) in
+    (c.loop-table.invariant.few.stacks, small.few.stacks)
+
 pub loop-table-preserved : goal.loop-table-preserved
 loop-table-preserved c =
     let tables = c.args.tables.now in

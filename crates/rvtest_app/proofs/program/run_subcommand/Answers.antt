@@ -3,7 +3,7 @@ use Rattle.rv_gdb.specs.declared.conversation.Broken.TheVariants as cause
 use Rattle.rvtest_app.proofs.Results.{IfOk-from, IfOk-map}
 use Rattle.rvtest_app.proofs.StopLemmas.{put_or_found, unshown_accept, unshown_merge, unshown_report, unshown_run, unshown_sum}
 use Rattle.rvtest_app.proofs.program.run_subcommand.Goals as goal
-use Rattle.rvtest_app.proofs.program.run_subcommand.Goals.{in-Explain, in-List, in-Console, in-Gdb, in-Check, in-Accept, in-Merge, in-Diff, in-Show, in-Counts, in-Cover, in-Help}
+use Rattle.rvtest_app.proofs.program.run_subcommand.Goals.{in-Explain, in-List, in-Console, in-Gdb, in-Check, in-Accept, in-Merge, in-Diff, in-Show, in-Counts, in-Cover, in-Profile, in-Help}
 
 pub returns-in-Run-clause-stopped : goal.returns-in-Run-clause-stopped
 returns-in-Run-clause-stopped g c =
@@ -36,6 +36,7 @@ returns-clause-stopped g c = elim c.match-asked.branch [
   | in-Show w ↦ rw (w.answer-is, w.in-Show.is) w.show_report-answer.ensures.stopped
   | in-Counts w ↦ rw (w.answer-is, w.in-Counts.is) w.put_sum_of_tables-answer.ensures.stopped
   | in-Cover w ↦ rw (w.answer-is, w.in-Cover.is) w.cover_requested_jobs-answer.ensures.stopped
+  | in-Profile w ↦ rw (w.answer-is, w.in-Profile.is) w.profile_requested_jobs-answer.ensures.stopped
   | in-Help w ↦
       rw (w.answer-is, w.in-Help.is)
       (put_or_found w.tell_topic.result _ _ w.tell_topic.ensures.stopped
@@ -71,5 +72,6 @@ returns-clause-untouched g c = elim c.match-asked.branch [
       (λ status put. unshown_sum _ c.args.terminals.is_out_terminal _ status _ _ _ put w.put_sum_of_tables-answer.ensures.untouched)
       w.put_sum_of_tables-answer.ensures.put)
   | in-Cover w ↦ rw (w.answer-is, w.in-Cover.is) (IfOk-from w.cover_requested_jobs-answer.result _ (inl (inl refl)))
+  | in-Profile w ↦ rw (w.answer-is, w.in-Profile.is) (IfOk-from w.profile_requested_jobs-answer.result _ (inl (inl refl)))
   | in-Help w ↦ rw (w.answer-is, w.in-Help.is) (IfOk-from w.put_findings-answer-in-Help.result _ (inl (inl refl)))
 ]

@@ -28,6 +28,9 @@ returns-in-counts c = rw c.in-counts.is c.counts_request.ensures
 pub returns-in-cover : goal.returns-in-cover
 returns-in-cover c = rw c.in-cover.is c.cover_request.ensures
 
+pub returns-in-profile : goal.returns-in-profile
+returns-in-profile c = rw c.in-profile.is c.profile_request.ensures
+
 pub returns-in-help : goal.returns-in-help
 returns-in-help c = rw c.in-help.is (c.help_request.ensures, refl)
 

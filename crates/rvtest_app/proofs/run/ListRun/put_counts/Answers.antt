@@ -1,4 +1,4 @@
-use Rattle.std.proofs.Common.{[], None, inr, refl}
+use Rattle.std.proofs.Common.{[], None, inl, inr, refl, ⊎_elim}
 use Rattle.rvtest_app.proofs.CountedRuns.{counts_put, no_counts_put, path_given}
 use Rattle.rvtest_app.proofs.Results.{OnErr-from, OnOk-map}
 use Rattle.rvtest_app.proofs.StopLemmas.{IfErr-map}
@@ -7,7 +7,7 @@ use Rattle.rvtest_app.proofs.run.ListRun.put_counts.Goals as goal
 
 pub returns-in-Nowhere-clause-counted : goal.returns-in-Nowhere-clause-counted
 returns-in-Nowhere-clause-counted g c = λ path earlier has.
-    no_counts_put path _ _ _ _ (rw c.in-Nowhere.is at has)
+    no_counts_put _ path _ _ _ _ (rw c.in-Nowhere.is at has)
     (written_where_told earlier None [] _ _ (written_nowhere None [] _ refl))
 
 pub returns-in-Ok-clause-counted : goal.returns-in-Ok-clause-counted
@@ -15,7 +15,7 @@ returns-in-Ok-clause-counted g c = λ path earlier has.
     let given = path_given g.F.Outputs.place_path g.F.File.Sink.taken g.F.File.Sink.failed earlier path c.args.outlet [] has
     c.in_default.not-Nowhere in
     OnOk-map c.put_into_outlet.result _ _
-    (counts_put path _ _ _ _ _ given (rw c.as_bytes.ensures.value c.in-Ok.ensures))
+    (counts_put _ path _ _ _ _ _ given (rw c.as_bytes.ensures.value c.in-Ok.ensures.text))
     (c.put_into_outlet.ensures.written path earlier has)
 
 pub returns-in-Ok-clause-asked : goal.returns-in-Ok-clause-asked
@@ -31,4 +31,8 @@ returns-in-Err-clause-asked g c = λ path earlier has.
 
 pub returns-in-Ok-clause-stopped : goal.returns-in-Ok-clause-stopped
 returns-in-Ok-clause-stopped g c =
-    IfErr-map c.put_into_outlet.result _ _ (λ why is. inr is) c.put_into_outlet.ensures.stopped
+    IfErr-map c.put_into_outlet.result _ _ (λ why. ⊎_elim (λ failed. inr (inl failed)) (λ file. inr (inr (inl file))))
+    c.put_into_outlet.ensures.stopped
+
+pub returns-in-Err-clause-stopped : goal.returns-in-Err-clause-stopped
+returns-in-Err-clause-stopped g c = ⊎_elim inl (λ is. inr (inr (inr is))) c.in-Err.ensures.stopped

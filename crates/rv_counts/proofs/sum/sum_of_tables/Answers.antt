@@ -1,0 +1,30 @@
+-- The images add up, and so their tables do.
+use Rattle.std.proofs.Common.{rules, ◌≡◌, ◌+◌, ◌<◌, ◌≤◌, ◌^◌, List, None, length, subst}
+use Rattle.rv_counts.specs.declared.table.ImageCounts.{ImageCounts}
+use Rattle.rv_counts.specs.SumSteps.{ImagesAddUp}
+use Rattle.rv_counts.proofs.sum.sum_of_tables.Goals as goal
+
+pub returns-clause-value : goal.returns-clause-value
+returns-clause-value c =
+    let a = c.args.a.now in
+    let b = c.args.b.now in
+    let images = c.in_ok-images.images in
+    let up : ImagesAddUp a.images b.images images =
+    subst (λ (is : List ImageCounts). ImagesAddUp a.images is images) c.as_slice-2.ensures
+    (subst (λ (is : List ImageCounts). ImagesAddUp is c.as_slice-2.result.now images) c.as_slice.ensures
+    c.in_ok-images.ensures.value) in record {
+      table = record {
+        images = up.each;
+        rising = up.rising None c.requires.a.rising c.requires.b.rising;
+        few = search rules;
+        runs = search rules;
+      };
+      begun = up.begun;
+      taken = up.taken;
+      paths = up.paths;
+      agree = up.agree None c.requires.a.rising c.requires.b.rising;
+      names = up.names;
+      arrivals = up.arrivals;
+      steps = up.steps;
+      runs = search rules;
+    }

@@ -1,0 +1,20 @@
+-- Where the steps of images went as comma-separated values (RFC 4180): a row of names, and a row a function.
+use Rattle.std.specs.Prelude.{◌++◌, ℕ, List, codes}
+use Rattle.std.specs.Fmt.{decimal}
+use Rattle.std.specs.List.{flat_map}
+use Rattle.rv_cover.specs.Csv.{csv_field}
+use Rattle.rv_text.specs.Words.{word_digits}
+use Rattle.rv_profile.specs.Profile.{Profiled}
+
+unfoldable pub csv_head : List ℕ
+csv_head = codes "image,function,address,self,inclusive,arrivals\n"
+
+unfoldable pub csv_numbers : Profiled → List ℕ
+csv_numbers p = codes "," ++ word_digits p.function ++ codes "," ++ decimal p.own ++ codes "," ++ decimal p.inclusive
+    ++ codes "," ++ decimal p.arrivals ++ codes "\n"
+
+unfoldable pub csv_row : List ℕ → Profiled → List ℕ
+csv_row path p = csv_field path ++ codes "," ++ csv_field p.name ++ csv_numbers p
+
+abbrev pub csv_rows : List ℕ → List Profiled → List ℕ
+csv_rows path ps = flat_map (csv_row path) ps

@@ -1,0 +1,5 @@
+pub mod Profile
+pub mod ImageStacks
+pub mod Text
+pub mod Csv
+pub mod ProfileText

@@ -1,0 +1,88 @@
+-- Where the steps of an image went, as it is shown: a line of the image, a head, and a line for each function in the same columns.
+use Rattle.std.specs.Prelude.{◌==◌, ◌+◌, ◌-◌, ◌*◌, ◌/◌, ◌%◌, ◌++◌, ℕ, max, if◌then◌else◌, List, [], ◌∷◌, codes, drop, length, replicate, take}
+use Rattle.std.specs.Prelude.{Option, Some, None}
+use Rattle.std.specs.Fmt.{decimal}
+use Rattle.std.specs.List.{flat_map}
+use Rattle.rv_cover.specs.Text.{right}
+use Rattle.rv_text.specs.Printable.{printable_text}
+use Rattle.rv_profile.specs.Profile.{Profiled}
+use Rattle.rv_profile.specs.declared.columns.Columns.{Columns}
+use Rattle.rv_profile.specs.declared.sums.Sums.{Sums}
+
+-- ---- columns
+
+-- a column has so many places, or two more than the digits of the greatest number in it
+abbrev pub places : ℕ → ℕ → ℕ
+places least greatest = max least (2 + length (decimal greatest))
+
+abbrev pub columns_of : Sums → Columns
+columns_of sums = record {
+  own = places 13 sums.steps;
+  inclusive = places 11 sums.steps;
+  arrivals = places 10 sums.arrivals;
+}
+
+-- a word at the right end of so many places
+unfoldable pub right_word : ℕ → List ℕ → List ℕ
+right_word places word = replicate (places - length word) 32 ++ word
+
+-- above numbers and their percentages
+unfoldable pub share_head : ℕ → List ℕ → List ℕ
+share_head places word = right_word places word ++ codes "       %"
+
+unfoldable pub columns_head : Columns → List ℕ
+columns_head c = share_head c.own (codes "self") ++ share_head c.inclusive (codes "inclusive")
+    ++ right_word c.arrivals (codes "arrivals") ++ codes "  function\n"
+
+-- ---- shares
+
+-- in hundredths of a percent, to the nearest; of two that are as near the greater
+abbrev pub hundredths : ℕ → ℕ → ℕ
+hundredths part whole = if whole == 0 then 0 else (20_000 * part + whole) / (2 * whole)
+
+-- so many of these, in eight places
+unfoldable pub percent : ℕ → List ℕ
+percent count = right 4 (count / 100) ++ codes "." ++ decimal (count / 10 % 10) ++ decimal (count % 10) ++ codes "%"
+
+-- a part of a whole, and its percentage
+unfoldable pub share : ℕ → ℕ → ℕ → List ℕ
+share places part whole = right places part ++ percent (hundredths part whole)
+
+-- ---- lines
+
+abbrev pub steps_word : ℕ → List ℕ
+steps_word count = if count == 1 then codes " step\n" else codes " steps\n"
+
+unfoldable pub steps_line : List ℕ → ℕ → List ℕ
+steps_line path steps = printable_text path ++ codes ": " ++ decimal steps ++ steps_word steps
+
+-- of a function, of so many steps of its image
+unfoldable pub function_line : Columns → ℕ → Profiled → List ℕ
+function_line c steps p = share c.own p.own steps ++ share c.inclusive p.inclusive steps ++ right c.arrivals p.arrivals
+    ++ codes "  " ++ printable_text p.name ++ codes "\n"
+
+abbrev pub function_lines : Columns → ℕ → List Profiled → List ℕ
+function_lines c steps ps = flat_map (function_line c steps) ps
+
+abbrev pub functions_word : ℕ → List ℕ
+functions_word count = if count == 1 then codes " more function\n" else codes " more functions\n"
+
+-- how many functions have no line; no line where there are none
+abbrev pub more_line : ℕ → List ℕ
+more_line left = if left == 0 then [] else decimal left ++ functions_word left
+
+-- ---- an image
+
+-- the first so many, or all
+abbrev pub first_of : {X : Type 0} → Option ℕ → List X → List X
+first_of None xs = xs
+first_of (Some count) xs = take count xs
+
+-- the head, and the functions that are shown, behind a line of the image; no head where there are no functions
+abbrev pub functions_text : Option ℕ → Sums → List Profiled → List ℕ
+functions_text top sums [] = []
+functions_text top sums (p ∷ ps) = columns_head (columns_of sums) ++ function_lines (columns_of sums) sums.steps (first_of top (p ∷ ps))
+    ++ more_line (length (p ∷ ps) - length (first_of top (p ∷ ps)))
+
+abbrev pub image_lines : Option ℕ → List ℕ → Sums → List Profiled → List ℕ
+image_lines top path sums ps = steps_line path sums.steps ++ functions_text top sums ps

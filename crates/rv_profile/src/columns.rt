@@ -1,0 +1,36 @@
+//! The columns of a profile.
+
+ghost use Rattle.std.specs.Prelude.{◌≡◌, IfOk};
+ghost use Rattle.rv_profile.specs.Text.{columns_of, places};
+
+use crate::sums::Sums;
+use rv_text::push_number;
+use std::alloc::{AllocError, Global};
+
+/// How many places the columns of an image have.
+#[derive(Clone, Copy)]
+pub(crate) struct Columns {
+    pub(crate) own: usize,
+    pub(crate) inclusive: usize,
+    pub(crate) arrivals: usize,
+}
+
+/// Those of an image whose steps and arrivals have these sums.
+pub(crate) fn columns_of(alloc: Global, sums: Sums) -> Result<Columns, AllocError>
+    ensures { IfOk result (λ columns. columns ≡ columns_of sums) }
+{
+    Ok(Columns {
+        own: places(alloc, 13, sums.steps)?,
+        inclusive: places(alloc, 11, sums.steps)?,
+        arrivals: places(alloc, 10, sums.arrivals)?,
+    })
+}
+
+// Two places more than a number has digits, or at least so many.
+fn places(alloc: Global, least: usize, greatest: u64) -> Result<usize, AllocError>
+    ensures { IfOk result (λ count. count ≡ places least greatest) }
+{
+    let mut digits = Vec::new(alloc);
+    push_number(&mut digits, greatest)?;
+    Ok(least.max(2 + digits.len()))
+}

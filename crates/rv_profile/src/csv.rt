@@ -1,0 +1,66 @@
+//! Where the steps of images went, for tools: comma-separated values (RFC 4180), each line with a line feed at its end.
+
+ghost use Rattle.std.specs.Prelude.{◌≡◌, ◌++◌, OnOk};
+ghost use Rattle.rv_profile.specs.Csv.{csv_head, csv_numbers, csv_row, csv_rows};
+ghost use Rattle.rv_profile.specs.Profile.{profile_of, profiles_of};
+
+use crate::function::FunctionProfile;
+use rv_cover::push_csv_field;
+use rv_text::{Span, push_spans, push_text};
+use std::alloc::AllocError;
+
+/// Appends the row of the columns' names.
+#[tactic(auto, unfolding(crate::specs::Csv::csv_head))]
+pub(crate) fn push_csv_head(bytes: &mut Vec<u8>) -> Result<(), AllocError>
+    ensures { OnOk result (bytes.new.items ≡ bytes.old.items ++ csv_head) }
+{
+    push_text(bytes, "image,function,address,self,inclusive,arrivals\n")
+}
+
+/// Appends the rows of functions of the image at a path.
+pub(crate) fn push_csv_rows(
+    bytes: &mut Vec<u8>,
+    path: &[u8],
+    functions: &[FunctionProfile<'_>],
+) -> Result<(), AllocError>
+    ensures { OnOk result (bytes.new.items ≡ bytes.old.items ++ csv_rows path.now (profiles_of functions.now)) }
+{
+    for function in functions {
+        push_csv_row(bytes, path, function)?;
+    }
+    Ok(())
+}
+
+#[tactic(auto, unfolding(crate::specs::Csv::csv_row))]
+fn push_csv_row(
+    bytes: &mut Vec<u8>,
+    path: &[u8],
+    function: &FunctionProfile<'_>,
+) -> Result<(), AllocError>
+    ensures { OnOk result (bytes.new.items ≡ bytes.old.items ++ csv_row path.now (profile_of function.now)) }
+{
+    push_csv_field(bytes, path)?;
+    push_text(bytes, ",")?;
+    push_csv_field(bytes, function.name.as_bytes())?;
+    push_csv_numbers(bytes, function)
+}
+
+#[tactic(auto, unfolding(crate::specs::Csv::csv_numbers))]
+fn push_csv_numbers(bytes: &mut Vec<u8>, function: &FunctionProfile<'_>) -> Result<(), AllocError>
+    ensures { OnOk result (bytes.new.items ≡ bytes.old.items ++ csv_numbers (profile_of function.now)) }
+{
+    push_spans(
+        bytes,
+        &[
+            Span::Text(","),
+            Span::Word(function.function),
+            Span::Text(","),
+            Span::Number(function.steps.own),
+            Span::Text(","),
+            Span::Number(function.steps.inclusive),
+            Span::Text(","),
+            Span::Number(function.steps.arrivals),
+            Span::Text("\n"),
+        ],
+    )
+}

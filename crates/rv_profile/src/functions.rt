@@ -1,0 +1,41 @@
+//! The functions of an image, the greatest first.
+
+ghost use Rattle.std.specs.Prelude.{◌≡◌, IfOk, map, true};
+ghost use Rattle.rv_profile.specs.ImageStacks.{are_few, sums_of};
+ghost use Rattle.rv_spots.specs.Trees.{IsTree};
+ghost use Rattle.rv_profile.specs.Profile.{IsProfileOf, profiled, profiles_of};
+
+use crate::function::{FunctionProfile, profile_of_function};
+use crate::image_stacks::ImageStacks;
+use std::alloc::{AllocError, Global};
+
+/// The functions of an image by its stacks: those with the most steps of their own first, and of those with as many the one at the lower
+/// address. Takes the time of a pass over the spots for each of them.
+pub(crate) fn functions_by_own_steps<'t>(
+    alloc: Global,
+    stacks: ImageStacks<'t>,
+) -> Result<Vec<FunctionProfile<'t>>, AllocError>
+    requires tree { IsTree stacks.spots.now }
+    requires few { are_few (sums_of stacks.spots.now) ≡ true }
+    ensures { IfOk result (λ found. IsProfileOf stacks.entry.spots.now stacks.entry.names.now (profiles_of found.items)) }
+{
+    let mut functions = functions_of_stacks(alloc, stacks)?;
+    functions.sort_by_key(|function| u64::MAX - function.steps.own)?;
+    Ok(functions)
+}
+
+// The same by address.
+fn functions_of_stacks<'t>(
+    alloc: Global,
+    stacks: ImageStacks<'t>,
+) -> Result<Vec<FunctionProfile<'t>>, AllocError>
+    requires tree { IsTree stacks.spots.now }
+    requires few { are_few (sums_of stacks.spots.now) ≡ true }
+    ensures { IfOk result (λ found. profiles_of found.items ≡ map (profiled stacks.entry.spots.now) stacks.entry.names.now) }
+{
+    let mut functions = Vec::new(alloc);
+    for named in stacks.names {
+        functions.push(profile_of_function(stacks.spots, named))?;
+    }
+    Ok(functions)
+}

@@ -1,0 +1,66 @@
+//! The lines of an image.
+
+ghost use Rattle.std.specs.Prelude.{◌≡◌, ◌++◌, OnOk};
+ghost use Rattle.rv_profile.specs.Profile.{AreWithin, profiles_of};
+ghost use Rattle.rv_profile.specs.Text.{function_lines, functions_text, image_lines};
+
+use crate::columns::{Columns, columns_of};
+use crate::function::FunctionProfile;
+use crate::image_profile::ImageProfile;
+use crate::text::{push_columns_head, push_function_line, push_more_line, push_steps_line};
+use crate::top::first_of;
+use std::alloc::{AllocError, Global};
+
+/// Appends the lines of the image at a path: the first so many of its functions, or all.
+pub(crate) fn push_image_lines(
+    alloc: Global,
+    bytes: &mut Vec<u8>,
+    top: Option<u32>,
+    path: &[u8],
+    profile: &ImageProfile<'_>,
+) -> Result<(), AllocError>
+    ensures { OnOk result (bytes.new.items ≡ bytes.old.items
+        ++ image_lines top path.now profile.now.sums (profiles_of profile.now.functions.items)) }
+{
+    push_steps_line(bytes, path, profile.sums.steps)?;
+    push_functions(alloc, bytes, top, profile)
+}
+
+// Appends the lines of functions, with a head where there are some.
+fn push_functions(
+    alloc: Global,
+    bytes: &mut Vec<u8>,
+    top: Option<u32>,
+    profile: &ImageProfile<'_>,
+) -> Result<(), AllocError>
+    ensures { OnOk result (bytes.new.items ≡ bytes.old.items
+        ++ functions_text top profile.now.sums (profiles_of profile.now.functions.items)) }
+{
+    let functions = profile.functions.as_slice();
+    if functions.is_empty() {
+        return Ok(());
+    }
+    let columns = columns_of(alloc, profile.sums)?;
+    let shown = first_of(top, functions);
+    push_columns_head(bytes, columns)?;
+    push_function_lines(alloc, bytes, columns, profile.sums.steps, shown)?;
+    push_more_line(bytes, functions.len() - shown.len())
+}
+
+// Appends the lines of functions of an image with so many steps.
+fn push_function_lines(
+    alloc: Global,
+    bytes: &mut Vec<u8>,
+    columns: Columns,
+    steps: u64,
+    functions: &[FunctionProfile<'_>],
+) -> Result<(), AllocError>
+    requires { AreWithin steps (profiles_of functions.now) }
+    ensures { OnOk result (bytes.new.items ≡ bytes.old.items
+        ++ function_lines columns steps (profiles_of functions.now)) }
+{
+    for function in functions {
+        push_function_line(alloc, bytes, columns, steps, function)?;
+    }
+    Ok(())
+}

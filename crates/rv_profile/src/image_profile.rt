@@ -1,0 +1,37 @@
+//! Where the steps of an image went.
+
+ghost use Rattle.std.specs.Prelude.{◌≡◌, IfOk, true};
+ghost use Rattle.rv_profile.specs.ImageStacks.{are_few, sums_of};
+ghost use Rattle.rv_spots.specs.Trees.{IsTree};
+ghost use Rattle.rv_profile.specs.Profile.{AreWithin, IsProfileOf, profiles_of};
+
+use crate::function::FunctionProfile;
+use crate::functions::functions_by_own_steps;
+use crate::image_stacks::ImageStacks;
+use crate::sums::{Sums, sums_of};
+use std::alloc::{AllocError, Global};
+
+/// Where the steps of an image went.
+#[derive(Drop)]
+pub(crate) struct ImageProfile<'t> {
+    /// Those of all functions.
+    pub(crate) sums: Sums,
+    /// Those with the most steps of their own first.
+    pub(crate) functions: Vec<FunctionProfile<'t>>,
+    ghost within: { AreWithin sums.steps (profiles_of functions.items) },
+}
+
+/// Where those of an image with these stacks went.
+pub(crate) fn profile_of_image<'t>(
+    alloc: Global,
+    stacks: ImageStacks<'t>,
+) -> Result<ImageProfile<'t>, AllocError>
+    requires tree { IsTree stacks.spots.now }
+    requires few { are_few (sums_of stacks.spots.now) ≡ true }
+    ensures sums { IfOk result (λ profile. profile.sums ≡ sums_of stacks.entry.spots.now) }
+    ensures functions { IfOk result (λ profile. IsProfileOf stacks.entry.spots.now stacks.entry.names.now (profiles_of profile.functions.items)) }
+{
+    let functions = functions_by_own_steps(alloc, stacks)?;
+    let sums = sums_of(stacks.spots).unwrap();
+    Ok(ImageProfile { sums, functions })
+}

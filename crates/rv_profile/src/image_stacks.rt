@@ -1,0 +1,101 @@
+//! The stacks that a table has of images.
+
+ghost use Rattle.std.specs.Prelude.{◌≡◌, [], find, option_map, true};
+ghost use Rattle.std.specs.List.{list_any};
+ghost use Rattle.rv_counts.specs.Table.{IsImage, IsTable, names_rise};
+ghost use Rattle.rv_cover.specs.JobImages.{image_of_file, images_of_files};
+ghost use Rattle.rv_spots.specs.Trees.{IsTree};
+ghost use Rattle.rv_profile.specs.ImageStacks.{has_stacks, image_past_64_bits, is_past_64_bits, is_some_spot, names_of, spots_of};
+
+use crate::sums::sums_of;
+use rv_counts::{CountTable, FunctionName, ImageCounts};
+use rv_cover::{ImageFile, counted_image};
+use rv_spots::Spot;
+
+/// The stacks of an image.
+#[derive(Clone, Copy)]
+pub(crate) struct ImageStacks<'t> {
+    pub(crate) spots: &'t [Spot],
+    /// The names of their functions, rising by function.
+    pub(crate) names: &'t [FunctionName],
+    ghost rising: { names_rise 0 names.now ≡ true },
+}
+
+/// The stacks that a table has of the image with the digest of a file; there are none where it has no such image.
+pub(crate) fn stacks_of<'t>(table: &'t CountTable, bytes: &[u8]) -> ImageStacks<'t>
+    requires { IsTable table.now }
+    ensures spots { result.spots.now ≡ spots_of table.now bytes.now }
+    ensures names { result.names.now ≡ names_of table.now bytes.now }
+    ensures tree { IsTree result.spots.now }
+{
+    match counted_image(table, bytes) {
+        Some(counted) => stacks_of_image(counted),
+        None => no_stacks(),
+    }
+}
+
+fn stacks_of_image(counted: &ImageCounts) -> ImageStacks<'_>
+    requires { IsImage counted.now }
+    ensures spots { result.spots.now ≡ counted.now.spots }
+    ensures names { result.names.now ≡ counted.now.functions }
+    ensures tree { IsTree result.spots.now }
+{
+    ImageStacks {
+        spots: counted.spots.as_slice(),
+        names: counted.functions.as_slice(),
+    }
+}
+
+#[tactic(auto, unfolding(rv_counts::specs::Table::names_rise))]
+fn no_stacks<'t>() -> ImageStacks<'t>
+    ensures spots { result.spots.now ≡ [] }
+    ensures names { result.names.now ≡ [] }
+    ensures tree { IsTree result.spots.now }
+{
+    ImageStacks {
+        spots: &[],
+        names: &[],
+    }
+}
+
+/// Whether a table has stacks of some image.
+pub fn has_stacks(table: &CountTable) -> bool
+    ensures { result ≡ has_stacks table.now }
+{
+    table.images.as_slice().iter().any(has_spots)
+}
+
+fn has_spots(counted: &ImageCounts) -> bool
+    ensures { result ≡ is_some_spot counted.now.spots }
+{
+    !counted.spots.as_slice().is_empty()
+}
+
+/// The path of the first image whose stacks have 2^64 steps or more, or as many arrivals, in a table.
+pub fn image_past_64_bits<'a>(table: &CountTable, images: &[ImageFile<'a>]) -> Option<&'a str>
+    ensures { option_map (λ path. path.now) result ≡ image_past_64_bits table.now (images_of_files images.now) }
+{
+    match first_past_64_bits(table, images) {
+        Some(image) => Some(image.path),
+        None => None,
+    }
+}
+
+fn first_past_64_bits<'i, 'a>(
+    table: &CountTable,
+    images: &'i [ImageFile<'a>],
+) -> Option<&'i ImageFile<'a>>
+    ensures { option_map (λ image. image.now) result
+        ≡ find (λ image. is_past_64_bits table.now (image_of_file image)) images.now }
+{
+    images.iter().find(|image| is_past_64_bits(table, image))
+}
+
+fn is_past_64_bits(table: &CountTable, image: &ImageFile<'_>) -> bool
+    ensures { result ≡ is_past_64_bits table.now (image_of_file image.now) }
+{
+    let Some(counted) = counted_image(table, image.bytes) else {
+        return false;
+    };
+    sums_of(counted.spots.as_slice()).is_none()
+}

@@ -1,0 +1,81 @@
+//! What is shown of images, by the stacks of a table.
+
+ghost use Rattle.std.specs.Prelude.{◌≡◌, ◌++◌, IfOk, List, None, OnOk, false, ℕ};
+ghost use Rattle.rv_counts.specs.Table.{IsTable};
+ghost use Rattle.rv_cover.specs.JobImages.{image_of_file, images_of_files};
+ghost use Rattle.rv_profile.specs.ImageStacks.{image_past_64_bits, is_past_64_bits};
+ghost use Rattle.rv_profile.specs.Profile.{profiles_of};
+ghost use Rattle.rv_profile.specs.ProfileText.{IsProfileText, IsShownOf, head_text, image_text};
+
+use crate::csv::{push_csv_head, push_csv_rows};
+use crate::format::ProfileFormat;
+use crate::image_lines::push_image_lines;
+use crate::image_profile::{ImageProfile, profile_of_image};
+use crate::image_stacks::stacks_of;
+use crate::top::first_of;
+use rv_counts::CountTable;
+use rv_cover::ImageFile;
+use std::alloc::{AllocError, Global};
+
+/// What is shown of images by the stacks of a table: rows for tools behind a head, or lines for people.
+pub fn profile_text(
+    alloc: Global,
+    format: ProfileFormat,
+    table: &CountTable,
+    images: &[ImageFile<'_>],
+) -> Result<Vec<u8>, AllocError>
+    requires table { IsTable table.now }
+    requires few { image_past_64_bits table.now (images_of_files images.now) ≡ None }
+    ensures { IfOk result (λ text. IsProfileText format table.now (images_of_files images.now) text.items) }
+{
+    let mut text = Vec::new(alloc);
+    push_head(&mut text, format)?;
+    for image in images {
+        push_image(alloc, &mut text, format, table, image)?;
+    }
+    Ok(text)
+}
+
+fn push_head(text: &mut Vec<u8>, format: ProfileFormat) -> Result<(), AllocError>
+    ensures { OnOk result (text.new.items ≡ text.old.items ++ head_text format) }
+{
+    if format.csv {
+        push_csv_head(text)
+    } else {
+        Ok(())
+    }
+}
+
+// Appends what is shown of an image.
+fn push_image(
+    alloc: Global,
+    text: &mut Vec<u8>,
+    format: ProfileFormat,
+    table: &CountTable,
+    image: &ImageFile<'_>,
+) -> Result<(), AllocError>
+    requires table { IsTable table.now }
+    requires few { is_past_64_bits table.now (image_of_file image.now) ≡ false }
+    ensures { OnOk result ((shown : List ℕ) × (IsShownOf format table.now (image_of_file image.now) shown
+        × (text.new.items ≡ text.old.items ++ shown))) }
+{
+    let profile = profile_of_image(alloc, stacks_of(table, image.bytes))?;
+    push_image_profile(alloc, text, format, image.path.as_bytes(), &profile)
+}
+
+fn push_image_profile(
+    alloc: Global,
+    text: &mut Vec<u8>,
+    format: ProfileFormat,
+    path: &[u8],
+    profile: &ImageProfile<'_>,
+) -> Result<(), AllocError>
+    ensures { OnOk result (text.new.items ≡ text.old.items
+        ++ image_text format path.now profile.now.sums (profiles_of profile.now.functions.items)) }
+{
+    if format.csv {
+        let functions = first_of(format.top, profile.functions.as_slice());
+        return push_csv_rows(text, path, functions);
+    }
+    push_image_lines(alloc, text, format.top, path, profile)
+}

@@ -1,0 +1,19 @@
+//! A law of profiles, with nothing to run.
+
+ghost use Rattle.std.specs.Prelude.{◌≡◌, ℕ, List};
+ghost use Rattle.rv_counts.specs.Table.{IsTable};
+ghost use Rattle.rv_counts.specs.declared.table.CountTable.{CountTable as ATable};
+ghost use Rattle.rv_profile.specs.ImageStacks.{names_of, spots_of};
+ghost use Rattle.rv_profile.specs.Profile.{IsProfileOf, Profiled, own_steps};
+ghost use Rattle.rv_spots.specs.Trees.{all_steps};
+
+use rv_spots::own_steps_sum_to_all;
+
+/// The own steps of all functions of an image are the steps of its stacks.
+pub fn own_steps_sum_to_all_steps()
+    ensures { (table : ATable) (bytes : List ℕ) (found : List Profiled) → IsTable table
+        → IsProfileOf (spots_of table bytes) (names_of table bytes) found
+        → own_steps found ≡ all_steps (spots_of table bytes) }
+{
+    own_steps_sum_to_all();
+}

@@ -1,0 +1,39 @@
+//! The sums of spots.
+
+ghost use Rattle.std.specs.Prelude.{◌≡◌};
+ghost use Rattle.rv_profile.specs.ImageStacks.{fitting, sums_of, with_spot};
+
+use rv_spots::Spot;
+
+/// How many instructions began in spots, and how often runs came to them.
+#[derive(Clone, Copy)]
+pub(crate) struct Sums {
+    pub(crate) steps: u64,
+    pub(crate) arrivals: u64,
+}
+
+impl Sums {
+    // With those of a spot more, where both are numbers of 64 bits.
+    fn with_spot(self, spot: Spot) -> Option<Sums>
+        ensures { result ≡ fitting (with_spot self spot) }
+    {
+        Some(Sums {
+            steps: self.steps.checked_add(spot.steps)?,
+            arrivals: self.arrivals.checked_add(spot.arrivals)?,
+        })
+    }
+}
+
+/// Those of all spots, where both are numbers of 64 bits.
+pub(crate) fn sums_of(spots: &[Spot]) -> Option<Sums>
+    ensures { result ≡ fitting (sums_of spots.now) }
+{
+    let mut sums = Sums {
+        steps: 0,
+        arrivals: 0,
+    };
+    for spot in spots {
+        sums = sums.with_spot(*spot)?;
+    }
+    Some(sums)
+}

@@ -1,0 +1,158 @@
+//! Where the steps of an image went, as it is shown.
+
+ghost use Rattle.std.specs.Prelude.{◌≡◌, ◌≤◌, ◌++◌, OnOk};
+ghost use Rattle.rv_profile.specs.Profile.{IsWithin, profile_of};
+ghost use Rattle.rv_profile.specs.Text.{columns_head, function_line, functions_word, hundredths, more_line, percent, right_word, share, share_head, steps_line, steps_word};
+
+use crate::columns::Columns;
+use crate::function::FunctionProfile;
+use rv_cover::{push_right, push_spaces};
+use rv_text::{Span, push_number, push_spans, push_text};
+use std::alloc::{AllocError, Global};
+
+/// Appends the line of an image: its path and its steps.
+#[tactic(auto, unfolding(crate::specs::Text::steps_line))]
+pub(crate) fn push_steps_line(
+    bytes: &mut Vec<u8>,
+    path: &[u8],
+    steps: u64,
+) -> Result<(), AllocError>
+    ensures { OnOk result (bytes.new.items ≡ bytes.old.items ++ steps_line path.now steps) }
+{
+    push_spans(
+        bytes,
+        &[
+            Span::Shown(path),
+            Span::Text(": "),
+            Span::Number(steps),
+            Span::Text(steps_word(steps)),
+        ],
+    )
+}
+
+fn steps_word(count: u64) -> &'static str
+    ensures { result.now ≡ steps_word count }
+{
+    if count == 1 { " step\n" } else { " steps\n" }
+}
+
+/// Appends the names of the columns.
+#[tactic(auto, unfolding(crate::specs::Text::columns_head))]
+pub(crate) fn push_columns_head(bytes: &mut Vec<u8>, columns: Columns) -> Result<(), AllocError>
+    ensures { OnOk result (bytes.new.items ≡ bytes.old.items ++ columns_head columns) }
+{
+    push_share_head(bytes, columns.own, "self")?;
+    push_share_head(bytes, columns.inclusive, "inclusive")?;
+    push_right_word(bytes, columns.arrivals, "arrivals")?;
+    push_text(bytes, "  function\n")
+}
+
+// Appends what stands above numbers and their percentages.
+#[tactic(auto, unfolding(crate::specs::Text::share_head))]
+fn push_share_head(bytes: &mut Vec<u8>, places: usize, word: &str) -> Result<(), AllocError>
+    ensures { OnOk result (bytes.new.items ≡ bytes.old.items ++ share_head places word.now) }
+{
+    push_right_word(bytes, places, word)?;
+    push_text(bytes, "       %")
+}
+
+// Appends a word at the right end of so many places.
+#[tactic(auto, unfolding(crate::specs::Text::right_word))]
+fn push_right_word(bytes: &mut Vec<u8>, places: usize, word: &str) -> Result<(), AllocError>
+    ensures { OnOk result (bytes.new.items ≡ bytes.old.items ++ right_word places word.now) }
+{
+    push_spaces(bytes, places.saturating_sub(word.len()))?;
+    push_text(bytes, word)
+}
+
+/// Appends the line of a function of an image with so many steps: its numbers, each at the right end of its column, and its name.
+#[tactic(auto, unfolding(crate::specs::Text::function_line))]
+pub(crate) fn push_function_line(
+    alloc: Global,
+    bytes: &mut Vec<u8>,
+    columns: Columns,
+    steps: u64,
+    function: &FunctionProfile<'_>,
+) -> Result<(), AllocError>
+    requires { IsWithin steps (profile_of function.now) }
+    ensures { OnOk result (bytes.new.items ≡ bytes.old.items ++ function_line columns steps (profile_of function.now)) }
+{
+    let counted = function.steps;
+    push_share(alloc, bytes, columns.own, counted.own, steps)?;
+    push_share(alloc, bytes, columns.inclusive, counted.inclusive, steps)?;
+    push_right(alloc, bytes, columns.arrivals, counted.arrivals)?;
+    push_spans(
+        bytes,
+        &[
+            Span::Text("  "),
+            Span::Shown(function.name.as_bytes()),
+            Span::Text("\n"),
+        ],
+    )
+}
+
+// Appends a part of a whole, and its percentage.
+#[tactic(auto, unfolding(crate::specs::Text::share))]
+fn push_share(
+    alloc: Global,
+    bytes: &mut Vec<u8>,
+    places: usize,
+    part: u64,
+    whole: u64,
+) -> Result<(), AllocError>
+    requires { part ≤ whole }
+    ensures { OnOk result (bytes.new.items ≡ bytes.old.items ++ share places part whole) }
+{
+    push_right(alloc, bytes, places, part)?;
+    push_percent(alloc, bytes, hundredths(part, whole))
+}
+
+// Which share a part is of a whole, in hundredths of a percent.
+fn hundredths(part: u64, whole: u64) -> u64
+    requires { part ≤ whole }
+    ensures { result ≡ hundredths part whole }
+{
+    if whole == 0 {
+        return 0;
+    }
+    let (part, whole) = (u128::from(part), u128::from(whole));
+    ((20_000 * part + whole) / (2 * whole)) as u64
+}
+
+// Appends so many hundredths of a percent, as a percentage with two decimals.
+#[tactic(auto, unfolding(crate::specs::Text::percent))]
+fn push_percent(alloc: Global, bytes: &mut Vec<u8>, count: u64) -> Result<(), AllocError>
+    ensures { OnOk result (bytes.new.items ≡ bytes.old.items ++ percent count) }
+{
+    push_right(alloc, bytes, 4, count / 100)?;
+    push_spans(
+        bytes,
+        &[
+            Span::Text("."),
+            Span::Number(count / 10 % 10),
+            Span::Number(count % 10),
+            Span::Text("%"),
+        ],
+    )
+}
+
+/// Appends how many functions more there are, if there are some.
+pub(crate) fn push_more_line(bytes: &mut Vec<u8>, left: usize) -> Result<(), AllocError>
+    ensures { OnOk result (bytes.new.items ≡ bytes.old.items ++ more_line left) }
+{
+    if left == 0 {
+        return Ok(());
+    }
+    push_number(bytes, left as u64)?;
+    push_text(bytes, functions_word(left))
+}
+
+fn functions_word(count: usize) -> &'static str
+    ensures { result.now ≡ functions_word count }
+{
+    if count == 1 {
+        " more function\n"
+    } else {
+        " more functions\n"
+    }
+}

@@ -1,0 +1,19 @@
+//! The first of the functions of an image.
+
+ghost use Rattle.std.specs.Prelude.{◌≡◌};
+ghost use Rattle.rv_profile.specs.Text.{first_of};
+
+use crate::function::FunctionProfile;
+
+/// The first so many functions, or all.
+pub(crate) fn first_of<'f, 't>(
+    top: Option<u32>,
+    functions: &'f [FunctionProfile<'t>],
+) -> &'f [FunctionProfile<'t>]
+    ensures { result.now ≡ first_of top functions.now }
+{
+    match top {
+        Some(count) if (count as usize) < functions.len() => &functions[..count as usize],
+        _ => functions,
+    }
+}

@@ -1,0 +1,205 @@
+-- From step to step of a run whose stacks are counted.
+use Rattle.std.proofs.Common.{◌≡◌, ◌==◌, ◌+◌, ◌-◌, ◌*◌, ◌<◌, ◌≤◌, ◌&&◌, ℕ, suc, Bool, true, false, List, [], ◌∷◌, Result, Ok, Err, refl, sym, ap, arith}
+use Rattle.std.proofs.lemmas.Bool.{false≢true}
+use Rattle.std.specs.Str.{bytes_eq}
+use Rattle.rv_calls.specs.declared.frames.Frame.{Frame}
+use Rattle.rv_calls.specs.Calls.{transfer_of}
+use Rattle.rv_calls.specs.Stack.{after_transfer}
+use Rattle.rv_coverage.specs.Coverage.{behind, begun_steps, completes, fetch_at, is_begun, once_if, StaysOr}
+use Rattle.rv_machine.specs.declared.ending.Ending.{Ending}
+use Rattle.rv_machine.specs.Run.{step_of}
+use Rattle.rv_machine.specs.State.{State}
+use Rattle.rv_spots.specs.declared.walk.Walk.{Walk}
+use Rattle.rv_spots.specs.Trees.{all_arrivals, all_steps, arrivals_at, own_in, steps_at}
+use Rattle.rv_stacks.specs.Stacks.{arrivals_by, arrivals_in, begun_in_function, path_at, steps_in, AreStacksOf}
+use Rattle.rv_stacks.specs.StackSteps.{BeginsAt, IsAt, StacksStep}
+
+pub record SoFar (function : ℕ → ℕ) (n i : ℕ) (start s : State) (frames : List Frame) (walk : Walk) : Type 0 where
+  pub within : i ≤ n
+  pub at : IsAt function frames s.pc walk
+  pub few : all_arrivals walk.spots.items ≤ 2 * i + 1
+  pub fewer : all_steps walk.spots.items ≤ i
+  pub all : all_steps walk.spots.items + begun_steps (n - i) s ≡ begun_steps n start
+  pub own : (f : ℕ) → own_in f walk.spots.items + begun_in_function function f (n - i) s ≡ begun_in_function function f n start
+  pub steps : (path : List ℕ) → steps_at path walk.spots.items + steps_in function path (n - i) frames s
+      ≡ steps_in function path n [] start
+  pub arrivals : (path : List ℕ) → arrivals_at path walk.spots.items + arrivals_in function path (n - i) frames s
+      ≡ once_if (bytes_eq (function start.pc ∷ []) path) + arrivals_in function path n [] start
+
+-- ---- one step ahead
+
+all_next : (n i : ℕ) (s : State) → i < n → begun_steps (n - i) s
+    ≡ once_if (is_begun (fetch_at s)) + behind (step_of s) (λ t. begun_steps (n - (i + 1)) t)
+unfolding begun_steps
+all_next n i s h = let e : n - i ≡ suc (n - (i + 1)) = omega arith in ap (λ (m : ℕ). begun_steps m s) e
+
+own_next : (function : ℕ → ℕ) (f n i : ℕ) (s : State) → i < n → begun_in_function function f (n - i) s
+    ≡ once_if (is_begun (fetch_at s) && (function s.pc == f)) + behind (step_of s) (λ t. begun_in_function function f (n - (i + 1)) t)
+unfolding begun_in_function
+own_next function f n i s h =
+    let e : n - i ≡ suc (n - (i + 1)) = omega arith in ap (λ (m : ℕ). begun_in_function function f m s) e
+
+no_own : (function : ℕ → ℕ) (f n i : ℕ) (s : State) → n ≤ i → begun_in_function function f (n - i) s ≡ 0
+unfolding begun_in_function
+no_own function f n i s h = let e : n - i ≡ 0 = omega arith in ap (λ (m : ℕ). begun_in_function function f m s) e
+
+steps_next : (function : ℕ → ℕ) (path : List ℕ) (n i : ℕ) (frames : List Frame) (s : State) → i < n
+    → steps_in function path (n - i) frames s
+    ≡ once_if (is_begun (fetch_at s) && bytes_eq (path_at function frames s.pc) path)
+    + behind (step_of s) (λ t. steps_in function path (n - (i + 1)) (after_transfer frames (transfer_of s t)) t)
+unfolding steps_in
+steps_next function path n i frames s h =
+    let e : n - i ≡ suc (n - (i + 1)) = omega arith in ap (λ (m : ℕ). steps_in function path m frames s) e
+
+arrivals_next : (function : ℕ → ℕ) (path : List ℕ) (n i : ℕ) (frames : List Frame) (s : State) → i < n
+    → arrivals_in function path (n - i) frames s ≡ behind (step_of s)
+    (λ t. arrivals_by function path frames (transfer_of s t)
+    + arrivals_in function path (n - (i + 1)) (after_transfer frames (transfer_of s t)) t)
+unfolding arrivals_in
+arrivals_next function path n i frames s h =
+    let e : n - i ≡ suc (n - (i + 1)) = omega arith in ap (λ (m : ℕ). arrivals_in function path m frames s) e
+
+no_steps : (function : ℕ → ℕ) (path : List ℕ) (n i : ℕ) (frames : List Frame) (s : State) → n ≤ i
+    → steps_in function path (n - i) frames s ≡ 0
+unfolding steps_in
+no_steps function path n i frames s h =
+    let e : n - i ≡ 0 = omega arith in ap (λ (m : ℕ). steps_in function path m frames s) e
+
+no_arrivals : (function : ℕ → ℕ) (path : List ℕ) (n i : ℕ) (frames : List Frame) (s : State) → n ≤ i
+    → arrivals_in function path (n - i) frames s ≡ 0
+unfolding arrivals_in
+no_arrivals function path n i frames s h =
+    let e : n - i ≡ 0 = omega arith in ap (λ (m : ℕ). arrivals_in function path m frames s) e
+
+none_begun : (n i : ℕ) (s : State) → n ≤ i → begun_steps (n - i) s ≡ 0
+unfolding begun_steps
+none_begun n i s h = let e : n - i ≡ 0 = omega arith in ap (λ (m : ℕ). begun_steps m s) e
+
+behind_completed : (r : Result State Ending) (s t : State) (rest : State → ℕ) → true ≡ completes r → StaysOr r s t
+    → behind r rest ≡ rest t
+behind_completed (Ok u) s t rest h k = ap rest (sym k)
+behind_completed (Err e) s t rest h k = absurd (false≢true (sym h))
+
+behind_ended : (r : Result State Ending) (rest : State → ℕ) → false ≡ completes r → behind r rest ≡ 0
+behind_ended (Ok u) rest h = absurd (false≢true h)
+behind_ended (Err e) rest h = refl
+
+at_most_once : (t : Bool) → once_if t ≤ 1
+at_most_once true = omega arith
+at_most_once false = omega arith
+
+-- ---- the loop
+
+pub none_so_far : (function : ℕ → ℕ) (n : ℕ) (s : State) (walk : Walk) → BeginsAt (function s.pc) walk
+    → SoFar function n 0 s s [] walk
+none_so_far function n s walk h =
+    let e : n - 0 ≡ n = omega arith in
+    let arrived = h.all_arrivals in
+    let stepped = h.all_steps in record {
+      within = omega arith;
+      at = record { walk = h.walk; path = h.path };
+      few = omega (arith, arrived);
+      fewer = omega (arith, stepped);
+      all = (let k = ap (λ (m : ℕ). begun_steps m s) e in omega (arith, k, stepped));
+      own = λ f.
+          let k = ap (λ (m : ℕ). begun_in_function function f m s) e in
+          let none = h.own f in
+          omega (arith, k, none);
+      steps = λ path.
+          let k = ap (λ (m : ℕ). steps_in function path m [] s) e in
+          let none = h.steps path in
+          omega (arith, k, none);
+      arrivals = λ path.
+          let k = ap (λ (m : ℕ). arrivals_in function path m [] s) e in
+          let one = h.arrivals path in
+          omega (arith, k, one);
+    }
+
+module _ (function : ℕ → ℕ) (n i : ℕ) (start s t : State) (frames after : List Frame) (old new : Walk)
+    (h : SoFar function n i start s frames old) (under : i < n) where
+  few_more : StacksStep function s frames old true t after new → all_steps new.spots.items ≤ i + 1
+  few_more step =
+      let f = h.fewer in
+      let a = step.all_steps in
+      let o = at_most_once (is_begun (fetch_at s)) in
+      omega (arith, f, a, o)
+
+  pub one_more : StacksStep function s frames old true t after new → SoFar function n (i + 1) start t after new
+  one_more step =
+      let same = step.goes.0 in record {
+        within = omega arith;
+        at = step.goes.1;
+        few = (let f = h.few in let m = step.few in omega (arith, f, m));
+        fewer = few_more step;
+        all = (let b = step.all_steps in
+            let k = all_next n i s under in
+            let d = behind_completed (step_of s) s t (λ u. begun_steps (n - (i + 1)) u) step.completed step.state in
+            let all = h.all in
+            omega (arith, b, k, d, all));
+        own = λ f.
+            let b = step.own f in
+            let k = own_next function f n i s under in
+            let d = behind_completed (step_of s) s t (λ u. begun_in_function function f (n - (i + 1)) u) step.completed step.state in
+            let all = h.own f in
+            omega (arith, b, k, d, all);
+        steps = λ path.
+            let b = step.steps path in
+            let k = steps_next function path n i frames s under in
+            let d = behind_completed (step_of s) s t
+            (λ u. steps_in function path (n - (i + 1)) (after_transfer frames (transfer_of s u)) u) step.completed step.state in
+            let e = ap (λ (fs : List Frame). steps_in function path (n - (i + 1)) fs t) same in
+            let all = h.steps path in
+            omega (arith, b, k, d, e, all);
+        arrivals = λ path.
+            let b = step.goes.2 path in
+            let k = arrivals_next function path n i frames s under in
+            let d = behind_completed (step_of s) s t (λ u. arrivals_by function path frames (transfer_of s u)
+            + arrivals_in function path (n - (i + 1)) (after_transfer frames (transfer_of s u)) u) step.completed step.state in
+            let e = ap (λ (fs : List Frame). arrivals_in function path (n - (i + 1)) fs t) same in
+            let all = h.arrivals path in
+            omega (arith, b, k, d, e, all);
+      }
+
+  pub ended : StacksStep function s frames old false t after new → AreStacksOf function n start new.spots.items
+  ended step = record {
+    tree = step.walk.tree;
+    some = step.walk.some;
+    steps = λ path.
+        let b = step.steps path in
+        let k = steps_next function path n i frames s under in
+        let d = behind_ended (step_of s)
+        (λ u. steps_in function path (n - (i + 1)) (after_transfer frames (transfer_of s u)) u) step.completed in
+        let all = h.steps path in
+        omega (arith, b, k, d, all);
+    arrivals = λ path.
+        let b = step.goes path in
+        let k = arrivals_next function path n i frames s under in
+        let d = behind_ended (step_of s) (λ u. arrivals_by function path frames (transfer_of s u)
+        + arrivals_in function path (n - (i + 1)) (after_transfer frames (transfer_of s u)) u) step.completed in
+        let all = h.arrivals path in
+        omega (arith, b, k, d, all);
+    own = λ f.
+        let b = step.own f in
+        let k = own_next function f n i s under in
+        let d = behind_ended (step_of s) (λ u. begun_in_function function f (n - (i + 1)) u) step.completed in
+        let all = h.own f in
+        omega (arith, b, k, d, all);
+    all = (let b = step.all_steps in
+        let k = all_next n i s under in
+        let d = behind_ended (step_of s) (λ u. begun_steps (n - (i + 1)) u) step.completed in
+        let all = h.all in
+        omega (arith, b, k, d, all));
+  }
+
+pub used_up : (function : ℕ → ℕ) (n i : ℕ) (start s : State) (frames : List Frame) (walk : Walk)
+    → SoFar function n i start s frames walk → n ≤ i → AreStacksOf function n start walk.spots.items
+used_up function n i start s frames walk h over = record {
+  tree = h.at.walk.tree;
+  some = h.at.walk.some;
+  steps = λ path.
+      let k = no_steps function path n i frames s over in let all = h.steps path in omega (arith, k, all);
+  arrivals = λ path.
+      let k = no_arrivals function path n i frames s over in let all = h.arrivals path in omega (arith, k, all);
+  own = λ f. let k = no_own function f n i s over in let all = h.own f in omega (arith, k, all);
+  all = (let k = none_begun n i s over in let all = h.all in omega (arith, k, all));
+}

@@ -1,0 +1,9 @@
+pub mod Counting
+pub mod Paths
+pub mod AddressCounts
+pub mod Steps
+pub mod Going
+pub mod Knowns
+pub mod NamedSpots
+pub mod Tables
+pub mod Parts

@@ -1,0 +1,28 @@
+-- The stacks are those of the run that begins where the job's does.
+use Rattle.std.proofs.Common.{Some, None, Result, get_or, sym, subst}
+use Rattle.std.proofs.lemmas.List.{get_or_read}
+use Rattle.rv_jobs.specs.declared_job.Job.{Job}
+use Rattle.rv_machine.specs.Machine.{state_of}
+use Rattle.rv_machine.specs.State.{State}
+use Rattle.rv_report.specs.declared.row.Refusal.{Refusal}
+use Rattle.rv_stacks.specs.Stacks.{function_at, AreStacksOf, AreStacksOfJob}
+use Rattle.rv_stacks.proofs.job.stacks_of_job.Goals as goal
+
+pub returns-in_ok-stacks_of_run-in-Ok : goal.returns-in_ok-stacks_of_run-in-Ok
+returns-in_ok-stacks_of_run-in-Ok c d =
+    let start = rw c.in-Ok.is at c.in_ok-machine.ensures in
+    let jobs = c.args.job.now.plan.now.jobs in
+    let place = c.args.job.now.place in
+    let function = function_at c.args.elf.now.image.now c.args.elf.now.bytes.now in
+    let same = get_or_read jobs place c.job.result.now c.args.job.now.within c.job.ensures.value d in
+    let spots = c.in_ok-stacks_of_run-in-Ok.field-0 in
+    subst (λ (r : Result State Refusal). AreStacksOfJob function (get_or jobs place d).budget r (Some spots)) (sym (start d))
+    (subst (λ (j : Job). AreStacksOf function j.budget (state_of c.in-Ok.machine) spots) same c.in_ok-stacks_of_run-in-Ok.ensures)
+
+pub returns-in-Err : goal.returns-in-Err
+returns-in-Err c d =
+    let start = rw c.in-Err.is at c.in_ok-machine.ensures in
+    let jobs = c.args.job.now.plan.now.jobs in
+    let place = c.args.job.now.place in
+    let function = function_at c.args.elf.now.image.now c.args.elf.now.bytes.now in
+    subst (λ (r : Result State Refusal). AreStacksOfJob function (get_or jobs place d).budget r None) (sym (start d)) tt

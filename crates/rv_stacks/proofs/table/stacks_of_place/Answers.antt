@@ -1,0 +1,63 @@
+-- A refused job has no stacks; else they are those of its run.
+use Rattle.std.proofs.Common.{◌≡◌, ◌∙◌, ◌∷◌, [], ℕ, Some, None, Option, List, get_or, sym, ap, subst}
+use Rattle.std.proofs.lemmas.List.{get_or_read}
+use Rattle.std.proofs.lemmas.Result.{IfOk-weaker}
+use Rattle.std.specs.Result.{result_ok}
+use Rattle.rv_coverage.proofs.Public.{no_bytes, no_image}
+use Rattle.rv_elf.specs.Image.{image_of}
+use Rattle.rv_jobs.specs.declared_job.Job.{Job}
+use Rattle.rv_rows.specs.Rows.{image_if_read, start_in}
+use Rattle.rv_spots.specs.declared.spot.Spot.{Spot}
+use Rattle.rv_stacks.specs.Stacks.{function_at, AreStacksOfJob}
+use Rattle.rv_stacks.specs.StackTables.{name_of_function, AreStacksOfJobs, IsTableOfSpots}
+use Rattle.rv_stacks.proofs.Tables.{none_if_unstacked, ran, refused}
+use Rattle.rv_trace.specs.Trace.{job_at}
+use Rattle.rv_stacks.proofs.table.stacks_of_place.Goals as goal
+
+pub returns-in_default : goal.returns-in_default
+returns-in_default c = λ d.
+    let plan = c.args.plan.now in
+    let job = job_at plan c.args.place d in
+    refused plan.answers job c.empty_table.result c.empty_table.ensures
+    (λ s start. no_bytes job s plan.answers (sym (c.in_default.ensures d)) start)
+
+pub returns-in_default-2 : goal.returns-in_default-2
+returns-in_default-2 c = λ d.
+    let plan = c.args.plan.now in
+    let job = job_at plan c.args.place d in
+    let same = get_or_read plan.jobs c.args.place c.job-job.result.now c.requires c.job-job.ensures.value d in
+    let none = ap (λ (j : Job). result_ok (image_of j.isa c.in-Some.bytes.now)) (sym same)
+    ∙ sym c.in_ok-image.ensures ∙ c.in_default-2.is in
+    refused plan.answers job c.empty_table-in_default-2.result c.empty_table-in_default-2.ensures
+    (λ s start. no_image job s plan.answers c.in-Some.bytes.now (sym (c.in-Some.ensures d)) none start)
+
+pub returns-in-Some-3 : goal.returns-in-Some-3
+returns-in-Some-3 c =
+    let plan = c.args.plan.now in
+    let file = c.in-Some.bytes.now in
+    let image = c.in-Some-2.image in
+    let spots = c.in-Some-3.spots in
+    IfOk-weaker c.table_of_spots.result (IsTableOfSpots (name_of_function image file) c.as_str.result.now file spots)
+    (λ t. (d : Job) → AreStacksOfJobs plan.answers (job_at plan c.args.place d ∷ []) t)
+    (λ t is d.
+    let job = job_at plan c.args.place d in
+    let same = get_or_read plan.jobs c.args.place c.job-job.result.now c.requires c.job-job.ensures.value d in
+    let path = c.as_str.ensures ∙ ap (λ (j : Job). j.image) same in
+    let bytes = sym (c.in-Some.ensures d) in
+    let read = ap (image_if_read job.isa) bytes ∙ ap (λ (j : Job). image_if_read j.isa (Some file)) (sym same)
+    ∙ sym c.in_ok-image.ensures ∙ c.in-Some-2.is in
+    ran plan.answers job file image bytes read spots t
+    (subst (λ (p : List ℕ). IsTableOfSpots (name_of_function image file) p file spots t) path is)
+    (subst (λ (o : Option (List Spot)). AreStacksOfJob (function_at image file) job.budget (start_in plan.answers job) o)
+    c.in-Some-3.is (c.in_ok-spots.ensures d)))
+    c.table_of_spots.ensures
+
+pub returns : goal.returns
+returns c = λ d.
+    let plan = c.args.plan.now in
+    let job = job_at plan c.args.place d in
+    let function = function_at c.in-Some-2.image c.in-Some.bytes.now in
+    let none = subst (λ (o : Option (List Spot)). AreStacksOfJob function job.budget (start_in plan.answers job) o)
+    c.in-None.is (c.in_ok-spots.ensures d) in
+    refused plan.answers job c.empty_table-in-None.result c.empty_table-in-None.ensures
+    (λ s start. none_if_unstacked function job.budget (start_in plan.answers job) s none start)

@@ -1,0 +1,3 @@
+pub mod Stacks
+pub mod StackSteps
+pub mod StackTables

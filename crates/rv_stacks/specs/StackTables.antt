@@ -1,0 +1,171 @@
+-- The table of the stacks of the jobs of a plan: how often their runs came to each list of functions of their images, and how
+-- many instructions began there. It has no counts of addresses, and no runs.
+use Rattle.std.specs.Prelude.{◌≡◌, ◌+◌, ◌<◌, ◌⊎◌, ℕ, Bool, true, List, [], ◌∷◌, ◌++◌, Option, Some, None, codes}
+use Rattle.std.specs.Prelude.{length, slice_index_or, Result, IfErr, IfOk}
+use Rattle.std.specs.Fork.{slice_chunk}
+use Rattle.std.specs.List.{AllByRecursion, sum_by}
+use Rattle.std.specs.Str.{bytes_eq}
+use Rattle.sha2.specs.Sha256.{sha256}
+use Rattle.rv_counts.specs.declared.sum.SumError.{SumError}
+use Rattle.rv_counts.specs.declared.sum.SumError.TheVariants.{OutOfMemory}
+use Rattle.rv_counts.specs.declared.table.CountTable.{CountTable}
+use Rattle.rv_counts.specs.declared.table.FunctionName.{FunctionName}
+use Rattle.rv_counts.specs.Sum.{HaveNoSum, IsSum}
+use Rattle.rv_counts.specs.Table.{begun_in, taken_in, path_in, name_in, arrivals_in, steps_in, has_name, name_of, AreNames, AreNamesOf, IsTable}
+use Rattle.rv_coverage.specs.Coverage.{once_if}
+use Rattle.rv_coverage.specs.JobTables.{first_path, image_bytes, jobs_at, start_over, IsTableOfPlaces}
+use Rattle.rv_elf.specs.declared.image.Image.{Image}
+use Rattle.rv_elf.specs.SymbolSearch.{symbol_at}
+use Rattle.rv_jobs.specs.declared.answers.Answer.{Answer}
+use Rattle.rv_jobs.specs.declared_job.Job.{Job}
+use Rattle.rv_jobs.specs.Plans.{Planned}
+use Rattle.rv_machine.specs.State.{State}
+use Rattle.rv_rows.specs.Rows.{image_in}
+use Rattle.rv_spots.specs.declared.spot.Spot.{Spot}
+use Rattle.rv_spots.specs.Trees.{ends_with}
+use Rattle.rv_stacks.specs.Stacks as run
+use Rattle.rv_text.specs.Printable.{printable_text}
+
+-- ---- names
+
+-- `?` where there is no symbol
+abbrev pub symbol_name : Option (List ℕ × ℕ) → List ℕ
+symbol_name None = codes "?"
+symbol_name (Some symbol) = symbol.0
+
+-- the name of a function: that of the symbol where it stands, as it is shown
+unfoldable pub name_of_function : Image → List ℕ → ℕ → List ℕ
+name_of_function image file f = printable_text (symbol_name (symbol_at image file f))
+
+-- each function that is the last of a spot has its name, and no other one
+pub record AreNamesBy (name : ℕ → List ℕ) (spots : List Spot) (names : List FunctionName) : Type 0 where
+  pub sound : AreNames names
+  pub of_spots : AreNamesOf spots names
+  pub each : (f : ℕ) → has_name (name_of f names) ≡ true → name_of f names ≡ Some (name f)
+
+abbrev pub table_of_spots : List ℕ → List ℕ → List FunctionName → List Spot → CountTable
+table_of_spots path file functions spots = record {
+  images = record {
+    digest = sha256 file;
+    path = printable_text path;
+    addresses = [];
+    functions = functions;
+    spots = spots;
+  } ∷ [];
+  runs = 0;
+}
+
+-- the table of the spots of one run, over the image of a path with these bytes, whose functions have these names
+pub record IsTableOfSpots (name : ℕ → List ℕ) (path file : List ℕ) (spots : List Spot) (t : CountTable) : Type 0 where
+  pub functions : List FunctionName
+  pub named : AreNamesBy name spots functions
+  pub value : t ≡ table_of_spots path file functions spots
+  pub table : IsTable t
+
+-- ---- one job
+
+-- the functions of the image that the bytes of a job's image are read as; of no image this says nothing
+abbrev pub function_in : Option Image → Option (List ℕ) → ℕ → ℕ
+function_in (Some image) (Some file) address = run.function_at image file address
+function_in _ _ address = 0
+
+abbrev pub name_in_image : Option Image → Option (List ℕ) → ℕ → List ℕ
+name_in_image (Some image) (Some file) f = name_of_function image file f
+name_in_image _ _ f = []
+
+abbrev pub function_of_job : List Answer → Job → ℕ → ℕ
+function_of_job answers job = function_in (image_in answers job) (image_bytes answers job)
+
+abbrev pub name_of_job : List Answer → Job → ℕ → List ℕ
+name_of_job answers job = name_in_image (image_in answers job) (image_bytes answers job)
+
+-- of an optional run within a budget of n steps
+abbrev pub arrivals_from : (ℕ → ℕ) → List ℕ → ℕ → Option State → ℕ
+arrivals_from function path n None = 0
+arrivals_from function path n (Some s) =
+    once_if (bytes_eq (function s.pc ∷ []) path) + run.arrivals_in function path n [] s
+
+abbrev pub steps_from : (ℕ → ℕ) → List ℕ → ℕ → Option State → ℕ
+steps_from function path n None = 0
+steps_from function path n (Some s) = run.steps_in function path n [] s
+
+-- how often the run of a job came to a list of functions of the image of a digest
+abbrev pub arrivals_by_job : List Answer → List ℕ → List ℕ → Job → ℕ
+arrivals_by_job answers digest path job =
+    arrivals_from (function_of_job answers job) path job.budget (start_over answers digest job)
+
+-- how many instructions began in it
+abbrev pub steps_by_job : List Answer → List ℕ → List ℕ → Job → ℕ
+steps_by_job answers digest path job =
+    steps_from (function_of_job answers job) path job.budget (start_over answers digest job)
+
+-- a function of the image of a digest has the name that the job's image gives it, where the job's run came to it
+abbrev pub IsNamedBy : List Answer → CountTable → List ℕ → ℕ → Job → Type 0
+IsNamedBy answers t digest f job = (path : List ℕ) → ends_with f path ≡ true
+    → 0 < arrivals_by_job answers digest path job → name_in digest f t.images ≡ Some (name_of_job answers job f)
+
+-- ---- some jobs
+
+-- the table of stacks of jobs: each of its numbers is the sum over the jobs
+pub record AreStacksOfJobs (answers : List Answer) (jobs : List Job) (t : CountTable) : Type 0 where
+  pub table : IsTable t
+  pub begun : (digest : List ℕ) (address : ℕ) → begun_in digest address t.images ≡ 0
+  pub taken : (digest : List ℕ) (address : ℕ) → taken_in digest address t.images ≡ 0
+  pub paths : (digest : List ℕ) → path_in digest t.images ≡ first_path answers digest jobs
+  pub arrivals : (digest path : List ℕ)
+      → arrivals_in digest path t.images ≡ sum_by (arrivals_by_job answers digest path) jobs
+  pub steps : (digest path : List ℕ) → steps_in digest path t.images
+      ≡ sum_by (steps_by_job answers digest path) jobs
+  pub names : (digest : List ℕ) (f : ℕ) → AllByRecursion (IsNamedBy answers t digest f) jobs
+  pub runs : t.runs ≡ 0
+
+-- the table of the stacks of the jobs at some places
+abbrev pub AreStacksOfPlaces : Planned → List ℕ → CountTable → Type 0
+AreStacksOfPlaces plan places t = AreStacksOfJobs plan.answers (jobs_at plan places) t
+
+-- two tables of stacks, each of places that stand beside those of the other, have no sum
+pub record HavePartsNoSum (plan : Planned) (places : List ℕ) (error : SumError) : Type 0 where
+  pub before : List ℕ
+  pub some : List ℕ
+  pub others : List ℕ
+  pub behind : List ℕ
+  pub parts : places ≡ before ++ some ++ others ++ behind
+  pub first : CountTable
+  pub second : CountTable
+  pub of_some : AreStacksOfPlaces plan some first
+  pub of_others : AreStacksOfPlaces plan others second
+  pub refused : HaveNoSum error first second
+
+-- memory was wanting, or some of the stacks have no sum
+abbrev pub HaveNoStacks : Planned → List ℕ → SumError → Type 0
+HaveNoStacks plan places error = (error ≡ OutOfMemory) ⊎ HavePartsNoSum plan places error
+
+-- a table of the stacks of the jobs at some places, or why there is none
+abbrev pub AreStacksIfAny : Planned → List ℕ → Result CountTable SumError → Type 0
+AreStacksIfAny plan places result = IfOk result (AreStacksOfPlaces plan places) × IfErr result (HaveNoStacks plan places)
+
+-- the same of each share of some places
+abbrev pub AreShares : Planned → List ℕ → ℕ → List (Result CountTable SumError) → Type 0
+AreShares plan places share results = (k : ℕ) (d : Result CountTable SumError) → k < length results
+    → AreStacksIfAny plan (slice_chunk places share k) (slice_index_or results k d)
+
+-- ---- counts and stacks
+
+-- the table of the counts of the jobs at some places, and of their stacks
+pub record IsTableWithStacks (plan : Planned) (places : List ℕ) (t : CountTable) : Type 0 where
+  pub counts : CountTable
+  pub stacks : CountTable
+  pub counted : IsTableOfPlaces plan places counts
+  pub stacked : AreStacksOfPlaces plan places stacks
+  pub sum : IsSum counts stacks t
+
+-- there is none
+pub record HaveCountsNoSum (plan : Planned) (places : List ℕ) (error : SumError) : Type 0 where
+  pub counts : CountTable
+  pub stacks : CountTable
+  pub counted : IsTableOfPlaces plan places counts
+  pub stacked : AreStacksOfPlaces plan places stacks
+  pub refused : HaveNoSum error counts stacks
+
+abbrev pub HaveNoTableWithStacks : Planned → List ℕ → SumError → Type 0
+HaveNoTableWithStacks plan places error = HaveNoStacks plan places error ⊎ HaveCountsNoSum plan places error

@@ -1,0 +1,102 @@
+-- The stacks of a run: in which list of functions each instruction begins, and how often a run comes to each list.
+use Rattle.std.specs.Prelude.{◌≡◌, ◌==◌, ◌+◌, ◌-◌, ℕ, zero, suc, Bool, not, ◌&&◌, if◌then◌else◌, List, [], ◌∷◌, ◌++◌, length, map, slice_index_or, Option, Some, None, Result, Ok, Err}
+use Rattle.std.specs.Str.{bytes_eq}
+use Rattle.rv_calls.specs.declared.frames.Frame.{Frame}
+use Rattle.rv_calls.specs.declared.transfer.Transfer.{Transfer}
+use Rattle.rv_calls.specs.Calls.{transfer_of}
+use Rattle.rv_calls.specs.Stack.{after_transfer, frame_of, is_pushed, popped}
+use Rattle.rv_counts.specs.declared.table.AddressCounts.{AddressCounts}
+use Rattle.rv_coverage.specs.Coverage.{behind, begun_steps, fetch_at, is_begun, once_if}
+use Rattle.rv_elf.specs.declared.image.Image.{Image}
+use Rattle.rv_elf.specs.SymbolSearch.{symbol_at}
+use Rattle.rv_machine.specs.Run.{step_of}
+use Rattle.rv_machine.specs.State.{State}
+use Rattle.rv_report.specs.declared.row.Refusal.{Refusal}
+use Rattle.rv_spots.specs.declared.spot.Spot.{Spot}
+use Rattle.rv_spots.specs.Trees.{all_steps, arrivals_at, own_in, steps_at, HasArrivals, IsTree}
+
+-- ---- functions
+
+-- where the symbol of an address stands, or 0 where it has none
+abbrev pub start_of : ℕ → Option (List ℕ × ℕ) → ℕ
+start_of address None = 0
+start_of address (Some symbol) = address - symbol.1
+
+-- the function of an address of code
+unfoldable pub function_at : Image → List ℕ → ℕ → ℕ
+function_at image file address = start_of address (symbol_at image file address)
+
+-- the functions in which the calls were made that have not returned, the outermost first, and that of the pc
+abbrev pub path_at : (ℕ → ℕ) → List Frame → ℕ → List ℕ
+path_at function frames pc = map (λ f. function f.call) frames ++ function pc ∷ []
+
+-- ---- arrivals
+
+-- where control is back by the returns of a transfer: where the outermost frame had called that it pops, or, if it pops none,
+-- where it was
+abbrev pub back_at : List Frame → Transfer → ℕ
+back_at frames t = (slice_index_or frames (length (popped frames t)) (frame_of t)).call
+
+-- where it goes on in the frames that are left: at the call, or else where the transfer leads
+abbrev pub goes_on_at : List Frame → Transfer → ℕ
+goes_on_at frames t = if is_pushed (popped frames t) t then t.from else t.to
+
+-- going on in another function, by a jump or by running on, comes to the functions with that one in place of the last; so a tail
+-- call takes its caller's place
+abbrev pub jumps_to : (ℕ → ℕ) → List ℕ → List Frame → Transfer → Bool
+jumps_to function path frames t = not (function (back_at frames t) == function (goes_on_at frames t))
+    && bytes_eq (path_at function (popped frames t) (goes_on_at frames t)) path
+
+-- a call comes to the functions with that of its target behind them
+abbrev pub calls_to : (ℕ → ℕ) → List ℕ → List Frame → Transfer → Bool
+calls_to function path frames t = is_pushed (popped frames t) t
+    && bytes_eq (path_at function (after_transfer frames t) t.to) path
+
+abbrev pub arrivals_by : (ℕ → ℕ) → List ℕ → List Frame → Transfer → ℕ
+arrivals_by function path frames t = once_if (jumps_to function path frames t) + once_if (calls_to function path frames t)
+
+-- ---- a run
+
+-- how many instructions begin in a list of functions, within a budget of n steps, from some frames on
+unfoldable pub steps_in : (ℕ → ℕ) → List ℕ → ℕ → List Frame → State → ℕ
+steps_in function path zero frames s = 0
+steps_in function path (suc n) frames s =
+    once_if (is_begun (fetch_at s) && bytes_eq (path_at function frames s.pc) path)
+    + behind (step_of s) (λ t. steps_in function path n (after_transfer frames (transfer_of s t)) t)
+
+-- how often it comes there
+unfoldable pub arrivals_in : (ℕ → ℕ) → List ℕ → ℕ → List Frame → State → ℕ
+arrivals_in function path zero frames s = 0
+arrivals_in function path (suc n) frames s = behind (step_of s)
+    (λ t. arrivals_by function path frames (transfer_of s t)
+    + arrivals_in function path n (after_transfer frames (transfer_of s t)) t)
+
+-- how many begin in a function, in whatever list it is the last
+unfoldable pub begun_in_function : (ℕ → ℕ) → ℕ → ℕ → State → ℕ
+begun_in_function function f zero s = 0
+begun_in_function function f (suc n) s =
+    once_if (is_begun (fetch_at s) && (function s.pc == f)) + behind (step_of s) (λ t. begun_in_function function f n t)
+
+-- the spots of a run of at most n steps, which begins with no frame, and comes so to its first function
+pub record AreStacksOf (function : ℕ → ℕ) (n : ℕ) (s : State) (spots : List Spot) : Type 0 where
+  pub tree : IsTree spots
+  pub some : HasArrivals spots
+  pub steps : (path : List ℕ) → steps_at path spots ≡ steps_in function path n [] s
+  pub arrivals : (path : List ℕ) → arrivals_at path spots
+      ≡ once_if (bytes_eq (function s.pc ∷ []) path) + arrivals_in function path n [] s
+  pub own : (f : ℕ) → own_in f spots ≡ begun_in_function function f n s
+  pub all : all_steps spots ≡ begun_steps n s
+
+-- those of a job that begins in this state, or none where it is refused
+abbrev pub AreStacksOfJob : (ℕ → ℕ) → ℕ → Result State Refusal → Option (List Spot) → Type 0
+AreStacksOfJob function n (Ok s) (Some spots) = AreStacksOf function n s spots
+AreStacksOfJob function n (Ok s) None = ⊥
+AreStacksOfJob function n (Err why) (Some spots) = ⊥
+AreStacksOfJob function n (Err why) None = Unit {0}
+
+-- ---- counts
+
+-- how often the instructions at the addresses of a function began
+abbrev pub counts_of_function : (ℕ → ℕ) → ℕ → List AddressCounts → ℕ
+counts_of_function function f [] = 0
+counts_of_function function f (c ∷ cs) = (if function c.address == f then c.begun else 0) + counts_of_function function f cs

@@ -1,0 +1,60 @@
+//! Functions by the addresses of their instructions.
+
+ghost use Rattle.std.specs.Prelude.{◌≡◌, IfOk};
+ghost use Rattle.rv_stacks.specs.StackSteps.{AreKnown};
+ghost use Rattle.rv_stacks.specs.Stacks.{function_at, start_of};
+
+use rv_elf::symbol_at;
+use rv_trace::ElfFile;
+use std::alloc::{AllocError, Global};
+
+/// How many functions are kept: each of the addresses that share a place drives the other out.
+const PLACES: usize = 4096;
+
+/// The function of an address.
+#[derive(Clone, Copy)]
+pub struct Known {
+    pub address: u32,
+    pub function: u32,
+}
+
+/// Functions that are known, of which each look-up may put in another.
+pub(crate) fn known_functions(
+    alloc: Global,
+    elf: &ElfFile<'_>,
+    address: u32,
+) -> Result<Vec<Known>, AllocError>
+    ensures { IfOk result (λ known. AreKnown (function_at elf.now.image.now elf.now.bytes.now) known.items) }
+{
+    let function = function_of(elf, address);
+    let mut known = Vec::with_capacity(alloc, PLACES)?;
+    known.resize(PLACES, Known { address, function })?;
+    Ok(known)
+}
+
+/// The function of an address of code. A known one takes no search.
+pub(crate) fn look_up(known: &mut Vec<Known>, elf: &ElfFile<'_>, address: u32) -> u32
+    requires { AreKnown (function_at elf.now.image.now elf.now.bytes.now) known.old.items }
+    ensures value { result ≡ function_at elf.now.image.now elf.now.bytes.now address }
+    ensures known { AreKnown (function_at elf.now.image.now elf.now.bytes.now) known.new.items }
+{
+    let place = address as usize / 2 % known.len();
+    let there = known[place];
+    if there.address == address {
+        return there.function;
+    }
+    let function = function_of(elf, address);
+    known[place] = Known { address, function };
+    function
+}
+
+/// Where the symbol of an address stands, or 0 where it has none. Takes the time of a pass over the symbols.
+#[tactic(auto, unfolding(crate::specs::Stacks::function_at))]
+pub fn function_of(elf: &ElfFile<'_>, address: u32) -> u32
+    ensures { result ≡ function_at elf.now.image.now elf.now.bytes.now address }
+{
+    match symbol_at(elf.image, elf.bytes, address) {
+        Some(symbol) => address.saturating_sub(symbol.offset),
+        None => 0,
+    }
+}

@@ -1,0 +1,33 @@
+//! The stacks of a job.
+
+ghost use Rattle.std.specs.Prelude.{IfOk};
+ghost use Rattle.rv_jobs.specs.declared_job.Job.{Job as AJob};
+ghost use Rattle.rv_rows.specs.Rows.{start_in};
+ghost use Rattle.rv_stacks.specs.Stacks.{function_at, AreStacksOfJob};
+ghost use Rattle.rv_trace.specs.Trace.{job_at};
+
+use crate::run::stacks_of_run;
+use rv_rows::machine_at;
+use rv_spots::Spots;
+use rv_trace::{ElfFile, JobImage};
+use std::alloc::{AllocError, Global};
+
+/// The stacks of the run of a job within its budget, by the functions of a file; nothing where the job is refused. The job is
+/// run once more.
+pub fn stacks_of_job(
+    alloc: Global,
+    job: &JobImage<'_>,
+    elf: &ElfFile<'_>,
+) -> Result<Option<Spots>, AllocError>
+    ensures { IfOk result (λ spots. (d : AJob) → AreStacksOfJob (function_at elf.now.image.now elf.now.bytes.now)
+        (job_at job.now.plan.now job.now.place d).budget
+        (start_in job.now.plan.now.answers (job_at job.now.plan.now job.now.place d)) spots) }
+{
+    match machine_at(alloc, job.plan, job.place, job.image)? {
+        Ok(machine) => {
+            let budget = job.plan.job(job.place).budget;
+            Ok(Some(stacks_of_run(alloc, machine, budget, elf)?))
+        }
+        Err(_) => Ok(None),
+    }
+}

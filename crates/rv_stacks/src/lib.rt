@@ -1,0 +1,22 @@
+//! The stacks of a run: in which list of functions each instruction began, from the root to the function of the pc, and how
+//! often a run came to each list.
+//!
+//! [`stacks_of_run`] runs a machine within a budget, one instruction at a time, and answers its spots. [`stacks_of_job`] does so of
+//! a job of a plan, and [`count_places_with_stacks`] answers the table of counts of the jobs of a batch, with their stacks. The
+//! calls that have not returned are those of `rv_calls`: a spot is the functions in which they were made, and that of the pc.
+#![tactic(auto)]
+
+mod functions;
+mod job;
+mod law;
+mod names;
+mod places;
+mod run;
+mod table;
+mod turns;
+
+pub use functions::{Known, function_of};
+pub use job::stacks_of_job;
+pub use law::{own_steps_are_the_counts_of_addresses, run_has_one_list_of_spots};
+pub use places::{count_places_with_stacks, stacks_of_places};
+pub use run::stacks_of_run;

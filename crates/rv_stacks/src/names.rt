@@ -1,0 +1,79 @@
+//! The names of the functions of spots.
+
+ghost use Rattle.std.specs.Prelude.{◌≡◌, ◌∷◌, ◌++◌, [], IfOk, List, OnOk, true};
+ghost use Rattle.std.specs.List.{AllByRecursion};
+ghost use Rattle.std.specs.Str.{IsUtf8};
+ghost use Rattle.rv_counts.specs.Lines.{lacks};
+ghost use Rattle.rv_elf.specs.SymbolSearch.{symbol_at};
+ghost use Rattle.rv_spots.specs.declared.spot.Spot.{Spot as ASpot};
+ghost use Rattle.rv_spots.specs.Sums.{FitsSpot};
+ghost use Rattle.rv_stacks.specs.StackTables.{name_of_function, symbol_name, AreNamesBy};
+
+use rv_base::Text;
+use rv_counts::{FunctionName, FunctionNames, add_name, name_of};
+use rv_coverage::shown_text;
+use rv_elf::symbol_at;
+use rv_spots::Spot;
+use rv_trace::ElfFile;
+use std::alloc::{AllocError, Global};
+
+/// The names of the functions of spots, each once. Takes the time of a pass over the symbols for each function.
+pub(crate) fn names_of_spots(
+    alloc: Global,
+    elf: &ElfFile<'_>,
+    spots: &[Spot],
+) -> Result<FunctionNames, AllocError>
+    ensures names { IfOk result (AreNamesBy (name_of_function elf.now.image.now elf.now.bytes.now) spots.now) }
+    ensures fits { IfOk result (λ _. AllByRecursion FitsSpot spots.now) }
+{
+    let mut names = Vec::new(alloc);
+    for spot in spots {
+        name_spot(alloc, elf, &mut names, *spot)?;
+    }
+    Ok(FunctionNames::new(names))
+}
+
+// Adds the name of a spot's function, where it has none.
+fn name_spot(
+    alloc: Global,
+    elf: &ElfFile<'_>,
+    names: &mut Vec<FunctionName>,
+    spot: Spot,
+) -> Result<(), AllocError>
+    ensures names { (spots : List ASpot)
+        → AreNamesBy (name_of_function elf.now.image.now elf.now.bytes.now) spots names.old.items
+        → OnOk result (AreNamesBy (name_of_function elf.now.image.now elf.now.bytes.now) (spots ++ spot ∷ [])
+        names.new.items) }
+    ensures fits { FitsSpot spot }
+{
+    if name_of(names.as_slice(), spot.function).is_some() {
+        return Ok(());
+    }
+    let name = shown_name(alloc, elf, spot.function)?;
+    add_name(
+        names,
+        FunctionName {
+            function: spot.function,
+            name,
+        },
+    )
+}
+
+// The name of a function as a table has it.
+#[tactic(auto, unfolding(crate::specs::StackTables::name_of_function))]
+fn shown_name(alloc: Global, elf: &ElfFile<'_>, function: u32) -> Result<Text, AllocError>
+    ensures value { IfOk result (λ text. text ≡ name_of_function elf.now.image.now elf.now.bytes.now function) }
+    ensures text { IfOk result IsUtf8 }
+    ensures line { IfOk result (λ text. lacks 10 text ≡ true) }
+{
+    shown_text(alloc, symbol_name(elf, function))
+}
+
+fn symbol_name<'a>(elf: &ElfFile<'a>, function: u32) -> &'a [u8]
+    ensures { result.now ≡ symbol_name (symbol_at elf.now.image.now elf.now.bytes.now function) }
+{
+    match symbol_at(elf.image, elf.bytes, function) {
+        Some(symbol) => symbol.name,
+        None => b"?",
+    }
+}

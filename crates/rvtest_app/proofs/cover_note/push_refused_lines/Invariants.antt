@@ -1,8 +1,0 @@
-use Rattle.std.proofs.Common.{◌≡◌, ◌++◌, take}
-use Rattle.rv_expect.specs.Judgement.{judging_of}
-use Rattle.rvtest_app.specs.Covers.{refused_lines}
-use Rattle.rvtest_app.proofs.cover_note.push_refused_lines.Given as goal
-
-abbrev pub invariant-loop-place : goal.invariant-loop-place
-invariant-loop-place l = l.text.items ≡ l.fn.text.items
-    ++ refused_lines (judging_of l.telling.judge) l.telling.plan.now l.telling.unread.now (take l.place-index l.places)

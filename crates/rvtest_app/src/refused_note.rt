@@ -1,0 +1,79 @@
+//! What `cover` and `profile` tell of jobs that are refused.
+
+ghost use Rattle.std.specs.Prelude.{◌≡◌, ◌<◌, ◌++◌, IfOk, OnOk, length, slice_index_or};
+ghost use Rattle.rv_fleet.specs.Choices.{AreJobPlaces};
+ghost use Rattle.rv_expect.specs.Judgement.{judging_of};
+ghost use Rattle.rv_lists.specs.declared.job.Job.{Job as AJob};
+ghost use Rattle.rvtest_app.specs.RefusedNotes.{refused_line, refused_lines, refused_note};
+
+use crate::missing_images::missing_images_note;
+use crate::rules::failure_rule;
+use rv_cli::rvtest::RunAsked;
+use rv_expect::Judge;
+use rv_files::Unread;
+use rv_job_text::{RowTelling, Verbosity};
+use rv_jobs::Plan;
+use rv_rows::{refusal_at, row_at};
+use std::alloc::{AllocError, Global};
+
+/// Where paths are taken from, if every image is missing, and the lines of the jobs at some places that are refused.
+pub(crate) fn refused_note(
+    alloc: Global,
+    asked: &RunAsked<'_>,
+    plan: &Plan,
+    unread: &[Unread],
+    places: &[usize],
+) -> Result<Vec<u8>, AllocError>
+    requires { AreJobPlaces plan.now places.now }
+    ensures { IfOk result (λ note. note.items ≡ refused_note asked.now plan.now unread.now places.now) }
+{
+    let mut note = missing_images_note(alloc, plan, unread, places.len(), asked.root)?;
+    let telling = RowTelling {
+        plan,
+        unread,
+        judge: Judge::by_rule(failure_rule(asked.lenient)),
+        verbosity: Verbosity::All,
+        last: None,
+    };
+    push_refused_lines(alloc, &telling, places, &mut note)?;
+    Ok(note)
+}
+
+// Appends the lines of the jobs at some places that are refused.
+fn push_refused_lines(
+    alloc: Global,
+    telling: &RowTelling<'_>,
+    places: &[usize],
+    text: &mut Vec<u8>,
+) -> Result<(), AllocError>
+    requires { AreJobPlaces telling.now.plan.now places.now }
+    ensures { OnOk result (text.new.items ≡ text.old.items
+        ++ refused_lines (judging_of telling.now.judge) telling.now.plan.now telling.now.unread.now places.now) }
+{
+    for place in places {
+        push_refused_line(alloc, telling, *place, text)?;
+    }
+    Ok(())
+}
+
+// Appends the line of the job at a place, if it is refused.
+#[tactic(auto, unfolding(crate::specs::RefusedNotes::refused_line))]
+fn push_refused_line(
+    alloc: Global,
+    telling: &RowTelling<'_>,
+    place: usize,
+    text: &mut Vec<u8>,
+) -> Result<(), AllocError>
+    requires place { place < length telling.now.plan.now.jobs }
+    ensures { OnOk result ((d : AJob) → text.new.items ≡ text.old.items
+        ++ refused_line (judging_of telling.now.judge) telling.now.plan.now telling.now.unread.now
+        (slice_index_or telling.now.plan.now.jobs place d)) }
+{
+    match refusal_at(alloc, telling.plan, place)? {
+        Some(_) => {
+            let row = row_at(alloc, telling.plan, place)?;
+            telling.push_lone_row_line(alloc, place, &row, text)
+        }
+        None => Ok(()),
+    }
+}
