@@ -7,3 +7,7 @@ pub mod Knowns
 pub mod NamedSpots
 pub mod Tables
 pub mod Parts
+pub mod Named
+pub mod WithStacks
+pub mod Shards
+pub mod Apart
