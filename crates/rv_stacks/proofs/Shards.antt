@@ -55,7 +55,7 @@ module _ (plan : Planned) (part : ℕ → ℕ) (places : List ℕ) where
   as_parts from [] each = tt
   as_parts from (t ∷ ts) each = (
     (let here : from + 0 ≡ from = omega arith in
-    subst (λ n. IsTableWithStacks plan (filter (λ place. part place == n) places) t) here (each 0 t (omega arith))),
+        subst (λ n. IsTableWithStacks plan (filter (λ place. part place == n) places) t) here (each 0 t (omega arith))),
     as_parts (from + 1) ts
         (λ k d lt. let e : from + suc k ≡ from + 1 + k = omega arith in
         subst (λ n. IsTableWithStacks plan (filter (λ place. part place == n) places) (get_or ts k d)) e
