@@ -9,5 +9,5 @@ pub mod Tables
 pub mod Parts
 pub mod Named
 pub mod WithStacks
-pub mod Shards
 pub mod Apart
+pub mod Shards

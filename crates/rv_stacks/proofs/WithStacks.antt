@@ -35,11 +35,11 @@ pub record IsOfJobs (answers : List Answer) (jobs : List Job) (t : CountTable) :
 
 -- ---- counts, and stacks beside them
 
-with_itself : (o : Option (List ℕ)) → least_path_of o o ≡ o
+pub with_itself : (o : Option (List ℕ)) → least_path_of o o ≡ o
 with_itself None = refl
 with_itself (Some path) = ap (λ (p : List ℕ). Some p) (same_either (is_before path path) path)
 
-each_so : {X : Type 0} (P Q : X → Type 0) (xs : List X) → ((x : X) → P x → Q x) → AllByRecursion P xs → AllByRecursion Q xs
+pub each_so : {X : Type 0} (P Q : X → Type 0) (xs : List X) → ((x : X) → P x → Q x) → AllByRecursion P xs → AllByRecursion Q xs
 each_so P Q [] f h = tt
 each_so P Q (x ∷ xs) f h = (f x h.0, each_so P Q xs f h.1)
 
@@ -190,7 +190,7 @@ module _ (answers : List Answer) where
       let some = c.some in
       named_by_a_job t u digest f c.path jobs c.ends (omega (arith, e, some)) (h.names digest f) (k.names digest f))
 
-  pub one_of_jobs : (jobs : List Job) (t u : CountTable) → IsOfJobs answers jobs t → IsOfJobs answers jobs u → t ≡ u
+  one_of_jobs : (jobs : List Job) (t u : CountTable) → IsOfJobs answers jobs t → IsOfJobs answers jobs u → t ≡ u
   one_of_jobs jobs t u h k = one_table_of t u h.table k.table
       (λ digest address. h.begun digest address ∙ sym (k.begun digest address))
       (λ digest address. h.taken digest address ∙ sym (k.taken digest address))
@@ -199,14 +199,10 @@ module _ (answers : List Answer) where
       (λ digest path. h.arrivals digest path ∙ sym (k.arrivals digest path))
       (λ digest path. h.steps digest path ∙ sym (k.steps digest path)) (h.runs ∙ sym k.runs)
 
--- a table of the jobs at some places is that of them in another order
-pub one_of_places : (plan : Planned) (places others : List ℕ) (t u : CountTable) → IsPermutation places others
-    → IsOfJobs plan.answers (jobs_at plan places) t → IsOfJobs plan.answers (jobs_at plan others) u → t ≡ u
-one_of_places plan places others t u p h k =
-    one_of_jobs plan.answers (jobs_at plan others) t u
-    (in_order plan.answers (jobs_at plan places) (jobs_at plan others) t (IsPermutation-map _ places others p) h) k
-
 pub one_table : (plan : Planned) (places others : List ℕ) (t u : CountTable) → IsPermutation places others
     → IsTableWithStacks plan places t → IsTableWithStacks plan others u → t ≡ u
 one_table plan places others t u p h k =
-    one_of_places plan places others t u p (of_places plan places t h) (of_places plan others u k)
+    one_of_jobs plan.answers (jobs_at plan others) t u
+    (in_order plan.answers (jobs_at plan places) (jobs_at plan others) t (IsPermutation-map _ places others p)
+    (of_places plan places t h))
+    (of_places plan others u k)

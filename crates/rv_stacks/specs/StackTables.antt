@@ -179,11 +179,9 @@ AreTablesWithStacksOfParts plan [] [] = Unit {0}
 AreTablesWithStacksOfParts plan (p ∷ ps) (t ∷ ts) = IsTableWithStacks plan p t × AreTablesWithStacksOfParts plan ps ts
 AreTablesWithStacksOfParts plan _ _ = ⊥
 
--- the same for each of so many shards: a shard has every so-many-th place
-pub record AreTablesWithStacksOfShards (plan : Planned) (shards : ℕ) (places : List ℕ) (ts : List CountTable) : Type 0 where
-  pub count : length ts ≡ shards
-  pub each : (k : ℕ) (d : CountTable) → k < shards
-      → IsTableWithStacks plan (filter (λ place. place % shards == k) places) (slice_index_or ts k d)
+-- of some places the shard of a number has every so-many-th
+abbrev pub places_of_shard : ℕ → List ℕ → ℕ → List ℕ
+places_of_shard shards places number = filter (λ place. place % shards == number) places
 
 -- ---- counts alone
 

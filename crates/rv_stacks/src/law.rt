@@ -1,7 +1,7 @@
 //! Laws of stacks, with nothing to run.
 
-ghost use Rattle.std.specs.Prelude.{◌≡◌, ◌<◌, ℕ, List};
-ghost use Rattle.std.specs.List.{flat_map};
+ghost use Rattle.std.specs.Prelude.{◌≡◌, ◌<◌, ℕ, List, map};
+ghost use Rattle.std.specs.List.{flat_map, range_with_len};
 ghost use Rattle.std.specs.List.Sorted.{IsPermutation};
 ghost use Rattle.rv_counts.specs.declared.table.AddressCounts.{AddressCounts};
 ghost use Rattle.rv_counts.specs.declared.table.CountTable.{CountTable};
@@ -14,7 +14,7 @@ ghost use Rattle.rv_machine.specs.State.{State};
 ghost use Rattle.rv_spots.specs.declared.spot.Spot.{Spot};
 ghost use Rattle.rv_spots.specs.Trees.{own_in};
 ghost use Rattle.rv_stacks.specs.Stacks.{counts_of_function, AreStacksOf};
-ghost use Rattle.rv_stacks.specs.StackTables.{without_stacks, AreTablesWithStacksOfParts, AreTablesWithStacksOfShards, IsTableWithStacks};
+ghost use Rattle.rv_stacks.specs.StackTables.{places_of_shard, without_stacks, AreTablesWithStacksOfParts, IsTableWithStacks};
 
 use rv_spots::one_tree_has_these_counts;
 
@@ -38,19 +38,26 @@ pub fn jobs_have_one_table_with_stacks()
         → IsTableWithStacks plan places t → IsTableWithStacks plan others u → t ≡ u }
 {}
 
-/// The tables with stacks of the parts of some places sum to that of all, however the places are parted and in whatever order the
-/// tables are added, and so have its text.
+/// The tables with stacks of the parts of some places sum to that of all, however the places are parted, and so have its text.
 pub fn tables_with_stacks_of_parts_sum_to_that_of_all()
-    ensures { (plan : Planned) (places : List ℕ) (parts : List (List ℕ)) (ts : List CountTable) (sum whole : CountTable)
+    ensures table { (plan : Planned) (places : List ℕ) (parts : List (List ℕ)) (ts : List CountTable) (sum : CountTable)
+        → IsPermutation (flat_map (λ part. part) parts) places → AreTablesWithStacksOfParts plan parts ts
+        → SumsTo no_counts ts sum → IsTableWithStacks plan places sum }
+    ensures text { (plan : Planned) (places : List ℕ) (parts : List (List ℕ)) (ts : List CountTable) (sum whole : CountTable)
         → IsPermutation (flat_map (λ part. part) parts) places → AreTablesWithStacksOfParts plan parts ts
         → SumsTo no_counts ts sum → IsTableWithStacks plan places whole → table_text sum ≡ table_text whole }
 {}
 
-/// The tables with stacks of the shards of some places, each of which has every so-many-th, sum to that of all, and so have its
-/// text.
+/// The tables with stacks of the shards of some places, each of which has every so-many-th, sum to that of all, in whatever order
+/// they are added, and so have its text.
 pub fn tables_with_stacks_of_shards_sum_to_that_of_all()
-    ensures { (plan : Planned) (shards : ℕ) (places : List ℕ) (ts : List CountTable) (sum whole : CountTable)
-        → 0 < shards → AreTablesWithStacksOfShards plan shards places ts → SumsTo no_counts ts sum
+    ensures table { (plan : Planned) (shards : ℕ) (places numbers : List ℕ) (ts : List CountTable) (sum : CountTable)
+        → 0 < shards → IsPermutation (range_with_len 0 shards) numbers
+        → AreTablesWithStacksOfParts plan (map (places_of_shard shards places) numbers) ts → SumsTo no_counts ts sum
+        → IsTableWithStacks plan places sum }
+    ensures text { (plan : Planned) (shards : ℕ) (places numbers : List ℕ) (ts : List CountTable) (sum whole : CountTable)
+        → 0 < shards → IsPermutation (range_with_len 0 shards) numbers
+        → AreTablesWithStacksOfParts plan (map (places_of_shard shards places) numbers) ts → SumsTo no_counts ts sum
         → IsTableWithStacks plan places whole → table_text sum ≡ table_text whole }
 {}
 
