@@ -15,9 +15,9 @@ use Rattle.rv_stacks.specs.StackTables.{places_of_shard, AreTablesWithStacksOfPa
 use Rattle.rv_stacks.proofs.Apart.{counts_and_stacks}
 use Rattle.rv_stacks.proofs.WithStacks.{in_order, of_both, of_none, of_places, one_table, IsOfJobs}
 
-turned : (p q rest : List ℕ) → IsPermutation (p ++ q ++ rest) (q ++ p ++ rest)
+turned : (p q rest : List ℕ) → IsPermutation (p ++ (q ++ rest)) (q ++ (p ++ rest))
 turned p q rest =
-    subst (λ l. IsPermutation l (q ++ p ++ rest)) (append_assoc p q rest)
+    subst (λ l. IsPermutation l (q ++ (p ++ rest))) (append_assoc p q rest)
     (subst (IsPermutation ((p ++ q) ++ rest)) (append_assoc q p rest)
     (IsPermutation-append_left rest (p ++ q) (q ++ p) (IsPermutation-append_comm p q)))
 
