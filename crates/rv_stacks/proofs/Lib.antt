@@ -11,3 +11,5 @@ pub mod Named
 pub mod WithStacks
 pub mod Apart
 pub mod Shards
+pub mod Bounds
+pub mod NoSums

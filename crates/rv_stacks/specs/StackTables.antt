@@ -7,7 +7,7 @@ use Rattle.std.specs.List.{AllByRecursion, filter, sum_by}
 use Rattle.std.specs.Str.{bytes_eq}
 use Rattle.sha2.specs.Sha256.{sha256}
 use Rattle.rv_counts.specs.declared.sum.SumError.{SumError}
-use Rattle.rv_counts.specs.declared.sum.SumError.TheVariants.{OutOfMemory}
+use Rattle.rv_counts.specs.declared.sum.SumError.TheVariants.{Names, OutOfMemory}
 use Rattle.rv_counts.specs.declared.table.CountTable.{CountTable}
 use Rattle.rv_counts.specs.declared.table.FunctionName.{FunctionName}
 use Rattle.rv_counts.specs.declared.table.ImageCounts.{ImageCounts}
@@ -170,6 +170,10 @@ pub record HaveCountsNoSum (plan : Planned) (places : List ℕ) (error : SumErro
 
 abbrev pub HaveNoTableWithStacks : Planned → List ℕ → SumError → Type 0
 HaveNoTableWithStacks plan places error = HaveNoStacks plan places error ⊎ HaveCountsNoSum plan places error
+
+-- memory was wanting, or a function has two names
+abbrev pub IsOfNamesOrMemory : SumError → Type 0
+IsOfNamesOrMemory error = (error ≡ OutOfMemory) ⊎ ((function : ℕ) × (error ≡ Names function))
 
 -- ---- parts and shards
 
