@@ -28,7 +28,7 @@ record IsSmall (n : ℕ) (t : CountTable) : Type 0 where
   pub runs : t.runs ≤ n * 2 ^ 34
 
 module _ (plan : Planned) (budgets : All (λ (job : Job). job.budget < 2 ^ 32) plan.jobs) where
-  none : Job
+  abbrev none : Job
   none = single_job [] 0 []
 
   small_budget : (place : ℕ) → (get_or plan.jobs place none).budget < 2 ^ 32
