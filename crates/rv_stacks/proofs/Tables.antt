@@ -211,7 +211,7 @@ none_of_none answers = record {
   runs = refl;
 }
 
-same_either : (b : Bool) (name : List ℕ) → cond b name name ≡ name
+pub same_either : (b : Bool) (name : List ℕ) → cond b name name ≡ name
 same_either true name = refl
 same_either false name = refl
 
@@ -232,6 +232,18 @@ all_both : {X : Type 0} (P Q R : X → Type 0) (xs ys : List X) → ((x : X) →
 all_both P Q R [] [] f g h k = tt
 all_both P Q R [] (y ∷ ys) f g h k = (g y k.0, all_both P Q R [] ys f g tt k.1)
 all_both P Q R (x ∷ xs) ys f g h k = (f x h.0, all_both P Q R xs ys f g h.1 k)
+
+pub names_of_both : (answers : List Answer) (js ks : List Job) (t u sum : CountTable) → IsSum t u sum → (digest : List ℕ) (f : ℕ)
+    → AllByRecursion (IsNamedBy answers t digest f) js → AllByRecursion (IsNamedBy answers u digest f) ks
+    → AllByRecursion (IsNamedBy answers sum digest f) (js ++ ks)
+names_of_both answers js ks t u sum is digest f =
+    all_both (IsNamedBy answers t digest f) (IsNamedBy answers u digest f) (IsNamedBy answers sum digest f) js ks
+    (λ job named path ends some. is.names digest f
+    ∙ named_first (name_in digest f t.images) (name_in digest f u.images) (name_of_job answers job f) (is.agree digest f)
+    (named path ends some))
+    (λ job named path ends some. is.names digest f
+    ∙ named_second (name_in digest f t.images) (name_in digest f u.images) (name_of_job answers job f) (is.agree digest f)
+    (named path ends some))
 
 pub joined : (answers : List Answer) (js ks : List Job) (t u sum : CountTable) → AreStacksOfJobs answers js t
     → AreStacksOfJobs answers ks u → IsSum t u sum → AreStacksOfJobs answers (js ++ ks) sum
@@ -262,15 +274,7 @@ joined answers js ks t u sum h k is = record {
       let q = k.steps digest path in
       let e = sum_by-append (steps_by_job answers digest path) js ks in
       omega (arith, s, p, q, e);
-  names = λ digest f.
-      all_both (IsNamedBy answers t digest f) (IsNamedBy answers u digest f) (IsNamedBy answers sum digest f) js ks
-      (λ job named path ends some. is.names digest f
-      ∙ named_first (name_in digest f t.images) (name_in digest f u.images) (name_of_job answers job f) (is.agree digest f)
-      (named path ends some))
-      (λ job named path ends some. is.names digest f
-      ∙ named_second (name_in digest f t.images) (name_in digest f u.images) (name_of_job answers job f) (is.agree digest f)
-      (named path ends some))
-      (h.names digest f) (k.names digest f);
+  names = λ digest f. names_of_both answers js ks t u sum is digest f (h.names digest f) (k.names digest f);
   runs = (let s = is.runs in let p = h.runs in let q = k.runs in omega (arith, s, p, q));
 }
 
