@@ -1,5 +1,5 @@
 -- The tables of counts and stacks of jobs: of some more, of the same in another order, and that there is one.
-use Rattle.std.proofs.Common.{◌≡◌, ◌∙◌, ◌+◌, ◌<◌, ◌⊎◌, ℕ, zero, suc, true, List, [], ◌∷◌, ◌++◌, Option, Some, None, refl, sym, ap, subst, arith, inl, inr}
+use Rattle.std.proofs.Common.{◌≡◌, ◌∙◌, ◌+◌, ◌<◌, ◌⊎◌, ℕ, zero, suc, true, List, [], ◌∷◌, ◌++◌, Option, Some, None, refl, sym, ap, arith, inl, inr}
 use Rattle.std.proofs.lemmas.List.Elements.{All-from_recursion, recursion_from_All}
 use Rattle.std.proofs.lemmas.List.Sorted.{All-permutation, IsPermutation-map, sum_by-IsPermutation}
 use Rattle.std.proofs.lemmas.List.Sums.{sum_by-append, sum_by-cons}
@@ -15,7 +15,7 @@ use Rattle.rv_jobs.specs.declared.answers.Answer.{Answer}
 use Rattle.rv_jobs.specs.declared_job.Job.{Job}
 use Rattle.rv_jobs.specs.Plans.{Planned}
 use Rattle.rv_spots.specs.Trees.{ends_with}
-use Rattle.rv_stacks.specs.StackTables.{arrivals_by_job, name_of_job, steps_by_job, IsNamedBy, IsTableWithStacks}
+use Rattle.rv_stacks.specs.StackTables.{arrivals_by_job, steps_by_job, IsNamedBy, IsTableWithStacks}
 use Rattle.rv_stacks.proofs.Named.{come_to}
 use Rattle.rv_stacks.proofs.Tables.{names_of_both, same_either}
 
