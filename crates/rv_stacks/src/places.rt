@@ -18,7 +18,8 @@ use std::thread;
 use std::thread::Threads;
 
 /// The table of the counts of the jobs of a batch, and of their stacks, the same for every crew. There is none where two files of
-/// one digest name a function in two ways. Each job is run twice more, by as many threads as the crew has.
+/// one digest name a function in two ways; no number of so few jobs reaches 2^64. Each job is run twice more, by as many threads as
+/// the crew has.
 pub fn count_places_with_stacks<R: Threads + Sync>(
     crew: &Crew<'_, R>,
     batch: &Batch<'_>,
