@@ -1,5 +1,5 @@
 -- The table of counts and stacks, without the one and without the other.
-use Rattle.std.proofs.Common.{◌≡◌, ◌∙◌, ◌+◌, ◌<◌, ◌&&◌, ℕ, Bool, true, false, cond, List, [], ◌∷◌, Option, Some, None, map, length, refl, sym, ap, subst, arith}
+use Rattle.std.proofs.Common.{◌≡◌, ◌∙◌, ◌+◌, ◌&&◌, ℕ, Bool, true, false, cond, List, [], ◌∷◌, Option, Some, None, map, refl, sym, ap, subst, arith}
 use Rattle.std.proofs.lemmas.List.{length-map}
 use Rattle.std.specs.List.{AllByRecursion}
 use Rattle.std.specs.Str.{bytes_eq}
@@ -199,6 +199,7 @@ stacks_of_jobs plan places t h = record {
       each_so (IsNamedBy plan.answers t digest f) (IsNamedBy plan.answers (stacks_alone t) digest f) (jobs_at plan places)
       (λ job named path ends some. same_name digest f t.images ∙ named path ends some) (h.names digest f);
   runs = refl;
+  budgets = h.budgets;
 }
 
 both_sum : (t : CountTable) → IsTable t → IsSum (without_stacks t) (stacks_alone t) t

@@ -1,5 +1,5 @@
 -- The tables of counts and stacks of jobs: of some more, of the same in another order, and that there is one.
-use Rattle.std.proofs.Common.{◌≡◌, ◌∙◌, ◌+◌, ◌<◌, ◌⊎◌, ℕ, zero, suc, true, List, [], ◌∷◌, ◌++◌, Option, Some, None, refl, sym, ap, subst, arith, inl, inr}
+use Rattle.std.proofs.Common.{◌≡◌, ◌∙◌, ◌+◌, ◌<◌, ◌⊎◌, ℕ, zero, suc, true, List, [], ◌∷◌, ◌++◌, Option, Some, None, refl, sym, ap, arith, inl, inr}
 use Rattle.std.proofs.lemmas.List.Elements.{All-from_recursion, recursion_from_All}
 use Rattle.std.proofs.lemmas.List.Sorted.{All-permutation, IsPermutation-map, sum_by-IsPermutation}
 use Rattle.std.proofs.lemmas.List.Sums.{sum_by-append, sum_by-cons}
@@ -15,9 +15,9 @@ use Rattle.rv_jobs.specs.declared.answers.Answer.{Answer}
 use Rattle.rv_jobs.specs.declared_job.Job.{Job}
 use Rattle.rv_jobs.specs.Plans.{Planned}
 use Rattle.rv_spots.specs.Trees.{ends_with}
-use Rattle.rv_stacks.specs.StackTables.{arrivals_by_job, name_of_job, steps_by_job, IsNamedBy, IsTableWithStacks}
+use Rattle.rv_stacks.specs.StackTables.{arrivals_by_job, steps_by_job, IsNamedBy, IsTableWithStacks, RunsWithinABudget}
 use Rattle.rv_stacks.proofs.Named.{come_to}
-use Rattle.rv_stacks.proofs.Tables.{names_of_both, same_either}
+use Rattle.rv_stacks.proofs.Tables.{budgets_of_both, names_of_both, same_either}
 
 -- each number is the sum over the jobs
 pub record IsOfJobs (answers : List Answer) (jobs : List Job) (t : CountTable) : Type 0 where
@@ -32,6 +32,7 @@ pub record IsOfJobs (answers : List Answer) (jobs : List Job) (t : CountTable) :
   pub steps : (digest path : List ℕ) → steps_in digest path t.images ≡ sum_by (steps_by_job answers digest path) jobs
   pub names : (digest : List ℕ) (f : ℕ) → AllByRecursion (IsNamedBy answers t digest f) jobs
   pub runs : t.runs ≡ sum_by (runs_by answers) jobs
+  pub budgets : AllByRecursion (RunsWithinABudget answers) jobs
 
 -- ---- counts, and stacks beside them
 
@@ -80,6 +81,7 @@ of_places plan places t h = record {
       let p = h.counted.runs in
       let q = h.stacked.runs in
       omega (arith, s, p, q));
+  budgets = h.stacked.budgets;
 }
 
 -- ---- jobs of both
@@ -94,6 +96,7 @@ of_none answers = record {
   steps = λ digest path. refl;
   names = λ digest f. tt;
   runs = refl;
+  budgets = tt;
 }
 
 module _ (answers : List Answer) where
@@ -134,6 +137,7 @@ module _ (answers : List Answer) where
         let q = k.runs in
         let e = sum_by-append (runs_by answers) js ks in
         omega (arith, s, p, q, e));
+    budgets = budgets_of_both answers js ks h.budgets k.budgets;
   }
 
   -- ---- the jobs in another order
@@ -152,6 +156,8 @@ module _ (answers : List Answer) where
         (All-permutation (IsNamedBy answers t digest f) js ks p
         (All-from_recursion (IsNamedBy answers t digest f) js (h.names digest f)));
     runs = h.runs ∙ sym (sum_by-IsPermutation (runs_by answers) js ks p);
+    budgets = recursion_from_All (RunsWithinABudget answers) ks
+        (All-permutation (RunsWithinABudget answers) js ks p (All-from_recursion (RunsWithinABudget answers) js h.budgets));
   }
 
   -- ---- one table

@@ -1,7 +1,7 @@
 -- The table of the stacks of the jobs of a plan: how often their runs came to each list of functions of their images, and how
 -- many instructions began there. It has no counts of addresses, and no runs.
-use Rattle.std.specs.Prelude.{◌≡◌, ◌==◌, ◌+◌, ◌%◌, ◌<◌, ◌⊎◌, ℕ, Bool, true, List, [], ◌∷◌, ◌++◌, Option, Some, None, codes}
-use Rattle.std.specs.Prelude.{length, map, slice_index_or, Result, IfErr, IfOk}
+use Rattle.std.specs.Prelude.{◌≡◌, ◌==◌, ◌+◌, ◌%◌, ◌^◌, ◌<◌, ◌⊎◌, ℕ, Bool, true, List, [], ◌∷◌, ◌++◌, Option, Some, None, codes}
+use Rattle.std.specs.Prelude.{length, map, slice_index_or, Result, Ok, IfErr, IfOk}
 use Rattle.std.specs.Fork.{slice_chunk}
 use Rattle.std.specs.List.{AllByRecursion, filter, sum_by}
 use Rattle.std.specs.Str.{bytes_eq}
@@ -21,7 +21,7 @@ use Rattle.rv_jobs.specs.declared.answers.Answer.{Answer}
 use Rattle.rv_jobs.specs.declared_job.Job.{Job}
 use Rattle.rv_jobs.specs.Plans.{Planned}
 use Rattle.rv_machine.specs.State.{State}
-use Rattle.rv_rows.specs.Rows.{image_in}
+use Rattle.rv_rows.specs.Rows.{image_in, start_in}
 use Rattle.rv_spots.specs.declared.spot.Spot.{Spot}
 use Rattle.rv_spots.specs.Trees.{ends_with}
 use Rattle.rv_stacks.specs.Stacks as run
@@ -105,6 +105,10 @@ abbrev pub IsNamedBy : List Answer → CountTable → List ℕ → ℕ → Job �
 IsNamedBy answers t digest f job = (path : List ℕ) → ends_with f path ≡ true
     → 0 < arrivals_by_job answers digest path job → name_in digest f t.images ≡ Some (name_of_job answers job f)
 
+-- a job that runs has a budget of 32 bits
+abbrev pub RunsWithinABudget : List Answer → Job → Type 0
+RunsWithinABudget answers job = (s : State) → start_in answers job ≡ Ok s → job.budget < 2 ^ 32
+
 -- ---- some jobs
 
 -- the table of stacks of jobs: each of its numbers is the sum over the jobs
@@ -119,6 +123,7 @@ pub record AreStacksOfJobs (answers : List Answer) (jobs : List Job) (t : CountT
       ≡ sum_by (steps_by_job answers digest path) jobs
   pub names : (digest : List ℕ) (f : ℕ) → AllByRecursion (IsNamedBy answers t digest f) jobs
   pub runs : t.runs ≡ 0
+  pub budgets : AllByRecursion (RunsWithinABudget answers) jobs
 
 -- the table of the stacks of the jobs at some places
 abbrev pub AreStacksOfPlaces : Planned → List ℕ → CountTable → Type 0

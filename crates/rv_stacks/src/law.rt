@@ -1,7 +1,7 @@
 //! Laws of stacks, with nothing to run.
 
-ghost use Rattle.std.specs.Prelude.{◌≡◌, ◌^◌, ◌<◌, ◌≤◌, ℕ, List, length, map};
-ghost use Rattle.std.specs.List.{All, flat_map, range_with_len};
+ghost use Rattle.std.specs.Prelude.{◌≡◌, ◌<◌, ◌≤◌, ℕ, List, length, map};
+ghost use Rattle.std.specs.List.{flat_map, range_with_len};
 ghost use Rattle.std.specs.List.Sorted.{IsPermutation};
 ghost use Rattle.rv_counts.specs.declared.table.AddressCounts.{AddressCounts};
 ghost use Rattle.rv_counts.specs.declared.sum.SumError.{SumError as Refused};
@@ -10,7 +10,6 @@ ghost use Rattle.rv_counts.specs.Sum.{no_counts};
 ghost use Rattle.rv_counts.specs.Text.{table_text};
 ghost use Rattle.rv_coverage.specs.Coverage.{AreCountsOf};
 ghost use Rattle.rv_coverage.specs.JobTables.{IsTableOfPlaces, SumsTo};
-ghost use Rattle.rv_jobs.specs.declared_job.Job.{Job as AJob};
 ghost use Rattle.rv_jobs.specs.Limits.{most_jobs};
 ghost use Rattle.rv_jobs.specs.Plans.{Planned};
 ghost use Rattle.rv_machine.specs.State.{State};
@@ -72,6 +71,6 @@ pub fn table_without_stacks_is_that_of_counts()
 
 /// Where there is no table with stacks, memory was wanting, or a function has two names: no number of so few jobs reaches 2^64.
 pub fn names_alone_refuse_a_table_with_stacks()
-    ensures { (plan : Planned) (places : List ℕ) (error : Refused) → All (λ (job : AJob). job.budget < 2 ^ 32) plan.jobs
-        → length places ≤ most_jobs → HaveNoTableWithStacks plan places error → IsOfNamesOrMemory error }
+    ensures { (plan : Planned) (places : List ℕ) (error : Refused) → length places ≤ most_jobs
+        → HaveNoTableWithStacks plan places error → IsOfNamesOrMemory error }
 {}
