@@ -6,7 +6,7 @@ use rv_base::Sequence;
 use rv_memory::Bus;
 use std::alloc::{AllocError, Global};
 
-/// Bytes whose changes are watched. None of them is past the end of the addresses.
+/// Bytes that are watched. None of them is past the end of the addresses.
 #[derive(Clone, Copy)]
 pub struct Watch {
     pub address: u32,
@@ -14,12 +14,28 @@ pub struct Watch {
     pub ghost within: { address + count ≤ 2 ^ 32 },
 }
 
-/// Where a run is to stop: in front of the instructions at some addresses, and where a step changes a watched byte. Bytes in no
-/// region are never changed.
+/// Where a run is to stop: in front of the instructions at some addresses, and where a step changes a watched byte, or reads or accesses
+/// one that is watched so. Bytes in no region are never changed.
 #[derive(Drop)]
 pub struct Stops {
     pub breaks: Sequence<u32>,
+    /// Of changes.
     pub watches: Sequence<Watch>,
+    /// Of reads.
+    pub reads: Sequence<Watch>,
+    /// Of reads and writes.
+    pub accesses: Sequence<Watch>,
+}
+
+/// What sets off a watch, and the watch's address.
+#[derive(Clone, Copy)]
+pub enum SetOff {
+    /// A byte changes.
+    Change(u32),
+    /// A byte is read.
+    Read(u32),
+    /// A byte is read or written.
+    Access(u32),
 }
 
 impl Stops {
@@ -27,16 +43,24 @@ impl Stops {
 
     /// Whether there are none at all.
     pub(crate) fn are_none(&self) -> bool
-        ensures { IsTrue result ↔ ((self.now.breaks ≡ []) × (self.now.watches ≡ [])) }
+        ensures { IsTrue result ↔ ((self.now.breaks ≡ [])
+            × ((self.now.watches ≡ []) × ((self.now.reads ≡ []) × (self.now.accesses ≡ [])))) }
     {
         self.breaks.as_slice().is_empty() && self.have_no_watch()
     }
 
     /// Whether no byte is watched.
     pub(crate) fn have_no_watch(&self) -> bool
-        ensures { IsTrue result ↔ (self.now.watches ≡ []) }
+        ensures { IsTrue result ↔ ((self.now.watches ≡ []) × ((self.now.reads ≡ []) × (self.now.accesses ≡ []))) }
     {
-        self.watches.as_slice().is_empty()
+        self.watches.as_slice().is_empty() && self.have_no_access()
+    }
+
+    /// Whether no reads and no accesses are watched.
+    pub(crate) fn have_no_access(&self) -> bool
+        ensures { IsTrue result ↔ ((self.now.reads ≡ []) × (self.now.accesses ≡ [])) }
+    {
+        self.reads.as_slice().is_empty() && self.accesses.as_slice().is_empty()
     }
 
     /// Whether an address is a breakpoint.
