@@ -1,5 +1,5 @@
 -- Searches forward.
-use Rattle.std.proofs.Common.{◌≡◌, ◌∙◌, ◌+◌, ◌<◌, ◌≤◌, ℕ, true, false, ◌&&◌, Ok, Err, ap, sym, refl, subst, arith, ltb, inl, inr}
+use Rattle.std.proofs.Common.{◌≡◌, ◌∙◌, ◌+◌, ◌<◌, ◌≤◌, ℕ, Bool, true, false, ◌&&◌, Ok, Err, ap, sym, refl, subst, arith, ltb, inl, inr}
 use Rattle.std.specs.Prelude.{is_some}
 use Rattle.rv_trace.specs.Trace.{state_after}
 use Rattle.std.proofs.lemmas.Bool.{and_from, and_parts, both_ways, cases_eq, lt-ltb, ltb-true}
@@ -8,9 +8,10 @@ use Rattle.rv_machine.specs.declared.ending.Ending.TheVariants.{Budget}
 use Rattle.rv_machine.specs.Run.{run_of, step_of}
 use Rattle.rv_machine.specs.State.{State}
 use Rattle.rv_history.specs.declared.bounds.Bounds.{Bounds}
+use Rattle.rv_history.specs.declared.found.Found.{Found}
 use Rattle.rv_history.specs.declared.found.Found.TheVariants as found
 use Rattle.rv_history.specs.declared.stops.Stops.{Stops}
-use Rattle.rv_history.specs.Moves.{GoesOnAhead, IsNextStep, IsNextStop}
+use Rattle.rv_history.specs.Moves.{GoesOnAhead, IsNextStep, IsNextStop, found_at_budget}
 use Rattle.rv_history.specs.Places.{IsChangeAt, IsHaltAt, IsReached, last_place}
 use Rattle.rv_history.specs.Stops.{IsSetOff, IsUnset, is_halt, touched}
 use Rattle.rv_history.proofs.Reaching.{comes_within, ends_by_budget, ends_here, goes_on, next_place}
@@ -111,14 +112,14 @@ at_budget stops bounds budget from place start s end reached quiet = (
   subst (λ (k : ℕ). QuietUpTo stops bounds budget start from k) end quiet,
 )
 
-pub breaks_at_budget : (stops : Stops) (bounds : Bounds) (budget from place : ℕ) (start s : State) → IsReached start place s → from ≤ budget
+breaks_at_budget : (stops : Stops) (bounds : Bounds) (budget from place : ℕ) (start s : State) → IsReached start place s → from ≤ budget
     → place ≡ budget → (ltb from budget && is_halt stops bounds s.pc) ≡ true → QuietUpTo stops bounds budget start from place
     → IsNextStop stops bounds budget start from budget found.Break
 breaks_at_budget stops bounds budget from place start s reached low end is quiet =
     let there = at_budget stops bounds budget from place start s end reached quiet in
     stops_by_break stops bounds budget from budget start s there.0 low (omega arith) is there.1
 
-pub stops_by_budget : (stops : Stops) (bounds : Bounds) (budget from place : ℕ) (start s : State) → IsReached start place s → from ≤ budget
+stops_by_budget : (stops : Stops) (bounds : Bounds) (budget from place : ℕ) (start s : State) → IsReached start place s → from ≤ budget
     → place ≡ budget → (ltb from budget && is_halt stops bounds s.pc) ≡ false → QuietUpTo stops bounds budget start from place
     → IsNextStop stops bounds budget start from budget (found.End Budget)
 stops_by_budget stops bounds budget from place start s reached low end absent quiet =
@@ -128,6 +129,20 @@ stops_by_budget stops bounds budget from place start s reached low end absent qu
       meets = (ends_by_budget budget start there.0.completed, no_halt_at stops bounds start s from budget there.0 absent);
       between = there.1;
     }
+
+pub stops_at_budget : (stops : Stops) (bounds : Bounds) (budget from place at : ℕ) (start s : State) (told : Found) → IsReached start place s
+    → from ≤ budget → place ≡ budget → at ≡ budget
+    → told ≡ found_at_budget (ltb from budget && is_halt stops bounds s.pc) → QuietUpTo stops bounds budget start from place
+    → IsNextStop stops bounds budget start from at told
+stops_at_budget stops bounds budget from place at start s told reached low end at_is told_is quiet =
+    subst (λ (k : ℕ). IsNextStop stops bounds budget start from k told) (sym at_is)
+    (subst (λ (f : Found). IsNextStop stops bounds budget start from budget f) (sym told_is)
+    (by_halt (ltb from budget && is_halt stops bounds s.pc) refl))
+  where
+    by_halt : (halts : Bool) → (ltb from budget && is_halt stops bounds s.pc) ≡ halts
+        → IsNextStop stops bounds budget start from budget (found_at_budget halts)
+    by_halt true is = breaks_at_budget stops bounds budget from place start s reached low end is quiet
+    by_halt false is = stops_by_budget stops bounds budget from place start s reached low end is quiet
 
 -- ---- one step
 

@@ -22,7 +22,7 @@ use Rattle.rv_history.specs.Ends.{IsFoundEnd}
 use Rattle.rv_history.specs.LastStop.{IsQuietAt}
 use Rattle.rv_history.specs.Moves.{IsEndAt, IsNextStop, IsStepBefore, IsStopBefore}
 use Rattle.rv_history.specs.Places.{IsChangeAt, IsHaltAt, last_place}
-use Rattle.rv_history.specs.Stops.{IsSetOff, first_hit, first_read, is_break, is_halt, told_or, touched, touched_by, watch_bytes, watched_bytes}
+use Rattle.rv_history.specs.Stops.{IsSetOff, IsUnset, first_hit, first_read, is_break, is_halt, told_or, touched, touched_by, watch_bytes, watched_bytes}
 use Rattle.rv_history.proofs.Backward.{begins_over}
 
 -- no byte is watched
@@ -60,6 +60,9 @@ untouched stops s none = ap is_some (nothing_touched stops (access_at s) none.1)
 unset : (stops : Stops) (s t : State) → AreUnwatched stops → IsSetOff stops s t → ⊥
 unset stops s t none (inl differ) = differ (no_bytes stops s.bus none.0 ∙ sym (no_bytes stops t.bus none.0))
 unset stops s t none (inr touches) = both_ways (is_some (touched stops s)) (untouched stops s none) touches
+
+pub is_unset : (stops : Stops) (s t : State) → AreUnwatched stops → IsUnset stops s t
+is_unset stops s t none = (no_bytes stops s.bus none.0 ∙ sym (no_bytes stops t.bus none.0), untouched stops s none)
 
 no_change : (stops : Stops) (budget place : ℕ) (start : State) → AreUnwatched stops → IsChangeAt stops budget start place → ⊥
 no_change stops budget place start none change =

@@ -7,6 +7,7 @@
 
 mod access;
 mod bounds;
+mod breaks;
 mod counts;
 mod found;
 mod history;

@@ -1,8 +1,9 @@
 //! Where a run is to stop.
 
-ghost use Rattle.std.specs.Prelude.{◌≡◌, ◌≤◌, ◌+◌, ◌^◌, ◌++◌, ◌↔◌, [], ℕ, List, IfOk, IfSome, IsTrue, MatchOption, OnOk, drop, length};
+ghost use Rattle.std.specs.Prelude.{◌≡◌, ◌≤◌, ◌+◌, ◌^◌, ◌++◌, ◌↔◌, [], ℕ, List, IfOk, IfSome, IsTrue, MatchOption, OnOk, drop, length, true};
 
 use rv_base::Sequence;
+use rv_machine::Machine;
 use rv_memory::Bus;
 use std::alloc::{AllocError, Global};
 
@@ -39,6 +40,8 @@ pub enum SetOff {
 }
 
 impl Stops {
+    ghost use Rattle.rv_machine.specs.Machine.{state_of};
+    ghost use Rattle.rv_machine.specs.Waking.{IsAwake};
     ghost use Rattle.rv_history.specs.Stops.{first_differing, is_break, watched_bytes};
 
     /// Whether there are none at all.
@@ -61,6 +64,16 @@ impl Stops {
         ensures { IsTrue result ↔ ((self.now.reads ≡ []) × (self.now.accesses ≡ [])) }
     {
         self.reads.as_slice().is_empty() && self.accesses.as_slice().is_empty()
+    }
+
+    /// No instruction at a breakpoint is awake from now on.
+    pub(crate) fn put_breaks_to_sleep(&self, machine: &mut Machine)
+        ensures state { state_of machine.new ≡ state_of machine.old }
+        ensures asleep { (pc : ℕ) → is_break self.now pc ≡ true → IsAwake machine.new.kept pc → ⊥ }
+    {
+        for address in self.breaks.as_slice() {
+            machine.put_to_sleep(*address);
+        }
     }
 
     /// Whether an address is a breakpoint.
