@@ -7,6 +7,7 @@ ghost use Rattle.rv_trace.specs.Trace.{state_after};
 use crate::bounds::Bounds;
 use crate::counts::{Count, first_with};
 use crate::found::{Arrival, Found};
+use crate::interrupt::Interrupt;
 use crate::search::{Leg, next_step, next_stop};
 use crate::search_back::{step_before, stop_before};
 use crate::start::Start;
@@ -87,14 +88,16 @@ impl History {
     }
 
     /// Goes to the next stop, which may be an end of the run. It does not stop at a breakpoint where it stands, and it may begin
-    /// outside the bounds.
-    pub fn go_on(
+    /// outside the bounds. Where it is interrupted, it stands at a place up to which it met nothing.
+    pub fn go_on<I: Interrupt>(
         &mut self,
         alloc: Global,
         stops: &Stops,
         bounds: Bounds,
+        interrupt: &mut I,
     ) -> Result<Found, AllocError>
         ensures stop { IfOk result (IsNextStop stops.now bounds self.old.budget self.old.start self.old.place self.new.place) }
+        ensures broken_off { IfOk result (λ found. found ≡ Found.Interrupted → I.was_raised interrupt.new ≡ true) }
         ensures run { self.new ≡ record self.old { place = self.new.place } }
         ensures same { OnErr result (self.new ≡ self.old) }
     {
@@ -121,9 +124,15 @@ impl History {
         self.arrive(alloc, arrival)
     }
 
-    /// Goes back to the stop before, or to the start.
-    pub fn go_back(&mut self, alloc: Global, stops: &Stops) -> Result<Found, AllocError>
+    /// Goes back to the stop before, or to the start. Where it is interrupted, it stands where it stood.
+    pub fn go_back<I: Interrupt>(
+        &mut self,
+        alloc: Global,
+        stops: &Stops,
+        interrupt: &mut I,
+    ) -> Result<Found, AllocError>
         ensures stop { IfOk result (IsStopBefore stops.now self.old.budget self.old.start self.old.place self.new.place) }
+        ensures broken_off { IfOk result (λ found. found ≡ Found.Interrupted → I.was_raised interrupt.new ≡ true) }
         ensures run { self.new ≡ record self.old { place = self.new.place } }
         ensures same { OnErr result (self.new ≡ self.old) }
     {
