@@ -66,6 +66,10 @@ abbrev pub CanTell : Session → Move → Found → Type 0
 CanTell session asked what = what ≡ found.Change → is_forward asked ≡ true
     → session.history.place < last_place session.history.budget session.history.start
 
+-- a move was broken off
+abbrev pub IsBroken : Found → Type 0
+IsBroken what = what ≡ found.Interrupted
+
 -- how what is found is told
 abbrev pub stop_of : Session → Move → ℕ → Found → Stop
 stop_of session asked place found.Done = stop.Here
@@ -73,6 +77,7 @@ stop_of session asked place found.Break = stop.Here
 stop_of session asked place found.Change = watch_stop session asked place
 stop_of session asked place (found.End ending) = end_stop ending
 stop_of session asked place found.Begin = stop.Beginning
+stop_of session asked place found.Interrupted = stop.Interrupt
 
 -- the printed bytes that go out in front of the stop: on a move forward those that did not go out before
 abbrev pub printed_on : Session → Move → State → List ℕ
@@ -88,12 +93,15 @@ end_text_at end_text found.Done = []
 end_text_at end_text found.Break = []
 end_text_at end_text found.Change = []
 end_text_at end_text found.Begin = []
+end_text_at end_text found.Interrupted = []
 
--- a session over a run of whose end this is the text moved, and what it says
-pub record IsMoved (end_text : List ℕ) (session : Session) (asked : Move) (reply : Reply) (next : Session) : Type 0 where
+-- A session over a run of whose end this is the text moved, and what it says. The move was broken off only where it may be.
+pub record IsMoved (end_text : List ℕ) (may_break : Bool) (session : Session) (asked : Move) (reply : Reply) (next : Session)
+    : Type 0 where
   pub place : ℕ
   pub found : Found
   pub gone : IsGone asked session.stops session.history.budget session.history.start session.history.place place found
+  pub broken_off : IsBroken found → may_break ≡ true
   pub reply_is : reply ≡ stopping (printed_on session asked (state_at session place)) (end_text_at end_text found)
       (stop_text (stop_of session asked place found))
   pub next_is : next ≡ record session {

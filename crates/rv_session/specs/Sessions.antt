@@ -1,5 +1,5 @@
 -- A session, and what it shows of its run.
-use Rattle.std.specs.Prelude.{ℕ, [], ◌≡◌, true, false, length}
+use Rattle.std.specs.Prelude.{ℕ, [], ◌≡◌, None, true, false, length}
 use Rattle.rv_history.specs.Starts.{start_of}
 use Rattle.rv_history.specs.declared.start.Start.{Start}
 use Rattle.rv_machine.specs.State.{State}
@@ -21,6 +21,7 @@ at_first start budget program = record {
   shown = 0;
   last = stop.Here;
   sent = [];
+  asked = None;
   is_over = false;
 }
 
