@@ -14,7 +14,7 @@ use Rattle.rv_remote.specs.declared.request.Request.TheVariants as ask
 use Rattle.rv_history.specs.declared.stops.Stops.{Stops}
 use Rattle.rv_remote.specs.declared.request.Refusal.TheVariants as refusal
 use Rattle.rv_session.specs.Answers.{IsAnswered, IsSet, IsWritten, is_reset}
-use Rattle.rv_session.specs.Heard.{IsByteFed, IsFed, IsJudged, IsRespondedTo, IsResponse, IsResponseUnless, IsTaken, byte_first, is_wrong, no_bytes, with_sent}
+use Rattle.rv_session.specs.Heard.{IsByteFed, IsFed, IsJudged, IsRespondedTo, IsResponse, IsResponseUnless, IsTaken, IsWorked, byte_first, is_interrupted, is_wrong, move_first, no_bytes, with_sent}
 use Rattle.rv_session.specs.Replies.{refused}
 use Rattle.rv_session.specs.Sessions.{IsSameRun, at_place}
 use Rattle.rv_session.specs.declared.reply.Reply.{Reply}
@@ -71,71 +71,84 @@ written_same session next reg.Steps value reply written =
 written_same session next reg.Printed value reply written = goes session next next.history.place written.run
 written_same session next reg.Taken value reply written = goes session next next.history.place written.run
 
-answered_same : (end_text : List ℕ) (session next : Session) (request : Request) (reply : Reply) → IsAnswered end_text session request reply next
+answered_same : (session next : Session) (request : Request) (reply : Reply) → IsAnswered session request reply next
     → IsSameRun session next
-answered_same end_text session next (ask.Move asked) reply answered = same_run_by session next _ answered.next_is
+answered_same session next (ask.Move asked) reply answered = same_run_by session next _ answered.1
     (record { start_is = refl; budget_is = refl; program_is = refl; script_is = refl })
-answered_same end_text session next (ask.WriteRegister register value) reply answered =
+answered_same session next (ask.WriteRegister register value) reply answered =
     written_same session next register value reply answered
-answered_same end_text session next (ask.Set place) reply answered = set_same session next answered.outcome reply answered.set
-answered_same end_text session next (ask.Clear place) reply answered = same_run_by session next _ answered.1
+answered_same session next (ask.Set place) reply answered = set_same session next answered.outcome reply answered.set
+answered_same session next (ask.Clear place) reply answered = same_run_by session next _ answered.1
     (record { start_is = refl; budget_is = refl; program_is = refl; script_is = refl })
-answered_same end_text session next (ask.Command text) reply answered =
+answered_same session next (ask.Command text) reply answered =
     stays_or_goes session next 0 (is_reset text) answered.1
-answered_same end_text session next ask.Restart reply answered = same_run_by session next _ answered.1
+answered_same session next ask.Restart reply answered = same_run_by session next _ answered.1
     (record { start_is = refl; budget_is = refl; program_is = refl; script_is = refl })
-answered_same end_text session next ask.NoAcknowledgements reply answered = same_run_by session next _ answered.1
+answered_same session next ask.NoAcknowledgements reply answered = same_run_by session next _ answered.1
     (record { start_is = refl; budget_is = refl; program_is = refl; script_is = refl })
-answered_same end_text session next ask.Detach reply answered = same_run_by session next _ answered.1
+answered_same session next ask.Detach reply answered = same_run_by session next _ answered.1
     (record { start_is = refl; budget_is = refl; program_is = refl; script_is = refl })
-answered_same end_text session next ask.Kill reply answered = same_run_by session next _ answered.1
+answered_same session next ask.Kill reply answered = same_run_by session next _ answered.1
     (record { start_is = refl; budget_is = refl; program_is = refl; script_is = refl })
-answered_same end_text session next request reply answered = stays session next answered.1
+answered_same session next request reply answered = stays session next answered.1
 
 sent_same : (session next : Session) (reply : Reply) → next ≡ with_sent session reply → IsSameRun session next
 sent_same session next reply is = by_fields session next (with_sent session reply) is refl refl refl refl
 
-taken_same : (end_text : List ℕ) (session next : Session) (body out : List ℕ) → IsTaken end_text session body out next → IsSameRun session next
-taken_same end_text session next body out took = same_run_on session took.behind next
-    (answered_same end_text session took.behind (request_of body) took.reply took.answered)
+taken_same : (session next : Session) (body out : List ℕ) → IsTaken session body out next → IsSameRun session next
+taken_same session next body out took = same_run_on session took.behind next
+    (answered_same session took.behind (request_of body) took.reply took.answered)
     (sent_same took.behind next took.reply took.next_is)
 
-judged_same : (end_text : List ℕ) (session next : Session) (again : Bool) (body out : List ℕ) → IsJudged end_text session again body out next
+judged_same : (session next : Session) (again : Bool) (body out : List ℕ) → IsJudged session again body out next
     → IsSameRun session next
-judged_same end_text session next true body out judged = stays session next judged.1
-judged_same end_text session next false body out judged = taken_same end_text session next body out judged
+judged_same session next true body out judged = stays session next judged.1
+judged_same session next false body out judged = taken_same session next body out judged
 
-response_same : (end_text : List ℕ) (session next : Session) (heard : Heard) (out : List ℕ) → IsResponse end_text session heard out next
+response_same : (session next : Session) (heard : Heard) (out : List ℕ) → IsResponse session heard out next
     → IsSameRun session next
-response_same end_text session next heard.Interrupt out response = stays session next response.1
-response_same end_text session next heard.Arrived out response = stays session next response.1
-response_same end_text session next heard.Again out response = stays session next response.1
-response_same end_text session next heard.TooLong out response = sent_same session next (refused refusal.TooLong) response.1
-response_same end_text session next (heard.Packet body sum) out response =
-    judged_same end_text session next (session.acknowledges && is_wrong sum) body out response
+response_same session next heard.Interrupt out response = stays session next response.1
+response_same session next heard.Arrived out response = stays session next response.1
+response_same session next heard.Again out response = stays session next response.1
+response_same session next heard.TooLong out response = sent_same session next (refused refusal.TooLong) response.1
+response_same session next (heard.Packet body sum) out response =
+    judged_same session next (session.acknowledges && is_wrong sum) body out response
 
-unless_same : (end_text : List ℕ) (session next : Session) (over : Bool) (heard : Heard) (out : List ℕ)
-    → IsResponseUnless end_text over session heard out next → IsSameRun session next
-unless_same end_text session next true heard out response = stays session next response.1
-unless_same end_text session next false heard out response = response_same end_text session next heard out response
+unless_same : (session next : Session) (over : Bool) (heard : Heard) (out : List ℕ)
+    → IsResponseUnless over session heard out next → IsSameRun session next
+unless_same session next true heard out response = stays session next response.1
+unless_same session next false heard out response = response_same session next heard out response
 
-responded_same : (end_text : List ℕ) (session next : Session) (heard : Option Heard) (out : List ℕ) → IsRespondedTo end_text session heard out next
+responded_same : (session next : Session) (heard : Option Heard) (out : List ℕ) → IsRespondedTo session heard out next
     → IsSameRun session next
-responded_same end_text session next None out response = stays session next response.1
-responded_same end_text session next (Some heard) out response = unless_same end_text session next session.is_over heard out response
+responded_same session next None out response = stays session next response.1
+responded_same session next (Some heard) out response = unless_same session next session.is_over heard out response
 
 -- a byte that is heard leaves the run as it is
-byte_same : (end_text : List ℕ) (session next : Session) (byte : ℕ) (out : List ℕ) → IsByteFed end_text session byte out next → IsSameRun session next
-byte_same end_text session next byte out fed =
+byte_same : (session next : Session) (byte : ℕ) (out : List ℕ) → IsByteFed session byte out next → IsSameRun session next
+byte_same session next byte out fed =
     let listening : Session = record session { reader = frame_behind session.reader byte } in
-    let heard = responded_same end_text listening next (heard_at session.reader byte) out fed in record {
+    let heard = responded_same listening next (heard_at session.reader byte) out fed in record {
       start_is = heard.start_is;
       budget_is = heard.budget_is;
       program_is = heard.program_is;
       script_is = heard.script_is;
     }
 
-pub fed_same : (end_text : List ℕ) (session next : Session) (bytes out : List ℕ) → IsFed end_text session bytes out next → IsSameRun session next
-fed_same end_text session next bytes out (no_bytes same) = same_run session
-fed_same end_text session next bytes out (byte_first same between last byte rest told more one fed) =
-    same_run_on session between next (byte_same end_text session between byte told one) (fed_same end_text between next rest more fed)
+-- so does a move
+pub worked_same : (end_text : List ℕ) (may_break : Bool) (session next : Session) (out : List ℕ)
+    → IsWorked end_text may_break session out next → IsSameRun session next
+worked_same end_text may_break session next out made = same_run_on session made.behind next
+    (same_run_by session made.behind _ made.moved.next_is
+    (record { start_is = refl; budget_is = refl; program_is = refl; script_is = refl }))
+    (sent_same made.behind next made.reply made.next_is)
+
+pub fed_same : (end_text : List ℕ) (behind : Bool) (session next : Session) (bytes out : List ℕ)
+    → IsFed end_text behind session bytes out next → IsSameRun session next
+fed_same end_text behind session next bytes out (no_bytes same) = same_run session
+fed_same end_text behind session next bytes out (byte_first same between last byte rest told more open one fed) =
+    same_run_on session between next (byte_same session between byte told one)
+    (fed_same end_text behind between next rest more fed)
+fed_same end_text behind session next bytes out (move_first same between last rest told more made fed) =
+    same_run_on session between next (worked_same end_text (is_interrupted bytes behind) session between told made)
+    (fed_same end_text behind between next bytes more fed)

@@ -49,6 +49,7 @@ stepped_within stops budget from place start found.Change step =
     let there = step.0 in let goes = step.1.completes in omega arith
 stepped_within stops budget from place start found.Break step = absurd step
 stepped_within stops budget from place start found.Begin step = absurd step
+stepped_within stops budget from place start found.Interrupted step = absurd step
 
 went_within : (asked : Move) (stops : Stops) (budget from place : ℕ) (start : State) (found : Found)
     → is_forward asked ≡ true → IsGone asked stops budget start from place found → place ≤ last_place budget start
@@ -92,9 +93,9 @@ shows_on session asked place found shown true forward gone before =
 shows_on session asked place found shown false forward gone before =
     rw forward (append-nil shown ∙ before.first_bytes, before.within)
 
-pub shown_once : (end_text : List ℕ) (session next : Session) (asked : Move) (reply : Reply) (shown : List ℕ) → HasShown session shown
-    → IsMoved end_text session asked reply next → HasShown next (shown ++ reply.printed)
-shown_once end_text session next asked reply shown before moved =
+pub shown_once : (end_text : List ℕ) (may_break : Bool) (session next : Session) (asked : Move) (reply : Reply) (shown : List ℕ) → HasShown session shown
+    → IsMoved end_text may_break session asked reply next → HasShown next (shown ++ reply.printed)
+shown_once end_text may_break session next asked reply shown before moved =
     let last = last_place session.history.budget session.history.start in
     let shows = shows_on session asked moved.place moved.found shown (is_forward asked) refl moved.gone before in
     let printed : reply.printed ≡ printed_on session asked (state_at session moved.place) =
