@@ -1,16 +1,14 @@
 -- What is appended to the bytes that go out.
-use Rattle.std.proofs.Common.{◌≡◌, ◌∙◌, ◌++◌, ◌∷◌, ◌+◌, ◌<◌, [], ℕ, Bool, true, false, List, None, Some, ap, append-nil, append_assoc, get_or, length, refl, subst, sym, take}
-use Rattle.std.proofs.lemmas.List.{take_more}
-use Rattle.std.specs.Prelude.{Option, Result, Ok, Err, ◌==◌}
+use Rattle.std.proofs.Common.{◌≡◌, ◌∙◌, ◌++◌, [], ℕ, Bool, true, false, List, Some, ap, append-nil, append_assoc, refl, subst, sym}
+use Rattle.std.specs.Prelude.{Option, Result, Ok, Err}
 use Rattle.std.specs.Result.{IfOk, OnOk}
 use Rattle.rv_remote.specs.Frames.{Frame, frame_behind, heard_at}
 use Rattle.rv_remote.specs.Packets.{request_of}
 use Rattle.rv_remote.specs.declared.frame.Heard.{Heard}
 use Rattle.rv_session.specs.Answers.{IsAnswered}
-use Rattle.rv_session.specs.Heard.{IsAppended, IsByteFed, IsFed, IsRespondedTo, IsResponse, IsResponseUnless, IsTaken, acknowledgement, no_bytes, packets_of, with_sent}
+use Rattle.rv_session.specs.Heard.{IsAppended, IsByteFed, IsRespondedTo, IsResponse, IsResponseUnless, IsTaken, acknowledgement, packets_of, with_sent}
 use Rattle.rv_session.specs.declared.reply.Reply.{Reply}
 use Rattle.rv_session.specs.declared.session.Session.{Session}
-use Rattle.rv_session.proofs.Cuts.{fed_byte}
 
 -- nothing is appended
 pub nothing_more : (old : List ℕ) (IsSuch : List ℕ → Type 0) → IsSuch [] → IsAppended old old IsSuch
@@ -19,6 +17,11 @@ nothing_more old IsSuch such = record { out = []; new_is = sym (append-nil old);
 -- these bytes are
 pub these_more : (old new out : List ℕ) (IsSuch : List ℕ → Type 0) → new ≡ old ++ out → IsSuch out → IsAppended old new IsSuch
 these_more old new out IsSuch is such = record { out = out; new_is = is; such = such }
+
+-- what is appended to nothing
+pub to_nothing : (old new : List ℕ) (IsSuch : List ℕ → Type 0) → old ≡ [] → IsAppended old new IsSuch → IsSuch new
+to_nothing old new IsSuch none more =
+    subst IsSuch (ap (λ (front : List ℕ). front ++ more.out) (sym none) ∙ sym more.new_is) more.such
 
 -- what is appended has another name
 pub named_otherwise : (old new : List ℕ) (IsSuch IsOther : List ℕ → Type 0) → ((out : List ℕ) → IsSuch out → IsOther out)
@@ -59,28 +62,6 @@ taken session behind next body old middle last reply acknowledged answered sent 
 }
 
 -- ---- bytes
-
--- no move is made among these bytes, so it is the same whatever is said at the end and whatever comes behind them
-abbrev pub IsFedAlone : Session → List ℕ → List ℕ → Session → Type 0
-IsFedAlone session bytes out next = (end_text : List ℕ) (behind : Bool) → IsFed end_text behind session bytes out next
-
-pub fed_none : (session : Session) → IsFedAlone session [] [] session
-fed_none session end_text behind = no_bytes session
-
-pub fed_more : (session between next : Session) (bytes told new : List ℕ) (byte : ℕ) → IsFedAlone session bytes told between
-    → between.asked ≡ None → IsAppended told new (λ out. IsByteFed between byte out next)
-    → IsFedAlone session (bytes ++ byte ∷ []) new next
-fed_more session between next bytes told new byte fed open more end_text behind =
-    subst (λ (out : List ℕ). IsFed end_text behind session (bytes ++ byte ∷ []) out next) (sym more.new_is)
-    (fed_byte end_text behind session between next bytes told more.out byte (fed end_text (byte == 3)) open more.such)
-
-pub fed_at : (session between next : Session) (bytes told new : List ℕ) (i byte : ℕ) → i < length bytes
-    → IsFedAlone session (take i bytes) told between → between.asked ≡ None
-    → IsAppended told new (λ out. IsByteFed between (get_or bytes i byte) out next)
-    → IsFedAlone session (take (i + 1) bytes) new next
-fed_at session between next bytes told new i byte within fed open more =
-    subst (λ (front : List ℕ). IsFedAlone session front new next) (sym (take_more bytes i byte within))
-    (fed_more session between next (take i bytes) told new (get_or bytes i byte) fed open more)
 
 -- a byte is heard by the reader first
 pub byte_heard : (session next : Session) (reader : Frame) (heard : Option Heard) (byte : ℕ) (out : List ℕ)

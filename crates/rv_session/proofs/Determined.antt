@@ -1,7 +1,7 @@
 -- What goes out, and the session behind it, are determined by the session and by the bytes that come.
 use Rattle.std.proofs.Common.{◌≡◌, ◌∙◌, ◌++◌, ◌∷◌, ◌+◌, ◌≤◌, ◌^◌, ◌&&◌, [], ℕ, List, Bool, true, false, Some, None, ap, refl, subst, sym}
 use Rattle.std.specs.Prelude.{Option, Result, Ok, Err, ◌==◌}
-use Rattle.std.proofs.lemmas.Bool.{and_parts, both_ways, eqb-true, neq-eqb}
+use Rattle.std.proofs.lemmas.Bool.{and_parts, both_ways, eqb-true, ne_eqb}
 use Rattle.std.proofs.Math.Bridge.{le_prop}
 use Rattle.rv_history.specs.Moves.{IsUnbroken}
 use Rattle.rv_history.specs.declared.counts.Count.{Count}
@@ -250,7 +250,7 @@ not_asked end_text may_break session next out open made = absurd (cc (open, made
 
 none_next : (bytes : List ℕ) → HasNoInterrupt bytes → is_interrupted bytes false ≡ false
 none_next [] none = refl
-none_next (byte ∷ rest) none = neq-eqb byte 3 none.0
+none_next (byte ∷ rest) none = ne_eqb byte 3 none.0
 
 pub fed_one : (end_text : List ℕ) (session one other : Session) (bytes out more : List ℕ) → HasNoInterrupt bytes
     → IsFed end_text false session bytes out one → one.asked ≡ None → IsFed end_text false session bytes more other

@@ -9,3 +9,4 @@ mod Sought
 mod Showing
 mod Ending
 mod Trapping
+pub mod Public

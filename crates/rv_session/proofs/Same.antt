@@ -125,7 +125,7 @@ responded_same session next None out response = stays session next response.1
 responded_same session next (Some heard) out response = unless_same session next session.is_over heard out response
 
 -- a byte that is heard leaves the run as it is
-byte_same : (session next : Session) (byte : ℕ) (out : List ℕ) → IsByteFed session byte out next → IsSameRun session next
+pub byte_same : (session next : Session) (byte : ℕ) (out : List ℕ) → IsByteFed session byte out next → IsSameRun session next
 byte_same session next byte out fed =
     let listening : Session = record session { reader = frame_behind session.reader byte } in
     let heard = responded_same listening next (heard_at session.reader byte) out fed in record {

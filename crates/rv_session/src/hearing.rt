@@ -1,8 +1,8 @@
 //! What is heard from gdb, and the packets that go out.
 
-ghost use Rattle.std.specs.Prelude.{◌≡◌, ◌≤◌, ◌++◌, ◌∷◌, ◌&&◌, [], ℕ, Bool, IfOk, List, None, OnOk, Some, length, take};
+ghost use Rattle.std.specs.Prelude.{◌≡◌, ◌++◌, ◌∷◌, ◌&&◌, [], IfOk, OnOk, Some};
 ghost use Rattle.rv_remote.specs.Sums.{framed};
-ghost use Rattle.rv_session.specs.Heard.{IsAppended, IsByteFed, IsFed, IsRespondedTo, IsTaken, acknowledgement, is_wrong, packets_of, printed_packet, printed_packets, printed_part, sent_again, with_sent};
+ghost use Rattle.rv_session.specs.Heard.{IsAppended, IsByteFed, IsRespondedTo, IsTaken, acknowledgement, is_wrong, packets_of, printed_packet, printed_packets, printed_part, sent_again, with_sent};
 ghost use Rattle.rv_session.specs.Replies.{refused};
 ghost use Rattle.rv_session.specs.Sessions.{IsSameRun};
 ghost use Rattle.rv_remote.specs.declared.request.Refusal.TheVariants as refusal;
@@ -16,35 +16,25 @@ use std::alloc::{AllocError, Global};
 /// The most printed bytes of a packet, two digits each.
 const MOST_PRINTED: usize = 8184;
 
-/// What a session heard of some bytes.
-#[derive(Drop)]
-pub struct Fed {
-    /// The bytes that go out.
-    pub out: Vec<u8>,
-    /// How many of the bytes were heard: all of them, or those up to the first move that is asked for.
-    pub heard: usize,
-}
-
 impl Session {
-    /// Hears bytes of gdb, in any cuts, up to the first move that is asked for; [`Session::work`] makes it, and then come the bytes
-    /// that are left. After an error the session is to be given up.
-    pub fn feed(&mut self, alloc: Global, bytes: &[u8]) -> Result<Fed, AllocError>
-        ensures fed { IfOk result (λ fed. (end_text : List ℕ) (behind : Bool)
-            → IsFed end_text behind self.old (take fed.heard bytes.now) fed.out.items self.new) }
-        ensures within { IfOk result (λ fed. fed.heard ≤ length bytes.now) }
-        ensures whole { IfOk result (λ fed. self.new.asked ≡ None → fed.heard ≡ length bytes.now) }
+    /// Hears a byte of gdb, and gives the bytes that go out. Where a move is asked for then, [`Session::work`] makes it before another
+    /// byte is heard. After an error the session is to be given up.
+    pub fn hear(&mut self, alloc: Global, byte: u8) -> Result<Vec<u8>, AllocError>
+        ensures heard { IfOk result (λ out. IsByteFed self.old byte out.items self.new) }
         ensures run { OnOk result (IsSameRun self.old self.new) }
     {
         let mut out = Vec::new(alloc);
-        let mut heard = 0;
-        while heard < bytes.len() && !self.is_asked() {
-            self.hear_byte(alloc, &mut out, bytes[heard])?;
-            heard += 1;
-        }
-        Ok(Fed { out, heard })
+        self.hear_byte(alloc, &mut out, byte)?;
+        Ok(out)
     }
 
-    fn hear_byte(&mut self, alloc: Global, out: &mut Vec<u8>, byte: u8) -> Result<(), AllocError>
+    // Appends what goes out for a byte.
+    fn hear_byte(
+        &mut self,
+        alloc: Global,
+        out: &mut Vec<u8>,
+        byte: u8,
+    ) -> Result<(), AllocError>
         ensures { OnOk result (IsAppended out.old.items out.new.items
             (λ told. IsByteFed self.old byte told self.new)) }
     {

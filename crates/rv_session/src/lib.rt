@@ -1,8 +1,8 @@
 //! A session with gdb over a run: bytes that come and bytes that go.
 //!
 //! A [`Session`] stands at a place of a run, forwards and backwards of which gdb moves it. It shows registers and memory as they stand
-//! there, and refuses every write that would change something. It hears bytes up to a move that is asked for, and then makes the move,
-//! which an interrupt may break off. What is said of the run at its end is an [`EndText`].
+//! there, and refuses every write that would change something. It hears byte after byte; a move that is asked for is made apart, and an
+//! interrupt may break it off. What is said of the run at its end is an [`EndText`].
 #![tactic(auto)]
 
 mod answer;
@@ -21,7 +21,6 @@ mod traps;
 mod writing;
 
 pub use end_text::EndText;
-pub use hearing::Fed;
 pub use law::{
     answers_are_determined, cuts_are_not_seen, ends_are_told, printed_bytes_go_out_once,
 };
