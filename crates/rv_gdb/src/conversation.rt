@@ -1,13 +1,21 @@
 //! What gdb sends, and what it is answered.
 
-ghost use Rattle.std.specs.Prelude.{◌≡◌, IfErr, IfOk, OnOk, false, true};
+ghost use Rattle.std.specs.Prelude.{◌≡◌, ◌≢◌, IfErr, IfOk, None, OnOk, is_some, option_map, true};
+ghost use Rattle.std.specs.Io.KnownBytes.{Appends};
 ghost use Rattle.rv_base.specs.Counts.{one_more};
-ghost use Rattle.rv_gdb.specs.Conversing.{IsConversed, IsEnded, IsReadAnswered};
+ghost use Rattle.rv_gdb.specs.Conversing.{IsChunkRead, IsConversed, IsEnded};
+ghost use Rattle.rv_gdb.specs.Chunks.{IsBytePut, IsChunkAnswered, IsMovePut};
+ghost use Rattle.rv_session.specs.Heard.{is_interrupted};
+ghost use Rattle.rv_session.specs.Sessions.{MayAsk};
 
+use crate::ctrl_c::{Coming, Known};
 use rv_base::{Sink, put_all};
-use rv_session::{EndText, Session, cuts_are_not_seen};
+use rv_history::Interrupt;
+use rv_session::{EndText, Session};
 use std::alloc::{AllocError, Global};
 use std::io::{ErrorKind, Read};
+use std::sync::{OnceLock, OnceToken};
+use std::thread::{Threads, join_mut};
 
 /// Why a session was broken off.
 #[derive(Clone, Copy, Debug, PartialEq, Eq)]
@@ -33,57 +41,220 @@ impl From<AllocError> for Broken {
 // A read asks for as many bytes at most: gdb's packets have up to 16,384.
 const CHUNK: usize = 16_384;
 
+// What gdb sends for Ctrl-C.
+const CTRL_C: u8 = 0x03;
+
+/// What a conversation needs of the system.
+pub struct Host<'r, R> {
+    pub rt: &'r R,
+    pub alloc: Global,
+}
+
+/// A session over a run, and what is said at the end of this run.
+#[derive(Drop)]
+pub struct Debugged<E: EndText> {
+    pub session: Session,
+    pub end: E,
+    pub ghost same_run: { E.start end ≡ session.history.start },
+}
+
 /// Hears the bytes of a reader, and puts what the session answers to them, until gdb ends the session or the reader has no more. No
-/// read begins once the session is over.
-pub fn converse<E: EndText, I: Read, O: Sink>(
-    alloc: Global,
-    session: &mut Session,
-    end: &E,
+/// read begins once the session is over. While a move is under way that nothing waits behind, another thread reads on: 0x03 breaks the
+/// move off, and so does the end of the bytes.
+pub fn converse<R: Threads, E: EndText, I: Read + Send, O: Sink>(
+    host: &Host<'_, R>,
+    debugged: &mut Debugged<E>,
     input: &mut I,
     out: &mut O,
 ) -> Result<(), Broken>
-    ensures heard { OnOk result (IsConversed (E.end_text end.now) session.old (I.remaining input.old) (I.remaining input.new)
-        (O.taken out.old) (O.taken out.new) session.new) }
-    ensures ended { OnOk result (IsEnded session.new (I.remaining input.new)) }
+    requires { debugged.old.session.asked ≡ None }
+    ensures heard { OnOk result (IsConversed (E.end_text debugged.old.end) debugged.old.session (I.remaining input.old)
+        (I.remaining input.new) (O.taken out.old) (O.taken out.new) debugged.new.session) }
+    ensures ended { OnOk result (IsEnded debugged.new.session (I.remaining input.new)) }
     ensures failed { IfErr result (λ broken. broken ≡ Broken.Unput → O.failed out.new ≡ one_more (O.failed out.old)) }
     ensures counted { OnOk result (O.failed out.new ≡ O.failed out.old) }
 {
-    cuts_are_not_seen();
-    if session.is_over() {
+    if debugged.session.is_over() {
         return Ok(());
     }
+    let mut chunk = read_chunk(host.alloc, input)?;
     for _ in 0..u64::MAX {
-        if !answer_chunk(alloc, session, end, input, out)? {
+        if chunk.is_empty() {
             return Ok(());
+        }
+        match answer_chunk(host, debugged, chunk.as_slice(), input, out)? {
+            Some(next) => chunk = next,
+            None => return Ok(()),
         }
     }
     // So many reads are never done.
     Err(Broken::Unread(ErrorKind::TimedOut))
 }
 
-// Reads once, and puts what the session answers. It says whether another read may begin.
-fn answer_chunk<E: EndText, I: Read, O: Sink>(
-    alloc: Global,
-    session: &mut Session,
-    end: &E,
+// Reads once: no byte is the end.
+fn read_chunk<I: Read>(alloc: Global, input: &mut I) -> Result<Vec<u8>, Broken>
+    ensures read { IfOk result (λ chunk. IsChunkRead (I.remaining input.old) (I.remaining input.new) chunk.items) }
+    ensures failed { IfErr result (λ broken. broken ≢ Broken.Unput) }
+{
+    let mut chunk = vec![in alloc; 0u8; CHUNK]?;
+    match input.read(chunk.as_mut_slice()) {
+        Ok(count) => {
+            chunk.truncate(count);
+            Ok(chunk)
+        }
+        Err(error) => Err(Broken::Unread(error.kind())),
+    }
+}
+
+// Answers the bytes of a read, and reads once more unless the session is over then.
+fn answer_chunk<R: Threads, E: EndText, I: Read + Send, O: Sink>(
+    host: &Host<'_, R>,
+    debugged: &mut Debugged<E>,
+    chunk: &[u8],
     input: &mut I,
     out: &mut O,
-) -> Result<bool, Broken>
-    ensures heard { OnOk result (IsReadAnswered (E.end_text end.now) session.old (I.remaining input.old) (I.remaining input.new)
-        (O.taken out.old) (O.taken out.new) session.new) }
-    ensures going { IfOk result (λ more. more ≡ true → session.new.is_over ≡ false) }
-    ensures ended { IfOk result (λ more. more ≡ false → IsEnded session.new (I.remaining input.new)) }
+) -> Result<Option<Vec<u8>>, Broken>
+    requires { debugged.old.session.asked ≡ None }
+    ensures answered { IfOk result (λ next. IsChunkAnswered (E.end_text debugged.old.end) debugged.old.session chunk.now
+        (I.remaining input.old) (I.remaining input.new) (O.taken out.old) (O.taken out.new)
+        (option_map (λ bytes. bytes.items) next) debugged.new.session) }
+    ensures same { OnOk result (debugged.new.end ≡ debugged.old.end) }
     ensures failed { IfErr result (λ broken. broken ≡ Broken.Unput → O.failed out.new ≡ one_more (O.failed out.old)) }
     ensures counted { OnOk result (O.failed out.new ≡ O.failed out.old) }
 {
-    let mut chunk = [0u8; CHUNK];
-    let count = match input.read(&mut chunk) {
-        Ok(count) => count,
-        Err(error) => return Err(Broken::Unread(error.kind())),
-    };
-    let told = session.feed(alloc, end, &chunk[..count])?;
-    match put_all(out, told.as_slice()) {
-        Ok(()) => Ok(count > 0 && !session.is_over()),
+    for index in 0..chunk.len() {
+        put_answer(host.alloc, debugged, chunk[index], out)?;
+        if debugged.session.is_asked() {
+            if index + 1 == chunk.len() {
+                return Ok(Some(move_while_reading(host, debugged, input, out)?));
+            }
+            let is_raised = chunk[index + 1] == CTRL_C;
+            put_move(host.alloc, debugged, &mut Known { is_raised }, out)?;
+        }
+    }
+    if debugged.session.is_over() {
+        return Ok(None);
+    }
+    Ok(Some(read_chunk(host.alloc, input)?))
+}
+
+// Puts what the session answers to a byte.
+fn put_answer<E: EndText, O: Sink>(
+    alloc: Global,
+    debugged: &mut Debugged<E>,
+    byte: u8,
+    out: &mut O,
+) -> Result<(), Broken>
+    ensures answered { OnOk result (IsBytePut debugged.old.session byte (O.taken out.old) (O.taken out.new) debugged.new.session) }
+    ensures open { OnOk result (debugged.old.session.asked ≡ None → MayAsk debugged.new.session) }
+    ensures same { OnOk result (debugged.new.end ≡ debugged.old.end) }
+    ensures failed { IfErr result (λ broken. broken ≡ Broken.Unput → O.failed out.new ≡ one_more (O.failed out.old)) }
+    ensures counted { OnOk result (O.failed out.new ≡ O.failed out.old) }
+{
+    let told = debugged.session.hear(alloc, byte)?;
+    put_told(out, told.as_slice())
+}
+
+// Makes the move that is asked for, and puts what the session says of it.
+fn put_move<E: EndText, J: Interrupt, O: Sink>(
+    alloc: Global,
+    debugged: &mut Debugged<E>,
+    interrupt: &mut J,
+    out: &mut O,
+) -> Result<(), Broken>
+    requires { is_some debugged.old.session.asked ≡ true }
+    ensures moved { OnOk result (IsMovePut (E.end_text debugged.old.end) (J.was_raised interrupt.new) debugged.old.session
+        (O.taken out.old) (O.taken out.new) debugged.new.session) }
+    ensures same { OnOk result (debugged.new.end ≡ debugged.old.end) }
+    ensures failed { IfErr result (λ broken. broken ≡ Broken.Unput → O.failed out.new ≡ one_more (O.failed out.old)) }
+    ensures counted { OnOk result (O.failed out.new ≡ O.failed out.old) }
+{
+    let told = debugged.session.work(alloc, &debugged.end, interrupt)?;
+    put_told(out, told.as_slice())
+}
+
+fn put_told<O: Sink>(out: &mut O, told: &[u8]) -> Result<(), Broken>
+    ensures put { OnOk result (Appends (O.taken out.old) (O.taken out.new) told.now) }
+    ensures failed { IfErr result (λ broken. broken ≡ Broken.Unput → O.failed out.new ≡ one_more (O.failed out.old)) }
+    ensures counted { OnOk result (O.failed out.new ≡ O.failed out.old) }
+{
+    match put_all(out, told) {
+        Ok(()) => Ok(()),
         Err(_) => Err(Broken::Unput),
+    }
+}
+
+// Makes the move while another thread reads once.
+fn move_while_reading<R: Threads, E: EndText, I: Read + Send, O: Sink>(
+    host: &Host<'_, R>,
+    debugged: &mut Debugged<E>,
+    input: &mut I,
+    out: &mut O,
+) -> Result<Vec<u8>, Broken>
+    requires { is_some debugged.old.session.asked ≡ true }
+    ensures read { IfOk result (λ chunk. IsChunkRead (I.remaining input.old) (I.remaining input.new) chunk.items) }
+    ensures moved { IfOk result (λ chunk. IsMovePut (E.end_text debugged.old.end) (is_interrupted chunk.items true)
+        debugged.old.session (O.taken out.old) (O.taken out.new) debugged.new.session) }
+    ensures same { OnOk result (debugged.new.end ≡ debugged.old.end) }
+    ensures failed { IfErr result (λ broken. broken ≡ Broken.Unput → O.failed out.new ≡ one_more (O.failed out.old)) }
+    ensures counted { OnOk result (O.failed out.new ≡ O.failed out.old) }
+{
+    let told = OnceLock::new();
+    let mut coming = Coming {
+        told: &told,
+        seen: None,
+    };
+    let (read, put) = join_mut(
+        host.rt,
+        &mut || read_ahead(host.alloc, input, &told),
+        &mut || put_move(host.alloc, debugged, &mut coming, out),
+    );
+    put?;
+    let Ahead { chunk, token } = read?;
+    if let Some(seen) = &coming.seen {
+        token.agrees(seen);
+    }
+    Ok(chunk)
+}
+
+// What was read while a move was under way, and what was told of it.
+struct Ahead<'a> {
+    chunk: Vec<u8>,
+    token: OnceToken<'a, bool>,
+}
+
+// Reads once, and tells whether a move is to be broken off for it.
+fn read_ahead<'a, I: Read>(
+    alloc: Global,
+    input: &mut I,
+    told: &'a OnceLock<bool>,
+) -> Result<Ahead<'a>, Broken>
+    ensures read { IfOk result (λ ahead. IsChunkRead (I.remaining input.old) (I.remaining input.new) ahead.chunk.items) }
+    ensures told { IfOk result (λ ahead. (ahead.token.of ≡ told.now.id)
+        × (ahead.token.value ≡ is_interrupted ahead.chunk.items true)) }
+    ensures failed { IfErr result (λ broken. broken ≢ Broken.Unput) }
+{
+    let read = read_chunk(alloc, input);
+    let is_raised = match &read {
+        Ok(chunk) => is_interrupted(chunk.as_slice()),
+        Err(_) => true,
+    };
+    match told.try_set(is_raised) {
+        Ok(token) => Ok(Ahead {
+            chunk: read?,
+            token,
+        }),
+        // It is told once.
+        Err(_) => Err(Broken::Unread(ErrorKind::Other)),
+    }
+}
+
+// Whether a move is broken off for bytes that come while it is under way: they begin with 0x03, or are the end.
+fn is_interrupted(bytes: &[u8]) -> bool
+    ensures { result ≡ is_interrupted bytes.now true }
+{
+    match bytes.first() {
+        Some(byte) => *byte == CTRL_C,
+        None => true,
     }
 }

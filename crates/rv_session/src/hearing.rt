@@ -1,10 +1,10 @@
 //! What is heard from gdb, and the packets that go out.
 
-ghost use Rattle.std.specs.Prelude.{◌≡◌, ◌++◌, ◌∷◌, ◌&&◌, [], IfOk, OnOk, Some};
+ghost use Rattle.std.specs.Prelude.{◌≡◌, ◌++◌, ◌∷◌, ◌&&◌, [], IfOk, None, OnOk, Some};
 ghost use Rattle.rv_remote.specs.Sums.{framed};
 ghost use Rattle.rv_session.specs.Heard.{IsAppended, IsByteFed, IsRespondedTo, IsTaken, acknowledgement, is_wrong, packets_of, printed_packet, printed_packets, printed_part, sent_again, with_sent};
 ghost use Rattle.rv_session.specs.Replies.{refused};
-ghost use Rattle.rv_session.specs.Sessions.{IsSameRun};
+ghost use Rattle.rv_session.specs.Sessions.{IsSameRun, MayAsk};
 ghost use Rattle.rv_remote.specs.declared.request.Refusal.TheVariants as refusal;
 
 use crate::reply::Reply;
@@ -21,6 +21,7 @@ impl Session {
     /// byte is heard. After an error the session is to be given up.
     pub fn hear(&mut self, alloc: Global, byte: u8) -> Result<Vec<u8>, AllocError>
         ensures heard { IfOk result (λ out. IsByteFed self.old byte out.items self.new) }
+        ensures open { OnOk result (self.old.asked ≡ None → MayAsk self.new) }
         ensures run { OnOk result (IsSameRun self.old self.new) }
     {
         let mut out = Vec::new(alloc);
