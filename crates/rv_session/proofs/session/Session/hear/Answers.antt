@@ -1,5 +1,6 @@
 use Rattle.rv_session.specs.Heard.{IsByteFed}
 use Rattle.rv_session.proofs.Appending.{to_nothing}
+use Rattle.rv_session.proofs.Asking.{byte_may}
 use Rattle.rv_session.proofs.Same.{byte_same}
 use Rattle.rv_session.proofs.session.Session.hear.Goals as goal
 
@@ -11,5 +12,11 @@ returns-clause-heard c =
 pub returns-clause-run : goal.returns-clause-run
 returns-clause-run c =
     byte_same c.args.self.now c.hear_byte.new.self c.args.byte c.hear_byte.new.out.items
+    (to_nothing _ c.hear_byte.new.out.items (λ out. IsByteFed c.args.self.now c.args.byte out c.hear_byte.new.self)
+    c.new-out.ensures.items c.in_ok-hear_byte.ensures)
+
+pub returns-clause-open : goal.returns-clause-open
+returns-clause-open c =
+    λ none. byte_may c.args.self.now c.hear_byte.new.self c.args.byte c.hear_byte.new.out.items none
     (to_nothing _ c.hear_byte.new.out.items (λ out. IsByteFed c.args.self.now c.args.byte out c.hear_byte.new.self)
     c.new-out.ensures.items c.in_ok-hear_byte.ensures)
