@@ -199,6 +199,7 @@ fn move_while_reading<R: Threads, E: EndText, I: Read + Send, O: Sink>(
     ensures failed { IfErr result (λ broken. broken ≡ Broken.Unput → O.failed out.new ≡ one_more (O.failed out.old)) }
     ensures counted { OnOk result (O.failed out.new ≡ O.failed out.old) }
 {
+    let alloc = host.alloc;
     let told = OnceLock::new();
     let mut coming = Coming {
         told: &told,
@@ -206,8 +207,8 @@ fn move_while_reading<R: Threads, E: EndText, I: Read + Send, O: Sink>(
     };
     let (read, put) = join_mut(
         host.rt,
-        &mut || read_ahead(host.alloc, input, &told),
-        &mut || put_move(host.alloc, debugged, &mut coming, out),
+        &mut || read_ahead(alloc, input, &told),
+        &mut || put_move(alloc, debugged, &mut coming, out),
     );
     put?;
     let Ahead { chunk, token } = read?;
@@ -218,6 +219,7 @@ fn move_while_reading<R: Threads, E: EndText, I: Read + Send, O: Sink>(
 }
 
 // What was read while a move was under way, and what was told of it.
+#[derive(Drop)]
 struct Ahead<'a> {
     chunk: Vec<u8>,
     token: OnceToken<'a, bool>,

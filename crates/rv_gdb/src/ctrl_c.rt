@@ -6,6 +6,7 @@ use rv_history::Interrupt;
 use std::sync::{OnceLock, OnceToken};
 
 /// An interrupt of which it is known whether it is raised.
+#[derive(Drop)]
 pub(crate) struct Known {
     pub is_raised: bool,
 }
@@ -19,6 +20,7 @@ impl Interrupt for Known {
 }
 
 /// The interrupt of which another thread learns, and which it tells once.
+#[derive(Drop)]
 pub(crate) struct Coming<'a> {
     pub told: &'a OnceLock<bool>,
     /// What was seen there, if anything.

@@ -1,5 +1,5 @@
 -- Moves that may be broken off for more than one reason.
-use Rattle.std.proofs.Common.{◌≡◌, ℕ, List, Bool, true, None}
+use Rattle.std.proofs.Common.{◌≡◌, ◌∙◌, ℕ, List, Bool, true, None, ap}
 use Rattle.rv_remote.specs.declared.request.Move.{Move}
 use Rattle.rv_session.specs.Heard.{IsWorked}
 use Rattle.rv_session.specs.Moved.{IsMoved}
@@ -29,3 +29,9 @@ worked_more end_text one other session next out more made = record {
   out_is = made.out_is;
   next_is = made.next_is;
 }
+
+-- no move is asked for once it is made
+pub worked_unasked : (end_text : List ℕ) (may_break : Bool) (session next : Session) (out : List ℕ)
+    → IsWorked end_text may_break session out next → next.asked ≡ None
+worked_unasked end_text may_break session next out made =
+    ap (λ (s : Session). s.asked) made.next_is ∙ ap (λ (s : Session). s.asked) made.moved.next_is
