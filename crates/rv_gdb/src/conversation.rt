@@ -14,7 +14,8 @@ use rv_history::Interrupt;
 use rv_session::{EndText, Session};
 use std::alloc::{AllocError, Global};
 use std::io::{ErrorKind, Read};
-use std::sync::{OnceLock, OnceToken};
+use std::sync::atomic::AtomicBool;
+use std::sync::atomic::Ordering::SeqCst;
 use std::thread::{Threads, join_mut};
 
 /// Why a session was broken off.
@@ -199,41 +200,52 @@ fn move_while_reading<R: Threads, E: EndText, I: Read + Send, O: Sink>(
     ensures failed { IfErr result (λ broken. broken ≡ Broken.Unput → O.failed out.new ≡ one_more (O.failed out.old)) }
     ensures counted { OnOk result (O.failed out.new ≡ O.failed out.old) }
 {
+    let raised = AtomicBool::new(false);
+    move_beside_reader(host, debugged, input, out, &raised)
+}
+
+// Makes the move while another thread reads once, which raises an interrupt where the move is to be broken off.
+fn move_beside_reader<R: Threads, E: EndText, I: Read + Send, O: Sink>(
+    host: &Host<'_, R>,
+    debugged: &mut Debugged<E>,
+    input: &mut I,
+    out: &mut O,
+    raised: &AtomicBool,
+) -> Result<Vec<u8>, Broken>
+    requires { is_some debugged.old.session.asked ≡ true }
+    ensures read { IfOk result (λ chunk. IsChunkRead (I.remaining input.old) (I.remaining input.new) chunk.items) }
+    ensures moved { IfOk result (λ chunk. IsMovePut (E.end_text debugged.old.end) (is_interrupted chunk.items true)
+        debugged.old.session (O.taken out.old) (O.taken out.new) debugged.new.session) }
+    ensures same { OnOk result (debugged.new.end ≡ debugged.old.end) }
+    ensures failed { IfErr result (λ broken. broken ≡ Broken.Unput → O.failed out.new ≡ one_more (O.failed out.old)) }
+    ensures counted { OnOk result (O.failed out.new ≡ O.failed out.old) }
+{
     let alloc = host.alloc;
-    let told = OnceLock::new();
     let mut coming = Coming {
-        told: &told,
-        seen: None,
+        raised,
+        was_seen: false,
     };
     let (read, put) = join_mut(
         host.rt,
-        &mut || read_ahead(alloc, input, &told),
+        &mut || read_ahead(alloc, input, raised),
         &mut || put_move(alloc, debugged, &mut coming, out),
     );
     put?;
-    let Ahead { chunk, token } = read?;
-    if let Some(seen) = &coming.seen {
-        token.agrees(seen);
+    let chunk = read?;
+    // The reading thread raised it for this chunk.
+    if coming.was_seen && !is_interrupted(chunk.as_slice()) {
+        return Err(Broken::Unread(ErrorKind::Interrupted));
     }
     Ok(chunk)
 }
 
-// What was read while a move was under way, and what was told of it.
-#[derive(Drop)]
-struct Ahead<'a> {
-    chunk: Vec<u8>,
-    token: OnceToken<'a, bool>,
-}
-
-// Reads once, and tells whether a move is to be broken off for it.
-fn read_ahead<'a, I: Read>(
+// Reads once, and raises an interrupt where a move is to be broken off for it, or where the reader failed.
+fn read_ahead<I: Read>(
     alloc: Global,
     input: &mut I,
-    told: &'a OnceLock<bool>,
-) -> Result<Ahead<'a>, Broken>
-    ensures read { IfOk result (λ ahead. IsChunkRead (I.remaining input.old) (I.remaining input.new) ahead.chunk.items) }
-    ensures told { IfOk result (λ ahead. (ahead.token.of ≡ told.now.id)
-        × (ahead.token.value ≡ is_interrupted ahead.chunk.items true)) }
+    raised: &AtomicBool,
+) -> Result<Vec<u8>, Broken>
+    ensures read { IfOk result (λ chunk. IsChunkRead (I.remaining input.old) (I.remaining input.new) chunk.items) }
     ensures failed { IfErr result (λ broken. broken ≢ Broken.Unput) }
 {
     let read = read_chunk(alloc, input);
@@ -241,14 +253,8 @@ fn read_ahead<'a, I: Read>(
         Ok(chunk) => is_interrupted(chunk.as_slice()),
         Err(_) => true,
     };
-    match told.try_set(is_raised) {
-        Ok(token) => Ok(Ahead {
-            chunk: read?,
-            token,
-        }),
-        // It is told once.
-        Err(_) => Err(Broken::Unread(ErrorKind::Other)),
-    }
+    raised.store(is_raised, SeqCst);
+    read
 }
 
 // Whether a move is broken off for bytes that come while it is under way: they begin with 0x03, or are the end.

@@ -1,9 +1,8 @@
 //! Ctrl-C, which gdb sends as the byte 0x03 while a move is under way.
 
-ghost use Rattle.std.specs.Prelude.{◌≡◌, IfSome, false, option_map, unwrap_or};
-
 use rv_history::Interrupt;
-use std::sync::{OnceLock, OnceToken};
+use std::sync::atomic::AtomicBool;
+use std::sync::atomic::Ordering::SeqCst;
 
 /// An interrupt of which it is known whether it is raised.
 #[derive(Drop)]
@@ -19,24 +18,19 @@ impl Interrupt for Known {
     }
 }
 
-/// The interrupt of which another thread learns, and which it tells once.
+/// An interrupt that another thread raises.
 #[derive(Drop)]
 pub(crate) struct Coming<'a> {
-    pub told: &'a OnceLock<bool>,
-    /// What was seen there, if anything.
-    pub seen: Option<OnceToken<'a, bool>>,
-    pub ghost of_told: { IfSome seen (λ token. token.of ≡ told.now.id) },
+    pub raised: &'a AtomicBool,
+    /// Whether it was seen.
+    pub was_seen: bool,
 }
 
 impl Interrupt for Coming<'_> {
-    ghost was_raised = { λ coming. unwrap_or (option_map (λ token. token.value) coming.seen) false };
+    ghost was_raised = { λ coming. coming.was_seen };
 
     fn is_raised(&mut self) -> bool {
-        let Some(token) = self.told.witness() else {
-            return false;
-        };
-        let is_raised = *self.told.value(&token);
-        self.seen = Some(token);
-        is_raised
+        self.was_seen = self.raised.load(SeqCst);
+        self.was_seen
     }
 }
