@@ -8,12 +8,15 @@ use crate::bounds::Bounds;
 use crate::counts::{Count, first_with};
 use crate::found::{Arrival, Found};
 use crate::interrupt::Interrupt;
-use crate::search::{Leg, next_step, next_stop};
+use crate::leg::Leg;
+use crate::machine_at::MachineAt;
+use crate::search::next_stop;
 use crate::search_back::{step_before, stop_before};
 use crate::start::Start;
+use crate::stepping::{Stepped, step_watched};
 use crate::stops::{SetOff, Stops};
 use crate::track::Track;
-use rv_machine::Machine;
+use rv_machine::{Ending, Machine};
 use std::alloc::{AllocError, Global};
 use std::marker::Model;
 
@@ -46,7 +49,6 @@ impl Model for History {
 impl History {
     ghost use Rattle.rv_history.specs.Counts.{IsFirstWith, IsFound};
     ghost use Rattle.rv_history.specs.Moves.{IsNextStep, IsNextStop, IsStepBefore, IsStopBefore};
-    ghost use Rattle.rv_history.specs.Ends.{IsFoundEnd};
     ghost use Rattle.rv_history.specs.Places.{IsReached, last_place};
     ghost use Rattle.rv_history.specs.Starts.{start_of};
     ghost use Rattle.rv_history.specs.Stops.{first_set_off};
@@ -101,17 +103,20 @@ impl History {
         ensures run { self.new ≡ record self.old { place = self.new.place } }
         ensures same { OnErr result (self.new ≡ self.old) }
     {
+        let machine = self.machine.copied(alloc)?;
         let leg = Leg {
             from: self.place,
             budget: self.budget,
             bounds,
+            at: MachineAt {
+                place: self.place,
+                machine,
+            },
         };
-        // With nothing to look for on the way, the run goes at its full speed.
-        if bounds.are_all() && stops.are_none() {
-            return self.go_to_end(alloc);
-        }
-        let arrival = next_stop(alloc, &self.track, leg, stops)?;
-        self.arrive(alloc, arrival)
+        let arrived = next_stop(alloc, &mut self.track, leg, stops, interrupt)?;
+        self.place = arrived.at.place;
+        self.machine = arrived.at.machine;
+        Ok(arrived.found)
     }
 
     /// Goes a step on, unless that is an end or would set off a watch.
@@ -120,8 +125,19 @@ impl History {
         ensures run { self.new ≡ record self.old { place = self.new.place } }
         ensures same { OnErr result (self.new ≡ self.old) }
     {
-        let arrival = next_step(alloc, &self.track, self.budget, self.place, stops)?;
-        self.arrive(alloc, arrival)
+        if self.place == self.budget {
+            return Ok(Found::End(Ending::Budget));
+        }
+        let mut machine = self.machine.copied(alloc)?;
+        match step_watched(alloc, &mut machine, stops)? {
+            Stepped::Ended(ending) => Ok(Found::End(ending)),
+            Stepped::Changed => Ok(Found::Change),
+            Stepped::Quiet => {
+                self.machine = machine;
+                self.place += 1;
+                Ok(Found::Done)
+            }
+        }
     }
 
     /// Goes back to the stop before, or to the start. Where it is interrupted, it stands where it stood.
@@ -136,7 +152,12 @@ impl History {
         ensures run { self.new ≡ record self.old { place = self.new.place } }
         ensures same { OnErr result (self.new ≡ self.old) }
     {
-        let arrival = stop_before(alloc, &self.track, self.place, stops)?;
+        // From now on there are states at hand near to here, and the parts of the search are short.
+        let _ = self.track.reach(alloc, self.place)?;
+        let arrival = stop_before(alloc, &self.track, self.place, stops, interrupt)?;
+        if let Found::Interrupted = arrival.found {
+            return Ok(arrival.found);
+        }
         self.arrive(alloc, arrival)
     }
 
@@ -216,18 +237,6 @@ impl History {
         stops.first_set_off(alloc, &behind, &self.machine)
     }
 
-    // Goes to the end of the run.
-    fn go_to_end(&mut self, alloc: Global) -> Result<Found, AllocError>
-        ensures end { IfOk result (λ found. IsFoundEnd self.old.budget self.old.start self.new.place found) }
-        ensures run { self.new ≡ record self.old { place = self.new.place } }
-        ensures same { OnErr result (self.new ≡ self.old) }
-    {
-        let (at, ending) = self.track.reach(alloc, self.budget)?;
-        self.machine = at.machine;
-        self.place = at.place;
-        Ok(Found::End(ending))
-    }
-
     // Goes to where a search ended.
     fn arrive(&mut self, alloc: Global, arrival: Arrival) -> Result<Found, AllocError>
         requires { arrival.place ≤ last_place self.old.budget self.old.start }
@@ -235,7 +244,7 @@ impl History {
         ensures moved { IfOk result (λ found. self.new ≡ record self.old { place = arrival.place }) }
         ensures same { OnErr result (self.new ≡ self.old) }
     {
-        let (at, _) = self.track.reach(alloc, arrival.place)?;
+        let at = self.track.come_to(alloc, arrival.place)?;
         self.machine = at.machine;
         self.place = arrival.place;
         Ok(arrival.found)

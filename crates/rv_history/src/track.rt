@@ -108,6 +108,25 @@ impl Track {
         Ok(MachineAt { place: 0, machine })
     }
 
+    /// The last of another machine of the run and those at the states at hand, up to a place.
+    pub(crate) fn last_of(
+        &self,
+        alloc: Global,
+        at: MachineAt,
+        place: u32,
+    ) -> Result<MachineAt, AllocError>
+        requires there { IsAt self.now at }
+        requires within { at.place ≤ place }
+        ensures there { IfOk result (IsAt self.now) }
+        ensures order { IfOk result (λ last. (at.place ≤ last.place) × (last.place ≤ place)) }
+    {
+        let kept = self.before(alloc, place)?;
+        if at.place < kept.place {
+            return Ok(kept);
+        }
+        Ok(at)
+    }
+
     // The last state that is kept up to a place.
     fn nearest(&self, place: u32) -> Option<&MachineAt>
         ensures state { IfSome result (λ at. IsAt self.now at.now) }
@@ -152,6 +171,28 @@ impl Track {
         }
         let ending = at.go_to(place);
         Ok((at, ending))
+    }
+
+    /// The machine at a place to which the run comes. States are kept on the way.
+    pub(crate) fn come_to(&mut self, alloc: Global, place: u32) -> Result<MachineAt, AllocError>
+        requires { (run_of place self.old).steps ≡ place }
+        ensures place { IfOk result (λ at. at.place ≡ place) }
+        ensures there { IfOk result (IsAt self.old) }
+        ensures same { self.new ≡ self.old }
+    {
+        let (at, _) = self.reach(alloc, place)?;
+        Ok(at)
+    }
+
+    /// Keeps the state of a machine at a multiple of the interval, if none is kept there.
+    pub(crate) fn keep_multiple(&mut self, alloc: Global, at: &MachineAt) -> Result<(), AllocError>
+        requires { IsAt self.old at.now }
+        ensures { self.new ≡ self.old }
+    {
+        if at.place == 0 || at.place % self.interval != 0 || self.coarse.has(at.place) {
+            return Ok(());
+        }
+        self.keep(alloc, at)
     }
 
     // The next place on the way from one place to another where a state is to be kept.

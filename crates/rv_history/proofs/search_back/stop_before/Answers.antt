@@ -6,22 +6,22 @@ use Rattle.rv_history.proofs.Unstopped.{begins_unstopped}
 use Rattle.rv_history.proofs.search_back.stop_before.Goals as goal
 
 pub search_part-requires-clause-comes : goal.search_part-requires-clause-comes
-search_part-requires-clause-comes c =
+search_part-requires-clause-comes g c =
     completes c.args.from c.loop-end.end c.args.track.now (let order = c.loop-end.invariant.order in omega (arith, c.requires))
 
-pub returns-then-are_none : goal.returns-then-are_none
-returns-then-are_none c = λ budget within.
+pub returns-then-are_none-clause-stop : goal.returns-then-are_none-clause-stop
+returns-then-are_none-clause-stop g c = λ budget within.
     begins_unstopped c.args.stops.now budget c.args.from c.args.track.now (c.are_none.ensures.0 c.if-are_none.true)
 
-pub returns-in-Some : goal.returns-in-Some
-returns-in-Some c = λ budget within.
+pub returns-in-Some-clause-stop : goal.returns-in-Some-clause-stop
+returns-in-Some-clause-stop g c = λ budget within.
     let order = c.loop-end.invariant.order in
     let found = c.in_ok-part.ensures.last budget (omega (arith, order, within)) in
     last_before c.args.stops.now budget c.loop-end.end c.args.from c.args.track.now c.in-Some.last order
     (c.loop-end.invariant.quiet budget within) (rw c.in-Some.is at found)
 
 pub loop-end-preserved : goal.loop-end-preserved
-loop-end-preserved c =
+loop-end-preserved g c =
     let order = c.loop-end.invariant.order in
     let before = c.in_ok-part.ensures.begin in record {
       order = omega (arith, order, before);
@@ -31,8 +31,8 @@ loop-end-preserved c =
           (rw c.in_default.is at found) (c.loop-end.invariant.quiet budget within);
     }
 
-pub returns : goal.returns
-returns c = λ budget within.
+pub returns-clause-stop : goal.returns-clause-stop
+returns-clause-stop g c = λ budget within.
     let none : c.loop-end.end ≡ 0 = omega arith in
     begins_over c.args.stops.now budget c.args.from c.args.track.now
     (subst (λ (k : ℕ). AreQuiet c.args.stops.now budget c.args.track.now k c.args.from) none
