@@ -105,27 +105,27 @@ chunk_over end_text session next chunk i input a b is heard over = record {
 pub chunk_read : (end_text : List ℕ) (session next : Session) (chunk bytes : List ℕ) (i : ℕ) (x y a b : Option (List ℕ))
     → i ≡ length chunk → IsHeardIn end_text session chunk i a b next → next.is_over ≡ false → IsChunkRead x y bytes
     → IsChunkAnswered end_text session chunk x y a b (Some bytes) next
-chunk_read end_text session next chunk bytes i x y a b is heard open read =
+chunk_read end_text session next chunk bytes i x y a b is heard going read =
     let fed = heard_whole end_text session next chunk i a b (is_interrupted bytes true) is heard in record {
       told = heard.told;
       fed = fed;
       made = heard.made;
       put = heard.put;
-      read = (read, record { told = heard.told; standing = next; fed = fed; is_open = open });
+      read = (read, record { told = heard.told; standing = next; fed = fed; is_open = going });
     }
 
 pub chunk_moved : (end_text : List ℕ) (session standing next : Session) (chunk bytes : List ℕ) (i : ℕ) (x y a b c : Option (List ℕ))
     → i + 1 ≡ length chunk → IsHeardAt end_text session chunk i a b standing → standing.is_over ≡ false
     → IsMovePut end_text (is_interrupted bytes true) standing b c next → IsChunkRead x y bytes
     → IsChunkAnswered end_text session chunk x y a c (Some bytes) next
-chunk_moved end_text session standing next chunk bytes i x y a b c is at open move read =
+chunk_moved end_text session standing next chunk bytes i x y a b c is at going move read =
     let may = is_interrupted bytes true in
     let first = at_end end_text may session standing chunk at.told (i + 1) is (at.fed may) in record {
       told = at.told ++ move.told;
       fed = fed_move end_text may session standing next chunk at.told move.told first move.made;
       made = worked_unasked end_text may standing next move.told move.made;
       put = Appends-trans a b c at.told move.told at.put move.put;
-      read = (read, record { told = at.told; standing = standing; fed = first; is_open = open });
+      read = (read, record { told = at.told; standing = standing; fed = first; is_open = going });
     }
 
 -- a move that was broken off, as another thread told, was so for what this thread read
@@ -156,7 +156,7 @@ silent end_text session input out none = record {
 -- the first chunk is read
 pub first_read : (end_text : List ℕ) (session : Session) (chunk : List ℕ) (a b out : Option (List ℕ)) → session.asked ≡ None
     → session.is_over ≡ false → IsChunkRead a b chunk → IsHeardUpTo end_text session a b out out chunk session
-first_read end_text session chunk a b out none open chunk_is = record {
+first_read end_text session chunk a b out none going chunk_is = record {
   front = [];
   told = [];
   read = chunk_is.read;
@@ -168,7 +168,7 @@ first_read end_text session chunk a b out none open chunk_is = record {
     told = [];
     standing = session;
     fed = no_bytes session;
-    is_open = open;
+    is_open = going;
   });
   ended = chunk_is.ended;
   fed = no_bytes session;

@@ -147,7 +147,7 @@ fn put_answer<E: EndText, O: Sink>(
     out: &mut O,
 ) -> Result<(), Broken>
     ensures answered { OnOk result (IsBytePut debugged.old.session byte (O.taken out.old) (O.taken out.new) debugged.new.session) }
-    ensures open { OnOk result (debugged.old.session.asked ≡ None → MayAsk debugged.new.session) }
+    ensures not_over { OnOk result (debugged.old.session.asked ≡ None → MayAsk debugged.new.session) }
     ensures same { OnOk result (debugged.new.end ≡ debugged.old.end) }
     ensures failed { IfErr result (λ broken. broken ≡ Broken.Unput → O.failed out.new ≡ one_more (O.failed out.old)) }
     ensures counted { OnOk result (O.failed out.new ≡ O.failed out.old) }

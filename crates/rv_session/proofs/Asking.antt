@@ -47,37 +47,37 @@ written_unasked session next reg.Taken value reply none written =
 
 answered_may : (session next : Session) (request : Request) (reply : Reply) → session.is_over ≡ false → session.asked ≡ None
     → IsAnswered session request reply next → MayAsk next
-answered_may session next (ask.Move asked) reply open none answered = inr (ap (λ (s : Session). s.is_over) answered.1 ∙ open)
-answered_may session next (ask.WriteRegister register value) reply open none answered =
+answered_may session next (ask.Move asked) reply going none answered = inr (ap (λ (s : Session). s.is_over) answered.1 ∙ going)
+answered_may session next (ask.WriteRegister register value) reply going none answered =
     inl (written_unasked session next register value reply none answered)
-answered_may session next (ask.Set place) reply open none answered =
+answered_may session next (ask.Set place) reply going none answered =
     inl (set_unasked session next answered.outcome reply none answered.set)
-answered_may session next (ask.Command text) reply open none answered =
+answered_may session next (ask.Command text) reply going none answered =
     inl (placed_unasked session next 0 (is_reset text) none answered.1)
-answered_may session next request reply open none answered = inl (unasked next _ answered.1 none)
+answered_may session next request reply going none answered = inl (unasked next _ answered.1 none)
 
 taken_may : (session next : Session) (body out : List ℕ) → session.is_over ≡ false → session.asked ≡ None
     → IsTaken session body out next → MayAsk next
-taken_may session next body out open none took =
-    elim (answered_may session took.behind (request_of body) took.reply open none took.answered) [
+taken_may session next body out going none took =
+    elim (answered_may session took.behind (request_of body) took.reply going none took.answered) [
       | inl unasks ↦ inl (unasked next (with_sent took.behind took.reply) took.next_is unasks)
       | inr opens ↦ inr (ap (λ (s : Session). s.is_over) took.next_is ∙ opens)
     ]
 
 judged_may : (session next : Session) (again : Bool) (body out : List ℕ) → session.is_over ≡ false → session.asked ≡ None
     → IsJudged session again body out next → MayAsk next
-judged_may session next true body out open none judged = inl (unasked next session judged.1 none)
-judged_may session next false body out open none judged = taken_may session next body out open none judged
+judged_may session next true body out going none judged = inl (unasked next session judged.1 none)
+judged_may session next false body out going none judged = taken_may session next body out going none judged
 
 response_may : (session next : Session) (heard : Heard) (out : List ℕ) → session.is_over ≡ false → session.asked ≡ None
     → IsResponse session heard out next → MayAsk next
-response_may session next heard.Interrupt out open none response = inl (unasked next session response.1 none)
-response_may session next heard.Arrived out open none response = inl (unasked next session response.1 none)
-response_may session next heard.Again out open none response = inl (unasked next session response.1 none)
-response_may session next heard.TooLong out open none response =
+response_may session next heard.Interrupt out going none response = inl (unasked next session response.1 none)
+response_may session next heard.Arrived out going none response = inl (unasked next session response.1 none)
+response_may session next heard.Again out going none response = inl (unasked next session response.1 none)
+response_may session next heard.TooLong out going none response =
     inl (unasked next (with_sent session (refused refusal.TooLong)) response.1 none)
-response_may session next (heard.Packet body sum) out open none response =
-    judged_may session next (session.acknowledges && is_wrong sum) body out open none response
+response_may session next (heard.Packet body sum) out going none response =
+    judged_may session next (session.acknowledges && is_wrong sum) body out going none response
 
 unless_may : (session next : Session) (over : Bool) (heard : Heard) (out : List ℕ) → session.is_over ≡ over → session.asked ≡ None
     → IsResponseUnless over session heard out next → MayAsk next

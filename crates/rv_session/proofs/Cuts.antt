@@ -14,9 +14,9 @@ pub fed_both : (end_text : List ℕ) (behind : Bool) (session between next : Ses
     → IsFed end_text (is_interrupted rest behind) session front out between → IsFed end_text behind between rest more next
     → IsFed end_text behind session (front ++ rest) (out ++ more) next
 fed_both end_text behind session between next front rest out more (no_bytes same) second = second
-fed_both end_text behind session between next front rest out more (byte_first same middle last byte later told sent open one first) second =
+fed_both end_text behind session between next front rest out more (byte_first same middle last byte later told sent going one first) second =
     subst (λ (all : List ℕ). IsFed end_text behind session (byte ∷ (later ++ rest)) all next) (sym (append_assoc told sent more))
-    (byte_first session middle next byte (later ++ rest) told (sent ++ more) open one
+    (byte_first session middle next byte (later ++ rest) told (sent ++ more) going one
     (fed_both end_text behind middle between next later rest sent more first second))
 fed_both end_text behind session between next front rest out more (move_first same middle last bytes told sent made first) second =
     subst (λ (all : List ℕ). IsFed end_text behind session (front ++ rest) all next) (sym (append_assoc told sent more))
@@ -26,16 +26,16 @@ fed_both end_text behind session between next front rest out more (move_first sa
 
 one_byte : (end_text : List ℕ) (behind : Bool) (session next : Session) (byte : ℕ) (out : List ℕ) → session.asked ≡ None
     → IsByteFed session byte out next → IsFed end_text behind session (byte ∷ []) out next
-one_byte end_text behind session next byte out open one =
+one_byte end_text behind session next byte out going one =
     subst (λ (all : List ℕ). IsFed end_text behind session (byte ∷ []) all next) (append-nil out)
-    (byte_first session next next byte [] out [] open one (no_bytes next))
+    (byte_first session next next byte [] out [] going one (no_bytes next))
 
 pub fed_byte : (end_text : List ℕ) (behind : Bool) (session between next : Session) (front out more : List ℕ) (byte : ℕ)
     → IsFed end_text (byte == 3) session front out between → between.asked ≡ None → IsByteFed between byte more next
     → IsFed end_text behind session (front ++ byte ∷ []) (out ++ more) next
-fed_byte end_text behind session between next front out more byte first open one =
+fed_byte end_text behind session between next front out more byte first going one =
     fed_both end_text behind session between next front (byte ∷ []) out more first
-    (one_byte end_text behind between next byte more open one)
+    (one_byte end_text behind between next byte more going one)
 
 one_move : (end_text : List ℕ) (behind : Bool) (session next : Session) (out : List ℕ) → IsWorked end_text behind session out next
     → IsFed end_text behind session [] out next

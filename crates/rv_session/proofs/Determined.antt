@@ -246,7 +246,7 @@ worked_one end_text may_break session one other out more never first second =
 
 not_asked : (end_text : List ℕ) (may_break : Bool) (session next : Session) (out : List ℕ) → session.asked ≡ None
     → IsWorked end_text may_break session out next → ⊥
-not_asked end_text may_break session next out open made = absurd (cc (open, made.asked_is))
+not_asked end_text may_break session next out going made = absurd (cc (going, made.asked_is))
 
 none_next : (bytes : List ℕ) → HasNoInterrupt bytes → is_interrupted bytes false ≡ false
 none_next [] none = refl
@@ -255,26 +255,26 @@ none_next (byte ∷ rest) none = ne_eqb byte 3 none.0
 pub fed_one : (end_text : List ℕ) (session one other : Session) (bytes out more : List ℕ) → HasNoInterrupt bytes
     → IsFed end_text false session bytes out one → one.asked ≡ None → IsFed end_text false session bytes more other
     → other.asked ≡ None → (out ≡ more) × (one ≡ other)
-fed_one end_text session one other bytes out more none (no_bytes same) open (no_bytes again) opened = (refl, refl)
-fed_one end_text session one other bytes out more none (no_bytes same) open (move_first again middle end rest said shown made further) opened =
-    absurd (not_asked end_text (is_interrupted bytes false) session middle said open made)
-fed_one end_text session one other bytes out more none (move_first same between last rest told sent made later) open (no_bytes again) opened =
+fed_one end_text session one other bytes out more none (no_bytes same) going (no_bytes again) opened = (refl, refl)
+fed_one end_text session one other bytes out more none (no_bytes same) going (move_first again middle end rest said shown made further) opened =
+    absurd (not_asked end_text (is_interrupted bytes false) session middle said going made)
+fed_one end_text session one other bytes out more none (move_first same between last rest told sent made later) going (no_bytes again) opened =
     absurd (not_asked end_text (is_interrupted bytes false) session between told opened made)
-fed_one end_text session one other bytes out more none (move_first same between last rest told sent made later) open
+fed_one end_text session one other bytes out more none (move_first same between last rest told sent made later) going
     (byte_first again middle end again_byte again_rest said shown unasked second further) opened =
     absurd (not_asked end_text (is_interrupted bytes false) session between told unasked made)
-fed_one end_text session one other bytes out more none (byte_first same between last byte rest told sent unasked first later) open
+fed_one end_text session one other bytes out more none (byte_first same between last byte rest told sent unasked first later) going
     (move_first again middle end again_rest said shown made further) opened =
     absurd (not_asked end_text (is_interrupted bytes false) session middle said unasked made)
-fed_one end_text session one other bytes out more none (byte_first same between last byte rest told sent unasked first later) open
+fed_one end_text session one other bytes out more none (byte_first same between last byte rest told sent unasked first later) going
     (byte_first again middle end again_byte again_rest said shown still second further) opened =
     let here = byte_one session between middle byte told said first second in
-    let there = fed_one end_text between one other rest sent shown none.1 later open
+    let there = fed_one end_text between one other rest sent shown none.1 later going
     (subst (λ (s : Session). IsFed end_text false s rest shown other) (sym here.1) further) opened in
     (ap (λ (front : List ℕ). front ++ sent) here.0 ∙ ap (λ (behind : List ℕ). said ++ behind) there.0, there.1)
-fed_one end_text session one other bytes out more none (move_first same between last rest told sent made later) open
+fed_one end_text session one other bytes out more none (move_first same between last rest told sent made later) going
     (move_first again middle end again_rest said shown again_made further) opened =
     let here = worked_one end_text (is_interrupted bytes false) session between middle told said (none_next bytes none) made again_made in
-    let there = fed_one end_text between one other bytes sent shown none later open
+    let there = fed_one end_text between one other bytes sent shown none later going
     (subst (λ (s : Session). IsFed end_text false s bytes shown other) (sym here.1) further) opened in
     (ap (λ (front : List ℕ). front ++ sent) here.0 ∙ ap (λ (behind : List ℕ). said ++ behind) there.0, there.1)

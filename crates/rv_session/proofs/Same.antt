@@ -146,7 +146,7 @@ worked_same end_text may_break session next out made = same_run_on session made.
 pub fed_same : (end_text : List ℕ) (behind : Bool) (session next : Session) (bytes out : List ℕ)
     → IsFed end_text behind session bytes out next → IsSameRun session next
 fed_same end_text behind session next bytes out (no_bytes same) = same_run session
-fed_same end_text behind session next bytes out (byte_first same between last byte rest told more open one fed) =
+fed_same end_text behind session next bytes out (byte_first same between last byte rest told more going one fed) =
     same_run_on session between next (byte_same session between byte told one)
     (fed_same end_text behind between next rest more fed)
 fed_same end_text behind session next bytes out (move_first same between last rest told more made fed) =

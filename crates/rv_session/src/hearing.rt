@@ -21,7 +21,7 @@ impl Session {
     /// byte is heard. After an error the session is to be given up.
     pub fn hear(&mut self, alloc: Global, byte: u8) -> Result<Vec<u8>, AllocError>
         ensures heard { IfOk result (λ out. IsByteFed self.old byte out.items self.new) }
-        ensures open { OnOk result (self.old.asked ≡ None → MayAsk self.new) }
+        ensures not_over { OnOk result (self.old.asked ≡ None → MayAsk self.new) }
         ensures run { OnOk result (IsSameRun self.old self.new) }
     {
         let mut out = Vec::new(alloc);
