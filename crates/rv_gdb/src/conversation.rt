@@ -1,10 +1,12 @@
 //! What gdb sends, and what it is answered.
 
 ghost use Rattle.std.specs.Prelude.{◌≡◌, ◌≢◌, IfErr, IfOk, None, OnOk, is_some, option_map, true};
+ghost use Rattle.std.specs.Coded.{Coded-set};
 ghost use Rattle.std.specs.Io.KnownBytes.{Appends};
 ghost use Rattle.rv_base.specs.Counts.{one_more};
 ghost use Rattle.rv_gdb.specs.Conversing.{IsChunkRead, IsConversed, IsEnded};
 ghost use Rattle.rv_gdb.specs.Chunks.{IsBytePut, IsChunkAnswered, IsMovePut};
+ghost use Rattle.rv_machine.proofs.Public.{state_code};
 ghost use Rattle.rv_session.specs.Heard.{is_interrupted};
 ghost use Rattle.rv_session.specs.Sessions.{MayAsk};
 
@@ -56,7 +58,8 @@ pub struct Host<'r, R> {
 pub struct Debugged<E: EndText> {
     pub session: Session,
     pub end: E,
-    pub ghost same_run: { E.start end ≡ session.history.start },
+    pub ghost same_run: { E.start end ≡ session.history.start }
+        by { Coded-set state_code (E.start end) session.history.start },
 }
 
 /// Hears the bytes of a reader, and puts what the session answers to them, until gdb ends the session or the reader has no more. No
