@@ -186,7 +186,7 @@ heard_both : (end_text : List ℕ) (may : Bool) (session between next : Session)
     → chunk ≢ [] → (first : IsHeardUpTo end_text session a b x y chunk between) → IsFed end_text may between chunk more next
     → IsFed end_text may session (first.front ++ chunk) (first.told ++ more) next
 heard_both end_text may session between next chunk more a b x y some first second =
-    fed_both end_text may session between next first.front chunk first.told more
+    fed_both end_text may chunk session between next first.front first.told more
     (subst (λ (m : Bool). IsFed end_text m session first.front first.told between) (same_next chunk true may some) first.fed) second
 
 pub heard_more : (end_text : List ℕ) (session between next : Session) (chunk bytes : List ℕ) (a b c x y z : Option (List ℕ)) → chunk ≢ []

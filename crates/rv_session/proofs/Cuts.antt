@@ -10,19 +10,19 @@ next_of_both : (bytes rest : List ℕ) (behind : Bool)
 next_of_both [] rest behind = refl
 next_of_both (byte ∷ more) rest behind = refl
 
-pub fed_both : (end_text : List ℕ) (behind : Bool) (session between next : Session) (front rest out more : List ℕ)
+pub fed_both : (end_text : List ℕ) (behind : Bool) (rest : List ℕ) (session between next : Session) (front out more : List ℕ)
     → IsFed end_text (is_interrupted rest behind) session front out between → IsFed end_text behind between rest more next
     → IsFed end_text behind session (front ++ rest) (out ++ more) next
-fed_both end_text behind session between next front rest out more (no_bytes same) second = second
-fed_both end_text behind session between next front rest out more (byte_first same middle last byte later told sent going one first) second =
+fed_both end_text behind rest session between next front out more (no_bytes same) second = second
+fed_both end_text behind rest session between next front out more (byte_first same middle last byte later told sent going one first) second =
     subst (λ (all : List ℕ). IsFed end_text behind session (byte ∷ (later ++ rest)) all next) (sym (append_assoc told sent more))
     (byte_first session middle next byte (later ++ rest) told (sent ++ more) going one
-    (fed_both end_text behind middle between next later rest sent more first second))
-fed_both end_text behind session between next front rest out more (move_first same middle last bytes told sent made first) second =
+    (fed_both end_text behind rest middle between next later sent more first second))
+fed_both end_text behind rest session between next front out more (move_first same middle last bytes told sent made first) second =
     subst (λ (all : List ℕ). IsFed end_text behind session (front ++ rest) all next) (sym (append_assoc told sent more))
     (move_first session middle next (front ++ rest) told (sent ++ more)
     (subst (λ (may : Bool). IsWorked end_text may session told middle) (next_of_both front rest behind) made)
-    (fed_both end_text behind middle between next front rest sent more first second))
+    (fed_both end_text behind rest middle between next front sent more first second))
 
 one_byte : (end_text : List ℕ) (behind : Bool) (session next : Session) (byte : ℕ) (out : List ℕ) → session.asked ≡ None
     → IsByteFed session byte out next → IsFed end_text behind session (byte ∷ []) out next
@@ -34,7 +34,7 @@ pub fed_byte : (end_text : List ℕ) (behind : Bool) (session between next : Ses
     → IsFed end_text (byte == 3) session front out between → between.asked ≡ None → IsByteFed between byte more next
     → IsFed end_text behind session (front ++ byte ∷ []) (out ++ more) next
 fed_byte end_text behind session between next front out more byte first going one =
-    fed_both end_text behind session between next front (byte ∷ []) out more first
+    fed_both end_text behind (byte ∷ []) session between next front out more first
     (one_byte end_text behind between next byte more going one)
 
 one_move : (end_text : List ℕ) (behind : Bool) (session next : Session) (out : List ℕ) → IsWorked end_text behind session out next
@@ -49,4 +49,4 @@ pub fed_move : (end_text : List ℕ) (behind : Bool) (session between next : Ses
     → IsFed end_text behind session front (out ++ more) next
 fed_move end_text behind session between next front out more first made =
     subst (λ (bytes : List ℕ). IsFed end_text behind session bytes (out ++ more) next) (append-nil front)
-    (fed_both end_text behind session between next front [] out more first (one_move end_text behind between next more made))
+    (fed_both end_text behind [] session between next front out more first (one_move end_text behind between next more made))

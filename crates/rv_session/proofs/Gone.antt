@@ -1,8 +1,8 @@
 -- Moves, and the stops that are told.
-use Rattle.std.proofs.Common.{◌≡◌, ◌∙◌, ◌<◌, ℕ, Bool, List, true, ap, arith, subst, sym}
+use Rattle.std.proofs.Common.{◌≡◌, ◌∙◌, ◌<◌, ◌≤◌, ℕ, Bool, List, true, ap, arith, subst, sym}
 use Rattle.std.proofs.lemmas.Bool.{false≢true}
 use Rattle.rv_history.specs.Moves.{IsNextStep, MeetsAhead}
-use Rattle.rv_history.specs.Places.{last_place}
+use Rattle.rv_history.specs.Places.{IsReached, last_place}
 use Rattle.rv_history.specs.declared.bounds.Bounds.{Bounds}
 use Rattle.rv_history.specs.declared.bounds.Bounds.TheVariants as bounds
 use Rattle.rv_history.specs.declared.found.Found.{Found}
@@ -13,11 +13,23 @@ use Rattle.rv_remote.specs.Stops.{stop_text}
 use Rattle.rv_remote.specs.declared.request.Move.{Move}
 use Rattle.rv_remote.specs.declared.request.Move.TheVariants as move
 use Rattle.rv_remote.specs.declared.stop.Stop.{Stop}
+use Rattle.rv_trace.proofs.Public.{completes}
+use Rattle.rv_trace.specs.Trace.{state_after}
 use Rattle.rv_session.specs.Moved.{CanTell, IsBroken, IsGone, IsMoved, end_text_at, is_forward, printed_on, shown_on, stop_of}
 use Rattle.rv_session.specs.Replies.{stopping}
 use Rattle.rv_session.specs.Sessions.{at_place, here, state_at}
 use Rattle.rv_session.specs.declared.reply.Reply.{Reply}
 use Rattle.rv_session.specs.declared.session.Session.{Session}
+
+-- the machine of a session stands at its place of the run
+pub stands : (session : Session) (start : State) (place : ℕ) (s : State) → start ≡ session.history.start
+    → place ≡ session.history.place → place ≤ last_place session.history.budget session.history.start
+    → s ≡ state_after session.history.place session.history.start → IsReached start place s
+stands session start place s starts is within same =
+    subst (λ (t : State). IsReached t place s) (sym starts) (record {
+      completed = completes session.history.budget place session.history.start within;
+      same = same ∙ ap (λ (k : ℕ). state_after k session.history.start) (sym is);
+    })
 
 changes_within : (stops : Stops) (limits : Bounds) (budget from place : ℕ) (start : State) (what : Found)
     → MeetsAhead stops limits budget start from place what → what ≡ found.Change → place < last_place budget start

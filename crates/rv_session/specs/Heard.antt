@@ -1,5 +1,5 @@
 -- What goes out for the bytes that come.
-use Rattle.std.specs.Prelude.{ℕ, List, All, [], ◌∷◌, ◌++◌, ◌≡◌, ◌≢◌, ◌&&◌, ◌+◌, ◌*◌, ◌-◌, ◌/◌, ◌==◌, Bool, true, false, Option, Some, None, drop, if◌then◌else◌, length, take}
+use Rattle.std.specs.Prelude.{ℕ, List, ⊤, [], ◌∷◌, ◌++◌, ◌≡◌, ◌≢◌, ◌&&◌, ◌+◌, ◌*◌, ◌-◌, ◌/◌, ◌==◌, Bool, true, false, Option, Some, None, drop, if◌then◌else◌, length, take}
 use Rattle.std.specs.List.{flat_map, range_with_len}
 use Rattle.hex.specs.Hex.{encode_lower}
 use Rattle.rv_remote.specs.Frames.{frame_behind, heard_at}
@@ -123,7 +123,8 @@ is_interrupted (byte ∷ rest) behind = byte == 3
 
 -- none of the bytes is 0x03
 abbrev pub HasNoInterrupt : List ℕ → Type 0
-HasNoInterrupt bytes = All (λ byte. byte ≢ 3) bytes
+HasNoInterrupt [] = ⊤
+HasNoInterrupt (byte ∷ rest) = (byte ≢ 3) × HasNoInterrupt rest
 
 -- Bytes are heard one behind the other. A move that is asked for is made before the next byte is heard. Whether one that is asked for
 -- by the last byte may be broken off hangs on what comes behind them.

@@ -32,11 +32,12 @@ impl Session {
             (λ out. IsWorked (E.end_text end.now) (I.was_raised interrupt.new) self.old out.items self.new) }
         ensures run { OnOk result (IsSameRun self.old self.new) }
     {
+        let Some(asked) = self.asked.take() else {
+            return Ok(Vec::new(alloc));
+        };
+        let reply = self.move_as(alloc, end, asked, interrupt)?;
         let mut out = Vec::new(alloc);
-        if let Some(asked) = self.asked.take() {
-            let reply = self.move_as(alloc, end, asked, interrupt)?;
-            self.send(alloc, &mut out, &reply)?;
-        }
+        self.send(alloc, &mut out, &reply)?;
         Ok(out)
     }
 
