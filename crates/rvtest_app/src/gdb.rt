@@ -11,7 +11,7 @@ ghost use Rattle.rv_gdb.specs.JobSessions.{IsSessionOf};
 ghost use Rattle.rv_job_text.specs.Telling.{row_line};
 ghost use Rattle.rv_rows.specs.Rows.{row_of, start_in};
 ghost use Rattle.rvtest_app.specs.CommandStops.{IsGdbStop, IsNoJobStop, IsUnopenedAtStop};
-ghost use Rattle.rvtest_app.specs.Debugging.{IsBrokenStop, IsGdbAnswered, IsJobOpened, IsNoGdbStop, IsOpenedAt, IsOpenedOf, IsUnopenedOfStop, IsUnopenedStop, job_end_text};
+ghost use Rattle.rvtest_app.specs.Debugging.{IsBrokenStop, IsGdbAnswered, IsJobOpened, IsNoGdbStop, IsOpenedAt, IsOpenedOf, IsUnopenedOfStop, IsUnopenedStop, job_end_text, job_start};
 ghost use Rattle.rvtest_app.specs.Said.{said};
 
 use crate::destinations::Destinations;
@@ -37,6 +37,7 @@ use std::path::Path;
 struct Opened {
     session: Session,
     job: JobEnd,
+    ghost same_run: { job_start job.plan job.place ≡ session.history.start },
 }
 
 /// Shows the run of the job of a name to gdb, whose bytes the reader has, and puts the replies to standard output, until gdb ends the

@@ -1,0 +1,20 @@
+-- Where the run of the job at a place starts.
+use Rattle.std.proofs.Common.{◌≡◌, ◌∙◌, ◌<◌, ℕ, List, [], Option, Result, Ok, ap, length, slice_index_or, unwrap_or}
+use Rattle.std.proofs.lemmas.Option.{slice_get-get_or}
+use Rattle.std.specs.Prelude.{option_and_then}
+use Rattle.std.specs.Result.{result_ok}
+use Rattle.rv_jobs.specs.Plans.{Planned}
+use Rattle.rv_lists.specs.declared.job.Job.{Job}
+use Rattle.rv_machine.specs.State.{State}
+use Rattle.rv_report.specs.declared.row.Refusal.{Refusal}
+use Rattle.rv_rows.specs.Flat.{flat_state}
+use Rattle.rv_rows.specs.Rows.{start_in}
+use Rattle.rvtest_app.specs.Debugging.{job_start}
+
+pub start_is : (plan : Planned) (place : ℕ) (d : Job) (first : State) → place < length plan.jobs
+    → start_in plan.answers (slice_index_or plan.jobs place d) ≡ Ok first → job_start plan place ≡ first
+unfolding job_start
+start_is plan place d first within starts =
+    ap (λ (found : Option Job). unwrap_or (option_and_then (λ (job : Job). result_ok (start_in plan.answers job)) found) (flat_state []))
+    (slice_get-get_or plan.jobs place d within)
+    ∙ ap (λ (found : Result State Refusal). unwrap_or (result_ok found) (flat_state [])) starts
