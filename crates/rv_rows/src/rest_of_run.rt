@@ -96,12 +96,7 @@ fn attempt_over_file(
 }
 
 // What a run within a budget comes to, of which so many steps have been run.
-fn rest_of_run(
-    machine: Machine,
-    steps: u32,
-    budget: u32,
-    range: Option<SignatureRange>,
-) -> EndedRun
+fn rest_of_run(machine: Machine, steps: u32, budget: u32, range: Option<SignatureRange>) -> EndedRun
     requires within { steps ≤ budget }
     requires range { IfSome range
         (λ range. signature_check range.begin range.end (state_of machine).bus.regions ≡ accepted) }

@@ -3,7 +3,7 @@
 use rv_machine::Machine;
 use std::alloc::{AllocError, Global};
 
-/// Says what a run came to. It is asked at each stop at the run's end.
+/// Says what a run came to.
 pub trait EndText {
     ghost use Rattle.std.specs.Prelude.{◌≡◌, ◌++◌, ℕ, List, OnOk};
     ghost use Rattle.rv_history.specs.Places.{IsReached};
@@ -16,7 +16,7 @@ pub trait EndText {
     // What is said of its end.
     ghost end_text: { Self → List ℕ };
 
-    /// Appends what is said of the end, where the machine stands: so much of the run needs no second run.
+    /// Appends what is said, given a machine that stands at a place of the run: the nearer to its end, the sooner.
     fn push_end_text(
         &self,
         alloc: Global,
