@@ -1,7 +1,7 @@
 -- Where the run of the job at a place starts.
-use Rattle.std.proofs.Common.{◌≡◌, ◌∙◌, ◌<◌, ℕ, List, [], Option, Result, Ok, ap, length, slice_index_or, unwrap_or}
+use Rattle.std.proofs.Common.{◌≡◌, ◌∙◌, ◌<◌, ℕ, List, [], Option, Result, Ok, Err, ap, length, refl, slice_index_or, sym, true, unwrap_or}
 use Rattle.std.proofs.lemmas.Option.{slice_get-get_or}
-use Rattle.std.specs.Prelude.{option_and_then}
+use Rattle.std.specs.Prelude.{is_ok, option_and_then}
 use Rattle.std.specs.Result.{result_ok}
 use Rattle.rv_jobs.specs.Plans.{Planned}
 use Rattle.rv_lists.specs.declared.job.Job.{Job}
@@ -18,3 +18,15 @@ start_is plan place d first within starts =
     ap (λ (found : Option Job). unwrap_or (option_and_then (λ (job : Job). result_ok (start_in plan.answers job)) found) (flat_state []))
     (slice_get-get_or plan.jobs place d within)
     ∙ ap (λ (found : Result State Refusal). unwrap_or (result_ok found) (flat_state [])) starts
+
+ok_there : {A E : Type 0} (r : Result A E) → is_ok r ≡ true → (x : A) × (r ≡ Ok x)
+ok_there (Ok x) e = (x, refl)
+ok_there (Err why) e = cc
+
+-- a job that is not refused starts there
+pub starts_there : (plan : Planned) (place : ℕ) (d : Job) → place < length plan.jobs
+    → is_ok (start_in plan.answers (slice_index_or plan.jobs place d)) ≡ true
+    → start_in plan.answers (slice_index_or plan.jobs place d) ≡ Ok (job_start plan place)
+starts_there plan place d within runs =
+    let found = ok_there (start_in plan.answers (slice_index_or plan.jobs place d)) runs in
+    found.1 ∙ ap (λ (s : State). Ok s) (sym (start_is plan place d found.0 within found.1))

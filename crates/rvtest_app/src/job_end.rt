@@ -1,6 +1,6 @@
 //! What gdb is told of a job at the end of its run.
 
-ghost use Rattle.std.specs.Prelude.{◌≡◌, ◌<◌, ◌≤◌, IfOk, Ok, length, slice_index_or};
+ghost use Rattle.std.specs.Prelude.{◌≡◌, ◌<◌, IfOk, is_ok, length, slice_index_or, true};
 ghost use Rattle.rv_history.specs.Places.{IsReached};
 ghost use Rattle.rv_lists.specs.declared.job.Job.{Job as AJob};
 ghost use Rattle.rv_machine.specs.Machine.{state_of};
@@ -23,8 +23,7 @@ pub(crate) struct JobEnd {
     pub(crate) unread: Vec<Unread>,
     pub(crate) place: usize,
     ghost within: { place < length plan.jobs },
-    ghost starts: { (d : AJob) → start_in plan.answers (slice_index_or plan.jobs place d)
-        ≡ Ok (job_start plan place) },
+    ghost runs: { (d : AJob) → is_ok (start_in plan.answers (slice_index_or plan.jobs place d)) ≡ true },
 }
 
 impl EndText for JobEnd {
