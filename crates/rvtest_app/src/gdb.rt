@@ -39,8 +39,7 @@ use std::path::Path;
 struct Opened {
     session: Session,
     job: JobEnd,
-    ghost same_run: { job_start job.plan job.place ≡ session.history.start }
-        by { Coded-set state_code (job_start job.plan job.place) session.history.start },
+    ghost same_run: { job_start job.plan job.place ≡ session.history.start } by { Coded-set state_code (job_start job.plan job.place) session.history.start },
 }
 
 /// Shows the run of the job of a name to gdb, whose bytes the reader has, and puts the replies to standard output, until gdb ends the

@@ -54,12 +54,7 @@ impl EndText for JobEnd {
 }
 
 // The row of the job, whose machine stands behind so many steps of its run.
-fn row_behind(
-    alloc: Global,
-    job: &JobEnd,
-    steps: u32,
-    machine: &Machine,
-) -> Result<Row, AllocError>
+fn row_behind(alloc: Global, job: &JobEnd, steps: u32, machine: &Machine) -> Result<Row, AllocError>
     requires { IsReached (job_start job.now.plan job.now.place) steps (state_of machine.now) }
     ensures { IfOk result (λ row. (d : AJob) → row
         ≡ row_of job.now.plan (slice_index_or job.now.plan.jobs job.now.place d)) }
