@@ -17,6 +17,7 @@ mod StoreAfter
 mod PutTexts
 mod PutStops
 mod PartTexts
+mod JobStarts
 mod JobTexts
 mod FailedRows
 mod RunTellings

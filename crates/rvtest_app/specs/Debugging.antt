@@ -1,6 +1,7 @@
 -- What `gdb` answers gdb, of a job.
-use Rattle.std.specs.Prelude.{◌≡◌, ◌⊎◌, ℕ, Bool, List, [], ◌∷◌, Option, Some, None, Ok, codes, false, is_ok, slice_get, slice_index_or}
+use Rattle.std.specs.Prelude.{◌≡◌, ◌⊎◌, ℕ, Bool, List, [], ◌∷◌, Option, Some, None, Ok, codes, false, is_ok, option_and_then, slice_get, slice_index_or, unwrap_or}
 use Rattle.std.specs.Io.KnownBytes.{Consumes}
+use Rattle.std.specs.Result.{result_ok}
 use Rattle.std.specs.declared.io.ErrorKind.{ErrorKind}
 use Rattle.rv_base.specs.Files.{FileContents}
 use Rattle.rv_cli.specs.declared.rvtest.gdb.GdbAsked.{GdbAsked}
@@ -21,6 +22,8 @@ use Rattle.rv_job_text.specs.Telling.{outcome_text, row_line}
 use Rattle.rv_jobs.specs.Plans.{AreKept, Planned, jobs_needed_for, paths_of, paths_used}
 use Rattle.rv_lists.specs.JobList.{job_list_of}
 use Rattle.rv_lists.specs.declared.job.Job.{Job}
+use Rattle.rv_machine.specs.State.{State}
+use Rattle.rv_rows.specs.Flat.{flat_state}
 use Rattle.rv_rows.specs.Rows.{row_of, start_in}
 use Rattle.rv_session.specs.Heard.{IsFed}
 use Rattle.rv_session.specs.declared.session.Session.{Session}
@@ -35,6 +38,11 @@ end_text_of_job plan unread (Some job) = outcome_text plan unread (judging_by_ru
 -- the same of the job at a place
 unfoldable pub job_end_text : Planned → List Unread → ℕ → List ℕ
 job_end_text plan unread place = end_text_of_job plan unread (slice_get plan.jobs place)
+
+-- the state in which the run of the job at a place starts; where none does, as of an image without a byte
+unfoldable pub job_start : Planned → ℕ → State
+job_start plan place =
+    unwrap_or (option_and_then (λ (job : Job). result_ok (start_in plan.answers job)) (slice_get plan.jobs place)) (flat_state [])
 
 -- the session is over the run of the job at a place, whose image's path is taken from a folder, over answers for the paths that its
 -- row needs, which agree with what stands there; and the text is what is said of the job
