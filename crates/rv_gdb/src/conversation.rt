@@ -48,7 +48,7 @@ const CHUNK: usize = 16_384;
 const CTRL_C: u8 = 0x03;
 
 /// What a conversation needs of the system.
-pub struct Host<'r, R> {
+pub struct System<'r, R> {
     pub rt: &'r R,
     pub alloc: Global,
 }
@@ -66,7 +66,7 @@ pub struct Debugged<E: EndText> {
 /// read begins once the session is over. While a move is under way that nothing waits behind, another thread reads on: 0x03 breaks the
 /// move off, and so does the end of the bytes.
 pub fn converse<R: Threads, E: EndText, I: Read + Send, O: Sink>(
-    host: &Host<'_, R>,
+    system: &System<'_, R>,
     debugged: &mut Debugged<E>,
     input: &mut I,
     out: &mut O,
@@ -81,12 +81,12 @@ pub fn converse<R: Threads, E: EndText, I: Read + Send, O: Sink>(
     if debugged.session.is_over() {
         return Ok(());
     }
-    let mut chunk = read_chunk(host.alloc, input)?;
+    let mut chunk = read_chunk(system.alloc, input)?;
     for _ in 0..u64::MAX {
         if chunk.is_empty() {
             return Ok(());
         }
-        match answer_chunk(host, debugged, chunk.as_slice(), input, out)? {
+        match answer_chunk(system, debugged, chunk.as_slice(), input, out)? {
             Some(next) => chunk = next,
             None => return Ok(()),
         }
@@ -112,7 +112,7 @@ fn read_chunk<I: Read>(alloc: Global, input: &mut I) -> Result<Vec<u8>, Broken>
 
 // Answers the bytes of a read, and reads once more unless the session is over then.
 fn answer_chunk<R: Threads, E: EndText, I: Read + Send, O: Sink>(
-    host: &Host<'_, R>,
+    system: &System<'_, R>,
     debugged: &mut Debugged<E>,
     chunk: &[u8],
     input: &mut I,
@@ -127,19 +127,19 @@ fn answer_chunk<R: Threads, E: EndText, I: Read + Send, O: Sink>(
     ensures counted { OnOk result (O.failed out.new ≡ O.failed out.old) }
 {
     for index in 0..chunk.len() {
-        put_answer(host.alloc, debugged, chunk[index], out)?;
+        put_answer(system.alloc, debugged, chunk[index], out)?;
         if debugged.session.is_asked() {
             if index + 1 == chunk.len() {
-                return Ok(Some(move_while_reading(host, debugged, input, out)?));
+                return Ok(Some(move_while_reading(system, debugged, input, out)?));
             }
             let is_raised = chunk[index + 1] == CTRL_C;
-            put_move(host.alloc, debugged, &mut Known { is_raised }, out)?;
+            put_move(system.alloc, debugged, &mut Known { is_raised }, out)?;
         }
     }
     if debugged.session.is_over() {
         return Ok(None);
     }
-    Ok(Some(read_chunk(host.alloc, input)?))
+    Ok(Some(read_chunk(system.alloc, input)?))
 }
 
 // Puts what the session answers to a byte.
@@ -190,7 +190,7 @@ fn put_told<O: Sink>(out: &mut O, told: &[u8]) -> Result<(), Broken>
 
 // Makes the move while another thread reads once.
 fn move_while_reading<R: Threads, E: EndText, I: Read + Send, O: Sink>(
-    host: &Host<'_, R>,
+    system: &System<'_, R>,
     debugged: &mut Debugged<E>,
     input: &mut I,
     out: &mut O,
@@ -204,12 +204,12 @@ fn move_while_reading<R: Threads, E: EndText, I: Read + Send, O: Sink>(
     ensures counted { OnOk result (O.failed out.new ≡ O.failed out.old) }
 {
     let raised = AtomicBool::new(false);
-    move_beside_reader(host, debugged, input, out, &raised)
+    move_beside_reader(system, debugged, input, out, &raised)
 }
 
 // Makes the move while another thread reads once, which raises an interrupt where the move is to be broken off.
 fn move_beside_reader<R: Threads, E: EndText, I: Read + Send, O: Sink>(
-    host: &Host<'_, R>,
+    system: &System<'_, R>,
     debugged: &mut Debugged<E>,
     input: &mut I,
     out: &mut O,
@@ -223,13 +223,13 @@ fn move_beside_reader<R: Threads, E: EndText, I: Read + Send, O: Sink>(
     ensures failed { IfErr result (λ broken. broken ≡ Broken.Unput → O.failed out.new ≡ one_more (O.failed out.old)) }
     ensures counted { OnOk result (O.failed out.new ≡ O.failed out.old) }
 {
-    let alloc = host.alloc;
+    let alloc = system.alloc;
     let mut coming = Coming {
         raised,
         was_seen: false,
     };
     let (read, put) = join_mut(
-        host.rt,
+        system.rt,
         &mut || read_ahead(alloc, input, raised),
         &mut || put_move(alloc, debugged, &mut coming, out),
     );

@@ -1,6 +1,6 @@
 -- What `gdb` answers gdb, of a job.
-use Rattle.std.specs.Prelude.{◌≡◌, ◌⊎◌, ℕ, Bool, List, [], ◌∷◌, Option, Some, None, Ok, codes, false, is_ok, option_and_then, slice_get, slice_index_or, unwrap_or}
-use Rattle.std.specs.Io.KnownBytes.{Consumes}
+use Rattle.std.specs.Prelude.{◌≡◌, ◌⊎◌, ℕ, Bool, List, [], ◌∷◌, Option, Some, None, Ok, codes, false, is_ok, option_and_then, slice_get, slice_index_or, true, unwrap_or}
+use Rattle.std.specs.Io.KnownBytes.{Consumes, IsAtEnd}
 use Rattle.std.specs.Result.{result_ok}
 use Rattle.std.specs.declared.io.ErrorKind.{ErrorKind}
 use Rattle.rv_base.specs.Files.{FileContents}
@@ -74,7 +74,7 @@ pub record IsOpenedAt (known : Option FileContents) (words : GdbAsked) (end_text
 
 -- bytes of standard input were read, up to the end of the session or of the bytes, none once the session was over, and what the session answers to them went to
 -- standard output, which is no terminal, and nothing else did; in front of each stop at the end of the run goes what `run` says of the
--- job
+-- job. A move was broken off only where 0x03 came next, or the end of the bytes.
 pub record IsGdbAnswered (known : Option FileContents) (is_terminal : Bool) (words : GdbAsked) (input rest : Option (List ℕ))
     (status : ℕ) (before after : Said) : Type 0 where
   pub spoken : is_terminal ≡ false
@@ -86,7 +86,10 @@ pub record IsGdbAnswered (known : Option FileContents) (is_terminal : Bool) (wor
   pub while_open : IsReadWhileOpen end_text first heard
   pub told : List ℕ
   pub last : Session
-  pub fed : IsFed end_text first heard told last
+  pub may_end : Bool
+  pub at_end : may_end ≡ true → IsAtEnd rest
+  pub fed : IsFed end_text may_end first heard told last
+  pub made : last.asked ≡ None
   pub ended : IsEnded last rest
   pub put : IsOnlyPut told before after
   pub done : status ≡ 0

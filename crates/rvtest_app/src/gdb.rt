@@ -1,7 +1,6 @@
 //! The command `gdb`.
 
 ghost use Rattle.std.specs.Prelude.{◌≡◌, ◌<◌, ◌⊎◌, IfErr, IfOk, MatchOption, false, is_ok, length, slice_index_or};
-ghost use Rattle.std.specs.Coded.{Coded-set};
 ghost use Rattle.rv_lists.specs.declared.job.Job.{Job as AJob};
 ghost use Rattle.rv_command.specs.Stops.{IsStop};
 ghost use Rattle.rv_command.specs.Texts.{optional_text};
@@ -10,10 +9,9 @@ ghost use Rattle.rv_expect.specs.declared.passing.Rule.TheVariants.{Strict};
 ghost use Rattle.rv_files.specs.UnreadPaths.{contents_below, resolved_path};
 ghost use Rattle.rv_gdb.specs.JobSessions.{IsSessionOf};
 ghost use Rattle.rv_job_text.specs.Telling.{row_line};
-ghost use Rattle.rv_machine.proofs.Public.{state_code};
 ghost use Rattle.rv_rows.specs.Rows.{row_of, start_in};
 ghost use Rattle.rvtest_app.specs.CommandStops.{IsGdbStop, IsNoJobStop, IsUnopenedAtStop};
-ghost use Rattle.rvtest_app.specs.Debugging.{IsBrokenStop, IsGdbAnswered, IsJobOpened, IsNoGdbStop, IsOpenedAt, IsOpenedOf, IsUnopenedOfStop, IsUnopenedStop, job_end_text, job_start};
+ghost use Rattle.rvtest_app.specs.Debugging.{IsBrokenStop, IsGdbAnswered, IsJobOpened, IsNoGdbStop, IsOpenedAt, IsOpenedOf, IsUnopenedOfStop, IsUnopenedStop, job_end_text};
 ghost use Rattle.rvtest_app.specs.Said.{said};
 
 use crate::destinations::Destinations;
@@ -25,7 +23,7 @@ use rv_cli::rvtest::GdbAsked;
 use rv_command::{DONE, Stop, file_error_stop, path_message, read_list_text};
 use rv_expect::{Judge, Rule};
 use rv_files::{FileError, Inputs, NotingStore, Outputs, Unread};
-use rv_gdb::{Broken, converse, session_at};
+use rv_gdb::{Broken, Debugged, System, converse, session_at};
 use rv_job_text::{RowTelling, Verbosity};
 use rv_jobs::{Plan, gather_places};
 use rv_rows::{Sink, row_at};
@@ -33,21 +31,14 @@ use rv_session::Session;
 use std::alloc::{AllocError, Global};
 use std::io::Read;
 use std::path::Path;
-
-/// A session over the run of a job, and the job.
-#[derive(Drop)]
-struct Opened {
-    session: Session,
-    job: JobEnd,
-    ghost same_run: { job_start job.plan job.place ≡ session.history.start } by { Coded-set state_code (job_start job.plan job.place) session.history.start },
-}
+use std::thread::Threads;
 
 /// Shows the run of the job of a name to gdb, whose bytes the reader has, and puts the replies to standard output, until gdb ends the
-/// session or sends no more. The status is 0. Where standard output is a terminal nobody there would understand them.
+/// session or sends no more. Ctrl-C breaks a move off. The status is 0. Where standard output is a terminal nobody there would understand them.
 pub(crate) fn show_job_to_gdb<
-    R,
+    R: Threads,
     D: Inputs,
-    I: Read,
+    I: Read + Send,
     F: Outputs + Drop,
     O: Sink + Drop,
     E: Sink + Drop,
@@ -68,10 +59,10 @@ pub(crate) fn show_job_to_gdb<
     if is_terminal {
         return Err(no_gdb_stop(alloc));
     }
-    let opened = session_of_named_job(host.inputs, alloc, asked)?;
-    let Opened { mut session, job } = opened;
-    set_memory(alloc, &mut session, asked.memory);
-    match converse(alloc, &mut session, &job, input, &mut to.out) {
+    let mut opened = session_of_named_job(host.inputs, alloc, asked)?;
+    set_memory(alloc, &mut opened.session, asked.memory);
+    let system = System { rt: host.rt, alloc };
+    match converse(&system, &mut opened, input, &mut to.out) {
         Ok(()) => Ok(DONE),
         Err(broken) => Err(broken_stop(alloc, broken)),
     }
@@ -113,9 +104,9 @@ fn session_of_named_job<D: Inputs>(
     inputs: &D,
     alloc: Global,
     asked: GdbAsked<'_>,
-) -> Result<Opened, Stop>
+) -> Result<Debugged<JobEnd>, Stop>
     ensures opened { IfOk result (λ opened. IsOpenedAt (D.contents inputs.now) asked.entry
-        (job_end_text opened.job.plan opened.job.unread.items opened.job.place) opened.session) }
+        (job_end_text opened.end.plan opened.end.unread.items opened.end.place) opened.session) }
     ensures stopped { IfErr result (IsUnopenedAtStop (D.contents inputs.now) asked.entry) }
 {
     let text = read_list_text(inputs, alloc, asked.list)?;
@@ -128,9 +119,9 @@ fn session_of_text<D: Inputs>(
     alloc: Global,
     asked: GdbAsked<'_>,
     text: &[u8],
-) -> Result<Opened, Stop>
+) -> Result<Debugged<JobEnd>, Stop>
     ensures opened { IfOk result (λ opened. IsOpenedOf (D.contents inputs.now) asked.entry text.now
-        (job_end_text opened.job.plan opened.job.unread.items opened.job.place) opened.session) }
+        (job_end_text opened.end.plan opened.end.unread.items opened.end.place) opened.session) }
     ensures stopped { IfErr result (λ why. IsNoJobStop asked.entry.list.now text.now asked.entry.name.now why
         ⊎ IsUnopenedOfStop (D.contents inputs.now) asked.entry text.now why) }
 {
@@ -144,11 +135,11 @@ fn session_of_job<D: Inputs>(
     alloc: Global,
     asked: GdbAsked<'_>,
     named: NamedJob,
-) -> Result<Opened, Stop>
+) -> Result<Debugged<JobEnd>, Stop>
     requires { named.place < length named.jobs }
     ensures opened { IfOk result (λ opened. IsJobOpened
         (contents_below (optional_text asked.entry.root) (D.contents inputs.now)) (optional_text asked.entry.root) named.jobs
-        named.place (job_end_text opened.job.plan opened.job.unread.items opened.job.place) opened.session) }
+        named.place (job_end_text opened.end.plan opened.end.unread.items opened.end.place) opened.session) }
     ensures stopped { IfErr result (IsUnopenedStop (contents_below (optional_text asked.entry.root) (D.contents inputs.now))
         named.jobs named.place) }
 {
@@ -159,12 +150,12 @@ fn session_of_job<D: Inputs>(
     match session_over_plan(alloc, &plan, place, asked.root)? {
         Some(session) => {
             let unread = store.into_unread_paths();
-            let job = JobEnd {
+            let end = JobEnd {
                 plan,
                 unread,
                 place,
             };
-            Ok(Opened { session, job })
+            Ok(Debugged { session, end })
         }
         None => Err(refused_job_stop(alloc, &plan, store.unread_paths(), place)),
     }
