@@ -147,9 +147,11 @@ pub ends_before : (stops : Stops) (start : State) (leg : Leg) (at : MachineAt) (
 ends_before stops start leg at arrived end ending none all order is ran short within =
     let there = ran_to start (state_of at.machine) end at.place ending ran in
     let far = comes_within leg.budget at.place start there.completed (omega (arith, short, within)) in
-    subst (λ (a : Arrived). IsArrival stops start leg a) (sym is)
-    (there, ends_anywhere stops leg.bounds leg.budget leg.from at.place start ending none all (omega (arith, order, far))
-    (ends_within leg.budget end at.place start (state_of at.machine) ending ran short within))
+    subst (λ (a : Arrived). IsArrival stops start leg a) (sym is) (
+      there,
+      ends_anywhere stops leg.bounds leg.budget leg.from at.place start ending none all (omega (arith, order, far))
+          (ends_within leg.budget end at.place start (state_of at.machine) ending ran short within),
+    )
 
 -- or it comes to its budget
 pub ends_at : (stops : Stops) (start : State) (leg : Leg) (at : MachineAt) (arrived : Arrived) → AreNone stops

@@ -35,9 +35,12 @@ loop-place-preserved g c =
           (sym c.last_behind-last.ensures) more;
     }
 
-pub returns-clause-last : goal.returns-clause-last
-returns-clause-last g c = λ budget within.
-    let near = c.in_ok-at.ensures.1 in
-    let end : c.loop-place.place ≡ c.args.end = omega (arith, near, c.requires.some) in
-    subst (λ (k : ℕ). IsLastOn c.args.stops.now budget c.args.track.now c.in_ok-at.at.place k c.loop-place.last) end
-    (c.loop-place.invariant.last budget within)
+pub returns-clause-part : goal.returns-clause-part
+returns-clause-part g c =
+    let near = c.in_ok-at.ensures.1 in record {
+      begin = omega (arith, near, c.requires.some);
+      last = λ budget within.
+          let end : c.loop-place.place ≡ c.args.end = omega (arith, near, c.requires.some) in
+          subst (λ (k : ℕ). IsLastOn c.args.stops.now budget c.args.track.now c.in_ok-at.at.place k c.loop-place.last) end
+          (c.loop-place.invariant.last budget within);
+    }
