@@ -1,14 +1,15 @@
 -- Bytes that were heard one read behind the other.
 use Rattle.std.proofs.Common.{◌≡◌, ◌≢◌, ◌∙◌, ◌++◌, ◌∷◌, ◌+◌, ◌<◌, [], ℕ, Bool, true, false, List, None, Some, ap, append-nil, arith, drop, get_or, inl, inr, length, refl, subst, sym, take}
-use Rattle.std.specs.Prelude.{Option, ◌==◌}
+use Rattle.std.specs.Prelude.{Option, ◌==◌, is_some}
 use Rattle.std.proofs.KnownBytes.{Appends-nil, Appends-trans, Consumes-nil, Consumes-trans}
 use Rattle.std.proofs.lemmas.Bool.{false≢true}
 use Rattle.std.proofs.lemmas.List.{drop_all, drop_more, take_all, take_more}
 use Rattle.std.specs.Io.KnownBytes.{Appends, Consumes, IsAtEnd}
 use Rattle.rv_session.specs.Heard.{IsFed, IsWorked, is_interrupted, no_bytes}
+use Rattle.rv_session.specs.Sessions.{MayAsk}
 use Rattle.rv_session.specs.declared.session.Session.{Session}
 use Rattle.rv_session.proofs.Public.{fed_both, fed_byte, fed_move, worked_more, worked_unasked}
-use Rattle.rv_gdb.specs.Chunks.{IsBytePut, IsChunkAnswered, IsHeardUpTo, IsMovePut, IsNextRead, IsOpenBehind, comes_next}
+use Rattle.rv_gdb.specs.Chunks.{IsByteAnswered, IsBytePut, IsChunkAnswered, IsHeardUpTo, IsMovePut, IsNextRead, IsOpenBehind, comes_next}
 use Rattle.rv_gdb.specs.Conversing.{IsChunkRead, IsConversed, IsReadWhileOpen}
 
 -- ---- within a chunk
@@ -75,6 +76,21 @@ heard_move end_text session standing next chunk i d a b c within at move = recor
   put = Appends-trans a b c at.told move.told at.put move.put;
 }
 
+-- a byte was answered, and no move waits
+pub heard_byte_on : (end_text : List ℕ) (session standing next : Session) (chunk : List ℕ) (i : ℕ) (a b c : Option (List ℕ))
+    → i < length chunk → IsHeardIn end_text session chunk i a b standing → IsByteAnswered end_text standing chunk i false b c next
+    → IsHeardIn end_text session chunk (i + 1) a c next
+heard_byte_on end_text session standing next chunk i a b c within first (inl (one, none)) =
+    heard_on end_text session next chunk i a c (heard_byte end_text session standing next chunk i 0 a b c within first one) none
+heard_byte_on end_text session standing next chunk i a b c within first (inr made) =
+    heard_move end_text session made.standing next chunk i 0 a made.middle c made.within
+    (heard_byte end_text session standing made.standing chunk i 0 a b made.middle within first made.heard) made.moved
+
+-- a session that a move is asked for in is not over
+pub asked_going : (session : Session) → MayAsk session → is_some session.asked ≡ true → session.is_over ≡ false
+asked_going session (inl none) is = absurd (false≢true (sym (ap is_some none) ∙ is))
+asked_going session (inr going) is = going
+
 -- ---- the end of a chunk
 
 -- the last byte of a chunk is heard
@@ -91,15 +107,14 @@ heard_whole end_text session next chunk i a b may is heard =
     (subst (λ (rest : List ℕ). IsFed end_text (is_interrupted rest may) session (take i chunk) heard.told next)
     (drop_all i chunk (omega arith)) (heard.fed may))
 
-pub chunk_over : (end_text : List ℕ) (session next : Session) (chunk : List ℕ) (i : ℕ) (input a b : Option (List ℕ)) → i ≡ length chunk
-    → IsHeardIn end_text session chunk i a b next → next.is_over ≡ true
-    → IsChunkAnswered end_text session chunk input input a b None next
-chunk_over end_text session next chunk i input a b is heard over = record {
+pub chunk_over : (end_text : List ℕ) (session next : Session) (chunk : List ℕ) (i : ℕ) (x y a b : Option (List ℕ)) → i ≡ length chunk
+    → IsHeardIn end_text session chunk i a b next → y ≡ x → next.is_over ≡ true → IsChunkAnswered end_text session chunk x y a b None next
+chunk_over end_text session next chunk i x y a b is heard same over = record {
   told = heard.told;
   fed = heard_whole end_text session next chunk i a b false is heard;
   made = heard.made;
   put = heard.put;
-  read = (refl, over);
+  read = (same, over);
 }
 
 pub chunk_read : (end_text : List ℕ) (session next : Session) (chunk bytes : List ℕ) (i : ℕ) (x y a b : Option (List ℕ))

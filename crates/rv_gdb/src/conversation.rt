@@ -1,14 +1,12 @@
 //! What gdb sends, and what it is answered.
 
-ghost use Rattle.std.specs.Prelude.{◌≡◌, ◌≢◌, IfErr, IfOk, None, OnOk, is_some, option_map, true};
-ghost use Rattle.std.specs.Coded.{Coded-set};
+ghost use Rattle.std.specs.Prelude.{◌≡◌, ◌≢◌, ◌<◌, IfErr, IfOk, None, OnOk, is_some, length, option_map, true};
 ghost use Rattle.std.specs.Io.KnownBytes.{Appends};
 ghost use Rattle.rv_base.specs.Counts.{one_more};
 ghost use Rattle.rv_gdb.specs.Conversing.{IsChunkRead, IsConversed, IsEnded};
-ghost use Rattle.rv_gdb.specs.Chunks.{IsBytePut, IsChunkAnswered, IsMovePut};
-ghost use Rattle.rv_machine.proofs.Public.{state_code};
+ghost use Rattle.rv_gdb.specs.Chunks.{IsByteAnswered, IsBytePut, IsChunkAnswered, IsMovePut};
 ghost use Rattle.rv_session.specs.Heard.{is_interrupted};
-ghost use Rattle.rv_session.specs.Sessions.{MayAsk};
+ghost use Rattle.rv_session.specs.Sessions.{IsSameRun, MayAsk};
 
 use crate::ctrl_c::{Coming, Known};
 use rv_base::{Sink, put_all};
@@ -47,46 +45,40 @@ const CHUNK: usize = 16_384;
 // What gdb sends for Ctrl-C.
 const CTRL_C: u8 = 0x03;
 
-/// What a conversation needs of the system.
-pub struct System<'r, R> {
-    pub rt: &'r R,
+/// The means of a conversation.
+pub struct Means<'a, R, E> {
+    pub rt: &'a R,
     pub alloc: Global,
-}
-
-/// A session over a run, and what is said at the end of this run.
-#[derive(Drop)]
-pub struct Debugged<E: EndText> {
-    pub session: Session,
-    pub end: E,
-    pub ghost same_run: { E.start end ≡ session.history.start }
-        by { Coded-set state_code (E.start end) session.history.start },
+    /// What is said at the end of the session's run.
+    pub end: &'a E,
 }
 
 /// Hears the bytes of a reader, and puts what the session answers to them, until gdb ends the session or the reader has no more. No
 /// read begins once the session is over. While a move is under way that nothing waits behind, another thread reads on: 0x03 breaks the
 /// move off, and so does the end of the bytes.
 pub fn converse<R: Threads, E: EndText, I: Read + Send, O: Sink>(
-    system: &System<'_, R>,
-    debugged: &mut Debugged<E>,
+    means: &Means<'_, R, E>,
+    session: &mut Session,
     input: &mut I,
     out: &mut O,
 ) -> Result<(), Broken>
-    requires { debugged.old.session.asked ≡ None }
-    ensures heard { OnOk result (IsConversed (E.end_text debugged.old.end) debugged.old.session (I.remaining input.old)
-        (I.remaining input.new) (O.taken out.old) (O.taken out.new) debugged.new.session) }
-    ensures ended { OnOk result (IsEnded debugged.new.session (I.remaining input.new)) }
+    requires asked { session.old.asked ≡ None }
+    requires of_run { E.start means.now.end.now ≡ session.old.history.start }
+    ensures heard { OnOk result (IsConversed (E.end_text means.now.end.now) session.old (I.remaining input.old)
+        (I.remaining input.new) (O.taken out.old) (O.taken out.new) session.new) }
+    ensures ended { OnOk result (IsEnded session.new (I.remaining input.new)) }
     ensures failed { IfErr result (λ broken. broken ≡ Broken.Unput → O.failed out.new ≡ one_more (O.failed out.old)) }
     ensures counted { OnOk result (O.failed out.new ≡ O.failed out.old) }
 {
-    if debugged.session.is_over() {
+    if session.is_over() {
         return Ok(());
     }
-    let mut chunk = read_chunk(system.alloc, input)?;
+    let mut chunk = read_chunk(means.alloc, input)?;
     for _ in 0..u64::MAX {
         if chunk.is_empty() {
             return Ok(());
         }
-        match answer_chunk(system, debugged, chunk.as_slice(), input, out)? {
+        match answer_chunk(means, session, chunk.as_slice(), input, out)? {
             Some(next) => chunk = next,
             None => return Ok(()),
         }
@@ -112,68 +104,95 @@ fn read_chunk<I: Read>(alloc: Global, input: &mut I) -> Result<Vec<u8>, Broken>
 
 // Answers the bytes of a read, and reads once more unless the session is over then.
 fn answer_chunk<R: Threads, E: EndText, I: Read + Send, O: Sink>(
-    system: &System<'_, R>,
-    debugged: &mut Debugged<E>,
+    means: &Means<'_, R, E>,
+    session: &mut Session,
     chunk: &[u8],
     input: &mut I,
     out: &mut O,
 ) -> Result<Option<Vec<u8>>, Broken>
-    requires { debugged.old.session.asked ≡ None }
-    ensures answered { IfOk result (λ next. IsChunkAnswered (E.end_text debugged.old.end) debugged.old.session chunk.now
+    requires asked { session.old.asked ≡ None }
+    requires of_run { E.start means.now.end.now ≡ session.old.history.start }
+    ensures answered { IfOk result (λ next. IsChunkAnswered (E.end_text means.now.end.now) session.old chunk.now
         (I.remaining input.old) (I.remaining input.new) (O.taken out.old) (O.taken out.new)
-        (option_map (λ bytes. bytes.items) next) debugged.new.session) }
-    ensures same { OnOk result (debugged.new.end ≡ debugged.old.end) }
+        (option_map (λ bytes. bytes.items) next) session.new) }
+    ensures run { OnOk result (IsSameRun session.old session.new) }
     ensures failed { IfErr result (λ broken. broken ≡ Broken.Unput → O.failed out.new ≡ one_more (O.failed out.old)) }
     ensures counted { OnOk result (O.failed out.new ≡ O.failed out.old) }
 {
     for index in 0..chunk.len() {
-        put_answer(system.alloc, debugged, chunk[index], out)?;
-        if debugged.session.is_asked() {
-            if index + 1 == chunk.len() {
-                return Ok(Some(move_while_reading(system, debugged, input, out)?));
-            }
-            let is_raised = chunk[index + 1] == CTRL_C;
-            put_move(system.alloc, debugged, &mut Known { is_raised }, out)?;
+        if answer_byte(means, session, chunk, index, out)? {
+            return Ok(Some(move_while_reading(means, session, input, out)?));
         }
     }
-    if debugged.session.is_over() {
+    if session.is_over() {
         return Ok(None);
     }
-    Ok(Some(read_chunk(system.alloc, input)?))
+    Ok(Some(read_chunk(means.alloc, input)?))
 }
 
-// Puts what the session answers to a byte.
-fn put_answer<E: EndText, O: Sink>(
-    alloc: Global,
-    debugged: &mut Debugged<E>,
-    byte: u8,
+// Answers a byte of a chunk, and makes the move that it asks for if another byte waits behind it. It says whether a move waits.
+fn answer_byte<R, E: EndText, O: Sink>(
+    means: &Means<'_, R, E>,
+    session: &mut Session,
+    chunk: &[u8],
+    index: usize,
     out: &mut O,
-) -> Result<(), Broken>
-    ensures answered { OnOk result (IsBytePut debugged.old.session byte (O.taken out.old) (O.taken out.new) debugged.new.session) }
-    ensures not_over { OnOk result (debugged.old.session.asked ≡ None → MayAsk debugged.new.session) }
-    ensures same { OnOk result (debugged.new.end ≡ debugged.old.end) }
+) -> Result<bool, Broken>
+    requires within { index < length chunk.now }
+    requires asked { session.old.asked ≡ None }
+    requires of_run { E.start means.now.end.now ≡ session.old.history.start }
+    ensures answered { IfOk result (λ waits. IsByteAnswered (E.end_text means.now.end.now) session.old chunk.now index waits
+        (O.taken out.old) (O.taken out.new) session.new) }
+    ensures not_over { OnOk result (MayAsk session.new) }
+    ensures run { OnOk result (IsSameRun session.old session.new) }
     ensures failed { IfErr result (λ broken. broken ≡ Broken.Unput → O.failed out.new ≡ one_more (O.failed out.old)) }
     ensures counted { OnOk result (O.failed out.new ≡ O.failed out.old) }
 {
-    let told = debugged.session.hear(alloc, byte)?;
+    put_answer(means.alloc, session, chunk[index], out)?;
+    if !session.is_asked() {
+        return Ok(false);
+    }
+    if index + 1 == chunk.len() {
+        return Ok(true);
+    }
+    let is_raised = chunk[index + 1] == CTRL_C;
+    put_move(means, session, &mut Known { is_raised }, out)?;
+    Ok(false)
+}
+
+// Puts what the session answers to a byte.
+fn put_answer<O: Sink>(
+    alloc: Global,
+    session: &mut Session,
+    byte: u8,
+    out: &mut O,
+) -> Result<(), Broken>
+    ensures answered { OnOk result (IsBytePut session.old byte (O.taken out.old) (O.taken out.new) session.new) }
+    ensures not_over { OnOk result (session.old.asked ≡ None → MayAsk session.new) }
+    ensures run { OnOk result (IsSameRun session.old session.new) }
+    ensures failed { IfErr result (λ broken. broken ≡ Broken.Unput → O.failed out.new ≡ one_more (O.failed out.old)) }
+    ensures counted { OnOk result (O.failed out.new ≡ O.failed out.old) }
+{
+    let told = session.hear(alloc, byte)?;
     put_told(out, told.as_slice())
 }
 
 // Makes the move that is asked for, and puts what the session says of it.
-fn put_move<E: EndText, J: Interrupt, O: Sink>(
-    alloc: Global,
-    debugged: &mut Debugged<E>,
+fn put_move<R, E: EndText, J: Interrupt, O: Sink>(
+    means: &Means<'_, R, E>,
+    session: &mut Session,
     interrupt: &mut J,
     out: &mut O,
 ) -> Result<(), Broken>
-    requires { is_some debugged.old.session.asked ≡ true }
-    ensures moved { OnOk result (IsMovePut (E.end_text debugged.old.end) (J.was_raised interrupt.new) debugged.old.session
-        (O.taken out.old) (O.taken out.new) debugged.new.session) }
-    ensures same { OnOk result (debugged.new.end ≡ debugged.old.end) }
+    requires asked { is_some session.old.asked ≡ true }
+    requires of_run { E.start means.now.end.now ≡ session.old.history.start }
+    ensures moved { OnOk result (IsMovePut (E.end_text means.now.end.now) (J.was_raised interrupt.new) session.old
+        (O.taken out.old) (O.taken out.new) session.new) }
+    ensures run { OnOk result (IsSameRun session.old session.new) }
     ensures failed { IfErr result (λ broken. broken ≡ Broken.Unput → O.failed out.new ≡ one_more (O.failed out.old)) }
     ensures counted { OnOk result (O.failed out.new ≡ O.failed out.old) }
 {
-    let told = debugged.session.work(alloc, &debugged.end, interrupt)?;
+    let told = session.work(means.alloc, means.end, interrupt)?;
     put_told(out, told.as_slice())
 }
 
@@ -190,48 +209,50 @@ fn put_told<O: Sink>(out: &mut O, told: &[u8]) -> Result<(), Broken>
 
 // Makes the move while another thread reads once.
 fn move_while_reading<R: Threads, E: EndText, I: Read + Send, O: Sink>(
-    system: &System<'_, R>,
-    debugged: &mut Debugged<E>,
+    means: &Means<'_, R, E>,
+    session: &mut Session,
     input: &mut I,
     out: &mut O,
 ) -> Result<Vec<u8>, Broken>
-    requires { is_some debugged.old.session.asked ≡ true }
+    requires asked { is_some session.old.asked ≡ true }
+    requires of_run { E.start means.now.end.now ≡ session.old.history.start }
     ensures read { IfOk result (λ chunk. IsChunkRead (I.remaining input.old) (I.remaining input.new) chunk.items) }
-    ensures moved { IfOk result (λ chunk. IsMovePut (E.end_text debugged.old.end) (is_interrupted chunk.items true)
-        debugged.old.session (O.taken out.old) (O.taken out.new) debugged.new.session) }
-    ensures same { OnOk result (debugged.new.end ≡ debugged.old.end) }
+    ensures moved { IfOk result (λ chunk. IsMovePut (E.end_text means.now.end.now) (is_interrupted chunk.items true)
+        session.old (O.taken out.old) (O.taken out.new) session.new) }
+    ensures run { OnOk result (IsSameRun session.old session.new) }
     ensures failed { IfErr result (λ broken. broken ≡ Broken.Unput → O.failed out.new ≡ one_more (O.failed out.old)) }
     ensures counted { OnOk result (O.failed out.new ≡ O.failed out.old) }
 {
     let raised = AtomicBool::new(false);
-    move_beside_reader(system, debugged, input, out, &raised)
+    move_beside_reader(means, session, input, out, &raised)
 }
 
 // Makes the move while another thread reads once, which raises an interrupt where the move is to be broken off.
 fn move_beside_reader<R: Threads, E: EndText, I: Read + Send, O: Sink>(
-    system: &System<'_, R>,
-    debugged: &mut Debugged<E>,
+    means: &Means<'_, R, E>,
+    session: &mut Session,
     input: &mut I,
     out: &mut O,
     raised: &AtomicBool,
 ) -> Result<Vec<u8>, Broken>
-    requires { is_some debugged.old.session.asked ≡ true }
+    requires asked { is_some session.old.asked ≡ true }
+    requires of_run { E.start means.now.end.now ≡ session.old.history.start }
     ensures read { IfOk result (λ chunk. IsChunkRead (I.remaining input.old) (I.remaining input.new) chunk.items) }
-    ensures moved { IfOk result (λ chunk. IsMovePut (E.end_text debugged.old.end) (is_interrupted chunk.items true)
-        debugged.old.session (O.taken out.old) (O.taken out.new) debugged.new.session) }
-    ensures same { OnOk result (debugged.new.end ≡ debugged.old.end) }
+    ensures moved { IfOk result (λ chunk. IsMovePut (E.end_text means.now.end.now) (is_interrupted chunk.items true)
+        session.old (O.taken out.old) (O.taken out.new) session.new) }
+    ensures run { OnOk result (IsSameRun session.old session.new) }
     ensures failed { IfErr result (λ broken. broken ≡ Broken.Unput → O.failed out.new ≡ one_more (O.failed out.old)) }
     ensures counted { OnOk result (O.failed out.new ≡ O.failed out.old) }
 {
-    let alloc = system.alloc;
+    let alloc = means.alloc;
     let mut coming = Coming {
         raised,
         was_seen: false,
     };
     let (read, put) = join_mut(
-        system.rt,
+        means.rt,
         &mut || read_ahead(alloc, input, raised),
-        &mut || put_move(alloc, debugged, &mut coming, out),
+        &mut || put_move(means, session, &mut coming, out),
     );
     put?;
     let chunk = read?;
@@ -243,11 +264,7 @@ fn move_beside_reader<R: Threads, E: EndText, I: Read + Send, O: Sink>(
 }
 
 // Reads once, and raises an interrupt where a move is to be broken off for it, or where the reader failed.
-fn read_ahead<I: Read>(
-    alloc: Global,
-    input: &mut I,
-    raised: &AtomicBool,
-) -> Result<Vec<u8>, Broken>
+fn read_ahead<I: Read>(alloc: Global, input: &mut I, raised: &AtomicBool) -> Result<Vec<u8>, Broken>
     ensures read { IfOk result (λ chunk. IsChunkRead (I.remaining input.old) (I.remaining input.new) chunk.items) }
     ensures failed { IfErr result (λ broken. broken ≢ Broken.Unput) }
 {

@@ -8,5 +8,5 @@ mod conversation;
 mod ctrl_c;
 mod job_session;
 
-pub use conversation::{Broken, Debugged, System, converse};
+pub use conversation::{Broken, Means, converse};
 pub use job_session::session_at;

@@ -1,6 +1,7 @@
 //! The command `gdb`.
 
 ghost use Rattle.std.specs.Prelude.{◌≡◌, ◌<◌, ◌⊎◌, IfErr, IfOk, MatchOption, false, is_ok, length, slice_index_or};
+ghost use Rattle.std.specs.Coded.{Coded-set};
 ghost use Rattle.rv_lists.specs.declared.job.Job.{Job as AJob};
 ghost use Rattle.rv_command.specs.Stops.{IsStop};
 ghost use Rattle.rv_command.specs.Texts.{optional_text};
@@ -9,9 +10,10 @@ ghost use Rattle.rv_expect.specs.declared.passing.Rule.TheVariants.{Strict};
 ghost use Rattle.rv_files.specs.UnreadPaths.{contents_below, resolved_path};
 ghost use Rattle.rv_gdb.specs.JobSessions.{IsSessionOf};
 ghost use Rattle.rv_job_text.specs.Telling.{row_line};
+ghost use Rattle.rv_machine.proofs.Public.{state_code};
 ghost use Rattle.rv_rows.specs.Rows.{row_of, start_in};
 ghost use Rattle.rvtest_app.specs.CommandStops.{IsGdbStop, IsNoJobStop, IsUnopenedAtStop};
-ghost use Rattle.rvtest_app.specs.Debugging.{IsBrokenStop, IsGdbAnswered, IsJobOpened, IsNoGdbStop, IsOpenedAt, IsOpenedOf, IsUnopenedOfStop, IsUnopenedStop, job_end_text};
+ghost use Rattle.rvtest_app.specs.Debugging.{IsBrokenStop, IsGdbAnswered, IsJobOpened, IsNoGdbStop, IsOpenedAt, IsOpenedOf, IsUnopenedOfStop, IsUnopenedStop, job_end_text, job_start};
 ghost use Rattle.rvtest_app.specs.Said.{said};
 
 use crate::destinations::Destinations;
@@ -23,7 +25,7 @@ use rv_cli::rvtest::GdbAsked;
 use rv_command::{DONE, Stop, file_error_stop, path_message, read_list_text};
 use rv_expect::{Judge, Rule};
 use rv_files::{FileError, Inputs, NotingStore, Outputs, Unread};
-use rv_gdb::{Broken, Debugged, System, converse, session_at};
+use rv_gdb::{Broken, Means, converse, session_at};
 use rv_job_text::{RowTelling, Verbosity};
 use rv_jobs::{Plan, gather_places};
 use rv_rows::{Sink, row_at};
@@ -32,6 +34,14 @@ use std::alloc::{AllocError, Global};
 use std::io::Read;
 use std::path::Path;
 use std::thread::Threads;
+
+/// A session over the run of a job, and the job.
+#[derive(Drop)]
+struct Opened {
+    session: Session,
+    job: JobEnd,
+    ghost same_run: { job_start job.plan job.place ≡ session.history.start } by { Coded-set state_code (job_start job.plan job.place) session.history.start },
+}
 
 /// Shows the run of the job of a name to gdb, whose bytes the reader has, and puts the replies to standard output, until gdb ends the
 /// session or sends no more. Ctrl-C breaks a move off. The status is 0. Where standard output is a terminal nobody there would understand them.
@@ -59,10 +69,15 @@ pub(crate) fn show_job_to_gdb<
     if is_terminal {
         return Err(no_gdb_stop(alloc));
     }
-    let mut opened = session_of_named_job(host.inputs, alloc, asked)?;
-    set_memory(alloc, &mut opened.session, asked.memory);
-    let system = System { rt: host.rt, alloc };
-    match converse(&system, &mut opened, input, &mut to.out) {
+    let opened = session_of_named_job(host.inputs, alloc, asked)?;
+    let Opened { mut session, job } = opened;
+    set_memory(alloc, &mut session, asked.memory);
+    let means = Means {
+        rt: host.rt,
+        alloc,
+        end: &job,
+    };
+    match converse(&means, &mut session, input, &mut to.out) {
         Ok(()) => Ok(DONE),
         Err(broken) => Err(broken_stop(alloc, broken)),
     }
@@ -104,9 +119,9 @@ fn session_of_named_job<D: Inputs>(
     inputs: &D,
     alloc: Global,
     asked: GdbAsked<'_>,
-) -> Result<Debugged<JobEnd>, Stop>
+) -> Result<Opened, Stop>
     ensures opened { IfOk result (λ opened. IsOpenedAt (D.contents inputs.now) asked.entry
-        (job_end_text opened.end.plan opened.end.unread.items opened.end.place) opened.session) }
+        (job_end_text opened.job.plan opened.job.unread.items opened.job.place) opened.session) }
     ensures stopped { IfErr result (IsUnopenedAtStop (D.contents inputs.now) asked.entry) }
 {
     let text = read_list_text(inputs, alloc, asked.list)?;
@@ -119,9 +134,9 @@ fn session_of_text<D: Inputs>(
     alloc: Global,
     asked: GdbAsked<'_>,
     text: &[u8],
-) -> Result<Debugged<JobEnd>, Stop>
+) -> Result<Opened, Stop>
     ensures opened { IfOk result (λ opened. IsOpenedOf (D.contents inputs.now) asked.entry text.now
-        (job_end_text opened.end.plan opened.end.unread.items opened.end.place) opened.session) }
+        (job_end_text opened.job.plan opened.job.unread.items opened.job.place) opened.session) }
     ensures stopped { IfErr result (λ why. IsNoJobStop asked.entry.list.now text.now asked.entry.name.now why
         ⊎ IsUnopenedOfStop (D.contents inputs.now) asked.entry text.now why) }
 {
@@ -135,11 +150,11 @@ fn session_of_job<D: Inputs>(
     alloc: Global,
     asked: GdbAsked<'_>,
     named: NamedJob,
-) -> Result<Debugged<JobEnd>, Stop>
+) -> Result<Opened, Stop>
     requires { named.place < length named.jobs }
     ensures opened { IfOk result (λ opened. IsJobOpened
         (contents_below (optional_text asked.entry.root) (D.contents inputs.now)) (optional_text asked.entry.root) named.jobs
-        named.place (job_end_text opened.end.plan opened.end.unread.items opened.end.place) opened.session) }
+        named.place (job_end_text opened.job.plan opened.job.unread.items opened.job.place) opened.session) }
     ensures stopped { IfErr result (IsUnopenedStop (contents_below (optional_text asked.entry.root) (D.contents inputs.now))
         named.jobs named.place) }
 {
@@ -150,12 +165,12 @@ fn session_of_job<D: Inputs>(
     match session_over_plan(alloc, &plan, place, asked.root)? {
         Some(session) => {
             let unread = store.into_unread_paths();
-            let end = JobEnd {
+            let job = JobEnd {
                 plan,
                 unread,
                 place,
             };
-            Ok(Debugged { session, end })
+            Ok(Opened { session, job })
         }
         None => Err(refused_job_stop(alloc, &plan, store.unread_paths(), place)),
     }

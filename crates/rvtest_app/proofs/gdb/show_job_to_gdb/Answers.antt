@@ -5,8 +5,8 @@ use Rattle.rv_session.specs.declared.session.Session.{Session}
 use Rattle.rvtest_app.specs.Debugging.{job_end_text}
 use Rattle.rvtest_app.proofs.gdb.show_job_to_gdb.Goals as goal
 
-pub converse-requires : goal.converse-requires
-converse-requires g c =
+pub converse-requires-clause-asked : goal.converse-requires-clause-asked
+converse-requires-clause-asked g c =
     let opened = c.in_ok-opened.ensures.opened in
     ap (λ (s : Session). s.asked) c.set_memory.ensures
     ∙ ap (λ (s : Session). s.asked) (opened.of_list.of_job.over (single_job [] 0 [])).session_is
@@ -15,14 +15,14 @@ pub returns-in-Ok-clause-answered : goal.returns-in-Ok-clause-answered
 returns-in-Ok-clause-answered g c =
     let heard = rw (c.in-Ok.is, c.set_memory.ensures) at c.converse.ensures.heard in record {
       spoken = c.if-is_terminal.false;
-      end_text = job_end_text c.in_ok-opened.opened.end.plan c.in_ok-opened.opened.end.unread.items c.in_ok-opened.opened.end.place;
+      end_text = job_end_text c.in_ok-opened.opened.job.plan c.in_ok-opened.opened.job.unread.items c.in_ok-opened.opened.job.place;
       first = c.in_ok-opened.opened.session;
       opened = c.in_ok-opened.ensures.opened;
       heard = heard.heard;
       read = heard.read;
       while_open = heard.while_open;
       told = heard.told;
-      last = c.converse.new.debugged.session;
+      last = c.converse.new.session;
       may_end = heard.may_end;
       at_end = heard.ended;
       fed = heard.fed;
