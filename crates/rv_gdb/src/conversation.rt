@@ -1,6 +1,6 @@
 //! What gdb sends, and what it is answered.
 
-ghost use Rattle.std.specs.Prelude.{◌≡◌, ◌≢◌, ◌<◌, IfErr, IfOk, None, OnOk, is_some, length, option_map, true};
+ghost use Rattle.std.specs.Prelude.{◌≡◌, ◌≢◌, ◌<◌, ◌==◌, IfErr, IfOk, None, OnOk, is_some, length, option_map, true};
 ghost use Rattle.std.specs.Io.KnownBytes.{Appends};
 ghost use Rattle.rv_base.specs.Counts.{one_more};
 ghost use Rattle.rv_gdb.specs.Conversing.{IsChunkRead, IsConversed, IsEnded};
@@ -8,7 +8,7 @@ ghost use Rattle.rv_gdb.specs.Chunks.{IsByteAnswered, IsBytePut, IsChunkAnswered
 ghost use Rattle.rv_session.specs.Heard.{is_interrupted};
 ghost use Rattle.rv_session.specs.Sessions.{IsSameRun, MayAsk};
 
-use crate::ctrl_c::{Coming, Known};
+use crate::ctrl_c::{Coming, Raised, Unraised};
 use rv_base::{Sink, put_all};
 use rv_history::Interrupt;
 use rv_session::{EndText, Session};
@@ -92,12 +92,9 @@ fn read_chunk<I: Read>(alloc: Global, input: &mut I) -> Result<Vec<u8>, Broken>
     ensures read { IfOk result (λ chunk. IsChunkRead (I.remaining input.old) (I.remaining input.new) chunk.items) }
     ensures failed { IfErr result (λ broken. broken ≢ Broken.Unput) }
 {
-    let mut chunk = vec![in alloc; 0u8; CHUNK]?;
-    match input.read(chunk.as_mut_slice()) {
-        Ok(count) => {
-            chunk.truncate(count);
-            Ok(chunk)
-        }
+    let mut buffer = [0u8; CHUNK];
+    match input.read(&mut buffer) {
+        Ok(count) => Ok(Vec::from_slice(alloc, &buffer[..count])?),
         Err(error) => Err(Broken::Unread(error.kind())),
     }
 }
@@ -155,9 +152,30 @@ fn answer_byte<R, E: EndText, O: Sink>(
     if index + 1 == chunk.len() {
         return Ok(true);
     }
-    let is_raised = chunk[index + 1] == CTRL_C;
-    put_move(means, session, &mut Known { is_raised }, out)?;
+    put_move_before(means, session, chunk[index + 1], out)?;
     Ok(false)
+}
+
+// Makes the move behind which a byte waits: 0x03 breaks it off.
+fn put_move_before<R, E: EndText, O: Sink>(
+    means: &Means<'_, R, E>,
+    session: &mut Session,
+    behind: u8,
+    out: &mut O,
+) -> Result<(), Broken>
+    requires asked { is_some session.old.asked ≡ true }
+    requires of_run { E.start means.now.end.now ≡ session.old.history.start }
+    ensures moved { OnOk result (IsMovePut (E.end_text means.now.end.now) (behind == 3) session.old (O.taken out.old)
+        (O.taken out.new) session.new) }
+    ensures run { OnOk result (IsSameRun session.old session.new) }
+    ensures failed { IfErr result (λ broken. broken ≡ Broken.Unput → O.failed out.new ≡ one_more (O.failed out.old)) }
+    ensures counted { OnOk result (O.failed out.new ≡ O.failed out.old) }
+{
+    if behind == CTRL_C {
+        put_move(means, session, &mut Raised, out)
+    } else {
+        put_move(means, session, &mut Unraised, out)
+    }
 }
 
 // Puts what the session answers to a byte.
@@ -256,11 +274,19 @@ fn move_beside_reader<R: Threads, E: EndText, I: Read + Send, O: Sink>(
     );
     put?;
     let chunk = read?;
-    // The reading thread raised it for this chunk.
-    if coming.was_seen && !is_interrupted(chunk.as_slice()) {
+    check_raised(coming.was_seen, chunk.as_slice())?;
+    Ok(chunk)
+}
+
+// The reading thread raised an interrupt for what it read alone.
+fn check_raised(was_seen: bool, chunk: &[u8]) -> Result<(), Broken>
+    ensures raised { OnOk result (was_seen ≡ true → is_interrupted chunk.now true ≡ true) }
+    ensures failed { IfErr result (λ broken. broken ≢ Broken.Unput) }
+{
+    if was_seen && !is_interrupted(chunk) {
         return Err(Broken::Unread(ErrorKind::Interrupted));
     }
-    Ok(chunk)
+    Ok(())
 }
 
 // Reads once, and raises an interrupt where a move is to be broken off for it, or where the reader failed.

@@ -4,17 +4,31 @@ use rv_history::Interrupt;
 use std::sync::atomic::AtomicBool;
 use std::sync::atomic::Ordering::SeqCst;
 
-/// An interrupt of which it is known whether it is raised.
+/// An interrupt that is raised.
 #[derive(Drop)]
-pub(crate) struct Known {
-    pub is_raised: bool,
-}
+pub(crate) struct Raised;
 
-impl Interrupt for Known {
-    ghost was_raised = { λ known. known.is_raised };
+impl Interrupt for Raised {
+    ghost use Rattle.std.specs.Prelude.{true};
+
+    ghost was_raised = { λ _. true };
 
     fn is_raised(&mut self) -> bool {
-        self.is_raised
+        true
+    }
+}
+
+/// An interrupt that is not raised.
+#[derive(Drop)]
+pub(crate) struct Unraised;
+
+impl Interrupt for Unraised {
+    ghost use Rattle.std.specs.Prelude.{false};
+
+    ghost was_raised = { λ _. false };
+
+    fn is_raised(&mut self) -> bool {
+        false
     }
 }
 
