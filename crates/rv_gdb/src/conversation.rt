@@ -46,6 +46,7 @@ const CHUNK: usize = 16_384;
 const CTRL_C: u8 = 0x03;
 
 /// The means of a conversation.
+#[derive(Drop)]
 pub struct Means<'a, R, E> {
     pub rt: &'a R,
     pub alloc: Global,
