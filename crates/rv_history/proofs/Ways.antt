@@ -1,5 +1,5 @@
 -- Moves forward on their way, and where they end.
-use Rattle.std.proofs.Common.{◌≡◌, ◌∙◌, ◌&&◌, ◌+◌, ◌<◌, ◌≤◌, ℕ, true, false, Ok, Err, ap, arith, ltb, refl, subst, sym}
+use Rattle.std.proofs.Common.{◌≡◌, ◌∙◌, ◌&&◌, ◌<◌, ◌≤◌, ℕ, true, false, Ok, Err, ap, arith, ltb, refl, subst, sym}
 use Rattle.rv_machine.specs.Machine.{state_of}
 use Rattle.rv_machine.specs.Run.{run_of, step_of}
 use Rattle.rv_machine.specs.State.{State}

@@ -2,6 +2,7 @@
 use rv_history::Interrupt;
 
 /// An interrupt that rises at one of the times that it is asked, the first being 1, and falls again.
+#[derive(Drop)]
 pub struct Alarm {
     asked: u32,
     rises_at: u32,

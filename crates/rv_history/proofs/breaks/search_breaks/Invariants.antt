@@ -1,4 +1,4 @@
-use Rattle.std.proofs.Common.{◌≡◌, ◌-◌, ◌≤◌, ℕ}
+use Rattle.std.proofs.Common.{◌-◌, ◌≤◌, ℕ}
 use Rattle.rv_machine.specs.Machine.{state_of}
 use Rattle.rv_history.specs.LastStop.{IsLastOn}
 use Rattle.rv_history.specs.Places.{IsReached}
