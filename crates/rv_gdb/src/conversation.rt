@@ -42,6 +42,9 @@ impl From<AllocError> for Broken {
 // A read asks for as many bytes at most: gdb's packets have up to 16,384.
 const CHUNK: usize = 16_384;
 
+// The answer to a move for which there is no memory.
+const NO_MEMORY: &str = "$E.out of memory#79";
+
 // What gdb sends for Ctrl-C.
 const CTRL_C: u8 = 0x03;
 
@@ -186,8 +189,9 @@ fn put_answer<O: Sink>(
     byte: u8,
     out: &mut O,
 ) -> Result<(), Broken>
+    requires { session.old.asked ≡ None }
     ensures answered { OnOk result (IsBytePut session.old byte (O.taken out.old) (O.taken out.new) session.new) }
-    ensures not_over { OnOk result (session.old.asked ≡ None → MayAsk session.new) }
+    ensures not_over { OnOk result (MayAsk session.new) }
     ensures run { OnOk result (IsSameRun session.old session.new) }
     ensures failed { IfErr result (λ broken. broken ≡ Broken.Unput → O.failed out.new ≡ one_more (O.failed out.old)) }
     ensures counted { OnOk result (O.failed out.new ≡ O.failed out.old) }
@@ -211,8 +215,14 @@ fn put_move<R, E: EndText, J: Interrupt, O: Sink>(
     ensures failed { IfErr result (λ broken. broken ≡ Broken.Unput → O.failed out.new ≡ one_more (O.failed out.old)) }
     ensures counted { OnOk result (O.failed out.new ≡ O.failed out.old) }
 {
-    let told = session.work(means.alloc, means.end, interrupt)?;
-    put_told(out, told.as_slice())
+    match session.work(means.alloc, means.end, interrupt) {
+        Ok(told) => put_told(out, told.as_slice()),
+        Err(error) => {
+            // gdb waits for an answer, and a read for gdb.
+            let _ = put_all(out, NO_MEMORY.as_bytes());
+            Err(error.into())
+        }
+    }
 }
 
 fn put_told<O: Sink>(out: &mut O, told: &[u8]) -> Result<(), Broken>
@@ -279,7 +289,7 @@ fn move_beside_reader<R: Threads, E: EndText, I: Read + Send, O: Sink>(
     Ok(chunk)
 }
 
-// The reading thread raised an interrupt for what it read alone.
+// The reading thread raises an interrupt for what it read alone. No clause says what another thread stored, so it is looked at.
 fn check_raised(was_seen: bool, chunk: &[u8]) -> Result<(), Broken>
     ensures raised { OnOk result (was_seen ≡ true → is_interrupted chunk.now true ≡ true) }
     ensures failed { IfErr result (λ broken. broken ≢ Broken.Unput) }

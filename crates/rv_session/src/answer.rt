@@ -119,7 +119,7 @@ impl Session {
         Ok(reply)
     }
 
-    // `vCont;`, `c`, `s`, `bc`, `bs`: the move is made when nothing more is heard before it.
+    // `vCont;`, `c`, `s`, `bc`, `bs`: the move is made before another byte is heard.
     fn ask(&mut self, alloc: Global, asked: Move) -> Reply
         ensures reply { result ≡ silent }
         ensures next { self.new ≡ record self.old { asked = Some asked } }

@@ -20,8 +20,9 @@ impl Session {
     /// Hears a byte of gdb, and gives the bytes that go out. Where a move is asked for then, [`Session::work`] makes it before another
     /// byte is heard. After an error the session is to be given up.
     pub fn hear(&mut self, alloc: Global, byte: u8) -> Result<Vec<u8>, AllocError>
+        requires { self.old.asked ≡ None }
         ensures heard { IfOk result (λ out. IsByteFed self.old byte out.items self.new) }
-        ensures not_over { OnOk result (self.old.asked ≡ None → MayAsk self.new) }
+        ensures not_over { OnOk result (MayAsk self.new) }
         ensures run { OnOk result (IsSameRun self.old self.new) }
     {
         let mut out = Vec::new(alloc);
@@ -30,12 +31,7 @@ impl Session {
     }
 
     // Appends what goes out for a byte.
-    fn hear_byte(
-        &mut self,
-        alloc: Global,
-        out: &mut Vec<u8>,
-        byte: u8,
-    ) -> Result<(), AllocError>
+    fn hear_byte(&mut self, alloc: Global, out: &mut Vec<u8>, byte: u8) -> Result<(), AllocError>
         ensures { OnOk result (IsAppended out.old.items out.new.items
             (λ told. IsByteFed self.old byte told self.new)) }
     {

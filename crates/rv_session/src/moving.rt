@@ -1,6 +1,6 @@
 //! Moves in the run, and the stops that are told of them.
 
-ghost use Rattle.std.specs.Prelude.{◌≡◌, IfOk, OnOk, is_some, true};
+ghost use Rattle.std.specs.Prelude.{◌≡◌, IfOk, None, OnOk, is_some, true};
 ghost use Rattle.rv_history.specs.declared.found.Found.TheVariants as found;
 ghost use Rattle.rv_remote.specs.Stops.{stop_text};
 ghost use Rattle.rv_session.specs.Moved.{CanTell, IsBroken, IsGone, IsMoved, end_stop, end_text_at, is_forward, printed_on, shown_on, stop_of, watch_stop, watch_told};
@@ -30,6 +30,7 @@ impl Session {
         requires of_run { E.start end.now ≡ self.old.history.start }
         ensures worked { IfOk result
             (λ out. IsWorked (E.end_text end.now) (I.was_raised interrupt.new) self.old out.items self.new) }
+        ensures made { OnOk result (self.new.asked ≡ None) }
         ensures run { OnOk result (IsSameRun self.old self.new) }
     {
         let Some(asked) = self.asked.take() else {

@@ -1,6 +1,6 @@
 //! Requests and answers, by the lines of a table.
 
-ghost use Rattle.std.specs.Prelude.{◌≡◌};
+ghost use Rattle.std.specs.Prelude.{◌≡◌, false, is_some};
 ghost use Rattle.std.specs.Coded.{Coded-set};
 ghost use Rattle.rv_history.specs.Starts.{start_of};
 ghost use Rattle.rv_machine.proofs.Public.{state_code};
@@ -133,8 +133,8 @@ impl Interrupt for Never {
 struct Talk {
     session: Session,
     end: End,
-    ghost same_run: { start_of end.start ≡ session.history.start }
-        by { Coded-set state_code (start_of end.start) session.history.start },
+    ghost same_run: { start_of end.start ≡ session.history.start } by { Coded-set state_code (start_of end.start) session.history.start },
+    ghost made: { is_some session.asked ≡ false },
 }
 
 impl Talk {

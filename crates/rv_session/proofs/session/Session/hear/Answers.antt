@@ -17,6 +17,6 @@ returns-clause-run c =
 
 pub returns-clause-not_over : goal.returns-clause-not_over
 returns-clause-not_over c =
-    λ none. byte_may c.args.self.now c.hear_byte.new.self c.args.byte c.hear_byte.new.out.items none
+    byte_may c.args.self.now c.hear_byte.new.self c.args.byte c.hear_byte.new.out.items c.requires
     (to_nothing _ c.hear_byte.new.out.items (λ out. IsByteFed c.args.self.now c.args.byte out c.hear_byte.new.self)
     c.new-out.ensures.items c.in_ok-hear_byte.ensures)
