@@ -1,4 +1,4 @@
-use Rattle.std.proofs.Common.{rules}
+use Rattle.std.proofs.Common.{rules, true}
 use Rattle.rv_session.specs.Heard.{is_interrupted}
 use Rattle.rv_gdb.proofs.Joining.{put_more}
 use Rattle.rv_gdb.proofs.conversation.move_beside_reader.Goals as goal
