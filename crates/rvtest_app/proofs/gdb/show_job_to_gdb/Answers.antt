@@ -7,7 +7,7 @@ use Rattle.rvtest_app.proofs.gdb.show_job_to_gdb.Goals as goal
 
 pub converse-requires-clause-asked : goal.converse-requires-clause-asked
 converse-requires-clause-asked g c =
-    let opened = c.in_ok-opened.ensures.opened in
+    let opened = c.in_ok-opened.ensures.opened in λ lifetimes outlive.
     ap (λ (s : Session). s.asked) c.set_memory.ensures
     ∙ ap (λ (s : Session). s.asked) (opened.of_list.of_job.over (single_job [] 0 [])).session_is
 
