@@ -138,15 +138,28 @@ struct Talk {
 }
 
 impl Talk {
-    // What goes out for a byte, and for the move that it asks for.
-    fn answer(&mut self, alloc: Global, byte: u8, sent: &mut Vec<u8>) -> Result<(), Fail> {
-        let told = self.session.hear(alloc, byte)?;
+    // Appends what goes out for a byte, and for the move that it asks for.
+    fn answer(self, alloc: Global, byte: u8, sent: &mut Vec<u8>) -> Result<Talk, Fail> {
+        let Talk { mut session, end } = self;
+        let told = session.hear(alloc, byte)?;
         sent.extend_from_slice(told.as_slice())?;
-        if self.session.is_asked() {
-            let told = self.session.work(alloc, &self.end, &mut Never)?;
-            sent.extend_from_slice(told.as_slice())?;
+        if !session.is_asked() {
+            return Ok(Talk { session, end });
         }
-        Ok(())
+        let told = session.work(alloc, &end, &mut Never)?;
+        sent.extend_from_slice(told.as_slice())?;
+        Ok(Talk { session, end })
+    }
+
+    // What goes out for the bytes of gdb.
+    fn answered(self, alloc: Global, heard: &[u8]) -> Result<(Talk, String), Fail> {
+        let mut talk = self;
+        let mut sent = Vec::new(alloc);
+        for byte in heard {
+            talk = talk.answer(alloc, *byte, &mut sent)?;
+        }
+        let text = String::from_str(alloc, std::str::from_utf8(sent.as_slice())?)?;
+        Ok((talk, text))
     }
 }
 
@@ -188,16 +201,6 @@ fn session_of(alloc: Global, code: &str, budget: u32) -> Result<Talk, Fail> {
     })
 }
 
-// What goes out for the bytes of gdb.
-fn answered(alloc: Global, session: &mut Talk, heard: &[u8]) -> Result<String, Fail> {
-    let mut sent = Vec::new(alloc);
-    for byte in heard {
-        session.answer(alloc, *byte, &mut sent)?;
-    }
-    let text = std::str::from_utf8(sent.as_slice())?;
-    Ok(String::from_str(alloc, text)?)
-}
-
 // Bodies in their frames: `empty` is a body of no bytes, and `nothing` is no body.
 fn framed(alloc: Global, bodies: &str) -> Result<Vec<u8>, Fail> {
     let mut out = Vec::new(alloc);
@@ -213,29 +216,25 @@ fn framed(alloc: Global, bodies: &str) -> Result<Vec<u8>, Fail> {
 
 // A session of a line of the table, without acknowledgements.
 fn session_of_line(alloc: Global, line: &str) -> Result<Talk, Fail> {
-    let mut session = session_of(alloc, cell_of(line, 1), cell_of(line, 2).parse()?)?;
-    let met = answered(alloc, &mut session, b"+$QStartNoAckMode#b0")?;
+    let talk = session_of(alloc, cell_of(line, 1), cell_of(line, 2).parse()?)?;
+    let (talk, met) = talk.answered(alloc, b"+$QStartNoAckMode#b0")?;
     agree(line, met.as_str(), "+$OK#9a")?;
-    Ok(session)
+    Ok(talk)
 }
 
-// What goes out for the packet of a body.
-fn answered_body(alloc: Global, session: &mut Talk, body: &str) -> Result<String, Fail> {
-    let packet = framed(alloc, body)?;
-    answered(alloc, session, packet.as_slice())
-}
-
-fn check_answer(alloc: Global, session: &mut Talk, line: &str, part: &str) -> Result<(), Fail> {
+fn check_answer(alloc: Global, talk: Talk, line: &str, part: &str) -> Result<Talk, Fail> {
     let (asked, wanted) = part.split_once(" > ").ok_or("a request and an answer")?;
-    let met = answered_body(alloc, session, asked)?;
+    let packet = framed(alloc, asked)?;
+    let (talk, met) = talk.answered(alloc, packet.as_slice())?;
     let wanted = framed(alloc, wanted)?;
-    agree(line, met.as_str(), std::str::from_utf8(wanted.as_slice())?)
+    agree(line, met.as_str(), std::str::from_utf8(wanted.as_slice())?)?;
+    Ok(talk)
 }
 
 fn check_answers(alloc: Global, line: &str) -> Result<(), Fail> {
-    let mut session = session_of_line(alloc, line)?;
+    let mut talk = session_of_line(alloc, line)?;
     for part in cell_of(line, 3).split(" / ") {
-        check_answer(alloc, &mut session, line, part)?;
+        talk = check_answer(alloc, talk, line, part)?;
     }
     Ok(())
 }
@@ -249,19 +248,20 @@ fn requests_are_answered(rt: HostRuntime) -> Result<(), Fail> {
     Ok(())
 }
 
-fn check_recording(alloc: Global, session: &mut Talk, line: &str) -> Result<(), Fail> {
+fn check_recording(alloc: Global, talk: Talk, line: &str) -> Result<Talk, Fail> {
     let (heard, wanted) = line.split_once(" > ").ok_or("a line of a recording")?;
     let wanted = if wanted == "nothing" { "" } else { wanted };
-    let met = answered(alloc, session, heard.as_bytes())?;
-    agree(line, met.as_str(), wanted)
+    let (talk, met) = talk.answered(alloc, heard.as_bytes())?;
+    agree(line, met.as_str(), wanted)?;
+    Ok(talk)
 }
 
 #[test]
 fn a_recorded_session_is_replayed(rt: HostRuntime) -> Result<(), Fail> {
     let alloc = rt.alloc();
-    let mut session = session_of(alloc, "LOOP", 100)?;
+    let mut talk = session_of(alloc, "LOOP", 100)?;
     for line in LLDB.lines() {
-        check_recording(alloc, &mut session, line)?;
+        talk = check_recording(alloc, talk, line)?;
     }
     Ok(())
 }
