@@ -105,12 +105,12 @@ stops_by_end stops bounds budget from place start s ending reached low within e 
 }
 
 pub stops_by_interrupt : (stops : Stops) (bounds : Bounds) (budget from place : ℕ) (start s : State) → IsReached start place s
-    → from ≤ place → place ≤ budget → QuietUpTo stops bounds budget start from place
-    → IsNextStop stops bounds budget start from place found.Interrupted
-stops_by_interrupt stops bounds budget from place start s reached low within quiet = record {
+    → from ≤ place → place ≤ budget → (ltb from place && is_halt stops bounds s.pc) ≡ false
+    → QuietUpTo stops bounds budget start from place → IsNextStop stops bounds budget start from place found.Interrupted
+stops_by_interrupt stops bounds budget from place start s reached low within absent quiet = record {
   order = low;
   within = comes_within budget place start reached.completed within;
-  meets = tt;
+  meets = no_halt_at stops bounds start s from place reached absent;
   between = quiet;
 }
 

@@ -1,5 +1,5 @@
 -- Moves with no breakpoint and no watch.
-use Rattle.std.proofs.Common.{◌≡◌, ◌∙◌, ◌+◌, ◌<◌, ◌≤◌, ◌||◌, ℕ, Bool, List, [], true, false, ap, inl, inr, refl, sym, subst, arith, Option, Some, None, Result, Ok, Err}
+use Rattle.std.proofs.Common.{◌≡◌, ◌∙◌, ◌+◌, ◌<◌, ◌≤◌, ◌||◌, ◌&&◌, ℕ, Bool, List, [], true, false, ap, inl, inr, refl, sym, subst, arith, ltb, Option, Some, None, Result, Ok, Err}
 use Rattle.std.specs.Result.{IfOk}
 use Rattle.std.specs.List.{flat_map, list_any}
 use Rattle.std.specs.Prelude.{◌==◌, if◌then◌else◌, is_some}
@@ -85,6 +85,17 @@ no_halt : (stops : Stops) (place : ℕ) (start : State) → AreNone stops → Is
 no_halt stops place start none is =
     both_ways (is_halt stops bounds.All (state_after place start).pc)
     (ap (λ b. b || false) (no_break stops (state_after place start).pc none)) is
+
+-- a machine tells that a move does not stop there
+pub never_halted : (stops : Stops) (within : Bounds) (from place pc : ℕ) → AreNone stops → within ≡ bounds.All
+    → (ltb from place && is_halt stops within pc) ≡ false
+never_halted stops within from place pc none all =
+    ap (λ b. ltb from place && is_halt stops b pc) all ∙ ap (λ b. ltb from place && (b || false)) (no_break stops pc none)
+    ∙ never (ltb from place)
+  where
+    never : (b : Bool) → (b && false) ≡ false
+    never true = refl
+    never false = refl
 
 -- nothing is met on the way
 goes_unstopped : (stops : Stops) (budget from place j : ℕ) (start : State) → AreNone stops → place ≤ last_place budget start

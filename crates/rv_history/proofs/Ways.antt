@@ -53,10 +53,11 @@ module _ (stops : Stops) (start : State) (leg now : Leg) (arrived : Arrived) (wa
       (stops_by_break stops now.bounds now.budget now.from now.at.place start (state_of now.at.machine) way.there way.order
       way.within halts way.quiet)
 
-  pub arrives_broken : arrived ≡ record { at = now.at; found = found.Interrupted } → IsArrival stops start leg arrived
-  arrives_broken is = arrives stops start leg now now.at found.Interrupted arrived same is way.there refl
+  pub arrives_broken : arrived ≡ record { at = now.at; found = found.Interrupted }
+      → (ltb now.from now.at.place && is_halt stops now.bounds (state_of now.at.machine).pc) ≡ false → IsArrival stops start leg arrived
+  arrives_broken is halts = arrives stops start leg now now.at found.Interrupted arrived same is way.there refl
       (stops_by_interrupt stops now.bounds now.budget now.from now.at.place start (state_of now.at.machine) way.there way.order
-      way.within way.quiet)
+      way.within halts way.quiet)
 
   pub arrives_ended : (at : MachineAt) (ending : Ending) → arrived ≡ record { at = at; found = found.End ending }
       → at.place ≡ now.at.place → state_of at.machine ≡ state_of now.at.machine → now.at.place < now.budget

@@ -1,5 +1,5 @@
 -- Where the moves of a debugger stop, in a run within a budget.
-use Rattle.std.specs.Prelude.{ℕ, Bool, if◌then◌else◌, ◌≡◌, ◌≢◌, ◌+◌, ◌<◌, ◌≤◌, ⊤}
+use Rattle.std.specs.Prelude.{ℕ, Bool, if◌then◌else◌, ◌≡◌, ◌+◌, ◌<◌, ◌≤◌}
 use Rattle.rv_machine.specs.Run.{run_of}
 use Rattle.rv_machine.specs.State.{State}
 use Rattle.rv_machine.specs.declared.ending.Ending.{Ending}
@@ -14,14 +14,19 @@ use Rattle.rv_history.specs.declared.stops.Stops.{Stops}
 abbrev pub IsEndAt : ℕ → State → ℕ → Ending → Type 0
 IsEndAt budget start place ending = (place ≡ last_place budget start) × (ending ≡ (run_of budget start).ending)
 
--- nothing broke a move off
+-- an interrupt broke a move off
+abbrev pub IsBroken : Found → Type 0
+IsBroken what = what ≡ found.Interrupted
+
+-- nothing broke it off
 abbrev pub IsUnbroken : Found → Type 0
-IsUnbroken what = what ≢ found.Interrupted
+IsUnbroken what = IsBroken what → ⊥
 
 -- ---- forwards
 
 -- What a move forward from a place meets at this one: a breakpoint or an address outside the bounds first, but not where it began,
--- then the end, then a change by the step in front of which it stands. An interrupt breaks it off anywhere.
+-- then the end, then a change by the step in front of which it stands. An interrupt breaks it off anywhere else than at a breakpoint or
+-- outside the bounds, which a move from there would pass over.
 abbrev pub MeetsAhead : Stops → Bounds → ℕ → State → ℕ → ℕ → Found → Type 0
 MeetsAhead stops bounds budget start from place found.Break = (from < place) × IsHaltAt stops bounds start place
 MeetsAhead stops bounds budget start from place (found.End ending) =
@@ -30,7 +35,7 @@ MeetsAhead stops bounds budget start from place found.Change =
     IsChangeAt stops budget start place × (from < place → IsHaltAt stops bounds start place → ⊥)
 MeetsAhead stops bounds budget start from place found.Done = ⊥
 MeetsAhead stops bounds budget start from place found.Begin = ⊥
-MeetsAhead stops bounds budget start from place found.Interrupted = ⊤
+MeetsAhead stops bounds budget start from place found.Interrupted = from < place → IsHaltAt stops bounds start place → ⊥
 
 -- what a move forward finds at the budget, where it met nothing before
 abbrev pub found_at_budget : Bool → Found

@@ -14,7 +14,7 @@ use crate::found::Found;
 use crate::interrupt::Interrupt;
 use crate::leg::{Arrived, Leg};
 use crate::search_back::{Part, last_behind};
-use crate::slices::{are_a_slice, is_slice_end, slice_end};
+use crate::slices::{fill_a_slice, is_slice_end, slice_end};
 use crate::stepping::{Stepped, step};
 use crate::stops::Stops;
 use crate::track::Track;
@@ -40,7 +40,7 @@ pub(crate) fn next_break<I: Interrupt>(
         if leg.is_halted(stops) {
             return Ok(leg.arrived(Found::Break));
         }
-        if leg.is_broken_off(alloc, track, interrupt)? {
+        if leg.keep_and_ask(alloc, track, interrupt)? {
             return Ok(leg.arrived(Found::Interrupted));
         }
         let end = slice_end(leg.at.place, leg.budget);
@@ -74,7 +74,7 @@ pub(crate) fn search_breaks<I: Interrupt>(
     let begin = at.place;
     let mut last = None;
     'places: while at.place < end {
-        if is_slice_end(at.place) && are_a_slice(at.place - begin) && interrupt.is_raised() {
+        if is_slice_end(at.place) && fill_a_slice(at.place - begin) && interrupt.is_raised() {
             return Ok(None);
         }
         let slice = slice_end(at.place, end);

@@ -21,7 +21,7 @@ use std::alloc::{AllocError, Global};
 use std::marker::Model;
 
 /// A place in the run from a start within a budget, and the machine there. No move changes the run, and what it answers does not depend
-/// on which states of the run are at hand.
+/// on which states of the run are at hand, but for where an interrupt breaks a move off.
 #[derive(Drop)]
 pub struct History {
     track: Track,
@@ -152,6 +152,13 @@ impl History {
         ensures run { self.new ≡ record self.old { place = self.new.place } }
         ensures same { OnErr result (self.new ≡ self.old) }
     {
+        if stops.are_none() {
+            let begin = Arrival {
+                place: 0,
+                found: Found::Begin,
+            };
+            return self.arrive(alloc, begin);
+        }
         // From now on there are states at hand near to here, and the parts of the search are short.
         let _ = self.track.reach(alloc, self.place)?;
         let arrival = stop_before(alloc, &self.track, self.place, stops, interrupt)?;

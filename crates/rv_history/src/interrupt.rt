@@ -2,7 +2,7 @@
 
 ghost use Rattle.std.specs.Prelude.{◌≡◌, IsTrue, true};
 
-/// Says whether a move is to be broken off. A move asks now and then, about every 2,000,000 steps.
+/// Says whether a move is to be broken off. A move asks each 65,536 steps.
 pub trait Interrupt {
     ghost use Rattle.std.specs.Prelude.{Bool};
 

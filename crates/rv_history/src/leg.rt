@@ -10,7 +10,7 @@ use crate::bounds::Bounds;
 use crate::found::Found;
 use crate::interrupt::Interrupt;
 use crate::machine_at::MachineAt;
-use crate::slices::{are_a_slice, is_slice_end};
+use crate::slices::{fill_a_slice, is_slice_end};
 use crate::stops::Stops;
 use crate::track::Track;
 use rv_machine::Ending;
@@ -62,9 +62,9 @@ impl Leg {
         }
     }
 
-    /// Whether it is broken off where it stands. It asks at the end of each slice but the one where it began, and there its state may be
-    /// kept.
-    pub(crate) fn is_broken_off<I: Interrupt>(
+    /// Whether it is broken off where it stands. At the end of a slice its state may be kept, and it asks there once its steps fill a
+    /// slice.
+    pub(crate) fn keep_and_ask<I: Interrupt>(
         &self,
         alloc: Global,
         track: &mut Track,
@@ -79,7 +79,7 @@ impl Leg {
             return Ok(false);
         }
         track.keep_multiple(alloc, &self.at)?;
-        Ok(are_a_slice(self.at.place - self.from) && interrupt.is_raised())
+        Ok(fill_a_slice(self.at.place - self.from) && interrupt.is_raised())
     }
 }
 

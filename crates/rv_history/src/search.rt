@@ -63,7 +63,7 @@ fn next_watched<I: Interrupt>(
         if leg.is_halted(stops) {
             return Ok(leg.arrived(Found::Break));
         }
-        if leg.is_broken_off(alloc, track, interrupt)? {
+        if leg.keep_and_ask(alloc, track, interrupt)? {
             return Ok(leg.arrived(Found::Interrupted));
         }
         match step_beside(alloc, &mut leg.at.machine, stops, &mut watched)? {
@@ -105,7 +105,7 @@ fn end_of_run<I: Interrupt>(
         at,
     };
     'places: while way.at.place < way.budget {
-        if way.is_broken_off(alloc, track, interrupt)? {
+        if way.keep_and_ask(alloc, track, interrupt)? {
             return Ok(way.arrived(Found::Interrupted));
         }
         let end = slice_end(way.at.place, way.budget);

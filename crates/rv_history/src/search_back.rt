@@ -9,7 +9,7 @@ ghost use Rattle.rv_history.specs.declared.found.Found.TheVariants.{Interrupted}
 use crate::breaks::search_breaks;
 use crate::found::{Arrival, Found};
 use crate::interrupt::Interrupt;
-use crate::slices::{are_a_slice, is_slice_end};
+use crate::slices::{fill_a_slice, is_slice_end};
 use crate::stepping::{Stepped, step_beside, step_watched};
 use crate::stops::Stops;
 use crate::track::Track;
@@ -24,8 +24,8 @@ pub(crate) struct Part {
     pub last: Option<Arrival>,
 }
 
-/// The stop before a place, whatever the budget within which the run comes there. It asks behind each part, once they are a slice or
-/// more.
+/// The stop before a place, whatever the budget within which the run comes there. It asks behind each part, once they fill a
+/// slice.
 pub(crate) fn stop_before<I: Interrupt>(
     alloc: Global,
     track: &Track,
@@ -42,16 +42,9 @@ pub(crate) fn stop_before<I: Interrupt>(
         place: from,
         found: Found::Interrupted,
     };
-    let none = Arrival {
-        place: 0,
-        found: Found::Begin,
-    };
-    if stops.are_none() {
-        return Ok(none);
-    }
     let mut end = from;
     while 0 < end {
-        if are_a_slice(from - end) && interrupt.is_raised() {
+        if fill_a_slice(from - end) && interrupt.is_raised() {
             return Ok(broken_off);
         }
         let Some(part) = search_part(alloc, track, end, stops, interrupt)? else {
@@ -62,7 +55,10 @@ pub(crate) fn stop_before<I: Interrupt>(
         }
         end = part.begin;
     }
-    Ok(none)
+    Ok(Arrival {
+        place: 0,
+        found: Found::Begin,
+    })
 }
 
 // The last stop up to a place, behind the last state at hand before it, unless an interrupt breaks the search off.
@@ -86,7 +82,7 @@ fn search_part<I: Interrupt>(
     let mut watched = stops.watched_bytes(alloc, at.machine.bus())?;
     let mut last = None;
     for place in begin..end {
-        if is_slice_end(place) && are_a_slice(place - begin) && interrupt.is_raised() {
+        if is_slice_end(place) && fill_a_slice(place - begin) && interrupt.is_raised() {
             return Ok(None);
         }
         let is_break = stops.has_break(at.machine.pc());

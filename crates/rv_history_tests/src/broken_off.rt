@@ -9,17 +9,20 @@ use std::test::Fail;
 // It adds 1 to x5 for ever, and stores nothing.
 const CODE: &str = "00128293 ffdff06f X";
 
-// No instruction is at 80000040, and each move is longer than 2^21 steps.
+// No instruction is at 80000040, and each move is longer than 2^16 steps.
 // label | budget | stops | move | the ask at which the interrupt rises | where the move ends that nothing breaks off
-const MOVES: &str = "\
-a run, at once | 2200000 | none | go_on | 1 | 2200000 budget
-a run, later | 4300000 | none | go_on | 2 | 4300000 budget
-past a breakpoint, at once | 2200000 | b80000040 | go_on | 1 | 2200000 budget
-past a breakpoint, later | 4300000 | b80000040 | go_on | 2 | 4300000 budget
-past a watch | 2200000 | w80000100,4 | go_on | 1 | 2200000 budget
-back to the start, at once | 4300000 | b80000040 | go_back | 1 | 0 begin
-back to the start, later | 8400000 | b80000040 | go_back | 2 | 0 begin
-back past a watch | 4300000 | w80000100,4 | go_back | 1 | 0 begin
+const AHEAD: &str = "\
+a run, at once | 66000 | none | go_on | 1 | 66000 budget
+a run, later | 132000 | none | go_on | 2 | 132000 budget
+past a breakpoint, at once | 66000 | b80000040 | go_on | 1 | 66000 budget
+past a breakpoint, later | 132000 | b80000040 | go_on | 2 | 132000 budget
+past a watch | 66000 | w80000100,4 | go_on | 1 | 66000 budget
+";
+
+// The same, beginning at the budget.
+const BACK: &str = "\
+back to the start | 132000 | b80000040 | go_back | 2 | 0 begin
+back past a watch | 132000 | w80000100,4 | go_back | 1 | 0 begin
 ";
 
 // A move, from the start of the run or from its end.
@@ -78,23 +81,32 @@ fn check_broken_off(alloc: Global, line: &str) -> Result<(), Fail> {
 }
 
 #[test]
-fn moves_are_broken_off(rt: HostRuntime) -> Result<(), Fail> {
-    has_lines(MOVES, 8)?;
-    for line in MOVES.lines() {
+fn moves_ahead_are_broken_off(rt: HostRuntime) -> Result<(), Fail> {
+    has_lines(AHEAD, 5)?;
+    for line in AHEAD.lines() {
         check_broken_off(rt.alloc(), line)?;
     }
     Ok(())
 }
 
-// A move of less than 2^21 steps does not ask.
+#[test]
+fn moves_back_are_broken_off(rt: HostRuntime) -> Result<(), Fail> {
+    has_lines(BACK, 2)?;
+    for line in BACK.lines() {
+        check_broken_off(rt.alloc(), line)?;
+    }
+    Ok(())
+}
+
+// A move of less than 2^16 steps does not ask.
 #[test]
 fn short_moves_do_not_ask(rt: HostRuntime) -> Result<(), Fail> {
     let alloc = rt.alloc();
     for stops in ["none", "b80000040"] {
         let stops = stops_of(alloc, stops)?;
-        let mut history = history_of(alloc, CODE, 2_000_000)?;
+        let mut history = history_of(alloc, CODE, 65_000)?;
         let _ = history.go_on(alloc, &stops, Bounds::All, &mut Alarm::at(1))?;
-        assert_eq!(rt; history.place(), 2_000_000);
+        assert_eq!(rt; history.place(), 65_000);
         let _ = history.go_back(alloc, &stops, &mut Alarm::at(1))?;
         assert_eq!(rt; history.place(), 0);
     }

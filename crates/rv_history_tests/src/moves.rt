@@ -4,7 +4,7 @@ use rv_base::Sequence;
 use rv_history::{Bounds, Found, History, Start, Stops, Watch};
 use rv_isa::Isa;
 use rv_machine::Ending;
-use rv_memory::{Bus, Map, Misaligned};
+use rv_memory::{Bus, Map, Misaligned, Region};
 use samples::{agree, cell_of, has_lines, hex_of, numbers};
 use std::alloc::{AllocError, Global};
 use std::test::Fail;
@@ -70,12 +70,13 @@ pub fn stops_of(alloc: Global, text: &str) -> Result<Stops, Fail> {
 }
 
 pub fn history_of(alloc: Global, code: &str, budget: u32) -> Result<History, Fail> {
-    let mut bus = Bus::new(
-        alloc,
-        Map::default_map(),
-        Vec::new(alloc),
-        Misaligned::Fault,
-    )?;
+    // It is small, since each move copies it.
+    let map = Map::of(&[Region {
+        base: 0x8000_0000,
+        size: 0x1000,
+        writable: true,
+    }])?;
+    let mut bus = Bus::new(alloc, map, Vec::new(alloc), Misaligned::Fault)?;
     let code = numbers(alloc, code)?;
     if code.len() > 0x100 || !bus.map().in_one(0x8000_0000, code.len() as u32) {
         return Err("a place".into());

@@ -12,12 +12,12 @@ use Rattle.rv_history.proofs.breaks.next_break.Goals as goal
 pub places-init : goal.places-init
 places-init g c = record { way = c.requires.way; leg = refl; same = refl }
 
-pub is_broken_off-requires-clause-there : goal.is_broken_off-requires-clause-there
-is_broken_off-requires-clause-there g c =
+pub keep_and_ask-requires-clause-there : goal.keep_and_ask-requires-clause-there
+keep_and_ask-requires-clause-there g c =
     subst (λ (s : State). IsAt s c.places.leg.at) (sym c.places.invariant.same) c.places.invariant.way.there
 
-pub is_broken_off-requires-clause-order : goal.is_broken_off-requires-clause-order
-is_broken_off-requires-clause-order g c = c.places.invariant.way.order
+pub keep_and_ask-requires-clause-order : goal.keep_and_ask-requires-clause-order
+keep_and_ask-requires-clause-order g c = c.places.invariant.way.order
 
 pub returns-then-is_halted-clause-stop : goal.returns-then-is_halted-clause-stop
 returns-then-is_halted-clause-stop g c =
@@ -27,7 +27,7 @@ returns-then-is_halted-clause-stop g c =
 pub returns-then-branch-clause-stop : goal.returns-then-branch-clause-stop
 returns-then-branch-clause-stop g c =
     arrives_broken c.args.stops.now c.args.track.now c.args.leg c.places.leg c.arrived-then-branch.result c.places.invariant.way
-    c.places.invariant.leg c.arrived-then-branch.ensures
+    c.places.invariant.leg c.arrived-then-branch.ensures (sym c.is_halted.ensures ∙ c.if-is_halted.false)
 
 pub returns-in-Some-clause-stop : goal.returns-in-Some-clause-stop
 returns-in-Some-clause-stop g c =
@@ -63,7 +63,7 @@ places-preserved g c =
         quiet = later.0;
       };
       leg = still_on c.args.leg leg _ c.places.invariant.leg refl;
-      same = c.is_broken_off.ensures.same ∙ c.places.invariant.same;
+      same = c.keep_and_ask.ensures.same ∙ c.places.invariant.same;
     }
 
 pub returns-clause-stop : goal.returns-clause-stop

@@ -4,7 +4,7 @@ use Rattle.rv_machine.specs.State.{State}
 use Rattle.rv_history.specs.Kept.{IsAt}
 use Rattle.rv_history.specs.declared.leg.Leg.{Leg}
 use Rattle.rv_history.proofs.Reaching.{ran_to, within_budget}
-use Rattle.rv_history.proofs.Unstopped.{ends_at, ends_before, under_way}
+use Rattle.rv_history.proofs.Unstopped.{ends_at, ends_before, never_halted, under_way}
 use Rattle.rv_history.proofs.Ways.{all_addresses, arrives_broken, still_on}
 use Rattle.rv_history.proofs.search.end_of_run.Goals as goal
 
@@ -19,8 +19,8 @@ places-init g c =
       same = refl;
     }
 
-pub is_broken_off-requires-clause-there : goal.is_broken_off-requires-clause-there
-is_broken_off-requires-clause-there g c =
+pub keep_and_ask-requires-clause-there : goal.keep_and_ask-requires-clause-there
+keep_and_ask-requires-clause-there g c =
     subst (λ (s : State). IsAt s c.places.way.at) (sym c.places.invariant.same) c.places.invariant.there
 
 pub returns-then-branch-clause-stop : goal.returns-then-branch-clause-stop
@@ -30,6 +30,7 @@ returns-then-branch-clause-stop g c = λ stops none.
     arrives_broken stops c.args.track.now c.args.leg way c.arrived.result
     (under_way stops c.args.track.now way none all c.places.invariant.there c.places.invariant.order c.places.invariant.within)
     c.places.invariant.way c.arrived.ensures
+    (never_halted stops way.bounds way.from way.at.place (state_of way.at.machine).pc none all)
 
 pub returns-then-way-end-clause-stop : goal.returns-then-way-end-clause-stop
 returns-then-way-end-clause-stop g c = λ stops none.
@@ -59,7 +60,7 @@ places-preserved g c =
       order = omega (arith, begun, onward);
       within = omega (arith, count, few, within);
       way = still_on c.args.leg c.places.way _ c.places.invariant.way refl;
-      same = c.is_broken_off.ensures.same ∙ c.places.invariant.same;
+      same = c.keep_and_ask.ensures.same ∙ c.places.invariant.same;
     }
 
 pub places-smaller : goal.places-smaller

@@ -2,16 +2,11 @@ use Rattle.std.proofs.Common.{ℕ, ◌≡◌, arith, subst}
 use Rattle.rv_trace.proofs.Public.{completes}
 use Rattle.rv_history.specs.LastStop.{AreQuiet}
 use Rattle.rv_history.proofs.Backward.{begins_over, last_before, quiet_joined}
-use Rattle.rv_history.proofs.Unstopped.{begins_unstopped}
 use Rattle.rv_history.proofs.search_back.stop_before.Goals as goal
 
 pub search_part-requires-clause-comes : goal.search_part-requires-clause-comes
 search_part-requires-clause-comes g c =
     completes c.args.from c.loop-end.end c.args.track.now (let order = c.loop-end.invariant.order in omega (arith, c.requires))
-
-pub returns-then-are_none-clause-stop : goal.returns-then-are_none-clause-stop
-returns-then-are_none-clause-stop g c = λ budget within.
-    begins_unstopped c.args.stops.now budget c.args.from c.args.track.now (c.are_none.ensures.0 c.if-are_none.true)
 
 pub returns-in-Some-last-clause-stop : goal.returns-in-Some-last-clause-stop
 returns-in-Some-last-clause-stop g c = λ budget within.
