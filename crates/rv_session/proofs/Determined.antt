@@ -3,7 +3,7 @@ use Rattle.std.proofs.Common.{◌≡◌, ◌∙◌, ◌++◌, ◌∷◌, ◌+◌
 use Rattle.std.specs.Prelude.{Option, Result, Ok, Err, ◌==◌}
 use Rattle.std.proofs.lemmas.Bool.{and_parts, both_ways, eqb-true, ne_eqb}
 use Rattle.std.proofs.Math.Bridge.{le_prop}
-use Rattle.rv_history.specs.Moves.{IsUnbroken}
+use Rattle.rv_history.specs.Moves.{IsBroken, IsUnbroken}
 use Rattle.rv_history.specs.declared.counts.Count.{Count}
 use Rattle.rv_history.specs.declared.counts.Count.TheVariants as count
 use Rattle.rv_history.specs.declared.found.Found.{Found}
@@ -31,7 +31,7 @@ use Rattle.rv_remote.specs.declared.request.Trap.{Trap}
 use Rattle.rv_remote.specs.declared.request.Trap.TheVariants as trap
 use Rattle.rv_session.specs.Answers.{IsAnswered, IsSet, IsSought, IsSoughtAs, IsTrapAsked, IsWritten}
 use Rattle.rv_session.specs.Heard.{HasNoInterrupt, IsByteFed, IsFed, IsJudged, IsRespondedTo, IsResponse, IsResponseUnless, IsTaken, IsWorked, acknowledgement, byte_first, is_interrupted, is_wrong, move_first, no_bytes, packets_of, with_sent}
-use Rattle.rv_session.specs.Moved.{IsBroken, IsGone, IsMoved, end_text_at, printed_on, shown_on, stop_of}
+use Rattle.rv_session.specs.Moved.{IsGone, IsMoved, end_text_at, printed_on, shown_on, stop_of}
 use Rattle.rv_session.specs.Replies.{granted_if, stopping}
 use Rattle.rv_session.specs.Sessions.{at_place, state_at}
 use Rattle.rv_session.specs.Traps.{IsAdded, IsAddedUnless, IsTrapped, is_on, is_set, trap_refusal, watches_of, with_watches}

@@ -1,7 +1,7 @@
 -- Moves, and the stops that are told.
 use Rattle.std.proofs.Common.{◌≡◌, ◌∙◌, ◌<◌, ◌≤◌, ℕ, Bool, List, true, ap, arith, subst, sym}
 use Rattle.std.proofs.lemmas.Bool.{false≢true}
-use Rattle.rv_history.specs.Moves.{IsNextStep, MeetsAhead}
+use Rattle.rv_history.specs.Moves.{IsBroken, IsNextStep, MeetsAhead}
 use Rattle.rv_history.specs.Places.{IsReached, last_place}
 use Rattle.rv_history.specs.declared.bounds.Bounds.{Bounds}
 use Rattle.rv_history.specs.declared.bounds.Bounds.TheVariants as bounds
@@ -15,7 +15,7 @@ use Rattle.rv_remote.specs.declared.request.Move.TheVariants as move
 use Rattle.rv_remote.specs.declared.stop.Stop.{Stop}
 use Rattle.rv_trace.proofs.Public.{completes}
 use Rattle.rv_trace.specs.Trace.{state_after}
-use Rattle.rv_session.specs.Moved.{CanTell, IsBroken, IsGone, IsMoved, end_text_at, is_forward, printed_on, shown_on, stop_of}
+use Rattle.rv_session.specs.Moved.{CanTell, IsGone, IsMoved, end_text_at, is_forward, printed_on, shown_on, stop_of}
 use Rattle.rv_session.specs.Replies.{stopping}
 use Rattle.rv_session.specs.Sessions.{at_place, here, state_at}
 use Rattle.rv_session.specs.declared.reply.Reply.{Reply}

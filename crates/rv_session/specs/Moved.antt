@@ -1,6 +1,6 @@
 -- Moves in the run, and the stops that are told of them.
 use Rattle.std.specs.Prelude.{ℕ, List, [], ◌≡◌, ◌+◌, ◌-◌, ◌<◌, Bool, true, false, Option, Some, None, drop, if◌then◌else◌, length, max}
-use Rattle.rv_history.specs.Moves.{IsNextStep, IsNextStop, IsStepBefore, IsStopBefore}
+use Rattle.rv_history.specs.Moves.{IsBroken, IsNextStep, IsNextStop, IsStepBefore, IsStopBefore}
 use Rattle.rv_history.specs.Places.{last_place}
 use Rattle.rv_history.specs.Stops.{first_set_off}
 use Rattle.rv_history.specs.declared.bounds.Bounds.TheVariants as bounds
@@ -65,10 +65,6 @@ watch_stop session asked place = watch_told
 abbrev pub CanTell : Session → Move → Found → Type 0
 CanTell session asked what = what ≡ found.Change → is_forward asked ≡ true
     → session.history.place < last_place session.history.budget session.history.start
-
--- a move was broken off
-abbrev pub IsBroken : Found → Type 0
-IsBroken what = what ≡ found.Interrupted
 
 -- how what is found is told
 abbrev pub stop_of : Session → Move → ℕ → Found → Stop

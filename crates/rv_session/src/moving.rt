@@ -1,9 +1,10 @@
 //! Moves in the run, and the stops that are told of them.
 
 ghost use Rattle.std.specs.Prelude.{◌≡◌, IfOk, None, OnOk, is_some, true};
+ghost use Rattle.rv_history.specs.Moves.{IsBroken};
 ghost use Rattle.rv_history.specs.declared.found.Found.TheVariants as found;
 ghost use Rattle.rv_remote.specs.Stops.{stop_text};
-ghost use Rattle.rv_session.specs.Moved.{CanTell, IsBroken, IsGone, IsMoved, end_stop, end_text_at, is_forward, printed_on, shown_on, stop_of, watch_stop, watch_told};
+ghost use Rattle.rv_session.specs.Moved.{CanTell, IsGone, IsMoved, end_stop, end_text_at, is_forward, printed_on, shown_on, stop_of, watch_stop, watch_told};
 ghost use Rattle.rv_session.specs.Heard.{IsWorked};
 ghost use Rattle.rv_session.specs.Replies.{stopping};
 ghost use Rattle.rv_session.specs.Sessions.{IsSameRun, at_place, here};
