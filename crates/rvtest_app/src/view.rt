@@ -119,7 +119,7 @@ impl<'x, R: Threads + Sync, D: Inputs> JobsView<'x, R, D> {
 
     // What is shown of images by a table.
     fn text_of_table(&self, table: &CountTable, images: &[ImageFile<'_>]) -> Result<Vec<u8>, Stop>
-        requires { IsTable table.now }
+        requires table { IsTable table.now }
         ensures shown { IfOk result (λ text. IsViewText self.now.view table.now (images_of_files images.now) text.items) }
         ensures stopped { IfErr result (IsTextlessStop self.now.view table.now (images_of_files images.now)
             (counts_source self.now.asked.now)) }

@@ -24,7 +24,7 @@ returns-in_err-text-clause-stopped g c =
         kept = rw (c.new-store.ensures.inputs, c.new-store.ensures.folder) at found.kept;
         noted = ap length c.unread_paths.ensures ∙ rw c.new-store.ensures.nothing at found.faults;
       };
-      unof_plan = rw (c.as_slice-places.ensures.value, c.in_ok-marked.ensures.value) at c.in_err-text.ensures.stopped;
+      unshown = rw (c.as_slice-places.ensures.value, c.in_ok-marked.ensures.value) at c.in_err-text.ensures.stopped;
     })))
 
 pub returns-clause-put : goal.returns-clause-put
