@@ -116,10 +116,12 @@ impl<'x, R: Threads + Sync, D: Inputs> JobsView<'x, R, D> {
         let table = self.table_for_images(plan, places, images)?;
         self.text_of_table(&table, images)
     }
+}
 
+impl<'x, R, D> JobsView<'x, R, D> {
     // What is shown of images by a table.
     fn text_of_table(&self, table: &CountTable, images: &[ImageFile<'_>]) -> Result<Vec<u8>, Stop>
-        requires table { IsTable table.now }
+        requires { IsTable table.now }
         ensures shown { IfOk result (λ text. IsViewText self.now.view table.now (images_of_files images.now) text.items) }
         ensures stopped { IfErr result (IsTextlessStop self.now.view table.now (images_of_files images.now)
             (counts_source self.now.asked.now)) }

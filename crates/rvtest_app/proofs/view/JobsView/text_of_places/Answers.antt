@@ -9,8 +9,8 @@ use Rattle.rvtest_app.proofs.StopLemmas.{IfErr-map}
 use Rattle.rvtest_app.proofs.ViewAnswers.{table_of_view}
 use Rattle.rvtest_app.proofs.view.JobsView.text_of_places.Goals as goal
 
-pub text_of_table-requires-clause-table : goal.text_of_table-requires-clause-table
-text_of_table-requires-clause-table g c =
+pub text_of_table-requires : goal.text_of_table-requires
+text_of_table-requires g c =
     table_of_view (g.D.Inputs.contents c.args.self.now.host.now.inputs.now) c.args.self.now.view
     (optional_text c.args.self.now.asked.now.counts) c.args.plan.now c.args.places.now c.in_ok-table.table c.in_ok-table.ensures.table
 
