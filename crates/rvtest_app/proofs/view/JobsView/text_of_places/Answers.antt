@@ -1,4 +1,4 @@
-use Rattle.std.proofs.Common.{◌∙◌, List, ap, inr, subst}
+use Rattle.std.proofs.Common.{◌∙◌, List, ap, inl, inr, subst}
 use Rattle.std.proofs.lemmas.Result.{err_from_is_err_and}
 use Rattle.rv_command.specs.Texts.{optional_text}
 use Rattle.rv_cover.specs.JobImages.{FileImage, images_of_files}
