@@ -1,8 +1,5 @@
 use Rattle.std.proofs.Common.{◌∙◌, ap, inr, length, refl}
 use Rattle.std.proofs.lemmas.Result.{err_from_is_err_and}
-use Rattle.rv_command.specs.Texts.{optional_text}
-use Rattle.rv_files.specs.UnreadPaths.{contents_below}
-use Rattle.rvtest_app.specs.Runs.{IsPlanFor, places_of_marks}
 use Rattle.rvtest_app.specs.Said.{said}
 use Rattle.rvtest_app.proofs.ViewAnswers.{all_small}
 use Rattle.rvtest_app.proofs.view.JobsView.put_of_marked.Goals as goal
