@@ -8,7 +8,6 @@ mod AddedTables
 mod BegunSums
 mod ChosenTexts
 mod CountedRuns
-mod CoverAnswers
 mod Numbers
 mod Sent
 mod Results
@@ -23,5 +22,6 @@ mod FailedRows
 mod RunTellings
 mod Unwritten
 mod UnreadableWords
+mod ViewAnswers
 mod WordsStops
 mod WrittenTexts

@@ -1,14 +1,11 @@
 use Rattle.std.proofs.Common.{◌∙◌, ap, inr, length, refl}
 use Rattle.std.proofs.lemmas.Result.{err_from_is_err_and}
-use Rattle.rv_command.specs.Texts.{optional_text}
-use Rattle.rv_files.specs.UnreadPaths.{contents_below}
-use Rattle.rvtest_app.specs.Runs.{IsPlanFor, places_of_marks}
 use Rattle.rvtest_app.specs.Said.{said}
-use Rattle.rvtest_app.proofs.CoverAnswers.{all_small}
-use Rattle.rvtest_app.proofs.profile.profile_marked_jobs.Goals as goal
+use Rattle.rvtest_app.proofs.ViewAnswers.{all_small}
+use Rattle.rvtest_app.proofs.view.JobsView.put_of_marked.Goals as goal
 
-pub planned_profile_text-requires-clause-small : goal.planned_profile_text-requires-clause-small
-planned_profile_text-requires-clause-small g c = λ _ _. all_small _ c.in_ok-plan.plan.answers c.in_ok-plan.ensures.kept
+pub text_of_places-requires-clause-small : goal.text_of_places-requires-clause-small
+text_of_places-requires-clause-small g c = λ _ _. all_small _ c.in_ok-plan.plan.answers c.in_ok-plan.ensures.kept
 
 pub returns-in_err-text-clause-stopped : goal.returns-in_err-text-clause-stopped
 returns-in_err-text-clause-stopped g c =
@@ -49,7 +46,7 @@ returns-clause-put g c =
           refl,
         );
         text = c.in_ok-text.text.items;
-        shown = rw (c.as_slice-places.ensures.value, c.in_ok-marked.ensures.value) at c.in_ok-text.ensures.shown;
+        of_plan = rw (c.as_slice-places.ensures.value, c.in_ok-marked.ensures.value) at c.in_ok-text.ensures.shown;
         put = (rw c.as_slice-2.ensures.value at c.in_ok-put_results.ensures.put, refl, refl, refl);
       },
     )

@@ -1,5 +1,5 @@
 use Rattle.std.proofs.Common.{append-nil, append_assoc}
-use Rattle.rvtest_app.proofs.cover_table.other_image_message.Goals as goal
+use Rattle.rvtest_app.proofs.view_table.other_image_message.Goals as goal
 
 pub returns : goal.returns
 returns c =

@@ -1,6 +1,6 @@
-use Rattle.std.proofs.Common.{inl, inr}
+use Rattle.std.proofs.Common.{inl}
 use Rattle.std.proofs.lemmas.Result.{err_from_is_err_and}
-use Rattle.rvtest_app.proofs.profile_table.read_stacks_for_images.Goals as goal
+use Rattle.rvtest_app.proofs.view.JobsView.read_fit_table.Goals as goal
 
 pub returns-in_err-table-clause-stopped : goal.returns-in_err-table-clause-stopped
 returns-in_err-table-clause-stopped g c =

@@ -3,7 +3,7 @@ use Rattle.std.proofs.lemmas.Result.{err_from_is_err_and}
 use Rattle.rvtest_app.specs.Said.{said}
 use Rattle.rvtest_app.proofs.Results.{IfOk-map}
 use Rattle.rvtest_app.proofs.StopLemmas.{IfErr-map}
-use Rattle.rvtest_app.proofs.cover.cover_requested_jobs.Goals as goal
+use Rattle.rvtest_app.proofs.view.JobsView.put.Goals as goal
 
 pub returns-in_err-requested-clause-stopped : goal.returns-in_err-requested-clause-stopped
 returns-in_err-requested-clause-stopped g c =
@@ -12,7 +12,7 @@ returns-in_err-requested-clause-stopped g c =
 
 pub returns-in-Some-clause-put : goal.returns-in-Some-clause-put
 returns-in-Some-clause-put g c =
-    IfOk-map c.cover_marked_jobs.result _ _
+    IfOk-map c.put_of_marked.result _ _
     (λ status put. record {
       jobs = c.in_ok-requested.requested.jobs;
       marks = Some c.in-Some.marks.items;
@@ -23,18 +23,18 @@ returns-in-Some-clause-put g c =
       middle = said g.F.Outputs.placed g.O.Sink.taken g.E.Sink.taken g.E.Sink.failed
           (record c.args.to.now { errors = c.put_message.new.errors });
       told = (refl, rw c.as_slice.ensures.value at c.put_message.ensures, refl);
-      covered = put.1;
+      viewed = put.1;
       done = put.0;
     })
-    (rw c.as_slice-in-Some.ensures.value at c.cover_marked_jobs.ensures.put)
+    (rw c.as_slice-in-Some.ensures.value at c.put_of_marked.ensures.put)
 
 pub returns-in-Some-clause-low : goal.returns-in-Some-clause-low
 returns-in-Some-clause-low g c =
-    IfOk-map c.cover_marked_jobs.result _ _ (λ status put. omega (arith, put.0)) c.cover_marked_jobs.ensures.put
+    IfOk-map c.put_of_marked.result _ _ (λ status put. omega (arith, put.0)) c.put_of_marked.ensures.put
 
 pub returns-in-Some-clause-stopped : goal.returns-in-Some-clause-stopped
 returns-in-Some-clause-stopped g c =
-    IfErr-map c.cover_marked_jobs.result _ _
+    IfErr-map c.put_of_marked.result _ _
     (λ why is. inr (inr (record {
       jobs = c.in_ok-requested.requested.jobs;
       marks = c.in-Some.marks.items;
@@ -42,9 +42,9 @@ returns-in-Some-clause-stopped g c =
       old = c.in_ok-requested.requested.frame.old;
       notes = c.in_ok-requested.requested.notes.items;
       asked = rw c.in-Some.is at c.in_ok-requested.ensures.asked;
-      uncovered = is;
+      unviewed = is;
     })))
-    (rw c.as_slice-in-Some.ensures.value at c.cover_marked_jobs.ensures.stopped)
+    (rw c.as_slice-in-Some.ensures.value at c.put_of_marked.ensures.stopped)
 
 pub returns-clause-put : goal.returns-clause-put
 returns-clause-put g c = record {
@@ -57,6 +57,6 @@ returns-clause-put g c = record {
   middle = said g.F.Outputs.placed g.O.Sink.taken g.E.Sink.taken g.E.Sink.failed
       (record c.args.to.now { errors = c.put_message.new.errors });
   told = (refl, rw c.as_slice.ensures.value at c.put_message.ensures, refl);
-  covered = refl;
+  viewed = refl;
   done = refl;
 }

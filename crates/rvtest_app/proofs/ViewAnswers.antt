@@ -21,9 +21,10 @@ use Rattle.rv_jobs.specs.declared.answers.Answer.{Answer}
 use Rattle.rv_jobs.specs.declared.kept.Kept.{Kept}
 use Rattle.rv_jobs.specs.declared.kept.Kept.TheVariants as kept
 use Rattle.rv_rows.specs.Rows.{content_if_read}
-use Rattle.rvtest_app.specs.Covers.{AreCountsFor}
-use Rattle.rvtest_app.specs.Profiles.{AreStacksFor}
 use Rattle.rvtest_app.specs.RefusedNotes.{refused_line, refused_lines}
+use Rattle.rvtest_app.specs.Views.{IsCountedFor, IsTableFor}
+use Rattle.rvtest_app.specs.declared.view.View.{View}
+use Rattle.rvtest_app.specs.declared.view.View.TheVariants as view
 
 -- ---- lines
 
@@ -72,12 +73,11 @@ all_small known answers are job = kept_small known job.image answers are
 
 -- ---- tables
 
-pub table_of_counts : (known : Option FileContents) (path : Option (List ℕ)) (plan : Planned) (places : List ℕ) (table : CountTable)
-    → AreCountsFor known path plan places table → IsTable table
-table_of_counts known None plan places table are = are.table
-table_of_counts known (Some path) plan places table are = are.0.0
+counted_table : (shown : View) (plan : Planned) (places : List ℕ) (table : CountTable) → IsCountedFor shown plan places table → IsTable table
+counted_table (view.Cover csv) plan places table are = are.table
+counted_table (view.Profile format) plan places table are = are.table
 
-pub table_of_stacks : (known : Option FileContents) (path : Option (List ℕ)) (plan : Planned) (places : List ℕ) (table : CountTable)
-    → AreStacksFor known path plan places table → IsTable table
-table_of_stacks known None plan places table are = are.table
-table_of_stacks known (Some path) plan places table are = are.at.0
+pub table_of_view : (known : Option FileContents) (shown : View) (path : Option (List ℕ)) (plan : Planned) (places : List ℕ)
+    (table : CountTable) → IsTableFor known shown path plan places table → IsTable table
+table_of_view known shown None plan places table are = counted_table shown plan places table are
+table_of_view known shown (Some path) plan places table are = are.at.0
