@@ -3,11 +3,13 @@
 while true; do
   for p in $(pgrep -f "bin/rattle|/program|valgrind|clang"); do
     d=$(readlink /proc/$p/cwd 2>/dev/null) || continue
-    # a compiler has a folder of its own: its caller's counts
-    case "$d" in /work/*) ;; *) q=$(awk '{print $4}' /proc/$p/stat 2>/dev/null); e=$(readlink /proc/$q/cwd 2>/dev/null); case "$e" in /work/w/*) d=$e;; esac;; esac
+    case "$d" in /work/*) ;; *) q=$(awk '{print $4}' /proc/$p/stat 2>/dev/null); e=$(readlink /proc/$q/cwd 2>/dev/null); case "$e" in /work/*) d=$e;; esac;; esac
     case "$d" in
-      /work/w/gate/crates/rvtest*) n=-18;;
-      /work/w/gate*|/work/w/land*) n=-10;;
+      /work/gateb/crates/rvtest*|/work/gateb/crates/rv_choice|/work/gateb/crates/rv_command|/work/gateb/crates/rv_cli) n=-12;;
+      /work/gate*|/work/land*) n=-10;;
+      /work/w/g3*) n=-4;;
+      /work/w/sty*) n=0;;
+      /work/*) n=0;;
       *) n=0;;
     esac
     for t in /proc/$p/task/*; do
