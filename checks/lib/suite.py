@@ -31,6 +31,7 @@ SCRIPTS = {
     "merge": ([], True),
     "accepts": (["200"], True),
     "client": ([], True),
+    "gdb_sessions": ([], True),
     "launch": ([], False),
     "streams": ([], True),
     "docs": ([], True),

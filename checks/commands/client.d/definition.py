@@ -17,7 +17,7 @@ class Session:
         self.states, self.end = states, end
         self.text = [f"O{text.encode().hex()}"]
         self.place = self.shown = 0
-        self.breaks, self.watches = [], []
+        self.breaks, self.watches, self.reads, self.accesses = [], [], [], []
         self.last = "T05"
 
     # ---- what a place meets
@@ -32,15 +32,21 @@ class Session:
         pc = self.states[place].pc
         return pc in self.breaks or bounds is not None and not bounds[0] <= pc < bounds[1]
 
-    def change(self, place):
-        """The first watch that the step behind a place changes, as it is told; nothing, where none is."""
+    def set_off(self, place):
+        """The first watch that the step behind a place sets off, as it is told; nothing, where it sets off none."""
         if self.at_end(place) or place < 0:
             return None
-        old, new = (self.states[it].memory for it in (place, place + 1))
+        old, new = self.states[place], self.states[place + 1]
         for address, count in self.watches:
             span = slice(max(address - BASE, 0), max(address + count - BASE, 0))
-            if old[span] != new[span]:
+            if old.memory[span] != new.memory[span]:
                 return f"T05watch:{address:x};"
+        for address, count in self.reads:
+            if any(it in new.loaded for it in range(address, address + count)):
+                return f"T05rwatch:{address:x};"
+        for address, count in self.accesses:
+            if any(it in new.loaded or it in new.stored for it in range(address, address + count)):
+                return f"T05awatch:{address:x};"
         return None
 
     # ---- moves
@@ -51,26 +57,26 @@ class Session:
         while True:
             if place > self.place and self.is_break(place, bounds):
                 return place, "T05"
-            if self.at_end(place) or self.change(place):
-                return place, self.change(place) or self.end
+            if self.at_end(place) or self.set_off(place):
+                return place, self.set_off(place) or self.end
             place += 1
 
     def step(self):
-        if self.at_end(self.place) or self.change(self.place):
-            return self.place, self.change(self.place) or self.end
+        if self.at_end(self.place) or self.set_off(self.place):
+            return self.place, self.set_off(self.place) or self.end
         return self.place + 1, "T05"
 
     def backward(self):
         for place in range(self.place, 0, -1):
             if place < self.place and self.is_break(place):
                 return place, "T05"
-            if self.change(place - 1):
-                return place, self.change(place - 1)
+            if self.set_off(place - 1):
+                return place, self.set_off(place - 1)
         return 0, "T05" if self.place and self.is_break(0) else "T05replaylog:begin;"
 
     def step_back(self):
-        if not self.place or self.change(self.place - 1):
-            return self.place, self.change(self.place - 1) or "T05replaylog:begin;"
+        if not self.place or self.set_off(self.place - 1):
+            return self.place, self.set_off(self.place - 1) or "T05replaylog:begin;"
         return self.place - 1, "T05"
 
     def moved(self, stop, is_forward):

@@ -101,7 +101,7 @@ module _ (answers : List Answer) where
   first_is_least digest [] = refl
   first_is_least digest (j ∷ js) = ap (least_path_of (path_by answers digest j)) (first_is_least digest js)
 
-  first_moved : (digest : List ℕ) (js ks : List Job) → IsPermutation js ks
+  pub first_moved : (digest : List ℕ) (js ks : List Job) → IsPermutation js ks
       → first_path answers digest js ≡ first_path answers digest ks
   first_moved digest js ks p =
       let os = map (path_by answers digest) js in

@@ -1,4 +1,6 @@
 -- The lemmas that proofs of other crates may cite.
-pub use Rattle.rv_coverage.proofs.OfJobs.{first_path-append, no_counts_is_table, no_names, none_either, none_if_no_ok, not_over, one_rises, over, picked_path}
+pub use Rattle.rv_coverage.proofs.OfJobs.{first_path-append, no_counts_is_table, no_names, no_owners, no_spots, none_either, none_if_no_ok, not_over, one_rises, over, picked_path}
+pub use Rattle.rv_coverage.proofs.Orders.{first_moved}
+pub use Rattle.rv_coverage.proofs.Parted.{all_parts, joined_parts}
 pub use Rattle.rv_coverage.proofs.Shares.{jobs_more, jobs_of_share}
 pub use Rattle.rv_coverage.proofs.Starts.{no_bytes, no_image}

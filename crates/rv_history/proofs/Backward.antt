@@ -1,6 +1,5 @@
 -- Searches backward.
 use Rattle.std.proofs.Common.{◌≡◌, ◌∙◌, ◌+◌, ◌-◌, ◌<◌, ◌≤◌, ℕ, zero, suc, Bool, true, false, Ok, Option, Some, None, ap, sym, refl, subst, arith, add-zero, inl, inr}
-use Rattle.std.specs.Prelude.{◌≢◌}
 use Rattle.std.proofs.lemmas.Bool.{both_ways, cases_eq, cases_lt}
 use Rattle.rv_machine.specs.Run.{run_of, step_of}
 use Rattle.rv_machine.specs.State.{State}
@@ -16,7 +15,7 @@ use Rattle.rv_history.specs.LastStop.{AreQuiet, IsLastOn, IsQuietAt, last_at, la
 use Rattle.rv_history.specs.Moves.{GoesOnBack, IsChangeBefore, IsStepBefore, IsStopBefore, MeetsBack}
 use Rattle.rv_history.specs.Places.{IsBreakAt, IsChangeAt, IsReached, last_place}
 use Rattle.rv_history.specs.Stepping.{IsStepped}
-use Rattle.rv_history.specs.Stops.{is_break, watched_bytes}
+use Rattle.rv_history.specs.Stops.{IsSetOff, IsUnset, is_break}
 use Rattle.rv_history.proofs.Reaching.{next_place}
 use Rattle.rv_history.proofs.Forward.{change_at, no_change_at}
 
@@ -188,12 +187,12 @@ stepped_place stops budget from start s t (stepped.Ended ending) reached goes di
 -- ---- one step back
 
 pub steps_back : (stops : Stops) (budget before from : ℕ) (start s t : State) → from ≡ before + 1 → IsReached start before s
-    → step_of s ≡ Ok t → watched_bytes stops s.bus ≡ watched_bytes stops t.bus → IsStepBefore stops budget start from before found.Done
+    → step_of s ≡ Ok t → IsUnset stops s t → IsStepBefore stops budget start from before found.Done
 steps_back stops budget before from start s t is reached e same =
     (is, no_change_at stops budget before start s t reached e same)
 
 pub stays_behind_change : (stops : Stops) (budget before from : ℕ) (start s t : State) → from ≡ before + 1 → before < budget
-    → IsReached start before s → step_of s ≡ Ok t → watched_bytes stops s.bus ≢ watched_bytes stops t.bus
+    → IsReached start before s → step_of s ≡ Ok t → IsSetOff stops s t
     → IsStepBefore stops budget start from from found.Change
 stays_behind_change stops budget before from start s t is within reached e differ =
     (refl, record { before = before; place_is = is; change = change_at stops budget before start s t reached within e differ })

@@ -1,5 +1,5 @@
 -- Where a move comes to, and what it finds there, is determined by where it begins.
-use Rattle.std.proofs.Common.{◌≡◌, ◌∙◌, ◌+◌, ◌<◌, ◌≤◌, ℕ, ap, arith, refl, subst, sym}
+use Rattle.std.proofs.Common.{◌≡◌, ◌∙◌, ◌+◌, ◌<◌, ℕ, ap, arith, refl, subst, sym}
 use Rattle.rv_machine.specs.State.{State}
 use Rattle.rv_history.specs.declared.bounds.Bounds.{Bounds}
 use Rattle.rv_history.specs.declared.counts.Count.{Count}
@@ -8,7 +8,7 @@ use Rattle.rv_history.specs.declared.found.Found.TheVariants as found
 use Rattle.rv_history.specs.declared.stops.Stops.{Stops}
 use Rattle.rv_history.specs.Counts.{IsFirstWith}
 use Rattle.rv_history.specs.Moves.{GoesOnAhead, GoesOnBack, IsChangeBefore, IsNextStep, IsNextStop, IsStepBefore, IsStopBefore, MeetsAhead, MeetsBack}
-use Rattle.rv_history.specs.Places.{IsChangeAt, last_place}
+use Rattle.rv_history.specs.Places.{IsChangeAt}
 
 -- neither of two places is before the other
 one_place : (p q : ℕ) → (p < q → ⊥) → (q < p → ⊥) → p ≡ q

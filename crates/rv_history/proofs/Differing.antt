@@ -5,7 +5,10 @@ use Rattle.std.specs.Result.{IfOk}
 use Rattle.std.specs.Str.{bytes_eq}
 use Rattle.std.proofs.lemmas.List.{at_drop_more}
 use Rattle.rv_memory.specs.Bus.{Contents}
-use Rattle.rv_history.specs.Stops.{first_differing, watch_bytes}
+use Rattle.rv_machine.specs.State.{State}
+use Rattle.rv_history.specs.Stops.{first_differing, first_set_off, watch_bytes}
+use Rattle.rv_history.specs.declared.stops.SetOff.{SetOff}
+use Rattle.rv_history.specs.declared.stops.Stops.{Stops}
 use Rattle.rv_history.specs.declared.stops.Watch.{Watch}
 
 -- it is the one at a place, or one behind it
@@ -17,10 +20,10 @@ unfolding first_differing
 differing_at watches one other i watch within =
     at_drop_more (λ (rest : List Watch). first_differing rest one other) watches i watch within
 
--- the buses by other names
-pub differing_in : {E : Type 0} (result : Result (Option ℕ) E) (watches : List Watch) (one other here there : Contents)
-    → one ≡ here → other ≡ there → IfOk result (λ found. found ≡ first_differing watches one other)
-    → IfOk result (λ found. found ≡ first_differing watches here there)
-differing_in result watches one other here there first second found =
-    subst (λ (bus : Contents). IfOk result (λ told. told ≡ first_differing watches here bus)) second
-    (subst (λ (bus : Contents). IfOk result (λ told. told ≡ first_differing watches bus other)) first found)
+-- the states by other names
+pub set_off_in : {E : Type 0} (result : Result (Option SetOff) E) (stops : Stops) (one other here there : State)
+    → one ≡ here → other ≡ there → IfOk result (λ found. found ≡ first_set_off stops one other)
+    → IfOk result (λ found. found ≡ first_set_off stops here there)
+set_off_in result stops one other here there first second found =
+    subst (λ (s : State). IfOk result (λ told. told ≡ first_set_off stops here s)) second
+    (subst (λ (s : State). IfOk result (λ told. told ≡ first_set_off stops s other)) first found)

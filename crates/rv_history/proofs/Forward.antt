@@ -1,17 +1,19 @@
 -- Searches forward.
-use Rattle.std.proofs.Common.{◌≡◌, ◌∙◌, ◌+◌, ◌<◌, ◌≤◌, ℕ, true, false, ◌&&◌, Ok, Err, ap, sym, refl, subst, arith, ltb, inl, inr}
-use Rattle.std.specs.Prelude.{◌≢◌}
+use Rattle.std.proofs.Common.{◌≡◌, ◌∙◌, ◌+◌, ◌<◌, ◌≤◌, ℕ, Bool, true, false, ◌&&◌, Ok, Err, ap, sym, refl, subst, arith, ltb, inl, inr}
+use Rattle.std.specs.Prelude.{is_some}
+use Rattle.rv_trace.specs.Trace.{state_after}
 use Rattle.std.proofs.lemmas.Bool.{and_from, and_parts, both_ways, cases_eq, lt-ltb, ltb-true}
 use Rattle.rv_machine.specs.declared.ending.Ending.{Ending}
 use Rattle.rv_machine.specs.declared.ending.Ending.TheVariants.{Budget}
 use Rattle.rv_machine.specs.Run.{run_of, step_of}
 use Rattle.rv_machine.specs.State.{State}
 use Rattle.rv_history.specs.declared.bounds.Bounds.{Bounds}
+use Rattle.rv_history.specs.declared.found.Found.{Found}
 use Rattle.rv_history.specs.declared.found.Found.TheVariants as found
 use Rattle.rv_history.specs.declared.stops.Stops.{Stops}
-use Rattle.rv_history.specs.Moves.{GoesOnAhead, IsNextStep, IsNextStop}
+use Rattle.rv_history.specs.Moves.{GoesOnAhead, IsNextStep, IsNextStop, found_at_budget}
 use Rattle.rv_history.specs.Places.{IsChangeAt, IsHaltAt, IsReached, last_place}
-use Rattle.rv_history.specs.Stops.{is_halt, watched_bytes}
+use Rattle.rv_history.specs.Stops.{IsSetOff, IsUnset, is_halt, touched}
 use Rattle.rv_history.proofs.Reaching.{comes_within, ends_by_budget, ends_here, goes_on, next_place}
 
 -- ---- at one place
@@ -29,23 +31,28 @@ halt_at stops bounds start s from place reached is =
     let parts = and_parts (ltb from place) (is_halt stops bounds s.pc) is in
     (ltb-true from place parts.0, ap (λ (t : State). is_halt stops bounds t.pc) (sym reached.same) ∙ parts.1)
 
--- a step that changes a watched byte
+-- a step sets off a watch, or none
+not_both : (stops : Stops) (s t : State) → IsUnset stops s t → IsSetOff stops s t → ⊥
+not_both stops s t unset (inl differ) = differ unset.0
+not_both stops s t unset (inr touches) = both_ways (is_some (touched stops s)) unset.1 touches
+
+-- a step that sets off a watch
 pub change_at : (stops : Stops) (budget place : ℕ) (start s t : State) → IsReached start place s → place < budget → step_of s ≡ Ok t
-    → watched_bytes stops s.bus ≢ watched_bytes stops t.bus → IsChangeAt stops budget start place
+    → IsSetOff stops s t → IsChangeAt stops budget start place
 change_at stops budget place start s t reached within e differ =
     let next = next_place start s t place reached e in record {
       completes = goes_on budget place start s t reached within e;
-      changes = λ same. differ (ap (λ (u : State). watched_bytes stops u.bus) reached.same ∙ same
-          ∙ ap (λ (u : State). watched_bytes stops u.bus) (sym next.same));
+      changes = subst (λ (u : State). IsSetOff stops u (state_after (place + 1) start)) reached.same
+          (subst (λ (u : State). IsSetOff stops s u) next.same differ);
     }
 
--- a step that changes none
+-- a step that sets off none
 pub no_change_at : (stops : Stops) (budget place : ℕ) (start s t : State) → IsReached start place s → step_of s ≡ Ok t
-    → watched_bytes stops s.bus ≡ watched_bytes stops t.bus → IsChangeAt stops budget start place → ⊥
+    → IsUnset stops s t → IsChangeAt stops budget start place → ⊥
 no_change_at stops budget place start s t reached e same change =
     let next = next_place start s t place reached e in
-    change.changes (ap (λ (u : State). watched_bytes stops u.bus) (sym reached.same) ∙ same
-    ∙ ap (λ (u : State). watched_bytes stops u.bus) next.same)
+    not_both stops s t same (subst (λ (u : State). IsSetOff stops s u) (sym next.same)
+    (subst (λ (u : State). IsSetOff stops u (state_after (place + 1) start)) (sym reached.same) change.changes))
 
 -- ---- the search
 
@@ -54,7 +61,7 @@ abbrev pub QuietUpTo : Stops → Bounds → ℕ → State → ℕ → ℕ → Ty
 QuietUpTo stops bounds budget start from place = (j : ℕ) → from ≤ j → j < place → GoesOnAhead stops bounds budget start from j
 
 pub quiet_more : (stops : Stops) (bounds : Bounds) (budget from place : ℕ) (start s t : State) → IsReached start place s → place < budget
-    → step_of s ≡ Ok t → watched_bytes stops s.bus ≡ watched_bytes stops t.bus → (ltb from place && is_halt stops bounds s.pc) ≡ false
+    → step_of s ≡ Ok t → IsUnset stops s t → (ltb from place && is_halt stops bounds s.pc) ≡ false
     → QuietUpTo stops bounds budget start from place → QuietUpTo stops bounds budget start from (place + 1)
 quiet_more stops bounds budget from place start s t reached within e same absent quiet j low high =
     elim (cases_eq j place) [
@@ -77,7 +84,7 @@ stops_by_break stops bounds budget from place start s reached low within is quie
 }
 
 pub stops_by_change : (stops : Stops) (bounds : Bounds) (budget from place : ℕ) (start s t : State) → IsReached start place s → from ≤ place
-    → place < budget → step_of s ≡ Ok t → watched_bytes stops s.bus ≢ watched_bytes stops t.bus
+    → place < budget → step_of s ≡ Ok t → IsSetOff stops s t
     → (ltb from place && is_halt stops bounds s.pc) ≡ false → QuietUpTo stops bounds budget start from place
     → IsNextStop stops bounds budget start from place found.Change
 stops_by_change stops bounds budget from place start s t reached low within e differ absent quiet = record {
@@ -105,14 +112,14 @@ at_budget stops bounds budget from place start s end reached quiet = (
   subst (λ (k : ℕ). QuietUpTo stops bounds budget start from k) end quiet,
 )
 
-pub breaks_at_budget : (stops : Stops) (bounds : Bounds) (budget from place : ℕ) (start s : State) → IsReached start place s → from ≤ budget
+breaks_at_budget : (stops : Stops) (bounds : Bounds) (budget from place : ℕ) (start s : State) → IsReached start place s → from ≤ budget
     → place ≡ budget → (ltb from budget && is_halt stops bounds s.pc) ≡ true → QuietUpTo stops bounds budget start from place
     → IsNextStop stops bounds budget start from budget found.Break
 breaks_at_budget stops bounds budget from place start s reached low end is quiet =
     let there = at_budget stops bounds budget from place start s end reached quiet in
     stops_by_break stops bounds budget from budget start s there.0 low (omega arith) is there.1
 
-pub stops_by_budget : (stops : Stops) (bounds : Bounds) (budget from place : ℕ) (start s : State) → IsReached start place s → from ≤ budget
+stops_by_budget : (stops : Stops) (bounds : Bounds) (budget from place : ℕ) (start s : State) → IsReached start place s → from ≤ budget
     → place ≡ budget → (ltb from budget && is_halt stops bounds s.pc) ≡ false → QuietUpTo stops bounds budget start from place
     → IsNextStop stops bounds budget start from budget (found.End Budget)
 stops_by_budget stops bounds budget from place start s reached low end absent quiet =
@@ -123,15 +130,29 @@ stops_by_budget stops bounds budget from place start s reached low end absent qu
       between = there.1;
     }
 
+pub stops_at_budget : (stops : Stops) (bounds : Bounds) (budget from place at : ℕ) (start s : State) (told : Found) → IsReached start place s
+    → from ≤ budget → place ≡ budget → at ≡ budget
+    → told ≡ found_at_budget (ltb from budget && is_halt stops bounds s.pc) → QuietUpTo stops bounds budget start from place
+    → IsNextStop stops bounds budget start from at told
+stops_at_budget stops bounds budget from place at start s told reached low end at_is told_is quiet =
+    subst (λ (k : ℕ). IsNextStop stops bounds budget start from k told) (sym at_is)
+    (subst (λ (f : Found). IsNextStop stops bounds budget start from budget f) (sym told_is)
+    (by_halt (ltb from budget && is_halt stops bounds s.pc) refl))
+  where
+    by_halt : (halts : Bool) → (ltb from budget && is_halt stops bounds s.pc) ≡ halts
+        → IsNextStop stops bounds budget start from budget (found_at_budget halts)
+    by_halt true is = breaks_at_budget stops bounds budget from place start s reached low end is quiet
+    by_halt false is = stops_by_budget stops bounds budget from place start s reached low end is quiet
+
 -- ---- one step
 
 pub step_done : (stops : Stops) (budget from : ℕ) (start s t : State) → IsReached start from s → from < budget → step_of s ≡ Ok t
-    → watched_bytes stops s.bus ≡ watched_bytes stops t.bus → IsNextStep stops budget start from (from + 1) found.Done
+    → IsUnset stops s t → IsNextStep stops budget start from (from + 1) found.Done
 step_done stops budget from start s t reached within e same =
     (refl, goes_on budget from start s t reached within e, no_change_at stops budget from start s t reached e same)
 
 pub step_changes : (stops : Stops) (budget from : ℕ) (start s t : State) → IsReached start from s → from < budget
-    → step_of s ≡ Ok t → watched_bytes stops s.bus ≢ watched_bytes stops t.bus → IsNextStep stops budget start from from found.Change
+    → step_of s ≡ Ok t → IsSetOff stops s t → IsNextStep stops budget start from from found.Change
 step_changes stops budget from start s t reached within e differ = (refl, change_at stops budget from start s t reached within e differ)
 
 pub step_ends : (stops : Stops) (budget from : ℕ) (start s : State) (ending : Ending) → IsReached start from s → from < budget

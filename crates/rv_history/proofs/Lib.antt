@@ -6,6 +6,7 @@ mod Standing
 mod Forward
 mod Backward
 mod Unstopped
+mod Between
 mod Arriving
 mod Counting
 mod Differing

@@ -14,7 +14,7 @@ use Rattle.rv_machine.specs.declared.ending.Ending.{Ending}
 use Rattle.rv_machine.specs.State.{State, at_pc, is_misaligned, with_bus, with_register}
 use Rattle.rv_machine.specs.Fetch.{Fetched, fetch}
 use Rattle.rv_machine.specs.Effect.{address, after_branch, after_store, at_target, effect, effect_of, from_pc, next_pc, rs2_value, store}
-use Rattle.rv_machine.specs.Run.{after_fetch, run_of, step_of}
+use Rattle.rv_machine.specs.Run.{after_fetch, step_of}
 use Rattle.rv_machine.proofs.Public.{ok_is}
 use Rattle.rv_trace.specs.Trace.{state_after}
 use Rattle.rv_trace.proofs.Public.{after_none}

@@ -10,7 +10,7 @@ use Rattle.rv_history.specs.Places.{IsReached, last_place}
 
 -- ---- one step
 
-run_goes_on : (n : ℕ) (s t : State) → step_of s ≡ Ok t → run_of (suc n) s ≡ go_on (Ok t) s (λ u. run_of n u)
+pub run_goes_on : (n : ℕ) (s t : State) → step_of s ≡ Ok t → run_of (suc n) s ≡ go_on (Ok t) s (λ u. run_of n u)
 unfolding run_of
 run_goes_on n s t e = ap (λ r. go_on r s (λ u. run_of n u)) e
 
@@ -19,7 +19,7 @@ run_ends : (n : ℕ) (s : State) (e : Ending) → step_of s ≡ Err e
 unfolding run_of
 run_ends n s e is = ap (λ r. go_on r s (λ u. run_of n u)) is
 
-run_none : (s : State) → run_of 0 s ≡ record { ending = Budget; steps = 0; state = s }
+pub run_none : (s : State) → run_of 0 s ≡ record { ending = Budget; steps = 0; state = s }
 unfolding run_of
 run_none s = refl
 
@@ -34,13 +34,13 @@ one_state s t e = ap (λ r. r.state) (run_goes_on 0 s t e) ∙ ap (λ (r : Ran).
 
 -- ---- endings
 
-steps_first : (n : ℕ) (s t : State) → step_of s ≡ Ok t → (run_of (suc n) s).steps ≡ suc (run_of n t).steps
+pub steps_first : (n : ℕ) (s t : State) → step_of s ≡ Ok t → (run_of (suc n) s).steps ≡ suc (run_of n t).steps
 steps_first n s t e = ap (λ r. r.steps) (run_goes_on n s t e) ∙ add-one (run_of n t).steps
 
-steps_end : (n : ℕ) (s : State) (e : Ending) → step_of s ≡ Err e → (run_of (suc n) s).steps ≡ 0
+pub steps_end : (n : ℕ) (s : State) (e : Ending) → step_of s ≡ Err e → (run_of (suc n) s).steps ≡ 0
 steps_end n s e is = ap (λ r. r.steps) (run_ends n s e is)
 
-ending_first : (n : ℕ) (s t : State) → step_of s ≡ Ok t → (run_of (suc n) s).ending ≡ (run_of n t).ending
+pub ending_first : (n : ℕ) (s t : State) → step_of s ≡ Ok t → (run_of (suc n) s).ending ≡ (run_of n t).ending
 ending_first n s t e = ap (λ r. r.ending) (run_goes_on n s t e)
 
 pub state_first : (n : ℕ) (s t : State) → step_of s ≡ Ok t → state_after (suc n) s ≡ state_after n t
@@ -101,7 +101,7 @@ same_end (suc n) s = by_step s (state_after (run_of (suc n) s).steps s ≡ (run_
     ∙ sym (state_first n s t e))
     (λ e is. ap (λ k. state_after k s) (steps_end n s e is) ∙ after_none s ∙ sym (state_end n s e is))
 
-same_ran : (r : Ran) (ending : Ending) (steps : ℕ) (state : State) → r.ending ≡ ending → r.steps ≡ steps → r.state ≡ state
+pub same_ran : (r : Ran) (ending : Ending) (steps : ℕ) (state : State) → r.ending ≡ ending → r.steps ≡ steps → r.state ≡ state
     → r ≡ record { ending = ending; steps = steps; state = state }
 same_ran r ending steps state first second third = rw (← first) (rw (← second) (rw (← third) refl))
 

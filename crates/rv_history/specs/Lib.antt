@@ -1,3 +1,4 @@
+pub mod Accesses
 pub mod Stops
 pub mod Starts
 pub mod Stepping

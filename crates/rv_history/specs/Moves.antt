@@ -1,8 +1,9 @@
 -- Where the moves of a debugger stop, in a run within a budget.
-use Rattle.std.specs.Prelude.{ℕ, ◌≡◌, ◌+◌, ◌<◌, ◌≤◌}
+use Rattle.std.specs.Prelude.{ℕ, Bool, if◌then◌else◌, ◌≡◌, ◌+◌, ◌<◌, ◌≤◌}
 use Rattle.rv_machine.specs.Run.{run_of}
 use Rattle.rv_machine.specs.State.{State}
 use Rattle.rv_machine.specs.declared.ending.Ending.{Ending}
+use Rattle.rv_machine.specs.declared.ending.Ending.TheVariants.{Budget}
 use Rattle.rv_history.specs.Places.{IsBreakAt, IsChangeAt, IsHaltAt, last_place}
 use Rattle.rv_history.specs.declared.bounds.Bounds.{Bounds}
 use Rattle.rv_history.specs.declared.found.Found.{Found}
@@ -25,6 +26,10 @@ MeetsAhead stops bounds budget start from place found.Change =
     IsChangeAt stops budget start place × (from < place → IsHaltAt stops bounds start place → ⊥)
 MeetsAhead stops bounds budget start from place found.Done = ⊥
 MeetsAhead stops bounds budget start from place found.Begin = ⊥
+
+-- what a move forward finds at the budget, where it met nothing before
+abbrev pub found_at_budget : Bool → Found
+found_at_budget halts = if halts then found.Break else found.End Budget
 
 -- it meets nothing there
 pub record GoesOnAhead (stops : Stops) (bounds : Bounds) (budget : ℕ) (start : State) (from place : ℕ) : Type 0 where

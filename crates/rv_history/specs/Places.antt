@@ -1,9 +1,9 @@
 -- The places of a run, from 0 at its start to the number of steps that it completes, and what is met there.
-use Rattle.std.specs.Prelude.{ℕ, ◌≡◌, ◌≢◌, ◌+◌, ◌<◌, true}
+use Rattle.std.specs.Prelude.{ℕ, ◌≡◌, ◌+◌, ◌<◌, true}
 use Rattle.rv_machine.specs.Run.{run_of}
 use Rattle.rv_machine.specs.State.{State}
 use Rattle.rv_trace.specs.Trace.{state_after}
-use Rattle.rv_history.specs.Stops.{is_break, is_halt, watched_bytes}
+use Rattle.rv_history.specs.Stops.{IsSetOff, is_break, is_halt}
 use Rattle.rv_history.specs.declared.bounds.Bounds.{Bounds}
 use Rattle.rv_history.specs.declared.stops.Stops.{Stops}
 
@@ -23,7 +23,7 @@ IsBreakAt stops start place = is_break stops (state_after place start).pc ≡ tr
 abbrev pub IsHaltAt : Stops → Bounds → State → ℕ → Type 0
 IsHaltAt stops bounds start place = is_halt stops bounds (state_after place start).pc ≡ true
 
--- the step behind a place completes, and changes a watched byte
+-- the step behind a place completes, and sets off a watch: it changes a watched byte, or reads or accesses one that is watched so
 pub record IsChangeAt (stops : Stops) (budget : ℕ) (start : State) (place : ℕ) : Type 0 where
   pub completes : place < last_place budget start
-  pub changes : watched_bytes stops (state_after place start).bus ≢ watched_bytes stops (state_after (place + 1) start).bus
+  pub changes : IsSetOff stops (state_after place start) (state_after (place + 1) start)

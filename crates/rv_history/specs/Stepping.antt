@@ -1,13 +1,13 @@
--- A step, and whether it changes a watched byte.
-use Rattle.std.specs.Prelude.{◌≡◌, ◌≢◌, Ok, Err}
+-- A step, and whether it sets off a watch.
+use Rattle.std.specs.Prelude.{◌≡◌, Ok, Err}
 use Rattle.rv_machine.specs.Run.{step_of}
 use Rattle.rv_machine.specs.State.{State}
-use Rattle.rv_history.specs.Stops.{watched_bytes}
+use Rattle.rv_history.specs.Stops.{IsSetOff, IsUnset}
 use Rattle.rv_history.specs.declared.stepping.Stepped.{Stepped}
 use Rattle.rv_history.specs.declared.stepping.Stepped.TheVariants as stepped
 use Rattle.rv_history.specs.declared.stops.Stops.{Stops}
 
 abbrev pub IsStepped : Stops → State → State → Stepped → Type 0
 IsStepped stops s t (stepped.Ended ending) = step_of s ≡ Err ending
-IsStepped stops s t stepped.Changed = (step_of s ≡ Ok t) × (watched_bytes stops s.bus ≢ watched_bytes stops t.bus)
-IsStepped stops s t stepped.Quiet = (step_of s ≡ Ok t) × (watched_bytes stops s.bus ≡ watched_bytes stops t.bus)
+IsStepped stops s t stepped.Changed = (step_of s ≡ Ok t) × IsSetOff stops s t
+IsStepped stops s t stepped.Quiet = (step_of s ≡ Ok t) × IsUnset stops s t

@@ -1,11 +1,16 @@
--- Breakpoints, and bytes whose changes are watched.
-use Rattle.std.specs.Prelude.{ℕ, List, [], ◌∷◌, ◌==◌, ◌||◌, Bool, false, Option, Some, None, if◌then◌else◌, nat_le, nat_lt}
+-- Breakpoints, and bytes whose changes, reads or accesses are watched.
+use Rattle.std.specs.Prelude.{ℕ, List, [], ◌∷◌, ◌≡◌, ◌≢◌, ◌⊎◌, ◌==◌, ◌||◌, Bool, true, false, Option, Some, None, if◌then◌else◌, is_some, nat_le, nat_lt, option_map}
 use Rattle.std.specs.Str.{bytes_eq}
 use Rattle.std.specs.FinMap as fin
-use Rattle.std.specs.List.{filter_map, flat_map, list_any, range_with_len}
+use Rattle.std.specs.List.{filter_map, find, flat_map, list_any, range_with_len}
 use Rattle.rv_memory.specs.Bus.{Contents}
+use Rattle.rv_machine.specs.State.{State}
+use Rattle.rv_history.specs.Accesses.{access_at, is_hit}
+use Rattle.rv_history.specs.declared.access.Access.{Access}
 use Rattle.rv_history.specs.declared.bounds.Bounds.{Bounds}
 use Rattle.rv_history.specs.declared.bounds.Bounds.TheVariants as bounds
+use Rattle.rv_history.specs.declared.stops.SetOff.{SetOff}
+use Rattle.rv_history.specs.declared.stops.SetOff.TheVariants as set_off
 use Rattle.rv_history.specs.declared.stops.Stops.{Stops}
 use Rattle.rv_history.specs.declared.stops.Watch.{Watch}
 
@@ -33,3 +38,38 @@ unfoldable pub first_differing : List Watch → Contents → Contents → Option
 first_differing [] one other = None
 first_differing (watch ∷ rest) one other =
     if bytes_eq (watch_bytes one watch) (watch_bytes other watch) then first_differing rest one other else Some watch.address
+
+-- ---- what sets off a watch
+
+-- the address of the first watch that an access hits
+abbrev pub first_hit : Access → List Watch → Option ℕ
+first_hit access watches = option_map (λ (watch : Watch). watch.address) (find (is_hit access) watches)
+
+abbrev pub first_read : Access → List Watch → Option ℕ
+first_read access watches = if access.is_read then first_hit access watches else None
+
+-- a watch that is told, or what comes in its place
+abbrev pub told_or : (ℕ → SetOff) → Option ℕ → Option SetOff → Option SetOff
+told_or told None other = other
+told_or told (Some address) other = Some (told address)
+
+-- the first watch of reads, else the first of accesses, that an instruction sets off by what it reads or writes
+abbrev pub touched_by : Stops → Option Access → Option SetOff
+touched_by stops None = None
+touched_by stops (Some access) = told_or set_off.Read (first_read access stops.reads)
+    (told_or set_off.Access (first_hit access stops.accesses) None)
+
+abbrev pub touched : Stops → State → Option SetOff
+touched stops s = touched_by stops (access_at s)
+
+-- the first watch of changes that a step from a state to another sets off, else the first of reads, else of accesses
+abbrev pub first_set_off : Stops → State → State → Option SetOff
+first_set_off stops s t = told_or set_off.Change (first_differing stops.watches s.bus t.bus) (touched stops s)
+
+-- a step sets off a watch
+abbrev pub IsSetOff : Stops → State → State → Type 0
+IsSetOff stops s t = (watched_bytes stops s.bus ≢ watched_bytes stops t.bus) ⊎ (is_some (touched stops s) ≡ true)
+
+-- it sets off none
+abbrev pub IsUnset : Stops → State → State → Type 0
+IsUnset stops s t = (watched_bytes stops s.bus ≡ watched_bytes stops t.bus) × (is_some (touched stops s) ≡ false)

@@ -9,7 +9,7 @@ pub enum Found {
     Done,
     /// The pc is a breakpoint, or outside the bounds of a move forward.
     Break,
-    /// A watched byte is changed by the step in front, of a move forward, or by the step behind, of a move backward.
+    /// A watch is set off by the step in front, of a move forward, or by the step behind, of a move backward.
     Change,
     /// The run ends here.
     End(Ending),

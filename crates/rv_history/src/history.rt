@@ -10,7 +10,7 @@ use crate::found::{Arrival, Found};
 use crate::search::{Leg, next_step, next_stop};
 use crate::search_back::{step_before, stop_before};
 use crate::start::Start;
-use crate::stops::Stops;
+use crate::stops::{SetOff, Stops};
 use crate::track::Track;
 use rv_machine::Machine;
 use std::alloc::{AllocError, Global};
@@ -48,7 +48,7 @@ impl History {
     ghost use Rattle.rv_history.specs.Ends.{IsFoundEnd};
     ghost use Rattle.rv_history.specs.Places.{IsReached, last_place};
     ghost use Rattle.rv_history.specs.Starts.{start_of};
-    ghost use Rattle.rv_history.specs.Stops.{first_differing};
+    ghost use Rattle.rv_history.specs.Stops.{first_set_off};
 
     /// At the start of a run.
     pub fn new(alloc: Global, start: Start, budget: u32) -> Result<History, AllocError>
@@ -111,7 +111,7 @@ impl History {
         self.arrive(alloc, arrival)
     }
 
-    /// Goes a step on, unless that is an end or would change a watched byte.
+    /// Goes a step on, unless that is an end or would set off a watch.
     pub fn step(&mut self, alloc: Global, stops: &Stops) -> Result<Found, AllocError>
         ensures step { IfOk result (IsNextStep stops.now self.old.budget self.old.start self.old.place self.new.place) }
         ensures run { self.new ≡ record self.old { place = self.new.place } }
@@ -131,7 +131,7 @@ impl History {
         self.arrive(alloc, arrival)
     }
 
-    /// Goes a step back, unless it stands at the start or behind a change of a watched byte.
+    /// Goes a step back, unless it stands at the start or behind a step that sets off a watch.
     pub fn step_back(&mut self, alloc: Global, stops: &Stops) -> Result<Found, AllocError>
         ensures step { IfOk result (IsStepBefore stops.now self.old.budget self.old.start self.old.place self.new.place) }
         ensures run { self.new ≡ record self.old { place = self.new.place } }
@@ -184,27 +184,27 @@ impl History {
         }
     }
 
-    /// The address of the first watch whose bytes the step in front changes, if it completes within the budget and changes any.
-    pub fn watch_ahead(&self, alloc: Global, stops: &Stops) -> Result<Option<u32>, AllocError>
+    /// Where the step in front completes within the budget, the first watch that it sets off, if it sets off any.
+    pub fn watch_ahead(&self, alloc: Global, stops: &Stops) -> Result<Option<SetOff>, AllocError>
         ensures { self.now.place < last_place self.now.budget self.now.start → IfOk result
-            (λ found. found ≡ first_differing stops.now.watches (state_after self.now.place self.now.start).bus
-            (state_after (self.now.place + 1) self.now.start).bus) }
+            (λ found. found ≡ first_set_off stops.now (state_after self.now.place self.now.start)
+            (state_after (self.now.place + 1) self.now.start)) }
     {
         let steps = self.budget.min(self.place.saturating_add(1));
         let ahead = self.track.machine_after(alloc, steps)?;
-        stops.differing_watch(alloc, self.machine.bus(), ahead.bus())
+        stops.first_set_off(alloc, &self.machine, &ahead)
     }
 
-    /// The address of the first watch whose bytes the step behind changes, if it changes any.
-    pub fn watch_behind(&self, alloc: Global, stops: &Stops) -> Result<Option<u32>, AllocError>
+    /// Behind the start, the first watch that the step behind sets off, if it sets off any.
+    pub fn watch_behind(&self, alloc: Global, stops: &Stops) -> Result<Option<SetOff>, AllocError>
         ensures { IfOk result
-            (λ found. found ≡ first_differing stops.now.watches (state_after (self.now.place - 1) self.now.start).bus
-            (state_after self.now.place self.now.start).bus) }
+            (λ found. found ≡ first_set_off stops.now (state_after (self.now.place - 1) self.now.start)
+            (state_after self.now.place self.now.start)) }
     {
         let behind = self
             .track
             .machine_after(alloc, self.place.saturating_sub(1))?;
-        stops.differing_watch(alloc, behind.bus(), self.machine.bus())
+        stops.first_set_off(alloc, &behind, &self.machine)
     }
 
     // Goes to the end of the run.

@@ -3,10 +3,11 @@
 ghost use Rattle.std.specs.Prelude.{◌≡◌, ◌≤◌, ◌&&◌, IfOk, nat_lt};
 ghost use Rattle.rv_machine.specs.Machine.{state_of};
 ghost use Rattle.rv_machine.specs.Run.{run_of};
-ghost use Rattle.rv_history.specs.Moves.{IsNextStep, IsNextStop};
+ghost use Rattle.rv_history.specs.Moves.{IsNextStep, IsNextStop, found_at_budget};
 ghost use Rattle.rv_history.specs.Stops.{is_halt};
 
 use crate::bounds::Bounds;
+use crate::breaks::next_break;
 use crate::found::{Arrival, Found};
 use crate::stepping::{Stepped, step_beside, step_watched};
 use crate::stops::Stops;
@@ -23,7 +24,7 @@ pub(crate) struct Leg {
     pub bounds: Bounds,
 }
 
-/// The next stop on a leg, which it goes through step by step.
+/// The next stop on a leg. It goes through it step by step, if there is more to look for than breakpoints.
 pub(crate) fn next_stop(
     alloc: Global,
     track: &Track,
@@ -35,6 +36,9 @@ pub(crate) fn next_stop(
     ensures { IfOk result
         (λ arrival. IsNextStop stops.now leg.bounds leg.budget track.now leg.from arrival.place arrival.found) }
 {
+    if stops.have_no_watch() && leg.bounds.are_all() {
+        return next_break(alloc, track, leg, stops);
+    }
     let mut machine = track.machine_after(alloc, leg.from)?;
     let mut watched = stops.watched_bytes(alloc, machine.bus())?;
     for place in leg.from..leg.budget {
@@ -60,20 +64,28 @@ pub(crate) fn next_stop(
             Stepped::Quiet => {}
         }
     }
-    if is_halt_behind(stops, leg, &machine, leg.budget) {
-        return Ok(Arrival {
-            place: leg.budget,
-            found: Found::Break,
-        });
-    }
-    Ok(Arrival {
-        place: leg.budget,
-        found: Found::End(Ending::Budget),
-    })
+    Ok(end_of_leg(stops, leg, &machine))
 }
 
-// Whether a machine at a place stands at a breakpoint or outside the bounds, and behind the place where the move began.
-fn is_halt_behind(stops: &Stops, leg: Leg, machine: &Machine, place: u32) -> bool
+/// What is found at the budget, where a machine stands that came there without a stop.
+pub(crate) fn end_of_leg(stops: &Stops, leg: Leg, machine: &Machine) -> Arrival
+    ensures place { result.place ≡ leg.budget }
+    ensures found { result.found
+        ≡ found_at_budget (nat_lt leg.from leg.budget && is_halt stops.now leg.bounds (state_of machine.now).pc) }
+{
+    let found = if is_halt_behind(stops, leg, machine, leg.budget) {
+        Found::Break
+    } else {
+        Found::End(Ending::Budget)
+    };
+    Arrival {
+        place: leg.budget,
+        found,
+    }
+}
+
+/// Whether a machine at a place stands at a breakpoint or outside the bounds, and behind the place where the move began.
+pub(crate) fn is_halt_behind(stops: &Stops, leg: Leg, machine: &Machine, place: u32) -> bool
     ensures { result ≡ (nat_lt leg.from place && is_halt stops.now leg.bounds (state_of machine.now).pc) }
 {
     leg.from < place && is_halt(stops, leg.bounds, machine.pc())

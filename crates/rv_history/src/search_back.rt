@@ -5,6 +5,7 @@ ghost use Rattle.rv_machine.specs.Run.{run_of};
 ghost use Rattle.rv_history.specs.LastStop.{IsLastOn, last_behind};
 ghost use Rattle.rv_history.specs.Moves.{IsStepBefore, IsStopBefore};
 
+use crate::breaks::search_breaks;
 use crate::found::{Arrival, Found};
 use crate::stepping::{Stepped, step_beside, step_watched};
 use crate::stops::Stops;
@@ -57,6 +58,9 @@ fn search_part(alloc: Global, track: &Track, end: u32, stops: &Stops) -> Result<
     ensures last { IfOk result (λ part. (budget : ℕ) → end ≤ budget
         → IsLastOn stops.now budget track.now part.begin end part.last) }
 {
+    if stops.have_no_watch() {
+        return search_breaks(alloc, track, end, stops);
+    }
     let mut at = track.before(alloc, end - 1)?;
     let begin = at.place;
     let mut watched = stops.watched_bytes(alloc, at.machine.bus())?;
@@ -69,8 +73,8 @@ fn search_part(alloc: Global, track: &Track, end: u32, stops: &Stops) -> Result<
     Ok(Part { begin, last })
 }
 
-// The last stop behind the step at a place, once the stop before it is known.
-fn last_behind(
+/// The last stop behind the step at a place, once the stop before it is known.
+pub(crate) fn last_behind(
     last: Option<Arrival>,
     place: u32,
     is_break: bool,

@@ -1,4 +1,4 @@
-//! A step, and whether it changes a watched byte.
+//! A step, and whether it sets off a watch.
 
 ghost use Rattle.std.specs.Prelude.{◌≡◌, IfOk, MatchOption, OnOk, Ok, Err};
 ghost use Rattle.rv_machine.specs.Machine.{state_of};
@@ -15,9 +15,9 @@ use std::alloc::{AllocError, Global};
 pub(crate) enum Stepped {
     /// It does not complete.
     Ended(Ending),
-    /// It changes a watched byte.
+    /// It sets off a watch.
     Changed,
-    /// It changes none.
+    /// It sets off none.
     Quiet,
 }
 
@@ -44,14 +44,18 @@ pub(crate) fn step_beside(
     ensures step { IfOk result (IsStepped stops.now (state_of machine.old) (state_of machine.new)) }
     ensures known { OnOk result (watched.new.items ≡ watched_bytes stops.now (state_of machine.new).bus) }
 {
+    let is_touched = stops.touched(machine).is_some();
     if let Some(ending) = step(machine) {
         return Ok(Stepped::Ended(ending));
     }
-    if stops.stand_as(machine.bus(), watched.as_slice()) {
-        return Ok(Stepped::Quiet);
+    if !stops.stand_as(machine.bus(), watched.as_slice()) {
+        *watched = stops.watched_bytes(alloc, machine.bus())?;
+        return Ok(Stepped::Changed);
     }
-    *watched = stops.watched_bytes(alloc, machine.bus())?;
-    Ok(Stepped::Changed)
+    if is_touched {
+        return Ok(Stepped::Changed);
+    }
+    Ok(Stepped::Quiet)
 }
 
 /// One step of a machine: nothing where it completes, else the ending, with the machine as it was. It is a run of one step: a second

@@ -1,12 +1,13 @@
 //! Where a run is to stop.
 
-ghost use Rattle.std.specs.Prelude.{◌≡◌, ◌≤◌, ◌+◌, ◌^◌, ◌++◌, ◌↔◌, [], ℕ, List, IfOk, IfSome, IsTrue, MatchOption, OnOk, drop, length};
+ghost use Rattle.std.specs.Prelude.{◌≡◌, ◌≤◌, ◌+◌, ◌^◌, ◌++◌, ◌↔◌, [], ℕ, List, IfOk, IfSome, IsTrue, MatchOption, OnOk, drop, length, true};
 
 use rv_base::Sequence;
+use rv_machine::Machine;
 use rv_memory::Bus;
 use std::alloc::{AllocError, Global};
 
-/// Bytes whose changes are watched. None of them is past the end of the addresses.
+/// Bytes that are watched. None of them is past the end of the addresses.
 #[derive(Clone, Copy)]
 pub struct Watch {
     pub address: u32,
@@ -14,29 +15,65 @@ pub struct Watch {
     pub ghost within: { address + count ≤ 2 ^ 32 },
 }
 
-/// Where a run is to stop: in front of the instructions at some addresses, and where a step changes a watched byte. Bytes in no
-/// region are never changed.
+/// Where a run is to stop: in front of the instructions at some addresses, and where a step changes a watched byte, or reads or accesses
+/// one that is watched so. Bytes in no region are never changed.
 #[derive(Drop)]
 pub struct Stops {
     pub breaks: Sequence<u32>,
+    /// Of changes.
     pub watches: Sequence<Watch>,
+    /// Of reads.
+    pub reads: Sequence<Watch>,
+    /// Of reads and writes.
+    pub accesses: Sequence<Watch>,
+}
+
+/// What sets off a watch, and the watch's address.
+#[derive(Clone, Copy)]
+pub enum SetOff {
+    /// A byte changes.
+    Change(u32),
+    /// A byte is read.
+    Read(u32),
+    /// A byte is read or written.
+    Access(u32),
 }
 
 impl Stops {
+    ghost use Rattle.rv_machine.specs.Machine.{state_of};
+    ghost use Rattle.rv_machine.specs.Waking.{IsAwake};
     ghost use Rattle.rv_history.specs.Stops.{first_differing, is_break, watched_bytes};
 
     /// Whether there are none at all.
     pub(crate) fn are_none(&self) -> bool
-        ensures { IsTrue result ↔ ((self.now.breaks ≡ []) × (self.now.watches ≡ [])) }
+        ensures { IsTrue result ↔ ((self.now.breaks ≡ [])
+            × ((self.now.watches ≡ []) × ((self.now.reads ≡ []) × (self.now.accesses ≡ [])))) }
     {
         self.breaks.as_slice().is_empty() && self.have_no_watch()
     }
 
     /// Whether no byte is watched.
     pub(crate) fn have_no_watch(&self) -> bool
-        ensures { IsTrue result ↔ (self.now.watches ≡ []) }
+        ensures { IsTrue result ↔ ((self.now.watches ≡ []) × ((self.now.reads ≡ []) × (self.now.accesses ≡ []))) }
     {
-        self.watches.as_slice().is_empty()
+        self.watches.as_slice().is_empty() && self.have_no_access()
+    }
+
+    /// Whether no reads and no accesses are watched.
+    pub(crate) fn have_no_access(&self) -> bool
+        ensures { IsTrue result ↔ ((self.now.reads ≡ []) × (self.now.accesses ≡ [])) }
+    {
+        self.reads.as_slice().is_empty() && self.accesses.as_slice().is_empty()
+    }
+
+    /// No instruction at a breakpoint is awake from now on.
+    pub(crate) fn put_breaks_to_sleep(&self, machine: &mut Machine)
+        ensures state { state_of machine.new ≡ state_of machine.old }
+        ensures asleep { (pc : ℕ) → is_break self.now pc ≡ true → IsAwake machine.new.kept pc → ⊥ }
+    {
+        for address in self.breaks.as_slice() {
+            machine.put_to_sleep(*address);
+        }
     }
 
     /// Whether an address is a breakpoint.

@@ -22,36 +22,46 @@ a watch back | 100 | w80000100,4 | seek 13 = yes 13; go_back = 10 change; step_b
 a byte that stays | 100 | w80000101,3 | go_on = 13 exit 0; go_back = 0 begin
 bytes in no region | 100 | w0,10000 | go_on = 13 exit 0
 a break before a watch | 100 | b80000010 w80000100,4 | seek 13 = yes 13; go_back = 10 break; go_back = 10 change; seek 5 = yes 5; go_on = 6 change
+an access to a byte that stays | 100 | a80000102,1 | go_on = 3 change; seek 4 = yes 4; go_on = 6 change; step_back = 5 done; go_back = 4 change
+no access to the neighbour | 100 | a80000104,1 | go_on = 13 exit 0; go_back = 0 begin
+a store is no read | 100 | r80000100,4 | go_on = 13 exit 0; go_back = 0 begin
 steps | 100 | b80000004 | step = 1 done; step = 2 done; step_back = 1 done; step_back = 0 done; step_back = 0 begin
 seeks | 100 | b80000004 | seek 14 = no 0; seek 13 = yes 13; seek 100 = no 13; seek 101 = no 13; seek 2 = yes 2
 the budget | 5 | b80000014 | go_on = 5 break; go_on = 5 budget; step = 5 budget; step_back = 4 done; seek 6 = no 4
 no budget | 0 | b80000000 | go_on = 0 budget; go_back = 0 begin; seek 1 = no 0
 ";
 
-fn push_stop(breaks: &mut Vec<u32>, watches: &mut Vec<Watch>, text: &str) -> Result<(), Fail> {
-    if let Some(address) = text.strip_prefix('b') {
-        breaks.push(hex_of(address)?)?;
-        return Ok(());
-    }
-    let text = text.strip_prefix('w').ok_or("a break or a watch")?;
+fn watch_of(text: &str) -> Result<Watch, Fail> {
     let (address, count) = text.split_once(',').ok_or("an address and a count")?;
     let (address, count) = (hex_of(address)?, hex_of(count)?);
     if u64::from(address) + u64::from(count) > 1 << 32 {
         return Err("a watch".into());
     }
-    watches.push(Watch { address, count })?;
-    Ok(())
+    Ok(Watch { address, count })
 }
 
 fn stops_of(alloc: Global, text: &str) -> Result<Stops, Fail> {
     let mut breaks = Vec::new(alloc);
     let mut watches = Vec::new(alloc);
+    let mut reads = Vec::new(alloc);
+    let mut accesses = Vec::new(alloc);
     for stop in text.split(' ') {
-        push_stop(&mut breaks, &mut watches, stop)?;
+        if let Some(address) = stop.strip_prefix('b') {
+            breaks.push(hex_of(address)?)?;
+        } else if let Some(range) = stop.strip_prefix('w') {
+            watches.push(watch_of(range)?)?;
+        } else if let Some(range) = stop.strip_prefix('r') {
+            reads.push(watch_of(range)?)?;
+        } else {
+            let range = stop.strip_prefix('a').ok_or("a break or a watch")?;
+            accesses.push(watch_of(range)?)?;
+        }
     }
     Ok(Stops {
         breaks: Sequence::new(breaks),
         watches: Sequence::new(watches),
+        reads: Sequence::new(reads),
+        accesses: Sequence::new(accesses),
     })
 }
 
@@ -117,7 +127,7 @@ fn check_moves(alloc: Global, line: &str) -> Result<(), Fail> {
 
 #[test]
 fn moves_stop(rt: HostRuntime) -> Result<(), Fail> {
-    has_lines(MOVES, 11)?;
+    has_lines(MOVES, 14)?;
     for line in MOVES.lines() {
         check_moves(rt.alloc(), line)?;
     }

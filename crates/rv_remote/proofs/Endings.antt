@@ -3,6 +3,7 @@ use Rattle.std.proofs.Common.{◌≡◌, ◌==◌, ℕ, List, ap, cond, get_or, 
 use Rattle.rv_machine.specs.declared.ending.FaultKind.{FaultKind}
 use Rattle.rv_machine.specs.declared.ending.FaultKind.TheVariants as fault
 use Rattle.rv_remote.specs.Stops.{Told, Aborted, BadCall, BusError, Exited, FileTooLarge, IllegalInstruction, NoEnding, SegmentFault, UsedUp, fault_text, stop_text, told_by, told_by_fault}
+use Rattle.rv_remote.specs.declared.request.Watched.TheVariants as watch
 use Rattle.rv_remote.specs.declared.stop.Stop.{Stop}
 use Rattle.rv_remote.specs.declared.stop.Stop.TheVariants as stop
 
@@ -12,7 +13,7 @@ byte_at text place = get_or text place 0
 
 -- of `T05` alone, with a watch, or with the log's begin or end
 abbrev of_trap : List ℕ → Told
-of_trap text = cond (byte_at text 3 == 114) (cond (byte_at text 13 == 101) Exited NoEnding) NoEnding
+of_trap text = cond (byte_at text 4 == 101) (cond (byte_at text 13 == 101) Exited NoEnding) NoEnding
 
 -- what a reply tells, by its signal
 abbrev of_zero : List ℕ → Told
@@ -42,7 +43,9 @@ fault_told fault.ConsoleFull = refl
 stop_told : (one : Stop) → of_reply (stop_text one) ≡ told_by one
 unfolding stop_text
 stop_told stop.Here = refl
-stop_told (stop.Watch address) = refl
+stop_told (stop.Watch watch.Writes address) = refl
+stop_told (stop.Watch watch.Reads address) = refl
+stop_told (stop.Watch watch.Accesses address) = refl
 stop_told stop.Interrupt = refl
 stop_told stop.Beginning = refl
 stop_told stop.Exit = refl

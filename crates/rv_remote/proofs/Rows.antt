@@ -2,8 +2,8 @@
 use Rattle.std.proofs.Common.{◌≡◌, ◌∷◌, ◌+◌, ◌≤◌, ℕ, List, Option, Some, true, false, ap, arith, eqb, length, refl}
 use Rattle.std.specs.List.{list_all}
 use Rattle.std.proofs.lemmas.Bool.{eq-eqb, le-leb, ne_eqb}
-use Rattle.rv_remote.specs.Grammar.{IsAction, IsRequest, IsTrap, action_of_thread, actions, attached, choose_thread, clear_trap, close_file, command, description, detach, detach_process, features, file_size, file_system, first_action, first_threads, goes_back, goes_on, goes_on_signalled, hardware, image_path, is_alive, kill, kill_process, last_stop, more_threads, moves, no_acknowledgements, on_with_signal, one_action, open_file, plain_move, read_file, read_memory, register, registers, restart, set_trap, software, stay_extended, step_with_signal, steps, steps_back, steps_signalled, steps_within, this_thread, write_data, write_digits, write_register, write_registers, writes}
-use Rattle.rv_remote.specs.Numbers.{behind, until}
+use Rattle.rv_remote.specs.Grammar.{IsAction, IsRequest, IsTrap, accesses, action_of_thread, actions, attached, choose_thread, clear_trap, close_file, command, description, detach, detach_process, features, file_size, file_system, first_action, first_threads, goes_back, goes_on, goes_on_signalled, hardware, image_path, is_alive, kill, kill_process, last_stop, more_threads, moves, no_acknowledgements, on_with_signal, one_action, open_file, plain_move, read_file, read_memory, reads, register, registers, restart, set_trap, software, stay_extended, step_with_signal, steps, steps_back, steps_signalled, steps_within, this_thread, write_data, write_digits, write_register, write_registers, writes}
+use Rattle.rv_remote.specs.Numbers.{behind}
 use Rattle.rv_remote.specs.Packets as packet
 use Rattle.rv_remote.specs.Requests as args
 use Rattle.rv_remote.specs.Requests.{colon, comma, equals, register_of, semicolon, trap_at, trap_of, watch_at, watched, whole_data, written}
@@ -13,13 +13,15 @@ use Rattle.rv_remote.specs.declared.request.Request.{Request}
 use Rattle.rv_remote.specs.declared.request.Request.TheVariants as ask
 use Rattle.rv_remote.specs.declared.request.Trap.{Trap}
 use Rattle.rv_remote.specs.declared.request.Trap.TheVariants as trap
+use Rattle.rv_remote.specs.declared.request.Watched.{Watched}
+use Rattle.rv_remote.specs.declared.request.Watched.TheVariants as watch
 use Rattle.rv_remote.proofs.Marks.{before_mark, behind_mark, is_other, number_lacks, place_between, two_lack, two_numbers, until_all, until_mark, until_other}
 
 -- ---- where to stop
 
-watch_fits : (address count : ℕ) → 1 ≤ count → count ≤ 65536 → address + count ≤ 4294967296
-    → watched (record { address = address; count = count }) ≡ Some (trap.Watch (record { address = address; count = count }))
-watch_fits address count some few within =
+watch_fits : (kind : Watched) (address count : ℕ) → 1 ≤ count → count ≤ 65536 → address + count ≤ 4294967296
+    → watched kind (record { address = address; count = count }) ≡ Some (trap.Watch kind (record { address = address; count = count }))
+watch_fits kind address count some few within =
     rw (le-leb 1 count some, le-leb count 65536 few, le-leb (address + count) 4294967296 within) refl
 
 trap_read : (text : List ℕ) (place : Trap) → IsTrap text place → trap_at text ≡ Some (Some place)
@@ -27,7 +29,14 @@ unfolding behind watch_at
 trap_read text place (software fields address kind tells) = rw (two_numbers fields address kind tells) refl
 trap_read text place (hardware fields address kind tells) = rw (two_numbers fields address kind tells) refl
 trap_read text place (writes fields address count tells some few within) =
-    rw (two_numbers fields address count tells) (ap (λ (found : Option Trap). Some found) (watch_fits address count some few within))
+    rw (two_numbers fields address count tells)
+    (ap (λ (found : Option Trap). Some found) (watch_fits watch.Writes address count some few within))
+trap_read text place (reads fields address count tells some few within) =
+    rw (two_numbers fields address count tells)
+    (ap (λ (found : Option Trap). Some found) (watch_fits watch.Reads address count some few within))
+trap_read text place (accesses fields address count tells some few within) =
+    rw (two_numbers fields address count tells)
+    (ap (λ (found : Option Trap). Some found) (watch_fits watch.Accesses address count some few within))
 
 -- ---- bytes that are written
 

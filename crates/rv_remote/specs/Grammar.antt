@@ -10,6 +10,7 @@ use Rattle.rv_remote.specs.declared.request.Request.{Request}
 use Rattle.rv_remote.specs.declared.request.Request.TheVariants as ask
 use Rattle.rv_remote.specs.declared.request.Trap.{Trap}
 use Rattle.rv_remote.specs.declared.request.Trap.TheVariants as trap
+use Rattle.rv_remote.specs.declared.request.Watched.TheVariants as watch
 
 -- two texts with a mark between them
 abbrev pub parted : ℕ → List ℕ → List ℕ → List ℕ
@@ -31,7 +32,14 @@ pub data IsTrap : List ℕ → Trap → Type 0 where
   software : (fields : List ℕ) (address kind : ℕ) → TellsTwo fields address kind → IsTrap (codes "0," ++ fields) (trap.Break address)
   hardware : (fields : List ℕ) (address kind : ℕ) → TellsTwo fields address kind → IsTrap (codes "1," ++ fields) (trap.Break address)
   writes : (fields : List ℕ) (address count : ℕ) → TellsTwo fields address count → 1 ≤ count → count ≤ 65536
-      → address + count ≤ 4294967296 → IsTrap (codes "2," ++ fields) (trap.Watch (record { address = address; count = count }))
+      → address + count ≤ 4294967296
+      → IsTrap (codes "2," ++ fields) (trap.Watch watch.Writes (record { address = address; count = count }))
+  reads : (fields : List ℕ) (address count : ℕ) → TellsTwo fields address count → 1 ≤ count → count ≤ 65536
+      → address + count ≤ 4294967296
+      → IsTrap (codes "3," ++ fields) (trap.Watch watch.Reads (record { address = address; count = count }))
+  accesses : (fields : List ℕ) (address count : ℕ) → TellsTwo fields address count → 1 ≤ count → count ≤ 65536
+      → address + count ≤ 4294967296
+      → IsTrap (codes "4," ++ fields) (trap.Watch watch.Accesses (record { address = address; count = count }))
 
 -- `c` and `s` go on and step
 pub data IsMove : List ℕ → Move → Type 0 where

@@ -15,6 +15,8 @@ use Rattle.rv_remote.specs.declared.request.Request.{Request}
 use Rattle.rv_remote.specs.declared.request.Request.TheVariants as ask
 use Rattle.rv_remote.specs.declared.request.Trap.{Trap}
 use Rattle.rv_remote.specs.declared.request.Trap.TheVariants as trap
+use Rattle.rv_remote.specs.declared.request.Watched.{Watched}
+use Rattle.rv_remote.specs.declared.request.Watched.TheVariants as watch
 
 -- the marks within arguments: `,`, `:`, `;` and `=`
 abbrev pub comma : ℕ
@@ -153,22 +155,28 @@ trap_range text = do
   range_at fields
 
 -- 1 to 65,536 bytes, none of them past the end of the addresses
-abbrev pub watched : Range → Option Trap
-watched range = if (nat_le 1 range.count && nat_le range.count 65536) && nat_le (range.address + range.count) 4294967296
-    then Some (trap.Watch range) else None
+abbrev pub watched : Watched → Range → Option Trap
+watched kind range = if (nat_le 1 range.count && nat_le range.count 65536) && nat_le (range.address + range.count) 4294967296
+    then Some (trap.Watch kind range) else None
 
 abbrev pub break_at : List ℕ → Option Trap
 break_at text = option_map (λ (range : Range). trap.Break range.address) (trap_range text)
 
-unfoldable pub watch_at : List ℕ → Option Trap
-watch_at text = do
+unfoldable pub watch_at : Watched → List ℕ → Option Trap
+watch_at kind text = do
   range ← trap_range text
-  watched range
+  watched kind range
 
--- what a kind and its fields ask, if they are a break, 0 or 1, or a watch of writes, 2
+-- what a kind and its fields ask, if they are a watch of writes, 2, of reads, 3, or of both, 4
+abbrev pub kind_at : List ℕ → Option (Option Trap)
+kind_at args = option_or (option_map (watch_at watch.Writes) (behind (codes "2") args))
+    (option_or (option_map (watch_at watch.Reads) (behind (codes "3") args))
+    (option_map (watch_at watch.Accesses) (behind (codes "4") args)))
+
+-- the same, or a break, 0 or 1
 abbrev pub trap_at : List ℕ → Option (Option Trap)
 trap_at args = option_or (option_map break_at (behind (codes "0") args))
-    (option_or (option_map break_at (behind (codes "1") args)) (option_map watch_at (behind (codes "2") args)))
+    (option_or (option_map break_at (behind (codes "1") args)) (kind_at args))
 
 -- other kinds are not known, and a text with no kind is malformed
 abbrev pub other_kind : List ℕ → Request

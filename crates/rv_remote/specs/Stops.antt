@@ -4,6 +4,8 @@ use Rattle.std.specs.Int.{w32, to_be_bytes}
 use Rattle.hex.specs.Hex.{encode_lower}
 use Rattle.rv_machine.specs.declared.ending.FaultKind.{FaultKind}
 use Rattle.rv_machine.specs.declared.ending.FaultKind.TheVariants as fault
+use Rattle.rv_remote.specs.declared.request.Watched.{Watched}
+use Rattle.rv_remote.specs.declared.request.Watched.TheVariants as watch
 use Rattle.rv_remote.specs.declared.stop.Stop.{Stop}
 use Rattle.rv_remote.specs.declared.stop.Stop.TheVariants as stop
 
@@ -21,10 +23,16 @@ fault_text fault.ConsoleFull = codes "T19"
 fault_text fault.UnknownCall = codes "T0c"
 fault_text fault.FetchMisaligned = codes "T0a"
 
+-- which watch it is
+abbrev pub watch_text : Watched → List ℕ
+watch_text watch.Writes = codes "T05watch:"
+watch_text watch.Reads = codes "T05rwatch:"
+watch_text watch.Accesses = codes "T05awatch:"
+
 -- SIGTRAP, SIGINT and SIGXCPU; no reply is `W` or `X`, since a run goes backwards from its end
 unfoldable pub stop_text : Stop → List ℕ
 stop_text stop.Here = codes "T05"
-stop_text (stop.Watch address) = codes "T05watch:" ++ (encode_lower (to_be_bytes w32 address) ++ codes ";")
+stop_text (stop.Watch kind address) = watch_text kind ++ (encode_lower (to_be_bytes w32 address) ++ codes ";")
 stop_text stop.Interrupt = codes "T02"
 stop_text stop.Beginning = codes "T05replaylog:begin;"
 stop_text stop.Exit = codes "T05replaylog:end;"
@@ -61,6 +69,6 @@ told_by stop.Exit = Exited
 told_by stop.Budget = UsedUp
 told_by (stop.Fault kind) = told_by_fault kind
 told_by stop.Here = NoEnding
-told_by (stop.Watch address) = NoEnding
+told_by (stop.Watch kind address) = NoEnding
 told_by stop.Interrupt = NoEnding
 told_by stop.Beginning = NoEnding

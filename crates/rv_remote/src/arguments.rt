@@ -1,10 +1,10 @@
 //! What the arguments of packets ask.
 
 ghost use Rattle.std.specs.Prelude.{◌≡◌};
-ghost use Rattle.rv_remote.specs.Requests.{all_registers, break_at, description, elsewhere, image_path, move_within, other_kind, part_at, plain_move, range_at, read_file, read_memory, read_register, register_at, register_of, register_write, signal_move, signalled, trap_at, trap_range, watch_at, watched, write_register, written};
+ghost use Rattle.rv_remote.specs.Requests.{all_registers, break_at, description, elsewhere, image_path, kind_at, move_within, other_kind, part_at, plain_move, range_at, read_file, read_memory, read_register, register_at, register_of, register_write, signal_move, signalled, trap_at, trap_range, watch_at, watched, write_register, written};
 
 use crate::number::{behind, number_of, numbers_at, place_of, value_of};
-use crate::request::{Move, Part, Range, Refusal, Register, Request, Trap};
+use crate::request::{Move, Part, Range, Refusal, Register, Request, Trap, Watched};
 use rv_base::Bytes;
 
 /// `target.xml:OFFSET,COUNT`
@@ -139,7 +139,7 @@ pub(crate) fn written(range: Range, bytes: Vec<u8>) -> Option<Request>
     }
 }
 
-/// A kind and `,ADDRESS,COUNT`: a break, 0 or 1, or a watch of writes, 2.
+/// A kind and `,ADDRESS,COUNT`: a break, 0 or 1, or a watch of writes, 2, of reads, 3, or of both, 4.
 pub(crate) fn trap_at(args: &[u8]) -> Option<Option<Trap>>
     ensures { result ≡ trap_at args.now }
 {
@@ -149,8 +149,20 @@ pub(crate) fn trap_at(args: &[u8]) -> Option<Option<Trap>>
     if let Some(fields) = behind(b"1", args) {
         return Some(break_at(fields));
     }
-    let fields = behind(b"2", args)?;
-    Some(watch_at(fields))
+    kind_at(args)
+}
+
+fn kind_at(args: &[u8]) -> Option<Option<Trap>>
+    ensures { result ≡ kind_at args.now }
+{
+    if let Some(fields) = behind(b"2", args) {
+        return Some(watch_at(Watched::Writes, fields));
+    }
+    if let Some(fields) = behind(b"3", args) {
+        return Some(watch_at(Watched::Reads, fields));
+    }
+    let fields = behind(b"4", args)?;
+    Some(watch_at(Watched::Accesses, fields))
 }
 
 fn break_at(text: &[u8]) -> Option<Trap>
@@ -161,10 +173,10 @@ fn break_at(text: &[u8]) -> Option<Trap>
 }
 
 #[tactic(auto, unfolding(crate::specs::Requests::watch_at))]
-fn watch_at(text: &[u8]) -> Option<Trap>
-    ensures { result ≡ watch_at text.now }
+fn watch_at(kind: Watched, text: &[u8]) -> Option<Trap>
+    ensures { result ≡ watch_at kind text.now }
 {
-    watched(trap_range(text)?)
+    watched(kind, trap_range(text)?)
 }
 
 fn trap_range(text: &[u8]) -> Option<Range>
@@ -173,12 +185,12 @@ fn trap_range(text: &[u8]) -> Option<Range>
     range_at(behind(b",", text)?)
 }
 
-fn watched(range: Range) -> Option<Trap>
-    ensures { result ≡ watched range }
+fn watched(kind: Watched, range: Range) -> Option<Trap>
+    ensures { result ≡ watched kind range }
 {
     let end = u64::from(range.address) + u64::from(range.count);
     if 1 <= range.count && range.count <= 65_536 && end <= 1 << 32 {
-        Some(Trap::Watch(range))
+        Some(Trap::Watch(kind, range))
     } else {
         None
     }

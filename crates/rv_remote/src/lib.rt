@@ -29,6 +29,6 @@ pub use parse::parse_request;
 pub use reader::Reader;
 pub use registers::{push_memory, push_printed, push_register, push_registers};
 pub use reply::{fixed_reply, push_part, refusal_text};
-pub use request::{Move, Part, Range, Refusal, Register, Request, Trap};
+pub use request::{Move, Part, Range, Refusal, Register, Request, Trap, Watched};
 pub use stop::{Stop, push_stop};
 pub use target::TARGET;

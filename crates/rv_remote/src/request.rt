@@ -94,13 +94,24 @@ pub enum Register {
     Taken,
 }
 
+/// What of bytes is watched.
+#[derive(Clone, Copy, Debug)]
+pub enum Watched {
+    /// That they change.
+    Writes,
+    /// That they are read.
+    Reads,
+    /// That they are read or written.
+    Accesses,
+}
+
 /// Where a run is to stop.
 #[derive(Clone, Copy, Debug)]
 pub enum Trap {
     /// In front of the instruction at this address.
     Break(u32),
-    /// Where one of 1 to 65,536 bytes changes; none of them is past the end of the addresses.
-    Watch(Range),
+    /// Where one of 1 to 65,536 bytes is met so; none of them is past the end of the addresses.
+    Watch(Watched, Range),
 }
 
 /// How the session is to move in its run.

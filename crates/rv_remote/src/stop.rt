@@ -1,9 +1,10 @@
 //! Stops, and the bodies of the replies that tell them.
 
 ghost use Rattle.std.specs.Prelude.{◌≡◌, ◌++◌, OnOk};
-ghost use Rattle.rv_remote.specs.Stops.{fault_text, stop_text};
+ghost use Rattle.rv_remote.specs.Stops.{fault_text, stop_text, watch_text};
 ghost use Rattle.rv_remote.specs.declared.stop.Stop.TheVariants as stop;
 
+use crate::request::Watched;
 use rv_machine::FaultKind;
 use std::alloc::AllocError;
 
@@ -12,8 +13,8 @@ use std::alloc::AllocError;
 pub enum Stop {
     /// A breakpoint, a step or the end of a range.
     Here,
-    /// A byte of the watch at this address changes.
-    Watch(u32),
+    /// A watch at this address is set off.
+    Watch(Watched, u32),
     /// Ctrl-C.
     Interrupt,
     /// Step 0 on the way back.
@@ -33,7 +34,7 @@ pub fn push_stop(out: &mut Vec<u8>, stop: Stop) -> Result<(), AllocError>
 {
     match stop {
         Stop::Here => out.extend_from_slice(b"T05"),
-        Stop::Watch(address) => push_watch(out, address),
+        Stop::Watch(kind, address) => push_watch(out, kind, address),
         Stop::Interrupt => out.extend_from_slice(b"T02"),
         Stop::Beginning => out.extend_from_slice(b"T05replaylog:begin;"),
         Stop::Exit => out.extend_from_slice(b"T05replaylog:end;"),
@@ -43,15 +44,25 @@ pub fn push_stop(out: &mut Vec<u8>, stop: Stop) -> Result<(), AllocError>
 }
 
 #[tactic(auto, unfolding(crate::specs::Stops::stop_text))]
-fn push_watch(out: &mut Vec<u8>, address: u32) -> Result<(), AllocError>
-    ensures { OnOk result (out.new.items ≡ out.old.items ++ stop_text (stop.Watch address)) }
+fn push_watch(out: &mut Vec<u8>, kind: Watched, address: u32) -> Result<(), AllocError>
+    ensures { OnOk result (out.new.items ≡ out.old.items ++ stop_text (stop.Watch kind address)) }
 {
     let mut digits = [0u8; 8];
     hex::encode_to_slice(address.to_be_bytes().as_slice(), &mut digits).unwrap();
-    out.extend_from_slice(b"T05watch:")?;
+    out.extend_from_slice(watch_text(kind).as_bytes())?;
     out.extend_from_slice(&digits)?;
     out.push(b';')?;
     Ok(())
+}
+
+fn watch_text(kind: Watched) -> &'static str
+    ensures { result.now ≡ watch_text kind }
+{
+    match kind {
+        Watched::Writes => "T05watch:",
+        Watched::Reads => "T05rwatch:",
+        Watched::Accesses => "T05awatch:",
+    }
 }
 
 // The signal of a fault.

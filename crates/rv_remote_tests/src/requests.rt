@@ -31,9 +31,11 @@ X80000000,3:a}]b | WriteMemory(2147483648, Sequence { items: [97, 125, 98] })
 Z0,80000190,2 | Set(Break(2147484048))
 Z1,80000190,4 | Set(Break(2147484048))
 z0,800000f8,2 | Clear(Break(2147483896))
-Z2,80080048,4 | Set(Watch(Range { address: 2148008008, count: 4 }))
-Z2,fffffffe,2 | Set(Watch(Range { address: 4294967294, count: 2 }))
-z2,80080048,10000 | Clear(Watch(Range { address: 2148008008, count: 65536 }))
+Z2,80080048,4 | Set(Watch(Writes, Range { address: 2148008008, count: 4 }))
+Z2,fffffffe,2 | Set(Watch(Writes, Range { address: 4294967294, count: 2 }))
+z2,80080048,10000 | Clear(Watch(Writes, Range { address: 2148008008, count: 65536 }))
+Z3,80000000,4 | Set(Watch(Reads, Range { address: 2147483648, count: 4 }))
+z4,80000000,4 | Clear(Watch(Accesses, Range { address: 2147483648, count: 4 }))
 vCont? | Actions
 vCont;c | Move(Continue)
 vCont;C05 | Move(Continue)
@@ -97,7 +99,7 @@ Z0,80000000 | E.malformed
 Z2,80000000,0 | E.malformed
 Z2,80000000,10001 | E.malformed
 Z2,ffffffff,2 | E.malformed
-Z3,80000000,4 | 
+Z5,80000000,4 | 
 Z9,80000000,4 | 
 vCont; | E.malformed
 vCont;x | E.malformed
@@ -155,7 +157,7 @@ fn check_reply(alloc: Global, line: &str) -> Result<(), Fail> {
 
 #[test]
 fn packets_ask(rt: HostRuntime) -> Result<(), Fail> {
-    has_lines(ASKED, 53)?;
+    has_lines(ASKED, 55)?;
     for line in ASKED.lines() {
         check_asked(rt.alloc(), line)?;
     }

@@ -33,7 +33,7 @@ use Rattle.rv_session.specs.Heard.{IsByteFed, IsFed, IsJudged, IsRespondedTo, Is
 use Rattle.rv_session.specs.Moved.{IsGone, IsMoved, end_text_at, printed_on, shown_on, stop_of}
 use Rattle.rv_session.specs.Replies.{granted_if, stopping}
 use Rattle.rv_session.specs.Sessions.{at_place, state_at}
-use Rattle.rv_session.specs.Traps.{IsAdded, IsAddedUnless, IsTrapped, is_on, is_set, trap_refusal}
+use Rattle.rv_session.specs.Traps.{IsAdded, IsAddedUnless, IsTrapped, is_on, is_set, trap_refusal, watches_of, with_watches}
 use Rattle.rv_session.specs.declared.reply.Reply.{Reply}
 use Rattle.rv_session.specs.declared.session.Session.{Session}
 
@@ -132,17 +132,14 @@ watch_one range one other first second =
     (eqb-true one.address range.address here.0 ∙ sym (eqb-true other.address range.address there.0))
     (eqb-true one.count range.count here.1 ∙ sym (eqb-true other.count range.count there.1))
 
-stops_one : (one other : Stops) → one.breaks ≡ other.breaks → one.watches ≡ other.watches → one ≡ other
-stops_one one other breaks watches = λ i. record { breaks = breaks i; watches = watches i }
-
 added_one : (stops one other : Stops) (place : Trap) → IsAdded stops place one → IsAdded stops place other → one ≡ other
-added_one stops one other (trap.Break address) first second =
-    stops_one one other (first.0 ∙ sym second.0) (first.1 ∙ sym second.1)
-added_one stops one other (trap.Watch range) first second =
-    stops_one one other (first.0 ∙ sym second.0)
-    (first.1.next_is
-    ∙ ap (λ (watch : Watch). stops.watches ++ watch ∷ []) (watch_one range first.1.watch second.1.watch first.1.on second.1.on)
-    ∙ sym second.1.next_is)
+added_one stops one other (trap.Break address) first second = first ∙ sym second
+added_one stops one other (trap.Watch kind range) first second =
+    let same : first.watches ≡ second.watches = first.added.next_is
+    ∙ ap (λ (watch : Watch). watches_of stops kind ++ watch ∷ [])
+    (watch_one range first.added.watch second.added.watch first.added.on second.added.on)
+    ∙ sym second.added.next_is in
+    first.next_is ∙ ap (with_watches stops kind) same ∙ sym second.next_is
 
 added_unless_one : (stops one other : Stops) (place : Trap) (is : Bool) → IsAddedUnless is stops place one
     → IsAddedUnless is stops place other → one ≡ other

@@ -3,6 +3,8 @@ use Rattle.std.proofs.Common.{◌≡◌, ◌∙◌, ◌+◌, ◌-◌, ℕ, List,
 use Rattle.std.specs.Prelude.{if◌then◌else◌}
 use Rattle.rv_history.specs.declared.found.Found.{Found}
 use Rattle.rv_history.specs.declared.found.Found.TheVariants as found
+use Rattle.rv_history.specs.declared.stops.SetOff.{SetOff}
+use Rattle.rv_history.specs.declared.stops.SetOff.TheVariants as set_off
 use Rattle.rv_machine.specs.declared.ending.Ending.{Ending}
 use Rattle.rv_machine.specs.declared.ending.Ending.TheVariants as ending
 use Rattle.rv_machine.specs.declared.ending.FaultKind.{FaultKind}
@@ -14,8 +16,10 @@ use Rattle.rv_session.specs.Moved.{IsMoved, end_stop, end_text_at, is_forward, s
 use Rattle.rv_session.specs.declared.reply.Reply.{Reply}
 use Rattle.rv_session.specs.declared.session.Session.{Session}
 
-watch_is_none : (watch : Option ℕ) → told_by (watch_told watch) ≡ NoEnding
-watch_is_none (Some address) = refl
+watch_is_none : (found : Option SetOff) → told_by (watch_told found) ≡ NoEnding
+watch_is_none (Some (set_off.Change address)) = refl
+watch_is_none (Some (set_off.Read address)) = refl
+watch_is_none (Some (set_off.Access address)) = refl
 watch_is_none None = refl
 
 end_is_told : (ending : Ending) → told_by (end_stop ending) ≡ told_by_ending ending

@@ -2,10 +2,12 @@
 use Rattle.std.specs.Prelude.{ℕ, List, [], ◌≡◌, ◌+◌, ◌-◌, ◌<◌, Bool, true, false, Option, Some, None, drop, if◌then◌else◌, length, max}
 use Rattle.rv_history.specs.Moves.{IsNextStep, IsNextStop, IsStepBefore, IsStopBefore}
 use Rattle.rv_history.specs.Places.{last_place}
-use Rattle.rv_history.specs.Stops.{first_differing}
+use Rattle.rv_history.specs.Stops.{first_set_off}
 use Rattle.rv_history.specs.declared.bounds.Bounds.TheVariants as bounds
 use Rattle.rv_history.specs.declared.found.Found.{Found}
 use Rattle.rv_history.specs.declared.found.Found.TheVariants as found
+use Rattle.rv_history.specs.declared.stops.SetOff.{SetOff}
+use Rattle.rv_history.specs.declared.stops.SetOff.TheVariants as set_off
 use Rattle.rv_history.specs.declared.stops.Stops.{Stops}
 use Rattle.rv_machine.specs.State.{State}
 use Rattle.rv_machine.specs.declared.ending.Ending.{Ending}
@@ -13,6 +15,7 @@ use Rattle.rv_machine.specs.declared.ending.Ending.TheVariants as ending
 use Rattle.rv_remote.specs.Stops.{stop_text}
 use Rattle.rv_remote.specs.declared.request.Move.{Move}
 use Rattle.rv_remote.specs.declared.request.Move.TheVariants as move
+use Rattle.rv_remote.specs.declared.request.Watched.TheVariants as watch
 use Rattle.rv_remote.specs.declared.stop.Stop.{Stop}
 use Rattle.rv_remote.specs.declared.stop.Stop.TheVariants as stop
 use Rattle.rv_session.specs.Replies.{stopping}
@@ -43,16 +46,17 @@ end_stop (ending.Fault kind pc value) = stop.Fault kind
 end_stop ending.Budget = stop.Budget
 
 -- the watch that is told
-abbrev pub watch_told : Option ℕ → Stop
-watch_told (Some address) = stop.Watch address
+abbrev pub watch_told : Option SetOff → Stop
+watch_told (Some (set_off.Change address)) = stop.Watch watch.Writes address
+watch_told (Some (set_off.Read address)) = stop.Watch watch.Reads address
+watch_told (Some (set_off.Access address)) = stop.Watch watch.Accesses address
 watch_told None = stop.Here
 
--- the first watch whose bytes differ between two places
-abbrev pub watch_between : Session → ℕ → ℕ → Option ℕ
-watch_between session one other =
-    first_differing session.stops.watches (state_at session one).bus (state_at session other).bus
+-- the first watch that the step from a place to another sets off
+abbrev pub watch_between : Session → ℕ → ℕ → Option SetOff
+watch_between session one other = first_set_off session.stops (state_at session one) (state_at session other)
 
--- the first watch that a step changes: the step in front, or on the way back the step behind
+-- the first watch that a step sets off: the step in front, or on the way back the step behind
 abbrev pub watch_stop : Session → Move → ℕ → Stop
 watch_stop session asked place = watch_told
     (if is_forward asked then watch_between session place (place + 1) else watch_between session (place - 1) place)

@@ -16,7 +16,7 @@ at_first start budget program = record {
   history = record { start = start_of start; budget = budget; place = 0 };
   program = program;
   script = length start.bus.script;
-  stops = record { breaks = []; watches = [] };
+  stops = record { breaks = []; watches = []; reads = []; accesses = [] };
   acknowledges = true;
   shown = 0;
   last = stop.Here;

@@ -10,6 +10,8 @@ use Rattle.rv_remote.specs.declared.request.Refusal.{Refusal}
 use Rattle.rv_remote.specs.declared.request.Refusal.TheVariants as refusal
 use Rattle.rv_remote.specs.declared.request.Trap.{Trap}
 use Rattle.rv_remote.specs.declared.request.Trap.TheVariants as trap
+use Rattle.rv_remote.specs.declared.request.Watched.{Watched}
+use Rattle.rv_remote.specs.declared.request.Watched.TheVariants as watch
 
 -- the most breakpoints and watches, together
 abbrev pub most_traps : ℕ
@@ -18,10 +20,21 @@ most_traps = 1024
 abbrev pub is_on : Range → Watch → Bool
 is_on range watch = watch.address == range.address && watch.count == range.count
 
+-- what is watched so
+abbrev pub watches_of : Stops → Watched → List Watch
+watches_of stops watch.Writes = stops.watches
+watches_of stops watch.Reads = stops.reads
+watches_of stops watch.Accesses = stops.accesses
+
+abbrev pub with_watches : Stops → Watched → List Watch → Stops
+with_watches stops watch.Writes watches = record stops { watches = watches }
+with_watches stops watch.Reads watches = record stops { reads = watches }
+with_watches stops watch.Accesses watches = record stops { accesses = watches }
+
 -- the trap is set already
 abbrev pub is_set : Stops → Trap → Bool
 is_set stops (trap.Break address) = list_any (λ other. other == address) stops.breaks
-is_set stops (trap.Watch range) = list_any (is_on range) stops.watches
+is_set stops (trap.Watch kind range) = list_any (is_on range) (watches_of stops kind)
 
 -- one of the bytes stands in a region
 abbrev pub has_byte : Contents → Range → Bool
@@ -30,10 +43,10 @@ has_byte bus range = list_any (λ address. is_some (fin.get bus.memory address))
 -- it can be watched
 abbrev pub can_be_set : Contents → Trap → Bool
 can_be_set bus (trap.Break address) = true
-can_be_set bus (trap.Watch range) = nat_le (range.address + range.count) 4294967296 && has_byte bus range
+can_be_set bus (trap.Watch kind range) = nat_le (range.address + range.count) 4294967296 && has_byte bus range
 
 abbrev pub is_full : Stops → Bool
-is_full stops = nat_le most_traps (length stops.breaks + length stops.watches)
+is_full stops = nat_le most_traps ((length stops.breaks + length stops.watches) + (length stops.reads + length stops.accesses))
 
 -- why it is not set, if it is not
 abbrev pub trap_refusal : Stops → Contents → Trap → Option Refusal
@@ -44,9 +57,9 @@ trap_refusal stops bus place =
 
 abbrev pub without_trap : Stops → Trap → Stops
 without_trap stops (trap.Break address) =
-    record { breaks = filter (λ other. not (other == address)) stops.breaks; watches = stops.watches }
-without_trap stops (trap.Watch range) =
-    record { breaks = stops.breaks; watches = filter (λ watch. not (is_on range watch)) stops.watches }
+    record stops { breaks = filter (λ other. not (other == address)) stops.breaks }
+without_trap stops (trap.Watch kind range) =
+    with_watches stops kind (filter (λ watch. not (is_on range watch)) (watches_of stops kind))
 
 -- one more watch, at the end
 pub record IsWatchAdded (watches : List Watch) (range : Range) (next : List Watch) : Type 0 where
@@ -54,10 +67,16 @@ pub record IsWatchAdded (watches : List Watch) (range : Range) (next : List Watc
   pub next_is : next ≡ watches ++ watch ∷ []
   pub on : is_on range watch ≡ true
 
+-- among those that are watched so
+pub record IsKindAdded (stops : Stops) (kind : Watched) (range : Range) (next : Stops) : Type 0 where
+  pub watches : List Watch
+  pub added : IsWatchAdded (watches_of stops kind) range watches
+  pub next_is : next ≡ with_watches stops kind watches
+
 -- one more trap, at the end of its kind
 abbrev pub IsAdded : Stops → Trap → Stops → Type 0
-IsAdded stops (trap.Break address) next = (next.breaks ≡ stops.breaks ++ address ∷ []) × (next.watches ≡ stops.watches)
-IsAdded stops (trap.Watch range) next = (next.breaks ≡ stops.breaks) × IsWatchAdded stops.watches range next.watches
+IsAdded stops (trap.Break address) next = next ≡ record stops { breaks = stops.breaks ++ address ∷ [] }
+IsAdded stops (trap.Watch kind range) next = IsKindAdded stops kind range next
 
 -- a trap that is set already adds nothing
 abbrev pub IsAddedUnless : Bool → Stops → Trap → Stops → Type 0

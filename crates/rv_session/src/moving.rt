@@ -11,9 +11,9 @@ use crate::end_text::EndText;
 use crate::reply::Reply;
 use crate::session::Session;
 use rv_base::Bytes;
-use rv_history::{Bounds, Found};
+use rv_history::{Bounds, Found, SetOff};
 use rv_machine::Ending;
-use rv_remote::{Move, Stop, push_stop};
+use rv_remote::{Move, Stop, Watched, push_stop};
 use std::alloc::{AllocError, Global};
 
 impl Session {
@@ -61,7 +61,7 @@ impl Session {
         }
     }
 
-    // The first watch that is changed: by the step in front, or on the way back by the step behind.
+    // The first watch that is set off: by the step in front, or on the way back by the step behind.
     fn watch_stop(&self, alloc: Global, asked: Move) -> Result<Stop, AllocError>
         requires { CanTell self.now asked found.Change }
         ensures { IfOk result (λ stop. stop ≡ watch_stop self.now asked self.now.history.place) }
@@ -134,11 +134,13 @@ fn is_forward(asked: Move) -> bool
     }
 }
 
-fn watch_told(address: Option<u32>) -> Stop
-    ensures { result ≡ watch_told address }
+fn watch_told(set_off: Option<SetOff>) -> Stop
+    ensures { result ≡ watch_told set_off }
 {
-    match address {
-        Some(address) => Stop::Watch(address),
+    match set_off {
+        Some(SetOff::Change(address)) => Stop::Watch(Watched::Writes, address),
+        Some(SetOff::Read(address)) => Stop::Watch(Watched::Reads, address),
+        Some(SetOff::Access(address)) => Stop::Watch(Watched::Accesses, address),
         None => Stop::Here,
     }
 }

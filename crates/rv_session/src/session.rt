@@ -50,6 +50,8 @@ impl Session {
             stops: Stops {
                 breaks: Sequence::new(Vec::new(alloc)),
                 watches: Sequence::new(Vec::new(alloc)),
+                reads: Sequence::new(Vec::new(alloc)),
+                accesses: Sequence::new(Vec::new(alloc)),
             },
             acknowledges: true,
             shown: 0,

@@ -1,14 +1,14 @@
 //! Where a run is to stop, as gdb sets and clears it.
 
 ghost use Rattle.std.specs.Prelude.{◌≡◌, ◌≤◌, ◌+◌, ◌^◌, IfOk};
-ghost use Rattle.rv_session.specs.Traps.{IsTrapped, has_byte, is_full, is_on, is_set, without_trap};
+ghost use Rattle.rv_session.specs.Traps.{IsTrapped, has_byte, is_full, is_on, is_set, watches_of, with_watches, without_trap};
 ghost use Rattle.rv_memory.specs.Bus.{Contents};
 ghost use Rattle.rv_remote.specs.declared.request.Trap.TheVariants as trap;
 
 use rv_base::Sequence;
 use rv_history::{Stops, Watch};
 use rv_memory::Bus;
-use rv_remote::{Range, Refusal, Trap};
+use rv_remote::{Range, Refusal, Trap, Watched};
 use std::alloc::{AllocError, Global};
 
 /// The most breakpoints and watches, together.
@@ -25,7 +25,7 @@ pub(crate) fn with_trap(
 {
     match trap {
         Trap::Break(address) => with_break(alloc, stops, address),
-        Trap::Watch(range) => with_watch(alloc, stops, bus, range),
+        Trap::Watch(kind, range) => with_watch(alloc, stops, bus, kind, range),
     }
 }
 
@@ -35,7 +35,7 @@ pub(crate) fn without_trap(alloc: Global, stops: &Stops, trap: Trap) -> Result<S
 {
     match trap {
         Trap::Break(address) => without_break(alloc, stops, address),
-        Trap::Watch(range) => without_watch(alloc, stops, range),
+        Trap::Watch(kind, range) => without_watch(alloc, stops, kind, range),
     }
 }
 
@@ -44,7 +44,9 @@ fn is_full(stops: &Stops) -> bool
 {
     let breaks = stops.breaks.as_slice().len();
     let watches = stops.watches.as_slice().len();
-    breaks + watches >= MOST_TRAPS
+    let reads = stops.reads.as_slice().len();
+    let accesses = stops.accesses.as_slice().len();
+    (breaks + watches) + (reads + accesses) >= MOST_TRAPS
 }
 
 fn with_break(
@@ -63,17 +65,19 @@ fn with_break(
     }
     let mut breaks = Vec::from_slice(alloc, stops.breaks.as_slice())?;
     breaks.push(address)?;
-    let watches = Vec::from_slice(alloc, stops.watches.as_slice())?;
-    Ok(Ok(stops_of(breaks, watches)))
+    let mut next = copied(alloc, stops)?;
+    next.breaks = Sequence::new(breaks);
+    Ok(Ok(next))
 }
 
 fn with_watch(
     alloc: Global,
     stops: &Stops,
     bus: &Bus,
+    kind: Watched,
     range: Range,
 ) -> Result<Result<Stops, Refusal>, AllocError>
-    ensures { IfOk result (IsTrapped stops.now bus.now (trap.Watch range)) }
+    ensures { IfOk result (IsTrapped stops.now bus.now (trap.Watch kind range)) }
 {
     let end = u64::from(range.address) + u64::from(range.count);
     if end > 1 << 32 {
@@ -82,20 +86,20 @@ fn with_watch(
     if !has_byte(bus, range) {
         return Ok(Err(Refusal::Malformed));
     }
-    if has_watch(stops, range) {
+    if has_watch(stops, kind, range) {
         let same = copied(alloc, stops)?;
         return Ok(Ok(same));
     }
     if is_full(stops) {
         return Ok(Err(Refusal::TooManyTraps));
     }
-    let mut watches = Vec::from_slice(alloc, stops.watches.as_slice())?;
+    let mut watches = Vec::from_slice(alloc, watches_of(stops, kind))?;
     watches.push(Watch {
         address: range.address,
         count: range.count,
     })?;
-    let breaks = Vec::from_slice(alloc, stops.breaks.as_slice())?;
-    Ok(Ok(stops_of(breaks, watches)))
+    let next = copied(alloc, stops)?;
+    Ok(Ok(with_watches(next, kind, watches)))
 }
 
 fn without_break(alloc: Global, stops: &Stops, address: u32) -> Result<Stops, AllocError>
@@ -108,22 +112,49 @@ fn without_break(alloc: Global, stops: &Stops, address: u32) -> Result<Stops, Al
         .copied()
         .filter(|other| *other != address)
         .collect(alloc)?;
-    let watches = Vec::from_slice(alloc, stops.watches.as_slice())?;
-    Ok(stops_of(breaks, watches))
+    let mut next = copied(alloc, stops)?;
+    next.breaks = Sequence::new(breaks);
+    Ok(next)
 }
 
-fn without_watch(alloc: Global, stops: &Stops, range: Range) -> Result<Stops, AllocError>
-    ensures { IfOk result (λ next. next ≡ without_trap stops.now (trap.Watch range)) }
+fn without_watch(
+    alloc: Global,
+    stops: &Stops,
+    kind: Watched,
+    range: Range,
+) -> Result<Stops, AllocError>
+    ensures { IfOk result (λ next. next ≡ without_trap stops.now (trap.Watch kind range)) }
 {
-    let watches = stops
-        .watches
-        .as_slice()
+    let watches = watches_of(stops, kind)
         .iter()
         .copied()
         .filter(|watch| !is_on(watch, range))
         .collect(alloc)?;
-    let breaks = Vec::from_slice(alloc, stops.breaks.as_slice())?;
-    Ok(stops_of(breaks, watches))
+    let next = copied(alloc, stops)?;
+    Ok(with_watches(next, kind, watches))
+}
+
+// What is watched so.
+fn watches_of(stops: &Stops, kind: Watched) -> &[Watch]
+    ensures { result.now ≡ watches_of stops.now kind }
+{
+    match kind {
+        Watched::Writes => stops.watches.as_slice(),
+        Watched::Reads => stops.reads.as_slice(),
+        Watched::Accesses => stops.accesses.as_slice(),
+    }
+}
+
+// The stops with others in place of what is watched so.
+fn with_watches(mut stops: Stops, kind: Watched, watches: Vec<Watch>) -> Stops
+    ensures { result ≡ with_watches stops kind watches.items }
+{
+    match kind {
+        Watched::Writes => stops.watches = Sequence::new(watches),
+        Watched::Reads => stops.reads = Sequence::new(watches),
+        Watched::Accesses => stops.accesses = Sequence::new(watches),
+    }
+    stops
 }
 
 fn has_break(stops: &Stops, address: u32) -> bool
@@ -132,12 +163,10 @@ fn has_break(stops: &Stops, address: u32) -> bool
     stops.breaks.as_slice().contains(&address)
 }
 
-fn has_watch(stops: &Stops, range: Range) -> bool
-    ensures { result ≡ is_set stops.now (trap.Watch range) }
+fn has_watch(stops: &Stops, kind: Watched, range: Range) -> bool
+    ensures { result ≡ is_set stops.now (trap.Watch kind range) }
 {
-    stops
-        .watches
-        .as_slice()
+    watches_of(stops, kind)
         .iter()
         .any(|watch| is_on(watch, range))
 }
@@ -147,7 +176,14 @@ fn copied(alloc: Global, stops: &Stops) -> Result<Stops, AllocError>
 {
     let breaks = Vec::from_slice(alloc, stops.breaks.as_slice())?;
     let watches = Vec::from_slice(alloc, stops.watches.as_slice())?;
-    Ok(stops_of(breaks, watches))
+    let reads = Vec::from_slice(alloc, stops.reads.as_slice())?;
+    let accesses = Vec::from_slice(alloc, stops.accesses.as_slice())?;
+    Ok(Stops {
+        breaks: Sequence::new(breaks),
+        watches: Sequence::new(watches),
+        reads: Sequence::new(reads),
+        accesses: Sequence::new(accesses),
+    })
 }
 
 // Whether a watch is that of a range.
@@ -168,13 +204,4 @@ fn has_byte(bus: &Bus, range: Range) -> bool
         }
     }
     false
-}
-
-fn stops_of(breaks: Vec<u32>, watches: Vec<Watch>) -> Stops
-    ensures { result ≡ record { breaks = breaks.items; watches = watches.items } }
-{
-    Stops {
-        breaks: Sequence::new(breaks),
-        watches: Sequence::new(watches),
-    }
 }

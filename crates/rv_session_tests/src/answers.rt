@@ -27,6 +27,16 @@ breakpoints backward | LOOP | 100 | c > O656e640a & T05replaylog:end; / Z1,80000
 a watch forward | LOOP | 100 | Z2,80000100,4 > OK / c > T05watch:80000100; / p21 > 03000000 / s > T05watch:80000100; / z2,80000100,4 > OK / s > T05 / Z2,80000100,4 > OK / c > T05watch:80000100; / p21 > 06000000
 a watch backward | LOOP | 100 | c > O656e640a & T05replaylog:end; / Z2,80000100,4 > OK / bc > T05watch:80000100; / p21 > 0a000000 / bs > T05watch:80000100; / z2,80000100,4 > OK / bs > T05 / p21 > 09000000
 the right watch | LOOP | 100 | Z2,80000200,4 > OK / Z2,80000100,1 > OK / c > T05watch:80000100;
+a watch of reads | 00000297 0002a383 X | 100 | Z3,80000001,1 > OK / c > T05rwatch:80000001; / p21 > 01000000 / z3,80000001,1 > OK / Z3,80000004,1 > OK / c > O656e640a & T05replaylog:end; / Z4,80000003,1 > OK / bc > T05awatch:80000003; / p21 > 02000000
+a watch of accesses | LOOP | 100 | Z3,80000100,4 > OK / Z4,80000102,1 > OK / c > T05awatch:80000102; / p21 > 03000000
+accesses forward and backward | LOOP | 100 | Z4,80000103,1 > OK / c > T05awatch:80000103; / s > T05awatch:80000103; / z4,80000103,1 > OK / s > T05 / p21 > 04000000 / Z4,80000103,1 > OK / bs > T05awatch:80000103; / bc > T05awatch:80000103; / p21 > 04000000 / c > T05awatch:80000103; / p21 > 06000000
+reads by their width | 00000297 00128383 00229383 0042a383 X | 100 | Z3,80000002,1 > OK / c > T05rwatch:80000002; / p21 > 02000000 / z3,80000002,1 > OK / Z3,80000004,4 > OK / c > T05rwatch:80000004; / p21 > 03000000 / z3,80000004,4 > OK / c > O656e640a & T05replaylog:end; / Z3,80000001,1 > OK / Z3,80000008,4 > OK / bc > T05rwatch:80000001; / p21 > 02000000
+reads of the stack | 00000297 00028113 4382 0001 X | 100 | Z3,80000003,1 > OK / c > T05rwatch:80000003; / p21 > 02000000 / s > T05rwatch:80000003; / z3,80000003,1 > OK / s > T05 / Z3,80000003,1 > OK / bs > T05rwatch:80000003; / bc > T05rwatch:80000003; / p21 > 03000000 / z3,80000003,1 > OK / bs > T05 / p21 > 02000000
+a store of what stands there | 00000297 1002a023 X | 100 | Z2,80000100,4 > OK / Z3,80000100,4 > OK / c > O656e640a & T05replaylog:end; / Z4,80000100,4 > OK / bc > T05awatch:80000100; / p21 > 02000000
+a change is told first, then a read | 00000297 0052a023 0002a383 X | 100 | Z4,80000000,4 > OK / Z3,80000002,2 > OK / Z2,80000000,8 > OK / c > T05watch:80000000; / p21 > 01000000 / P21=02000000 > OK / c > T05rwatch:80000002; / p21 > 02000000
+a fetch is no read | LOOP | 100 | Z3,80000000,20 > OK / Z4,80000000,20 > OK / c > O656e640a & T05replaylog:end; / bc > T05replaylog:begin;
+no read where the run ends | 00000297 0012a383 | 100 | Z3,80000000,8 > OK / Z4,80000000,8 > OK / c > O656e640a & T0a / p20 > 04000080 / s > O656e640a & T0a / bs > T05
+the console is no memory | 100002b7 0042a383 0002a383 X | 100 | Z3,10000004,4 > E.malformed / Z4,10000000,8 > E.malformed / c > O656e640a & T05replaylog:end;
 a range | LOOP | 100 | vCont;r80000000,8000000c:1;c > T05 / p21 > 03000000 / vCont;r8000000c,80000018 > T05 / p21 > 0c000000 / p20 > 18000080
 a range with a break | LOOP | 100 | Z0,80000008,4 > OK / vCont;r80000000,8000000c > T05 / p21 > 02000000
 the budget | LOOP | 5 | vCont;c > O656e640a & T18 / p21 > 05000000 / s > O656e640a & T18 / bs > T05 / p21 > 04000000
@@ -166,7 +176,7 @@ fn check_answers(alloc: Global, line: &str) -> Result<(), Fail> {
 
 #[test]
 fn requests_are_answered(rt: HostRuntime) -> Result<(), Fail> {
-    has_lines(ANSWERS, 30)?;
+    has_lines(ANSWERS, 40)?;
     for line in ANSWERS.lines() {
         check_answers(rt.alloc(), line)?;
     }

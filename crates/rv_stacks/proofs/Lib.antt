@@ -7,3 +7,9 @@ pub mod Knowns
 pub mod NamedSpots
 pub mod Tables
 pub mod Parts
+pub mod Named
+pub mod WithStacks
+pub mod Apart
+pub mod Shards
+pub mod Bounds
+pub mod NoSums

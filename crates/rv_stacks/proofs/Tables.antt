@@ -30,7 +30,7 @@ use Rattle.rv_spots.specs.declared.spot.Spot.{Spot}
 use Rattle.rv_spots.specs.Sums.{FitsSpot}
 use Rattle.rv_spots.specs.Trees.{arrivals_at, ends_with, steps_at, HasArrivals, IsTree}
 use Rattle.rv_stacks.specs.Stacks.{function_at, AreStacksOf, AreStacksOfJob}
-use Rattle.rv_stacks.specs.StackTables.{arrivals_by_job, arrivals_from, function_in, function_of_job, name_in_image, name_of_function, name_of_job, steps_by_job, steps_from, table_of_spots, AreNamesBy, AreStacksOfJobs, AreStacksOfPlaces, HaveNoStacks, HavePartsNoSum, IsNamedBy, IsTableOfSpots}
+use Rattle.rv_stacks.specs.StackTables.{arrivals_by_job, arrivals_from, function_in, function_of_job, name_in_image, name_of_function, name_of_job, steps_by_job, steps_from, table_of_spots, AreNamesBy, AreStacksOfJobs, AreStacksOfPlaces, HaveNoStacks, HavePartsNoSum, IsNamedBy, IsTableOfSpots, RunsWithinABudget}
 use Rattle.rv_text.specs.Printable.{printable_text}
 use Rattle.rv_trace.specs.Trace.{job_at}
 use Rattle.rv_stacks.proofs.NamedSpots.{can_stand, last_if_come}
@@ -120,6 +120,7 @@ module _ (answers : List Answer) (job : Job) where
             omega (arith, e);
         names = λ digest f. (λ path ends some. absurd (let e = no_arrivals digest path in omega (arith, e, some)), tt);
         runs = refl;
+        budgets = (λ s start. absurd (no_start s start), tt);
       }
 
   pub refused : (t : CountTable) → t ≡ no_counts → ((s : State) → start_in answers job ≡ Ok s → ⊥)
@@ -158,9 +159,9 @@ module _ (answers : List Answer) (job : Job) where
           (sym (first_is functions 0 f named.sound.rising) ∙ named.each f has)
           ∙ (λ i. Some (name_in_image (sym read i) (sym bytes i) f))
 
-      its_table : IsTable (table_of_spots job.image file functions spots)
+      its_table : RunsWithinABudget answers job → IsTable (table_of_spots job.image file functions spots)
           → AreStacksOfJobs answers (job ∷ []) (table_of_spots job.image file functions spots)
-      its_table table = record {
+      its_table small table = record {
         table = table;
         begun = λ digest address. none_either (bytes_eq (sha256 file) digest);
         taken = λ digest address. none_either (bytes_eq (sha256 file) digest);
@@ -173,18 +174,19 @@ module _ (answers : List Answer) (job : Job) where
         steps = λ digest path. let e = steps_are digest path in omega (arith, e);
         names = λ digest f. (it_is_named digest f, tt);
         runs = refl;
+        budgets = (small, tt);
       }
 
     -- with the spots that `stacks_of_job` answers
     pub ran : (spots : List Spot) (t : CountTable) → IsTableOfSpots (name_of_function image file) job.image file spots t
         → AreStacksOfJob (function_at image file) job.budget (start_in answers job) (Some spots)
-        → AreStacksOfJobs answers (job ∷ []) t
-    ran spots t is stacks = by (start_in answers job) refl stacks
+        → RunsWithinABudget answers job → AreStacksOfJobs answers (job ∷ []) t
+    ran spots t is stacks small = by (start_in answers job) refl stacks
       where
         by : (r : Result State Refusal) → start_in answers job ≡ r
             → AreStacksOfJob (function_at image file) job.budget r (Some spots) → AreStacksOfJobs answers (job ∷ []) t
         by (Ok s) start stacks = subst (AreStacksOfJobs answers (job ∷ [])) (sym is.value)
-            (its_table s start is.functions spots stacks is.named (subst IsTable is.value is.table))
+            (its_table s start is.functions spots stacks is.named small (subst IsTable is.value is.table))
         by (Err why) start stacks = absurd stacks
 
 pub tree_of_job : (function : ℕ → ℕ) (n : ℕ) (r : Result State Refusal) (spots : List Spot)
@@ -209,9 +211,10 @@ none_of_none answers = record {
   steps = λ digest path. refl;
   names = λ digest f. tt;
   runs = refl;
+  budgets = tt;
 }
 
-same_either : (b : Bool) (name : List ℕ) → cond b name name ≡ name
+pub same_either : (b : Bool) (name : List ℕ) → cond b name name ≡ name
 same_either true name = refl
 same_either false name = refl
 
@@ -232,6 +235,23 @@ all_both : {X : Type 0} (P Q R : X → Type 0) (xs ys : List X) → ((x : X) →
 all_both P Q R [] [] f g h k = tt
 all_both P Q R [] (y ∷ ys) f g h k = (g y k.0, all_both P Q R [] ys f g tt k.1)
 all_both P Q R (x ∷ xs) ys f g h k = (f x h.0, all_both P Q R xs ys f g h.1 k)
+
+pub names_of_both : (answers : List Answer) (js ks : List Job) (t u sum : CountTable) → IsSum t u sum → (digest : List ℕ) (f : ℕ)
+    → AllByRecursion (IsNamedBy answers t digest f) js → AllByRecursion (IsNamedBy answers u digest f) ks
+    → AllByRecursion (IsNamedBy answers sum digest f) (js ++ ks)
+names_of_both answers js ks t u sum is digest f =
+    all_both (IsNamedBy answers t digest f) (IsNamedBy answers u digest f) (IsNamedBy answers sum digest f) js ks
+    (λ job named path ends some. is.names digest f
+    ∙ named_first (name_in digest f t.images) (name_in digest f u.images) (name_of_job answers job f) (is.agree digest f)
+    (named path ends some))
+    (λ job named path ends some. is.names digest f
+    ∙ named_second (name_in digest f t.images) (name_in digest f u.images) (name_of_job answers job f) (is.agree digest f)
+    (named path ends some))
+
+pub budgets_of_both : (answers : List Answer) (js ks : List Job) → AllByRecursion (RunsWithinABudget answers) js
+    → AllByRecursion (RunsWithinABudget answers) ks → AllByRecursion (RunsWithinABudget answers) (js ++ ks)
+budgets_of_both answers js ks =
+    all_both (RunsWithinABudget answers) (RunsWithinABudget answers) (RunsWithinABudget answers) js ks (λ job h. h) (λ job h. h)
 
 pub joined : (answers : List Answer) (js ks : List Job) (t u sum : CountTable) → AreStacksOfJobs answers js t
     → AreStacksOfJobs answers ks u → IsSum t u sum → AreStacksOfJobs answers (js ++ ks) sum
@@ -262,16 +282,9 @@ joined answers js ks t u sum h k is = record {
       let q = k.steps digest path in
       let e = sum_by-append (steps_by_job answers digest path) js ks in
       omega (arith, s, p, q, e);
-  names = λ digest f.
-      all_both (IsNamedBy answers t digest f) (IsNamedBy answers u digest f) (IsNamedBy answers sum digest f) js ks
-      (λ job named path ends some. is.names digest f
-      ∙ named_first (name_in digest f t.images) (name_in digest f u.images) (name_of_job answers job f) (is.agree digest f)
-      (named path ends some))
-      (λ job named path ends some. is.names digest f
-      ∙ named_second (name_in digest f t.images) (name_in digest f u.images) (name_of_job answers job f) (is.agree digest f)
-      (named path ends some))
-      (h.names digest f) (k.names digest f);
+  names = λ digest f. names_of_both answers js ks t u sum is digest f (h.names digest f) (k.names digest f);
   runs = (let s = is.runs in let p = h.runs in let q = k.runs in omega (arith, s, p, q));
+  budgets = budgets_of_both answers js ks h.budgets k.budgets;
 }
 
 -- ---- one place after another

@@ -1,15 +1,16 @@
 -- The table of the stacks of the jobs of a plan: how often their runs came to each list of functions of their images, and how
 -- many instructions began there. It has no counts of addresses, and no runs.
-use Rattle.std.specs.Prelude.{◌≡◌, ◌+◌, ◌<◌, ◌⊎◌, ℕ, Bool, true, List, [], ◌∷◌, ◌++◌, Option, Some, None, codes}
-use Rattle.std.specs.Prelude.{length, slice_index_or, Result, IfErr, IfOk}
+use Rattle.std.specs.Prelude.{◌≡◌, ◌==◌, ◌+◌, ◌%◌, ◌^◌, ◌<◌, ◌⊎◌, ℕ, Bool, true, List, [], ◌∷◌, ◌++◌, Option, Some, None, codes}
+use Rattle.std.specs.Prelude.{length, map, slice_index_or, Result, Ok, IfErr, IfOk}
 use Rattle.std.specs.Fork.{slice_chunk}
-use Rattle.std.specs.List.{AllByRecursion, sum_by}
+use Rattle.std.specs.List.{AllByRecursion, filter, sum_by}
 use Rattle.std.specs.Str.{bytes_eq}
 use Rattle.sha2.specs.Sha256.{sha256}
 use Rattle.rv_counts.specs.declared.sum.SumError.{SumError}
-use Rattle.rv_counts.specs.declared.sum.SumError.TheVariants.{OutOfMemory}
+use Rattle.rv_counts.specs.declared.sum.SumError.TheVariants.{Names, OutOfMemory}
 use Rattle.rv_counts.specs.declared.table.CountTable.{CountTable}
 use Rattle.rv_counts.specs.declared.table.FunctionName.{FunctionName}
+use Rattle.rv_counts.specs.declared.table.ImageCounts.{ImageCounts}
 use Rattle.rv_counts.specs.Sum.{HaveNoSum, IsSum}
 use Rattle.rv_counts.specs.Table.{begun_in, taken_in, path_in, name_in, arrivals_in, steps_in, has_name, name_of, AreNames, AreNamesOf, IsTable}
 use Rattle.rv_coverage.specs.Coverage.{once_if}
@@ -20,7 +21,7 @@ use Rattle.rv_jobs.specs.declared.answers.Answer.{Answer}
 use Rattle.rv_jobs.specs.declared_job.Job.{Job}
 use Rattle.rv_jobs.specs.Plans.{Planned}
 use Rattle.rv_machine.specs.State.{State}
-use Rattle.rv_rows.specs.Rows.{image_in}
+use Rattle.rv_rows.specs.Rows.{image_in, start_in}
 use Rattle.rv_spots.specs.declared.spot.Spot.{Spot}
 use Rattle.rv_spots.specs.Trees.{ends_with}
 use Rattle.rv_stacks.specs.Stacks as run
@@ -104,6 +105,10 @@ abbrev pub IsNamedBy : List Answer → CountTable → List ℕ → ℕ → Job �
 IsNamedBy answers t digest f job = (path : List ℕ) → ends_with f path ≡ true
     → 0 < arrivals_by_job answers digest path job → name_in digest f t.images ≡ Some (name_of_job answers job f)
 
+-- a job that runs has a budget of 32 bits
+abbrev pub RunsWithinABudget : List Answer → Job → Type 0
+RunsWithinABudget answers job = (s : State) → start_in answers job ≡ Ok s → job.budget < 2 ^ 32
+
 -- ---- some jobs
 
 -- the table of stacks of jobs: each of its numbers is the sum over the jobs
@@ -118,6 +123,7 @@ pub record AreStacksOfJobs (answers : List Answer) (jobs : List Job) (t : CountT
       ≡ sum_by (steps_by_job answers digest path) jobs
   pub names : (digest : List ℕ) (f : ℕ) → AllByRecursion (IsNamedBy answers t digest f) jobs
   pub runs : t.runs ≡ 0
+  pub budgets : AllByRecursion (RunsWithinABudget answers) jobs
 
 -- the table of the stacks of the jobs at some places
 abbrev pub AreStacksOfPlaces : Planned → List ℕ → CountTable → Type 0
@@ -169,3 +175,34 @@ pub record HaveCountsNoSum (plan : Planned) (places : List ℕ) (error : SumErro
 
 abbrev pub HaveNoTableWithStacks : Planned → List ℕ → SumError → Type 0
 HaveNoTableWithStacks plan places error = HaveNoStacks plan places error ⊎ HaveCountsNoSum plan places error
+
+-- memory was wanting, or a function has two names
+abbrev pub IsOfNamesOrMemory : SumError → Type 0
+IsOfNamesOrMemory error = (error ≡ OutOfMemory) ⊎ ((function : ℕ) × (error ≡ Names function))
+
+-- ---- parts and shards
+
+-- a table with stacks for each part of the places
+abbrev pub AreTablesWithStacksOfParts : Planned → List (List ℕ) → List CountTable → Type 0
+AreTablesWithStacksOfParts plan [] [] = Unit {0}
+AreTablesWithStacksOfParts plan (p ∷ ps) (t ∷ ts) = IsTableWithStacks plan p t × AreTablesWithStacksOfParts plan ps ts
+AreTablesWithStacksOfParts plan _ _ = ⊥
+
+-- of some places the shard of a number has every so-many-th
+abbrev pub places_of_shard : ℕ → List ℕ → ℕ → List ℕ
+places_of_shard shards places number = filter (λ place. place % shards == number) places
+
+-- ---- counts alone
+
+abbrev pub image_without_stacks : ImageCounts → ImageCounts
+image_without_stacks i = record {
+  digest = i.digest;
+  path = i.path;
+  addresses = i.addresses;
+  functions = [];
+  spots = [];
+}
+
+-- a table without its spots and names
+abbrev pub without_stacks : CountTable → CountTable
+without_stacks t = record { images = map image_without_stacks t.images; runs = t.runs }

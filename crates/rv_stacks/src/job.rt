@@ -4,6 +4,7 @@ ghost use Rattle.std.specs.Prelude.{IfOk};
 ghost use Rattle.rv_jobs.specs.declared_job.Job.{Job as AJob};
 ghost use Rattle.rv_rows.specs.Rows.{start_in};
 ghost use Rattle.rv_stacks.specs.Stacks.{function_at, AreStacksOfJob};
+ghost use Rattle.rv_stacks.specs.StackTables.{RunsWithinABudget};
 ghost use Rattle.rv_trace.specs.Trace.{job_at};
 
 use crate::run::stacks_of_run;
@@ -19,9 +20,11 @@ pub fn stacks_of_job(
     job: &JobImage<'_>,
     elf: &ElfFile<'_>,
 ) -> Result<Option<Spots>, AllocError>
-    ensures { IfOk result (λ spots. (d : AJob) → AreStacksOfJob (function_at elf.now.image.now elf.now.bytes.now)
+    ensures stacks { IfOk result (λ spots. (d : AJob) → AreStacksOfJob (function_at elf.now.image.now elf.now.bytes.now)
         (job_at job.now.plan.now job.now.place d).budget
         (start_in job.now.plan.now.answers (job_at job.now.plan.now job.now.place d)) spots) }
+    ensures budget { (d : AJob) → IfOk result (λ _. RunsWithinABudget job.now.plan.now.answers
+        (job_at job.now.plan.now job.now.place d)) }
 {
     match machine_at(alloc, job.plan, job.place, job.image)? {
         Ok(machine) => {

@@ -17,6 +17,11 @@ mod turns;
 
 pub use functions::{Known, function_of};
 pub use job::stacks_of_job;
-pub use law::{own_steps_are_the_counts_of_addresses, run_has_one_list_of_spots};
+pub use law::{
+    jobs_have_one_table_with_stacks, names_alone_refuse_a_table_with_stacks,
+    own_steps_are_the_counts_of_addresses, run_has_one_list_of_spots,
+    table_without_stacks_is_that_of_counts, tables_with_stacks_of_parts_sum_to_that_of_all,
+    tables_with_stacks_of_shards_sum_to_that_of_all,
+};
 pub use places::{count_places_with_stacks, stacks_of_places};
 pub use run::stacks_of_run;

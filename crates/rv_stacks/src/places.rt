@@ -6,7 +6,7 @@ ghost use Rattle.rv_counts.specs.declared.table.CountTable.{CountTable as Counte
 ghost use Rattle.rv_counts.specs.Table.{IsTable};
 ghost use Rattle.rv_fleet.specs.Choices.{AreJobPlaces};
 ghost use Rattle.rv_jobs.specs.Plans.{Planned};
-ghost use Rattle.rv_stacks.specs.StackTables.{AreShares, AreStacksIfAny, AreStacksOfPlaces, HaveNoStacks, HaveNoTableWithStacks, IsTableWithStacks};
+ghost use Rattle.rv_stacks.specs.StackTables.{AreShares, AreStacksIfAny, AreStacksOfPlaces, HaveNoStacks, HaveNoTableWithStacks, IsOfNamesOrMemory, IsTableWithStacks};
 
 use crate::table::stacks_of_place;
 use rv_counts::{CountTable, SumError, sum_of_tables};
@@ -18,13 +18,15 @@ use std::thread;
 use std::thread::Threads;
 
 /// The table of the counts of the jobs of a batch, and of their stacks, the same for every crew. There is none where two files of
-/// one digest name a function in two ways. Each job is run twice more, by as many threads as the crew has.
+/// one digest name a function in two ways; no number of so few jobs reaches 2^64. Each job is run twice more, by as many threads as
+/// the crew has.
 pub fn count_places_with_stacks<R: Threads + Sync>(
     crew: &Crew<'_, R>,
     batch: &Batch<'_>,
 ) -> Result<CountTable, SumError>
     ensures value { IfOk result (IsTableWithStacks batch.now.plan.now batch.now.places.now) }
     ensures refused { IfErr result (HaveNoTableWithStacks batch.now.plan.now batch.now.places.now) }
+    ensures reasons { IfErr result IsOfNamesOrMemory }
 {
     let counts = count_places(crew, batch)?;
     let stacks = stacks_of_places(crew, batch)?;
@@ -39,6 +41,7 @@ pub fn stacks_of_places<R: Threads + Sync>(
 ) -> Result<CountTable, SumError>
     ensures value { IfOk result (AreStacksOfPlaces batch.now.plan.now batch.now.places.now) }
     ensures refused { IfErr result (HaveNoStacks batch.now.plan.now batch.now.places.now) }
+    ensures reasons { IfErr result IsOfNamesOrMemory }
 {
     let (plan, places, alloc) = (batch.plan, batch.places, crew.alloc);
     let share = share_of(places.len(), crew.workers);

@@ -1,7 +1,7 @@
 use Rattle.std.proofs.Common.{◌∙◌, ap, arith, sym}
 use Rattle.rv_machine.specs.Machine.{state_of}
 use Rattle.rv_history.specs.Stops.{watched_bytes}
-use Rattle.rv_history.proofs.Forward.{breaks_at_budget, quiet_more, stops_by_break, stops_by_budget, stops_by_change, stops_by_end}
+use Rattle.rv_history.proofs.Forward.{quiet_more, stops_at_budget, stops_by_break, stops_by_change, stops_by_end}
 use Rattle.rv_history.proofs.Reaching.{next_place}
 use Rattle.rv_history.proofs.search.next_stop.Goals as goal
 
@@ -43,14 +43,8 @@ loop-place-preserved c =
           did.1 (sym c.is_halt_behind.ensures ∙ c.if-is_halt_behind.false) c.loop-place.invariant.quiet;
     }
 
-pub returns-then-is_halt_behind-2 : goal.returns-then-is_halt_behind-2
-returns-then-is_halt_behind-2 c =
-    breaks_at_budget c.args.stops.now c.args.leg.bounds c.args.leg.budget c.args.leg.from c.loop-place.place c.args.track.now
-    (state_of c.loop-place.machine) c.loop-place.invariant.reached c.requires.within (omega arith)
-    (sym c.is_halt_behind-2.ensures ∙ c.if-is_halt_behind-2.true) c.loop-place.invariant.quiet
-
 pub returns : goal.returns
 returns c =
-    stops_by_budget c.args.stops.now c.args.leg.bounds c.args.leg.budget c.args.leg.from c.loop-place.place c.args.track.now
-    (state_of c.loop-place.machine) c.loop-place.invariant.reached c.requires.within (omega arith)
-    (sym c.is_halt_behind-2.ensures ∙ c.if-is_halt_behind-2.false) c.loop-place.invariant.quiet
+    stops_at_budget c.args.stops.now c.args.leg.bounds c.args.leg.budget c.args.leg.from c.loop-place.place c.end_of_leg.result.place
+    c.args.track.now (state_of c.loop-place.machine) c.end_of_leg.result.found c.loop-place.invariant.reached c.requires.within
+    (omega arith) c.end_of_leg.ensures.place c.end_of_leg.ensures.found c.loop-place.invariant.quiet

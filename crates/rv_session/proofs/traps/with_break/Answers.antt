@@ -15,6 +15,5 @@ returns-then-is_full c = λ bus.
 
 pub returns : goal.returns
 returns c = λ bus.
-    set_now c.args.stops.now c.stops_of.result bus (trap.Break c.args.address) refl
-    (sym c.has_break.ensures ∙ c.if-has_break.false) (sym c.is_full.ensures ∙ c.if-is_full.false)
-    (search rules, search rules)
+    set_now c.args.stops.now _ bus (trap.Break c.args.address) refl
+    (sym c.has_break.ensures ∙ c.if-has_break.false) (sym c.is_full.ensures ∙ c.if-is_full.false) (search rules)

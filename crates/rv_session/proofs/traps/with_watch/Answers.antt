@@ -1,8 +1,8 @@
-use Rattle.std.proofs.Common.{ap, ◌≡◌, ◌+◌, ◌∙◌, arith, leb, refl, rules, sym, true}
+use Rattle.std.proofs.Common.{ap, ◌≡◌, ◌+◌, ◌∙◌, arith, leb, refl, sym, true}
 use Rattle.std.proofs.lemmas.Bool.{and_from, le-leb}
 use Rattle.rv_history.specs.declared.stops.Stops.{Stops}
 use Rattle.rv_remote.specs.declared.request.Trap.TheVariants as trap
-use Rattle.rv_session.specs.Traps.{can_be_set, has_byte}
+use Rattle.rv_session.specs.Traps.{can_be_set, has_byte, with_watches}
 use Rattle.rv_session.proofs.Trapping.{set_already, set_now, too_many, watch_added}
 use Rattle.rv_session.proofs.traps.with_watch.Goals as goal
 
@@ -11,9 +11,9 @@ returns-then-has_watch c =
     let bus = c.args.bus.now in
     let range = c.args.range in
     let low = le-leb (range.address + range.count) 4294967296 (omega arith) in
-    let can : can_be_set bus (trap.Watch range) ≡ true =
+    let can : can_be_set bus (trap.Watch c.args.kind range) ≡ true =
     and_from (leb (range.address + range.count) 4294967296) (has_byte bus range) low (sym c.has_byte.ensures ∙ c.if-not-has_byte.false) in
-    set_already c.args.stops.now c.in_ok-same.same bus (trap.Watch range) can (sym c.has_watch.ensures ∙ c.if-has_watch.true)
+    set_already c.args.stops.now c.in_ok-same.same bus (trap.Watch c.args.kind range) can (sym c.has_watch.ensures ∙ c.if-has_watch.true)
     c.in_ok-same.ensures
 
 pub returns-then-is_full : goal.returns-then-is_full
@@ -21,9 +21,9 @@ returns-then-is_full c =
     let bus = c.args.bus.now in
     let range = c.args.range in
     let low = le-leb (range.address + range.count) 4294967296 (omega arith) in
-    let can : can_be_set bus (trap.Watch range) ≡ true =
+    let can : can_be_set bus (trap.Watch c.args.kind range) ≡ true =
     and_from (leb (range.address + range.count) 4294967296) (has_byte bus range) low (sym c.has_byte.ensures ∙ c.if-not-has_byte.false) in
-    too_many c.args.stops.now bus (trap.Watch range) can (sym c.has_watch.ensures ∙ c.if-has_watch.false)
+    too_many c.args.stops.now bus (trap.Watch c.args.kind range) can (sym c.has_watch.ensures ∙ c.if-has_watch.false)
     (sym c.is_full.ensures ∙ c.if-is_full.true)
 
 pub returns : goal.returns
@@ -31,11 +31,13 @@ returns c =
     let bus = c.args.bus.now in
     let range = c.args.range in
     let low = le-leb (range.address + range.count) 4294967296 (omega arith) in
-    let can : can_be_set bus (trap.Watch range) ≡ true =
+    let can : can_be_set bus (trap.Watch c.args.kind range) ≡ true =
     and_from (leb (range.address + range.count) 4294967296) (has_byte bus range) low (sym c.has_byte.ensures ∙ c.if-not-has_byte.false) in
-    set_now c.args.stops.now c.stops_of.result bus (trap.Watch range) can (sym c.has_watch.ensures ∙ c.if-has_watch.false)
-    (sym c.is_full.ensures ∙ c.if-is_full.false) (
-      search rules,
-      watch_added _ _ _ _ _ range (c.in_ok-watches.ensures.items ∙ c.as_slice.ensures) c.in_ok-push.ensures.items
-          (ap (λ (s : Stops). s.watches) c.stops_of.ensures) refl refl,
-    )
+    set_now c.args.stops.now c.with_watches.result bus (trap.Watch c.args.kind range) can (sym c.has_watch.ensures ∙ c.if-has_watch.false)
+    (sym c.is_full.ensures ∙ c.if-is_full.false) (record {
+      watches = c.push.new.self.items;
+      added = watch_added _ _ _ _ _ range (c.in_ok-watches.ensures.items ∙ c.watches_of.ensures) c.in_ok-push.ensures.items refl
+          refl refl;
+      next_is = c.with_watches.ensures
+          ∙ ap (λ (s : Stops). with_watches s c.args.kind c.push.new.self.items) c.in_ok-next.ensures;
+    })

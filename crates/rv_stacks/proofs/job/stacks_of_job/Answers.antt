@@ -1,5 +1,5 @@
 -- The stacks are those of the run that begins where the job's does.
-use Rattle.std.proofs.Common.{Some, None, Result, get_or, sym, subst}
+use Rattle.std.proofs.Common.{◌∙◌, Some, None, Result, get_or, sym, ap, subst, arith}
 use Rattle.std.proofs.lemmas.List.{get_or_read}
 use Rattle.rv_jobs.specs.declared_job.Job.{Job}
 use Rattle.rv_machine.specs.Machine.{state_of}
@@ -8,8 +8,8 @@ use Rattle.rv_report.specs.declared.row.Refusal.{Refusal}
 use Rattle.rv_stacks.specs.Stacks.{function_at, AreStacksOf, AreStacksOfJob}
 use Rattle.rv_stacks.proofs.job.stacks_of_job.Goals as goal
 
-pub returns-in_ok-stacks_of_run-in-Ok : goal.returns-in_ok-stacks_of_run-in-Ok
-returns-in_ok-stacks_of_run-in-Ok c d =
+pub returns-in_ok-stacks_of_run-in-Ok-clause-stacks : goal.returns-in_ok-stacks_of_run-in-Ok-clause-stacks
+returns-in_ok-stacks_of_run-in-Ok-clause-stacks c d =
     let start = rw c.in-Ok.is at c.in_ok-machine.ensures in
     let jobs = c.args.job.now.plan.now.jobs in
     let place = c.args.job.now.place in
@@ -19,8 +19,19 @@ returns-in_ok-stacks_of_run-in-Ok c d =
     subst (λ (r : Result State Refusal). AreStacksOfJob function (get_or jobs place d).budget r (Some spots)) (sym (start d))
     (subst (λ (j : Job). AreStacksOf function j.budget (state_of c.in-Ok.machine) spots) same c.in_ok-stacks_of_run-in-Ok.ensures)
 
-pub returns-in-Err : goal.returns-in-Err
-returns-in-Err c d =
+pub returns-in_ok-stacks_of_run-in-Ok-clause-budget : goal.returns-in_ok-stacks_of_run-in-Ok-clause-budget
+returns-in_ok-stacks_of_run-in-Ok-clause-budget c d = λ s start.
+    let jobs = c.args.job.now.plan.now.jobs in
+    let same = get_or_read jobs c.args.job.now.place c.job.result.now c.args.job.now.within c.job.ensures.value d in
+    let budget = ap (λ (j : Job). j.budget) same in
+    omega (arith, budget)
+
+pub returns-in-Err-clause-budget : goal.returns-in-Err-clause-budget
+returns-in-Err-clause-budget c d = λ s start.
+    absurd (let refused = rw c.in-Err.is at c.in_ok-machine.ensures in let e = sym start ∙ refused d in cc)
+
+pub returns-in-Err-clause-stacks : goal.returns-in-Err-clause-stacks
+returns-in-Err-clause-stacks c d =
     let start = rw c.in-Err.is at c.in_ok-machine.ensures in
     let jobs = c.args.job.now.plan.now.jobs in
     let place = c.args.job.now.place in

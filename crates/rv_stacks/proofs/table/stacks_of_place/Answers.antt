@@ -49,7 +49,8 @@ returns-in-Some-3 c =
     ran plan.answers job file image bytes read spots t
     (subst (λ (p : List ℕ). IsTableOfSpots (name_of_function image file) p file spots t) path is)
     (subst (λ (o : Option (List Spot)). AreStacksOfJob (function_at image file) job.budget (start_in plan.answers job) o)
-    c.in-Some-3.is (c.in_ok-spots.ensures d)))
+    c.in-Some-3.is (c.in_ok-spots.ensures.stacks d))
+    (c.in_ok-spots.ensures.budget d))
     c.table_of_spots.ensures
 
 pub returns : goal.returns
@@ -58,6 +59,6 @@ returns c = λ d.
     let job = job_at plan c.args.place d in
     let function = function_at c.in-Some-2.image c.in-Some.bytes.now in
     let none = subst (λ (o : Option (List Spot)). AreStacksOfJob function job.budget (start_in plan.answers job) o)
-    c.in-None.is (c.in_ok-spots.ensures d) in
+    c.in-None.is (c.in_ok-spots.ensures.stacks d) in
     refused plan.answers job c.empty_table-in-None.result c.empty_table-in-None.ensures
     (λ s start. none_if_unstacked function job.budget (start_in plan.answers job) s none start)

@@ -1,8 +1,7 @@
 use Rattle.std.proofs.Common.{◌≡◌, ◌∙◌, ◌+◌, ℕ, ap, arith}
 use Rattle.rv_machine.specs.Machine.{state_of}
-use Rattle.rv_machine.specs.State.{State}
 use Rattle.rv_trace.specs.Trace.{state_after}
-use Rattle.rv_history.proofs.Differing.{differing_in}
+use Rattle.rv_history.proofs.Differing.{set_off_in}
 use Rattle.rv_history.proofs.Reaching.{within_budget}
 use Rattle.rv_history.proofs.history.History.watch_ahead.Goals as goal
 
@@ -12,7 +11,6 @@ returns c = rw (← c.self.view_is) (λ before.
     let place = c.self.inside.place in
     let few = within_budget c.self.inside.budget start in
     let one_more : c.min-steps.result ≡ place + 1 = omega arith in
-    differing_in c.differing_watch.result c.args.stops.now.watches c.bus.result.now c.bus-2.result.now (state_after place start).bus
-    (state_after (place + 1) start).bus (c.bus.ensures ∙ ap (λ (s : State). s.bus) c.self.invariant.0.same)
-    (c.bus-2.ensures ∙ ap (λ (s : State). s.bus) c.in_ok-ahead.ensures ∙ ap (λ (k : ℕ). (state_after k start).bus) one_more)
-    c.differing_watch.ensures)
+    set_off_in c.first_set_off.result c.args.stops.now (state_of c.self.inside.machine) (state_of c.in_ok-ahead.ahead)
+    (state_after place start) (state_after (place + 1) start) c.self.invariant.0.same
+    (c.in_ok-ahead.ensures ∙ ap (λ (k : ℕ). state_after k start) one_more) c.first_set_off.ensures)

@@ -1,0 +1,42 @@
+-- The bytes that an instruction reads or writes (ISA manual, 2.6).
+use Rattle.std.specs.Prelude.{ℕ, ◌+◌, ◌&&◌, Bool, true, false, Option, Some, None, nat_lt, option_and_then, option_map}
+use Rattle.rv_isa.specs.declared.instruction.Instr.{Instr}
+use Rattle.rv_isa.specs.declared.instruction.Op.{Op}
+use Rattle.rv_isa.specs.declared.instruction.Op.TheVariants as op
+use Rattle.rv_machine.specs.Effect.{address}
+use Rattle.rv_machine.specs.State.{State}
+use Rattle.rv_trace.specs.Steps.{instr_at}
+use Rattle.rv_history.specs.declared.access.Access.{Access}
+use Rattle.rv_history.specs.declared.access.Reach.{Reach}
+use Rattle.rv_history.specs.declared.stops.Watch.{Watch}
+
+abbrev pub read_of : ℕ → Option Reach
+read_of count = Some (record { is_read = true; count = count })
+
+abbrev pub write_of : ℕ → Option Reach
+write_of count = Some (record { is_read = false; count = count })
+
+-- loads read and stores write so many bytes, and no other instruction reaches memory
+abbrev pub reach_of : Op → Option Reach
+reach_of op.Lb = read_of 1
+reach_of op.Lbu = read_of 1
+reach_of op.Lh = read_of 2
+reach_of op.Lhu = read_of 2
+reach_of op.Lw = read_of 4
+reach_of op.Sb = write_of 1
+reach_of op.Sh = write_of 2
+reach_of op.Sw = write_of 4
+reach_of _ = None
+
+-- the bytes that an instruction reads or writes
+abbrev pub access_by : State → Instr → Option Access
+access_by s i = option_map (λ reach. record { is_read = reach.is_read; address = address s i; count = reach.count }) (reach_of i.op)
+
+-- those of the instruction at the pc
+abbrev pub access_at : State → Option Access
+access_at s = option_and_then (access_by s) (instr_at s)
+
+-- one of them is watched
+abbrev pub is_hit : Access → Watch → Bool
+is_hit access watch =
+    nat_lt access.address (watch.address + watch.count) && nat_lt watch.address (access.address + access.count)

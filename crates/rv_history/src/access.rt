@@ -1,0 +1,92 @@
+//! The bytes that an instruction reads or writes.
+
+ghost use Rattle.std.specs.Prelude.{◌≡◌, ◌+◌};
+ghost use Rattle.rv_isa.specs.Words.{IsWellFormed};
+ghost use Rattle.rv_machine.specs.Effect.{address};
+ghost use Rattle.rv_machine.specs.Machine.{state_of};
+ghost use Rattle.rv_history.specs.Accesses.{access_at, access_by, is_hit, reach_of};
+
+use crate::stops::Watch;
+use rv_isa::{Instr, Op};
+use rv_machine::Machine;
+use rv_trace::{code_at, instr_of};
+
+/// How an instruction reaches memory.
+#[derive(Clone, Copy)]
+pub(crate) struct Reach {
+    pub is_read: bool,
+    /// How many bytes.
+    pub count: u32,
+}
+
+/// The bytes that an instruction reads, or those that it writes.
+#[derive(Clone, Copy)]
+pub(crate) struct Access {
+    pub is_read: bool,
+    pub address: u32,
+    pub count: u32,
+}
+
+/// The bytes that the instruction at the pc of a machine reads or writes, if it does either.
+pub(crate) fn access_at(machine: &Machine) -> Option<Access>
+    ensures { result ≡ access_at (state_of machine.now) }
+{
+    let code = code_at(machine.bus(), machine.pc())?;
+    let instr = instr_of(code)?;
+    access_by(machine, instr)
+}
+
+fn access_by(machine: &Machine, instr: Instr) -> Option<Access>
+    requires { IsWellFormed instr }
+    ensures { result ≡ access_by (state_of machine.now) instr }
+{
+    let reach = reach_of(instr.op)?;
+    Some(Access {
+        is_read: reach.is_read,
+        address: accessed_address(machine, instr),
+        count: reach.count,
+    })
+}
+
+fn accessed_address(machine: &Machine, instr: Instr) -> u32
+    requires { IsWellFormed instr }
+    ensures { result ≡ address (state_of machine.now) instr }
+{
+    machine
+        .reg(instr.rs1)
+        .wrapping_add(instr.imm.cast_unsigned())
+}
+
+fn reach_of(op: Op) -> Option<Reach>
+    ensures { result ≡ reach_of op }
+{
+    let (is_read, count) = match op {
+        Op::Lb | Op::Lbu => (true, 1),
+        Op::Lh | Op::Lhu => (true, 2),
+        Op::Lw => (true, 4),
+        Op::Sb => (false, 1),
+        Op::Sh => (false, 2),
+        Op::Sw => (false, 4),
+        _ => return None,
+    };
+    Some(Reach { is_read, count })
+}
+
+impl Access {
+    /// Whether one of the bytes is watched.
+    pub(crate) fn is_hit(self, watch: &Watch) -> bool
+        ensures { result ≡ is_hit self watch.now }
+    {
+        let (begin, end) = bounds(self.address, self.count);
+        let (first, behind) = bounds(watch.address, watch.count);
+        begin < behind && first < end
+    }
+}
+
+// Where bytes begin, and where they end.
+fn bounds(address: u32, count: u32) -> (u64, u64)
+    ensures { (result.0 ≡ address) × (result.1 ≡ address + count) }
+{
+    let begin = u64::from(address);
+    (begin, begin + u64::from(count))
+}

@@ -1,0 +1,72 @@
+//! Watches that a step sets off.
+
+ghost use Rattle.std.specs.Prelude.{◌≡◌, IfOk, option_map};
+ghost use Rattle.std.specs.List.{find};
+ghost use Rattle.rv_machine.specs.Machine.{state_of};
+ghost use Rattle.rv_history.specs.Accesses.{is_hit};
+ghost use Rattle.rv_history.specs.Stops.{first_hit, first_read, first_set_off, touched};
+
+use crate::access::{Access, access_at};
+use crate::stops::{SetOff, Stops, Watch};
+use rv_machine::Machine;
+use std::alloc::{AllocError, Global};
+
+impl Stops {
+    /// The watch that the instruction at a machine's pc sets off by what it reads or writes, if it does: the first of reads, else of
+    /// accesses.
+    pub(crate) fn touched(&self, machine: &Machine) -> Option<SetOff>
+        ensures { result ≡ touched self.now (state_of machine.now) }
+    {
+        // An instruction is decoded only where it matters.
+        if self.have_no_access() {
+            return None;
+        }
+        let access = access_at(machine)?;
+        if let Some(address) = first_read(access, self.reads.as_slice()) {
+            return Some(SetOff::Read(address));
+        }
+        let address = first_hit(access, self.accesses.as_slice())?;
+        Some(SetOff::Access(address))
+    }
+
+    /// The first watch of changes that differs between two machines, of which the second is behind the step of the first, else the one
+    /// that the step touches.
+    pub(crate) fn first_set_off(
+        &self,
+        alloc: Global,
+        one: &Machine,
+        other: &Machine,
+    ) -> Result<Option<SetOff>, AllocError>
+        ensures { IfOk result (λ found. found ≡ first_set_off self.now (state_of one.now) (state_of other.now)) }
+    {
+        match self.differing_watch(alloc, one.bus(), other.bus())? {
+            Some(address) => Ok(Some(SetOff::Change(address))),
+            None => Ok(self.touched(one)),
+        }
+    }
+}
+
+// The first of the watches that an access hits, if it reads.
+fn first_read(access: Access, watches: &[Watch]) -> Option<u32>
+    ensures { result ≡ first_read access watches.now }
+{
+    if access.is_read {
+        first_hit(access, watches)
+    } else {
+        None
+    }
+}
+
+// The first of the watches that an access hits.
+fn first_hit(access: Access, watches: &[Watch]) -> Option<u32>
+    ensures { result ≡ first_hit access watches.now }
+{
+    let watch = hit_watch(access, watches)?;
+    Some(watch.address)
+}
+
+fn hit_watch(access: Access, watches: &[Watch]) -> Option<&Watch>
+    ensures { option_map (λ watch. watch.now) result ≡ find (is_hit access) watches.now }
+{
+    watches.iter().find(|watch| access.is_hit(watch))
+}
