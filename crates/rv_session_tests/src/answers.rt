@@ -1,9 +1,10 @@
 //! Requests and answers, by the lines of a table.
 
-ghost use Rattle.std.specs.Prelude.{◌≡◌, false, is_some};
+ghost use Rattle.std.specs.Prelude.{◌≡◌, OnOk, false, is_some};
 ghost use Rattle.std.specs.Coded.{Coded-set};
 ghost use Rattle.rv_history.specs.Starts.{start_of};
 ghost use Rattle.rv_machine.proofs.Public.{state_code};
+ghost use Rattle.rv_session_tests.specs.Talks.{IsReady};
 
 use rv_base::Bytes;
 use rv_history::{Interrupt, Start};
@@ -134,33 +135,41 @@ struct Talk {
     session: Session,
     end: End,
     ghost same_run: { start_of end.start ≡ session.history.start } by { Coded-set state_code (start_of end.start) session.history.start },
-    ghost made: { is_some session.asked ≡ false },
+    ghost unasked: { is_some session.asked ≡ false },
 }
 
-impl Talk {
-    // Appends what goes out for a byte, and for the move that it asks for.
-    fn answer(self, alloc: Global, byte: u8, sent: &mut Vec<u8>) -> Result<Talk, Fail> {
-        let Talk { mut session, end } = self;
-        let told = session.hear(alloc, byte)?;
-        sent.extend_from_slice(told.as_slice())?;
-        if !session.is_asked() {
-            return Ok(Talk { session, end });
-        }
-        let told = session.work(alloc, &end, &mut Never)?;
-        sent.extend_from_slice(told.as_slice())?;
-        Ok(Talk { session, end })
+// Appends what goes out for a byte, and for the move that it asks for.
+fn answer_byte(
+    alloc: Global,
+    session: &mut Session,
+    end: &End,
+    byte: u8,
+    sent: &mut Vec<u8>,
+) -> Result<(), Fail>
+    requires { IsReady end.now session.old }
+    ensures { OnOk result (IsReady end.now session.new) }
+{
+    let told = session.hear(alloc, byte)?;
+    sent.extend_from_slice(told.as_slice())?;
+    if !session.is_asked() {
+        return Ok(());
     }
+    let told = session.work(alloc, end, &mut Never)?;
+    sent.extend_from_slice(told.as_slice())?;
+    Ok(())
+}
 
-    // What goes out for the bytes of gdb.
-    fn answered(self, alloc: Global, heard: &[u8]) -> Result<(Talk, String), Fail> {
-        let mut talk = self;
-        let mut sent = Vec::new(alloc);
-        for byte in heard {
-            talk = talk.answer(alloc, *byte, &mut sent)?;
-        }
-        let text = String::from_str(alloc, std::str::from_utf8(sent.as_slice())?)?;
-        Ok((talk, text))
+// What goes out for the bytes of gdb.
+fn answered(alloc: Global, session: &mut Session, end: &End, heard: &[u8]) -> Result<String, Fail>
+    requires { IsReady end.now session.old }
+    ensures { OnOk result (IsReady end.now session.new) }
+{
+    let mut sent = Vec::new(alloc);
+    for byte in heard {
+        answer_byte(alloc, session, end, *byte, &mut sent)?;
     }
+    let text = std::str::from_utf8(sent.as_slice())?;
+    Ok(String::from_str(alloc, text)?)
 }
 
 fn bus_of(alloc: Global, code: &str) -> Result<Bus, Fail> {
@@ -217,24 +226,47 @@ fn framed(alloc: Global, bodies: &str) -> Result<Vec<u8>, Fail> {
 // A session of a line of the table, without acknowledgements.
 fn session_of_line(alloc: Global, line: &str) -> Result<Talk, Fail> {
     let talk = session_of(alloc, cell_of(line, 1), cell_of(line, 2).parse()?)?;
-    let (talk, met) = talk.answered(alloc, b"+$QStartNoAckMode#b0")?;
+    let Talk { mut session, end } = talk;
+    let met = answered(alloc, &mut session, &end, b"+$QStartNoAckMode#b0")?;
     agree(line, met.as_str(), "+$OK#9a")?;
-    Ok(talk)
+    Ok(Talk { session, end })
 }
 
-fn check_answer(alloc: Global, talk: Talk, line: &str, part: &str) -> Result<Talk, Fail> {
+// What goes out for the packet of a body.
+fn answered_body(
+    alloc: Global,
+    session: &mut Session,
+    end: &End,
+    body: &str,
+) -> Result<String, Fail>
+    requires { IsReady end.now session.old }
+    ensures { OnOk result (IsReady end.now session.new) }
+{
+    let packet = framed(alloc, body)?;
+    answered(alloc, session, end, packet.as_slice())
+}
+
+fn check_answer(
+    alloc: Global,
+    session: &mut Session,
+    end: &End,
+    line: &str,
+    part: &str,
+) -> Result<(), Fail>
+    requires { IsReady end.now session.old }
+    ensures { OnOk result (IsReady end.now session.new) }
+{
     let (asked, wanted) = part.split_once(" > ").ok_or("a request and an answer")?;
-    let packet = framed(alloc, asked)?;
-    let (talk, met) = talk.answered(alloc, packet.as_slice())?;
+    let met = answered_body(alloc, session, end, asked)?;
     let wanted = framed(alloc, wanted)?;
-    agree(line, met.as_str(), std::str::from_utf8(wanted.as_slice())?)?;
-    Ok(talk)
+    agree(line, met.as_str(), std::str::from_utf8(wanted.as_slice())?)
 }
 
 fn check_answers(alloc: Global, line: &str) -> Result<(), Fail> {
-    let mut talk = session_of_line(alloc, line)?;
+    let talk = session_of_line(alloc, line)?;
+    let Talk { mut session, end } = talk;
     for part in cell_of(line, 3).split(" / ") {
-        talk = check_answer(alloc, talk, line, part)?;
+        check_answer(alloc, &mut session, &end, line, part)?;
     }
     Ok(())
 }
@@ -248,20 +280,22 @@ fn requests_are_answered(rt: HostRuntime) -> Result<(), Fail> {
     Ok(())
 }
 
-fn check_recording(alloc: Global, talk: Talk, line: &str) -> Result<Talk, Fail> {
+fn check_recording(alloc: Global, session: &mut Session, end: &End, line: &str) -> Result<(), Fail>
+    requires { IsReady end.now session.old }
+    ensures { OnOk result (IsReady end.now session.new) }
+{
     let (heard, wanted) = line.split_once(" > ").ok_or("a line of a recording")?;
     let wanted = if wanted == "nothing" { "" } else { wanted };
-    let (talk, met) = talk.answered(alloc, heard.as_bytes())?;
-    agree(line, met.as_str(), wanted)?;
-    Ok(talk)
+    let met = answered(alloc, session, end, heard.as_bytes())?;
+    agree(line, met.as_str(), wanted)
 }
 
 #[test]
 fn a_recorded_session_is_replayed(rt: HostRuntime) -> Result<(), Fail> {
     let alloc = rt.alloc();
-    let mut talk = session_of(alloc, "LOOP", 100)?;
+    let Talk { mut session, end } = session_of(alloc, "LOOP", 100)?;
     for line in LLDB.lines() {
-        talk = check_recording(alloc, talk, line)?;
+        check_recording(alloc, &mut session, &end, line)?;
     }
     Ok(())
 }

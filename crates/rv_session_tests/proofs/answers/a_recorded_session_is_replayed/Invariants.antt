@@ -1,0 +1,5 @@
+use Rattle.rv_session_tests.specs.Talks.{IsReady}
+use Rattle.rv_session_tests.proofs.answers.a_recorded_session_is_replayed.Given as goal
+
+abbrev pub invariant-loop-line : goal.invariant-loop-line
+invariant-loop-line l = IsReady l.end l.session
