@@ -58,8 +58,8 @@ pub struct Means<'a, R, E> {
 }
 
 /// Hears the bytes of a reader, and puts what the session answers to them, until gdb ends the session or the reader has no more. No
-/// read begins once the session is over. While a move is under way that nothing waits behind, another thread reads on: 0x03 breaks the
-/// move off, and so does the end of the bytes.
+/// read begins once the session is over. While a move is under way that nothing waits behind, another thread reads on: only 0x03 breaks
+/// the move off, or the end of the bytes.
 pub fn converse<R: Threads, E: EndText, I: Read + Send, O: Sink>(
     means: &Means<'_, R, E>,
     session: &mut Session,
@@ -72,6 +72,7 @@ pub fn converse<R: Threads, E: EndText, I: Read + Send, O: Sink>(
         (I.remaining input.new) (O.taken out.old) (O.taken out.new) session.new) }
     ensures ended { OnOk result (IsEnded session.new (I.remaining input.new)) }
     ensures failed { IfErr result (λ broken. broken ≡ Broken.Unput → O.failed out.new ≡ one_more (O.failed out.old)) }
+    ensures unfailed { IfErr result (λ broken. broken ≢ Broken.Unput → O.failed out.new ≡ O.failed out.old) }
     ensures counted { OnOk result (O.failed out.new ≡ O.failed out.old) }
 {
     if session.is_over() {
@@ -118,6 +119,7 @@ fn answer_chunk<R: Threads, E: EndText, I: Read + Send, O: Sink>(
         (option_map (λ bytes. bytes.items) next) session.new) }
     ensures run { OnOk result (IsSameRun session.old session.new) }
     ensures failed { IfErr result (λ broken. broken ≡ Broken.Unput → O.failed out.new ≡ one_more (O.failed out.old)) }
+    ensures unfailed { IfErr result (λ broken. broken ≢ Broken.Unput → O.failed out.new ≡ O.failed out.old) }
     ensures counted { OnOk result (O.failed out.new ≡ O.failed out.old) }
 {
     for index in 0..chunk.len() {
@@ -147,6 +149,7 @@ fn answer_byte<R, E: EndText, O: Sink>(
     ensures not_over { OnOk result (MayAsk session.new) }
     ensures run { OnOk result (IsSameRun session.old session.new) }
     ensures failed { IfErr result (λ broken. broken ≡ Broken.Unput → O.failed out.new ≡ one_more (O.failed out.old)) }
+    ensures unfailed { IfErr result (λ broken. broken ≢ Broken.Unput → O.failed out.new ≡ O.failed out.old) }
     ensures counted { OnOk result (O.failed out.new ≡ O.failed out.old) }
 {
     put_answer(means.alloc, session, chunk[index], out)?;
@@ -173,6 +176,7 @@ fn put_move_before<R, E: EndText, O: Sink>(
         (O.taken out.new) session.new) }
     ensures run { OnOk result (IsSameRun session.old session.new) }
     ensures failed { IfErr result (λ broken. broken ≡ Broken.Unput → O.failed out.new ≡ one_more (O.failed out.old)) }
+    ensures unfailed { IfErr result (λ broken. broken ≢ Broken.Unput → O.failed out.new ≡ O.failed out.old) }
     ensures counted { OnOk result (O.failed out.new ≡ O.failed out.old) }
 {
     if behind == CTRL_C {
@@ -194,6 +198,7 @@ fn put_answer<O: Sink>(
     ensures not_over { OnOk result (MayAsk session.new) }
     ensures run { OnOk result (IsSameRun session.old session.new) }
     ensures failed { IfErr result (λ broken. broken ≡ Broken.Unput → O.failed out.new ≡ one_more (O.failed out.old)) }
+    ensures unfailed { IfErr result (λ broken. broken ≢ Broken.Unput → O.failed out.new ≡ O.failed out.old) }
     ensures counted { OnOk result (O.failed out.new ≡ O.failed out.old) }
 {
     let told = session.hear(alloc, byte)?;
@@ -213,13 +218,14 @@ fn put_move<R, E: EndText, J: Interrupt, O: Sink>(
         (O.taken out.old) (O.taken out.new) session.new) }
     ensures run { OnOk result (IsSameRun session.old session.new) }
     ensures failed { IfErr result (λ broken. broken ≡ Broken.Unput → O.failed out.new ≡ one_more (O.failed out.old)) }
+    ensures unfailed { IfErr result (λ broken. broken ≢ Broken.Unput → O.failed out.new ≡ O.failed out.old) }
     ensures counted { OnOk result (O.failed out.new ≡ O.failed out.old) }
 {
     match session.work(means.alloc, means.end, interrupt) {
         Ok(told) => put_told(out, told.as_slice()),
         Err(error) => {
             // gdb waits for an answer, and a read for gdb.
-            let _ = put_all(out, NO_MEMORY.as_bytes());
+            put_told(out, NO_MEMORY.as_bytes())?;
             Err(error.into())
         }
     }
@@ -228,6 +234,7 @@ fn put_move<R, E: EndText, J: Interrupt, O: Sink>(
 fn put_told<O: Sink>(out: &mut O, told: &[u8]) -> Result<(), Broken>
     ensures put { OnOk result (Appends (O.taken out.old) (O.taken out.new) told.now) }
     ensures failed { IfErr result (λ broken. broken ≡ Broken.Unput → O.failed out.new ≡ one_more (O.failed out.old)) }
+    ensures unfailed { IfErr result (λ broken. broken ≢ Broken.Unput → O.failed out.new ≡ O.failed out.old) }
     ensures counted { OnOk result (O.failed out.new ≡ O.failed out.old) }
 {
     match put_all(out, told) {
@@ -250,6 +257,7 @@ fn move_while_reading<R: Threads, E: EndText, I: Read + Send, O: Sink>(
         session.old (O.taken out.old) (O.taken out.new) session.new) }
     ensures run { OnOk result (IsSameRun session.old session.new) }
     ensures failed { IfErr result (λ broken. broken ≡ Broken.Unput → O.failed out.new ≡ one_more (O.failed out.old)) }
+    ensures unfailed { IfErr result (λ broken. broken ≢ Broken.Unput → O.failed out.new ≡ O.failed out.old) }
     ensures counted { OnOk result (O.failed out.new ≡ O.failed out.old) }
 {
     let raised = AtomicBool::new(false);
@@ -271,6 +279,7 @@ fn move_beside_reader<R: Threads, E: EndText, I: Read + Send, O: Sink>(
         session.old (O.taken out.old) (O.taken out.new) session.new) }
     ensures run { OnOk result (IsSameRun session.old session.new) }
     ensures failed { IfErr result (λ broken. broken ≡ Broken.Unput → O.failed out.new ≡ one_more (O.failed out.old)) }
+    ensures unfailed { IfErr result (λ broken. broken ≢ Broken.Unput → O.failed out.new ≡ O.failed out.old) }
     ensures counted { OnOk result (O.failed out.new ≡ O.failed out.old) }
 {
     let alloc = means.alloc;

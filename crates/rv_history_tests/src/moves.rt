@@ -120,13 +120,24 @@ fn moved(alloc: Global, history: &mut History, stops: &Stops, asked: &str) -> Re
     Ok(format!(in alloc; "{} {told}", history.place())?)
 }
 
+// A move, and what it is to come to.
+fn check_move(
+    alloc: Global,
+    history: &mut History,
+    stops: &Stops,
+    line: &str,
+    part: &str,
+) -> Result<(), Fail> {
+    let (asked, wanted) = part.split_once(" = ").ok_or("a move and an answer")?;
+    let met = moved(alloc, history, stops, asked)?;
+    agree(line, met.as_str(), wanted)
+}
+
 fn check_moves(alloc: Global, line: &str) -> Result<(), Fail> {
     let stops = stops_of(alloc, cell_of(line, 2))?;
     let mut history = history_of(alloc, CODE, cell_of(line, 1).parse()?)?;
     for part in cell_of(line, 3).split("; ") {
-        let (asked, wanted) = part.split_once(" = ").ok_or("a move and an answer")?;
-        let met = moved(alloc, &mut history, &stops, asked)?;
-        agree(line, met.as_str(), wanted)?;
+        check_move(alloc, &mut history, &stops, line, part)?;
     }
     Ok(())
 }

@@ -1,8 +1,9 @@
 -- What `gdb` answers gdb, of a job.
-use Rattle.std.specs.Prelude.{◌≡◌, ◌⊎◌, ℕ, Bool, List, [], ◌∷◌, Option, Some, None, Ok, codes, false, is_ok, option_and_then, slice_get, slice_index_or, true, unwrap_or}
+use Rattle.std.specs.Prelude.{◌≡◌, ◌≢◌, ◌⊎◌, ℕ, Bool, List, [], ◌∷◌, Option, Some, None, Ok, codes, false, is_ok, option_and_then, slice_get, slice_index_or, true, unwrap_or}
 use Rattle.std.specs.Io.KnownBytes.{Consumes, IsAtEnd}
 use Rattle.std.specs.Result.{result_ok}
 use Rattle.std.specs.declared.io.ErrorKind.{ErrorKind}
+use Rattle.rv_base.specs.Counts.{one_more}
 use Rattle.rv_base.specs.Files.{FileContents}
 use Rattle.rv_cli.specs.declared.rvtest.gdb.GdbAsked.{GdbAsked}
 use Rattle.rv_command.specs.Messages.{path_message}
@@ -130,3 +131,7 @@ abbrev pub IsBrokenStop : Broken → Stop → Type 0
 IsBrokenStop broken.OutOfMemory why = why ≡ stop.OutOfMemory
 IsBrokenStop (broken.Unread reason) why = IsSystemStop (codes "standard input") reason why
 IsBrokenStop broken.Unput why = why ≡ stop.WriteFailed
+
+-- a put broke the session off where one failed, and something else where none did, as the count of failed puts tells
+abbrev pub IsFailureTold : Broken → ℕ → ℕ → Type 0
+IsFailureTold cause before after = (cause ≡ broken.Unput → after ≡ one_more before) × (cause ≢ broken.Unput → after ≡ before)

@@ -12,7 +12,7 @@ ghost use Rattle.rv_gdb.specs.JobSessions.{IsSessionOf};
 ghost use Rattle.rv_job_text.specs.Telling.{row_line};
 ghost use Rattle.rv_machine.proofs.Public.{state_code};
 ghost use Rattle.rv_rows.specs.Rows.{row_of, start_in};
-ghost use Rattle.rvtest_app.specs.CommandStops.{IsGdbStop, IsNoJobStop, IsUnopenedAtStop};
+ghost use Rattle.rvtest_app.specs.CommandStops.{IsGdbStopped, IsNoJobStop, IsUnopenedAtStop};
 ghost use Rattle.rvtest_app.specs.Debugging.{IsBrokenStop, IsGdbAnswered, IsJobOpened, IsNoGdbStop, IsOpenedAt, IsOpenedOf, IsUnopenedOfStop, IsUnopenedStop, job_end_text, job_start};
 ghost use Rattle.rvtest_app.specs.Said.{said};
 
@@ -44,7 +44,8 @@ struct Opened {
 }
 
 /// Shows the run of the job of a name to gdb, whose bytes the reader has, and puts the replies to standard output, until gdb ends the
-/// session or sends no more. Ctrl-C breaks a move off. The status is 0. Where standard output is a terminal nobody there would understand them.
+/// session or sends no more. Only Ctrl-C breaks a move off, or the end of gdb's bytes. The status is 0. Where standard output is a
+/// terminal nobody there would understand them.
 pub(crate) fn show_job_to_gdb<
     R: Threads,
     D: Inputs,
@@ -63,7 +64,9 @@ pub(crate) fn show_job_to_gdb<
         (I.remaining input.old) (I.remaining input.new) status
         (said F.placed O.taken E.taken E.failed to.old) (said F.placed O.taken E.taken E.failed to.new)) }
     ensures done { IfOk result (λ status. status ≡ 0) }
-    ensures stopped { IfErr result (IsGdbStop (D.contents host.now.inputs.now) is_terminal asked.entry) }
+    ensures stopped { IfErr result (λ why. IsGdbStopped (D.contents host.now.inputs.now) is_terminal asked.entry why
+        (said F.placed O.taken E.taken E.failed to.old) (said F.placed O.taken E.taken E.failed to.new)
+        (O.failed to.old.out) (O.failed to.new.out)) }
 {
     let alloc = host.alloc;
     if is_terminal {

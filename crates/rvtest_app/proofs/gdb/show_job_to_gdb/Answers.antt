@@ -35,8 +35,16 @@ returns-in-Ok-clause-answered g c =
 pub returns-in_err-opened-clause-stopped : goal.returns-in_err-opened-clause-stopped
 returns-in_err-opened-clause-stopped g c =
     let is = err_from_is_err_and c.from_residual.result c.from_residual.ensures.1 in
-    rw (is.1, is.2) (inr (c.if-is_terminal.false, inl c.in_err-opened.ensures.stopped))
+    rw (is.1, is.2) (inl (inr (c.if-is_terminal.false, c.in_err-opened.ensures.stopped), refl))
 
 pub returns-clause-stopped : goal.returns-clause-stopped
-returns-clause-stopped g c =
-    inr (c.if-is_terminal.false, inr (c.in-Err.broken, c.broken_stop.ensures))
+returns-clause-stopped g c = inr (
+  c.if-is_terminal.false,
+  (
+    c.in-Err.broken,
+    (
+      c.broken_stop.ensures,
+      (rw c.in-Err.is at c.converse.ensures.failed, rw c.in-Err.is at c.converse.ensures.unfailed),
+    ),
+  ),
+)
