@@ -13,8 +13,11 @@ use Rattle.rv_machine.specs.State.{State}
 use Rattle.rv_remote.specs.declared.request.Move.{Move}
 use Rattle.rv_remote.specs.declared.request.Move.TheVariants as move
 use Rattle.rv_session.specs.Console.{HasShown, printed_by}
+use Rattle.rv_session.specs.Heard.{IsByteFed}
 use Rattle.rv_session.specs.Moved.{IsGone, IsMoved, is_forward, printed_on, shown_on}
 use Rattle.rv_session.specs.Sessions.{state_at}
+use Rattle.rv_trace.specs.Trace.{state_after}
+use Rattle.rv_session.proofs.Same.{byte_same, byte_shows_none}
 use Rattle.rv_session.specs.declared.reply.Reply.{Reply}
 use Rattle.rv_session.specs.declared.session.Session.{Session}
 
@@ -107,4 +110,19 @@ shown_once end_text may_break session next asked reply shown before moved =
           ∙ ap (λ (k : ℕ). take k (printed_by session)) (sym counted) ∙ ap (take next.shown) (sym same);
       within = subst (λ (text : List ℕ). next.shown ≤ length text) (sym same)
           (subst (λ (k : ℕ). k ≤ length (printed_by session)) (sym counted) shows.1);
+    }
+
+-- ---- of bytes that are heard
+
+pub shown_still : (session next : Session) (byte : ℕ) (out shown : List ℕ) → HasShown session shown → IsByteFed session byte out next
+    → HasShown next shown
+shown_still session next byte out shown before fed =
+    let run = byte_same session next byte out fed in
+    let counted = byte_shows_none session next byte out fed in
+    let same : printed_by next ≡ printed_by session =
+    ap (λ (start : State). (state_after (last_place next.history.budget start) start).bus.output) run.start_is
+    ∙ ap (λ (budget : ℕ). (state_at session (last_place budget session.history.start)).bus.output) run.budget_is in record {
+      first_bytes = before.first_bytes ∙ ap (λ (k : ℕ). take k (printed_by session)) (sym counted) ∙ ap (take next.shown) (sym same);
+      within = subst (λ (text : List ℕ). next.shown ≤ length text) (sym same)
+          (subst (λ (k : ℕ). k ≤ length (printed_by session)) (sym counted) before.within);
     }

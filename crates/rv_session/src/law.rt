@@ -5,7 +5,7 @@ ghost use Rattle.rv_remote.specs.Stops.{told_by};
 ghost use Rattle.rv_remote.specs.declared.request.Move.{Move};
 ghost use Rattle.rv_session.specs.Console.{HasShown};
 ghost use Rattle.rv_session.specs.Endings.{text_with, told_by_found};
-ghost use Rattle.rv_session.specs.Heard.{HasNoInterrupt, IsFed, is_interrupted};
+ghost use Rattle.rv_session.specs.Heard.{HasNoInterrupt, IsByteFed, IsFed, is_interrupted};
 ghost use Rattle.rv_session.specs.Moved.{IsMoved};
 ghost use Rattle.rv_session.specs.declared.reply.Reply.{Reply};
 ghost use Rattle.rv_session.specs.declared.session.Session.{Session};
@@ -30,6 +30,12 @@ pub fn printed_bytes_go_out_once()
     ensures { (end_text : List ℕ) (may_break : Bool) (session next : Session) (asked : Move) (reply : Reply) (shown : List ℕ)
         → HasShown session shown → IsMoved end_text may_break session asked reply next
         → HasShown next (shown ++ reply.printed) }
+{}
+
+/// What is heard puts out no byte of the run in front of a stop: only moves do.
+pub fn only_moves_show_printed_bytes()
+    ensures { (session next : Session) (byte : ℕ) (out shown : List ℕ)
+        → HasShown session shown → IsByteFed session byte out next → HasShown next shown }
 {}
 
 /// The stop that a move tells is the run's ending where the move comes to it, and no ending elsewhere. What is said of the run at its

@@ -53,7 +53,7 @@ returns-clause-untouched g c = elim c.match-asked.branch [
   | in-Console w ↦ rw (w.answer-is, w.in-Console.is) (IfOk-from w.put_job_console-answer.result _ (inl (inl refl)))
   | in-Gdb w ↦
       rw (w.answer-is, w.in-Gdb.is)
-      (IfOk-map w.show_job_to_gdb-answer.result _ _ (λ status done. inl (inr (done.spoken, inr (cause.Unput, refl))))
+      (IfOk-map w.show_job_to_gdb-answer.result _ _ (λ status done. inl (inr (done.spoken, (cause.Unput, refl))))
       w.show_job_to_gdb-answer.ensures.answered)
   | in-Accept w ↦
       rw (w.answer-is, w.in-Accept.is)
