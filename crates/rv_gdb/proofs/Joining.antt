@@ -9,7 +9,7 @@ use Rattle.rv_session.specs.Heard.{IsFed, IsWorked, is_interrupted, no_bytes}
 use Rattle.rv_session.specs.Sessions.{MayAsk}
 use Rattle.rv_session.specs.declared.session.Session.{Session}
 use Rattle.rv_session.proofs.Public.{fed_both, fed_byte, fed_move, worked_more, worked_unasked}
-use Rattle.rv_gdb.specs.Chunks.{IsByteAnswered, IsBytePut, IsChunkAnswered, IsHeardUpTo, IsMovePut, IsNextRead, IsOpenBehind, comes_next}
+use Rattle.rv_gdb.specs.Chunks.{IsByteAnswered, IsBytePut, IsChunkAnswered, IsMovePut, IsNextRead, IsOpenBehind, comes_next}
 use Rattle.rv_gdb.specs.Conversing.{IsChunkRead, IsConversed, IsReadWhileOpen}
 
 -- ---- within a chunk
@@ -153,6 +153,18 @@ put_more end_text one other session next a b more move = record {
 }
 
 -- ---- a chunk behind others
+
+-- all up to a chunk was heard, and it is read, but not answered yet
+pub record IsHeardUpTo (end_text : List ℕ) (session : Session) (before after old new : Option (List ℕ)) (chunk : List ℕ)
+    (standing : Session) : Type 0 where
+  pub front : List ℕ
+  pub told : List ℕ
+  pub read : Consumes before after (front ++ chunk)
+  pub while_open : IsReadWhileOpen end_text session (front ++ chunk)
+  pub ended : chunk ≡ [] → IsAtEnd after
+  pub fed : IsFed end_text (is_interrupted chunk true) session front told standing
+  pub made : standing.asked ≡ None
+  pub put : Appends old new told
 
 pub silent : (end_text : List ℕ) (session : Session) (input out : Option (List ℕ)) → session.asked ≡ None
     → IsConversed end_text session input input out out session

@@ -1,7 +1,7 @@
 -- The answers to what one read gave.
-use Rattle.std.specs.Prelude.{◌≡◌, ◌⊎◌, ◌++◌, ◌+◌, ◌<◌, ◌==◌, ℕ, Bool, List, [], None, Some, Option, false, is_some, length, slice_index_or, true}
-use Rattle.std.specs.Io.KnownBytes.{Appends, Consumes, IsAtEnd}
-use Rattle.rv_gdb.specs.Conversing.{IsChunkRead, IsReadWhileOpen}
+use Rattle.std.specs.Prelude.{◌≡◌, ◌⊎◌, ◌+◌, ◌<◌, ◌==◌, ℕ, Bool, List, None, Some, Option, false, is_some, length, slice_index_or, true}
+use Rattle.std.specs.Io.KnownBytes.{Appends}
+use Rattle.rv_gdb.specs.Conversing.{IsChunkRead}
 use Rattle.rv_session.specs.Heard.{IsByteFed, IsFed, IsWorked, is_interrupted}
 use Rattle.rv_session.specs.declared.session.Session.{Session}
 
@@ -59,16 +59,3 @@ pub record IsChunkAnswered (end_text : List ℕ) (session : Session) (chunk : Li
   pub made : next.asked ≡ None
   pub put : Appends old new told
   pub read : IsNextRead end_text session chunk before after coming next
-
--- ---- up to a chunk that is to be answered
-
-pub record IsHeardUpTo (end_text : List ℕ) (session : Session) (before after old new : Option (List ℕ)) (chunk : List ℕ)
-    (standing : Session) : Type 0 where
-  pub front : List ℕ
-  pub told : List ℕ
-  pub read : Consumes before after (front ++ chunk)
-  pub while_open : IsReadWhileOpen end_text session (front ++ chunk)
-  pub ended : chunk ≡ [] → IsAtEnd after
-  pub fed : IsFed end_text (is_interrupted chunk true) session front told standing
-  pub made : standing.asked ≡ None
-  pub put : Appends old new told

@@ -1,6 +1,6 @@
 use Rattle.std.proofs.Common.{◌≡◌}
 use Rattle.rv_session.specs.Sessions.{IsSameRun}
-use Rattle.rv_gdb.specs.Chunks.{IsHeardUpTo}
+use Rattle.rv_gdb.proofs.Joining.{IsHeardUpTo}
 use Rattle.rv_gdb.proofs.conversation.converse.Given as goal
 
 abbrev pub invariant-loop : goal.invariant-loop
