@@ -146,8 +146,8 @@ fn answer_byte(
     byte: u8,
     sent: &mut Vec<u8>,
 ) -> Result<(), Fail>
-    requires { IsReady end.now session.old }
-    ensures { OnOk result (IsReady end.now session.new) }
+    requires { IsReady (start_of end.now.start) session.old }
+    ensures { OnOk result (IsReady (start_of end.now.start) session.new) }
 {
     let told = session.hear(alloc, byte)?;
     sent.extend_from_slice(told.as_slice())?;
@@ -161,8 +161,8 @@ fn answer_byte(
 
 // What goes out for the bytes of gdb.
 fn answered(alloc: Global, session: &mut Session, end: &End, heard: &[u8]) -> Result<String, Fail>
-    requires { IsReady end.now session.old }
-    ensures { OnOk result (IsReady end.now session.new) }
+    requires { IsReady (start_of end.now.start) session.old }
+    ensures { OnOk result (IsReady (start_of end.now.start) session.new) }
 {
     let mut sent = Vec::new(alloc);
     for byte in heard {
@@ -239,8 +239,8 @@ fn answered_body(
     end: &End,
     body: &str,
 ) -> Result<String, Fail>
-    requires { IsReady end.now session.old }
-    ensures { OnOk result (IsReady end.now session.new) }
+    requires { IsReady (start_of end.now.start) session.old }
+    ensures { OnOk result (IsReady (start_of end.now.start) session.new) }
 {
     let packet = framed(alloc, body)?;
     answered(alloc, session, end, packet.as_slice())
@@ -253,8 +253,8 @@ fn check_answer(
     line: &str,
     part: &str,
 ) -> Result<(), Fail>
-    requires { IsReady end.now session.old }
-    ensures { OnOk result (IsReady end.now session.new) }
+    requires { IsReady (start_of end.now.start) session.old }
+    ensures { OnOk result (IsReady (start_of end.now.start) session.new) }
 {
     let (asked, wanted) = part.split_once(" > ").ok_or("a request and an answer")?;
     let met = answered_body(alloc, session, end, asked)?;
@@ -281,8 +281,8 @@ fn requests_are_answered(rt: HostRuntime) -> Result<(), Fail> {
 }
 
 fn check_recording(alloc: Global, session: &mut Session, end: &End, line: &str) -> Result<(), Fail>
-    requires { IsReady end.now session.old }
-    ensures { OnOk result (IsReady end.now session.new) }
+    requires { IsReady (start_of end.now.start) session.old }
+    ensures { OnOk result (IsReady (start_of end.now.start) session.new) }
 {
     let (heard, wanted) = line.split_once(" > ").ok_or("a line of a recording")?;
     let wanted = if wanted == "nothing" { "" } else { wanted };
