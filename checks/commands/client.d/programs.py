@@ -89,6 +89,8 @@ WIDTHS = (
     load(HALF_UNSIGNED, 7, 0, 5), sw(6, 4, 5), lw(7, 4, 5), lw(0, 0, 5), pair(c_swsp(6, 8), c_lwsp(7, 4)), pair(c_sw(9, 4, 8), c_lw(10, 8, 8)),
     addi(6, 6, -1), addi(9, 6, 0), branch(BNE, 6, 0, -52),
 )
+# x5 counts for ever.
+SPINNING = (addi(5, 5, 1), jal(0, -4))
 SCRIPT = b"to be\nnot"
 # The name, the words, the budget and how the job's end is written in the list.
 PROGRAMS = (

@@ -1,46 +1,279 @@
 -- Bytes that were heard one read behind the other.
-use Rattle.std.proofs.Common.{◌≡◌, ◌++◌, [], ℕ, List, Option, false, inl, inr, refl}
+use Rattle.std.proofs.Common.{◌≡◌, ◌≢◌, ◌∙◌, ◌++◌, ◌∷◌, ◌+◌, ◌<◌, [], ℕ, Bool, true, false, List, None, Some, ap, append-nil, arith, drop, get_or, inl, inr, length, refl, subst, sym, take}
+use Rattle.std.specs.Prelude.{Option, ◌==◌, is_some}
 use Rattle.std.proofs.KnownBytes.{Appends-nil, Appends-trans, Consumes-nil, Consumes-trans}
-use Rattle.rv_session.specs.Heard.{IsFed, no_bytes}
+use Rattle.std.proofs.lemmas.Bool.{false≢true}
+use Rattle.std.proofs.lemmas.List.{drop_all, drop_more, take_all, take_more}
+use Rattle.std.specs.Io.KnownBytes.{Appends, Consumes, IsAtEnd}
+use Rattle.rv_session.specs.Heard.{IsFed, IsWorked, is_interrupted, no_bytes}
+use Rattle.rv_session.specs.Sessions.{MayAsk}
 use Rattle.rv_session.specs.declared.session.Session.{Session}
-use Rattle.rv_gdb.specs.Conversing.{IsConversed, IsReadAnswered}
+use Rattle.rv_session.proofs.Public.{fed_both, fed_byte, fed_move, worked_more, worked_unasked}
+use Rattle.rv_gdb.specs.Chunks.{IsByteAnswered, IsBytePut, IsChunkAnswered, IsMovePut, IsNextRead, IsOpenBehind, comes_next}
+use Rattle.rv_gdb.specs.Conversing.{IsChunkRead, IsConversed, IsReadWhileOpen}
 
--- fed in two pieces is fed in one
-abbrev pub AreCutsUnseen : List ℕ → Type 0
-AreCutsUnseen end_text = (session between next : Session) (front rest out more : List ℕ)
-    → IsFed end_text session front out between → IsFed end_text between rest more next
-    → IsFed end_text session (front ++ rest) (out ++ more) next
+-- ---- within a chunk
 
--- nothing was heard yet
-pub silent : (end_text : List ℕ) (session : Session) (input out : Option (List ℕ))
+-- the bytes of a chunk up to one are heard, and all moves that were asked for are made, whatever comes behind the chunk
+pub record IsHeardIn (end_text : List ℕ) (session : Session) (chunk : List ℕ) (index : ℕ) (old new : Option (List ℕ))
+    (standing : Session) : Type 0 where
+  pub told : List ℕ
+  pub fed : (behind : Bool) → IsFed end_text (is_interrupted (drop index chunk) behind) session (take index chunk) told standing
+  pub made : standing.asked ≡ None
+  pub put : Appends old new told
+
+pub heard_none : (end_text : List ℕ) (session : Session) (chunk : List ℕ) (out : Option (List ℕ)) → session.asked ≡ None
+    → IsHeardIn end_text session chunk 0 out out session
+heard_none end_text session chunk out none =
+    record { told = []; fed = λ behind. no_bytes session; made = none; put = Appends-nil out }
+
+-- what comes next is a byte of the chunk
+comes : (chunk : List ℕ) (i d : ℕ) (behind : Bool) → i < length chunk
+    → is_interrupted (drop i chunk) behind ≡ (get_or chunk i d == 3)
+comes chunk i d behind within = ap (λ (bytes : List ℕ). is_interrupted bytes behind) (drop_more chunk i d within)
+
+-- a byte more is heard, and if a move is asked for then, it is not made yet
+pub record IsHeardAt (end_text : List ℕ) (session : Session) (chunk : List ℕ) (index : ℕ) (old new : Option (List ℕ))
+    (standing : Session) : Type 0 where
+  pub told : List ℕ
+  pub fed : (behind : Bool) → IsFed end_text behind session (take (index + 1) chunk) told standing
+  pub put : Appends old new told
+
+pub heard_byte : (end_text : List ℕ) (session standing next : Session) (chunk : List ℕ) (i d : ℕ) (a b c : Option (List ℕ))
+    → i < length chunk → IsHeardIn end_text session chunk i a b standing → IsBytePut standing (get_or chunk i d) b c next
+    → IsHeardAt end_text session chunk i a c next
+heard_byte end_text session standing next chunk i d a b c within first one = record {
+  told = first.told ++ one.told;
+  fed = λ behind. subst (λ (bytes : List ℕ). IsFed end_text behind session bytes (first.told ++ one.told) next)
+      (sym (take_more chunk i d within))
+      (fed_byte end_text behind session standing next (take i chunk) first.told one.told (get_or chunk i d)
+      (subst (λ (may : Bool). IsFed end_text may session (take i chunk) first.told standing) (comes chunk i d true within)
+      (first.fed true)) first.made one.heard);
+  put = Appends-trans a b c first.told one.told first.put one.put;
+}
+
+-- no move is asked for
+pub heard_on : (end_text : List ℕ) (session next : Session) (chunk : List ℕ) (i : ℕ) (a b : Option (List ℕ))
+    → IsHeardAt end_text session chunk i a b next → next.asked ≡ None → IsHeardIn end_text session chunk (i + 1) a b next
+heard_on end_text session next chunk i a b at none = record {
+  told = at.told;
+  fed = λ behind. at.fed (is_interrupted (drop (i + 1) chunk) behind);
+  made = none;
+  put = at.put;
+}
+
+-- a move is made, behind which another byte waits
+pub heard_move : (end_text : List ℕ) (session standing next : Session) (chunk : List ℕ) (i d : ℕ) (a b c : Option (List ℕ))
+    → i + 1 < length chunk → IsHeardAt end_text session chunk i a b standing
+    → IsMovePut end_text (get_or chunk (i + 1) d == 3) standing b c next → IsHeardIn end_text session chunk (i + 1) a c next
+heard_move end_text session standing next chunk i d a b c within at move = record {
+  told = at.told ++ move.told;
+  fed = λ behind. subst (λ (may : Bool). IsFed end_text may session (take (i + 1) chunk) (at.told ++ move.told) next)
+      (sym (comes chunk (i + 1) d behind within))
+      (fed_move end_text (get_or chunk (i + 1) d == 3) session standing next (take (i + 1) chunk) at.told move.told
+      (at.fed (get_or chunk (i + 1) d == 3)) move.made);
+  made = worked_unasked end_text (get_or chunk (i + 1) d == 3) standing next move.told move.made;
+  put = Appends-trans a b c at.told move.told at.put move.put;
+}
+
+-- a byte was answered, and no move waits
+pub heard_byte_on : (end_text : List ℕ) (session standing next : Session) (chunk : List ℕ) (i : ℕ) (a b c : Option (List ℕ))
+    → i < length chunk → IsHeardIn end_text session chunk i a b standing → IsByteAnswered end_text standing chunk i false b c next
+    → IsHeardIn end_text session chunk (i + 1) a c next
+heard_byte_on end_text session standing next chunk i a b c within first (inl (one, none)) =
+    heard_on end_text session next chunk i a c (heard_byte end_text session standing next chunk i 0 a b c within first one) none
+heard_byte_on end_text session standing next chunk i a b c within first (inr made) =
+    heard_move end_text session made.standing next chunk i 0 a made.middle c made.within
+    (heard_byte end_text session standing made.standing chunk i 0 a b made.middle within first made.heard) made.moved
+
+-- a session that a move is asked for in is not over
+pub asked_going : (session : Session) → MayAsk session → is_some session.asked ≡ true → session.is_over ≡ false
+asked_going session (inl none) is = absurd (false≢true (sym (ap is_some none) ∙ is))
+asked_going session (inr going) is = going
+
+-- ---- the end of a chunk
+
+-- the last byte of a chunk is heard
+at_end : (end_text : List ℕ) (may : Bool) (session next : Session) (chunk told : List ℕ) (i : ℕ) → i ≡ length chunk
+    → IsFed end_text may session (take i chunk) told next → IsFed end_text may session chunk told next
+at_end end_text may session next chunk told i is fed =
+    subst (λ (bytes : List ℕ). IsFed end_text may session bytes told next) (take_all i chunk (omega arith)) fed
+
+-- all of it is heard, and nothing waits: behind it comes whatever comes
+heard_whole : (end_text : List ℕ) (session next : Session) (chunk : List ℕ) (i : ℕ) (a b : Option (List ℕ)) (may : Bool)
+    → i ≡ length chunk → (heard : IsHeardIn end_text session chunk i a b next) → IsFed end_text may session chunk heard.told next
+heard_whole end_text session next chunk i a b may is heard =
+    at_end end_text may session next chunk heard.told i is
+    (subst (λ (rest : List ℕ). IsFed end_text (is_interrupted rest may) session (take i chunk) heard.told next)
+    (drop_all i chunk (omega arith)) (heard.fed may))
+
+pub chunk_over : (end_text : List ℕ) (session next : Session) (chunk : List ℕ) (i : ℕ) (x y a b : Option (List ℕ)) → i ≡ length chunk
+    → IsHeardIn end_text session chunk i a b next → y ≡ x → next.is_over ≡ true → IsChunkAnswered end_text session chunk x y a b None next
+chunk_over end_text session next chunk i x y a b is heard same over = record {
+  told = heard.told;
+  fed = heard_whole end_text session next chunk i a b false is heard;
+  made = heard.made;
+  put = heard.put;
+  read = (same, over);
+}
+
+pub chunk_read : (end_text : List ℕ) (session next : Session) (chunk bytes : List ℕ) (i : ℕ) (x y a b : Option (List ℕ))
+    → i ≡ length chunk → IsHeardIn end_text session chunk i a b next → next.is_over ≡ false → IsChunkRead x y bytes
+    → IsChunkAnswered end_text session chunk x y a b (Some bytes) next
+chunk_read end_text session next chunk bytes i x y a b is heard going read =
+    let fed = heard_whole end_text session next chunk i a b (is_interrupted bytes true) is heard in record {
+      told = heard.told;
+      fed = fed;
+      made = heard.made;
+      put = heard.put;
+      read = (read, record { told = heard.told; standing = next; fed = fed; is_open = going });
+    }
+
+pub chunk_moved : (end_text : List ℕ) (session standing next : Session) (chunk bytes : List ℕ) (i : ℕ) (x y a b c : Option (List ℕ))
+    → i + 1 ≡ length chunk → IsHeardAt end_text session chunk i a b standing → standing.is_over ≡ false
+    → IsMovePut end_text (is_interrupted bytes true) standing b c next → IsChunkRead x y bytes
+    → IsChunkAnswered end_text session chunk x y a c (Some bytes) next
+chunk_moved end_text session standing next chunk bytes i x y a b c is at going move read =
+    let may = is_interrupted bytes true in
+    let first = at_end end_text may session standing chunk at.told (i + 1) is (at.fed may) in record {
+      told = at.told ++ move.told;
+      fed = fed_move end_text may session standing next chunk at.told move.told first move.made;
+      made = worked_unasked end_text may standing next move.told move.made;
+      put = Appends-trans a b c at.told move.told at.put move.put;
+      read = (read, record { told = at.told; standing = standing; fed = first; is_open = going });
+    }
+
+-- a move that was broken off, as another thread told, was so for what this thread read
+pub put_more : (end_text : List ℕ) (one other : Bool) (session next : Session) (a b : Option (List ℕ)) → (one ≡ true → other ≡ true)
+    → IsMovePut end_text one session a b next → IsMovePut end_text other session a b next
+put_more end_text one other session next a b more move = record {
+  told = move.told;
+  made = worked_more end_text one other session next move.told more move.made;
+  put = move.put;
+}
+
+-- ---- a chunk behind others
+
+-- all up to a chunk was heard, and it is read, but not answered yet
+pub record IsHeardUpTo (end_text : List ℕ) (session : Session) (before after old new : Option (List ℕ)) (chunk : List ℕ)
+    (standing : Session) : Type 0 where
+  pub front : List ℕ
+  pub told : List ℕ
+  pub read : Consumes before after (front ++ chunk)
+  pub while_open : IsReadWhileOpen end_text session (front ++ chunk)
+  pub ended : chunk ≡ [] → IsAtEnd after
+  pub fed : IsFed end_text (is_interrupted chunk true) session front told standing
+  pub made : standing.asked ≡ None
+  pub put : Appends old new told
+
+pub silent : (end_text : List ℕ) (session : Session) (input out : Option (List ℕ)) → session.asked ≡ None
     → IsConversed end_text session input input out out session
-silent end_text session input out = record {
+silent end_text session input out none = record {
   heard = [];
   told = [];
   read = Consumes-nil input;
   while_open = inl refl;
+  may_end = false;
+  ended = λ never. absurd (false≢true never);
   fed = no_bytes session;
+  made = none;
   put = Appends-nil out;
 }
 
--- a read behind others, which begins while the session is not over
-pub heard_more : (end_text : List ℕ) (session between next : Session) (a b c x y z : Option (List ℕ)) → AreCutsUnseen end_text
-    → IsConversed end_text session a b x y between → between.is_over ≡ false → IsReadAnswered end_text between b c y z next
-    → IsConversed end_text session a c x z next
-heard_more end_text session between next a b c x y z unseen first is_open second = record {
-  heard = first.heard ++ second.heard;
-  told = first.told ++ second.told;
-  read = Consumes-trans a b c first.heard second.heard first.read second.read;
+-- the first chunk is read
+pub first_read : (end_text : List ℕ) (session : Session) (chunk : List ℕ) (a b out : Option (List ℕ)) → session.asked ≡ None
+    → session.is_over ≡ false → IsChunkRead a b chunk → IsHeardUpTo end_text session a b out out chunk session
+first_read end_text session chunk a b out none going chunk_is = record {
+  front = [];
+  told = [];
+  read = chunk_is.read;
   while_open = inr (record {
-    front = first.heard;
-    last = second.heard;
+    front = [];
+    last = chunk;
     heard_is = refl;
-    short = second.short;
-    told = first.told;
-    standing = between;
-    fed = first.fed;
-    is_open = is_open;
+    short = chunk_is.short;
+    told = [];
+    standing = session;
+    fed = no_bytes session;
+    is_open = going;
   });
-  fed = unseen session between next first.heard second.heard first.told second.told first.fed second.fed;
+  ended = chunk_is.ended;
+  fed = no_bytes session;
+  made = none;
+  put = Appends-nil out;
+}
+
+-- where a chunk has a byte, it does not matter what comes behind it
+same_next : (chunk : List ℕ) (one other : Bool) → chunk ≢ [] → is_interrupted chunk one ≡ is_interrupted chunk other
+same_next [] one other some = absurd (some refl)
+same_next (byte ∷ rest) one other some = refl
+
+-- all up to the chunk, and the chunk
+heard_both : (end_text : List ℕ) (may : Bool) (session between next : Session) (chunk more : List ℕ) (a b x y : Option (List ℕ))
+    → chunk ≢ [] → (first : IsHeardUpTo end_text session a b x y chunk between) → IsFed end_text may between chunk more next
+    → IsFed end_text may session (first.front ++ chunk) (first.told ++ more) next
+heard_both end_text may session between next chunk more a b x y some first second =
+    fed_both end_text may chunk session between next first.front first.told more
+    (subst (λ (m : Bool). IsFed end_text m session first.front first.told between) (same_next chunk true may some) first.fed) second
+
+pub heard_more : (end_text : List ℕ) (session between next : Session) (chunk bytes : List ℕ) (a b c x y z : Option (List ℕ)) → chunk ≢ []
+    → IsHeardUpTo end_text session a b x y chunk between → IsChunkAnswered end_text between chunk b c y z (Some bytes) next
+    → IsHeardUpTo end_text session a c x z bytes next
+heard_more end_text session between next chunk bytes a b c x y z some first second = record {
+  front = first.front ++ chunk;
+  told = first.told ++ second.told;
+  read = Consumes-trans a b c (first.front ++ chunk) bytes first.read second.read.0.read;
+  while_open = inr (record {
+    front = first.front ++ chunk;
+    last = bytes;
+    heard_is = refl;
+    short = second.read.0.short;
+    told = first.told ++ second.read.1.told;
+    standing = second.read.1.standing;
+    fed = heard_both end_text (is_interrupted bytes true) session between second.read.1.standing chunk second.read.1.told a b x y some
+        first second.read.1.fed;
+    is_open = second.read.1.is_open;
+  });
+  ended = second.read.0.ended;
+  fed = heard_both end_text (is_interrupted bytes true) session between next chunk second.told a b x y some first second.fed;
+  made = second.made;
   put = Appends-trans x y z first.told second.told first.put second.put;
 }
+
+-- the session is over behind the chunk
+pub heard_over : (end_text : List ℕ) (session between next : Session) (chunk : List ℕ) (a b c x y z : Option (List ℕ)) → chunk ≢ []
+    → IsHeardUpTo end_text session a b x y chunk between → IsChunkAnswered end_text between chunk b c y z None next
+    → IsConversed end_text session a c x z next × (next.is_over ≡ true)
+heard_over end_text session between next chunk a b c x y z some first second = (
+  record {
+    heard = first.front ++ chunk;
+    told = first.told ++ second.told;
+    read = subst (λ (rest : Option (List ℕ)). Consumes a rest (first.front ++ chunk)) (sym second.read.0) first.read;
+    while_open = first.while_open;
+    may_end = false;
+    ended = λ never. absurd (false≢true never);
+    fed = heard_both end_text false session between next chunk second.told a b x y some first second.fed;
+    made = second.made;
+    put = Appends-trans x y z first.told second.told first.put second.put;
+  },
+  second.read.1,
+)
+
+-- no byte is left
+pub heard_all : (end_text : List ℕ) (session next : Session) (chunk : List ℕ) (a b x y : Option (List ℕ)) → chunk ≡ []
+    → IsHeardUpTo end_text session a b x y chunk next → IsConversed end_text session a b x y next × IsAtEnd b
+heard_all end_text session next chunk a b x y none up_to = (
+  record {
+    heard = up_to.front ++ chunk;
+    told = up_to.told;
+    read = up_to.read;
+    while_open = up_to.while_open;
+    may_end = is_interrupted chunk true;
+    ended = λ may. up_to.ended none;
+    fed = subst (λ (bytes : List ℕ). IsFed end_text (is_interrupted chunk true) session bytes up_to.told next)
+        (sym (ap (λ (last : List ℕ). up_to.front ++ last) none ∙ append-nil up_to.front)) up_to.fed;
+    made = up_to.made;
+    put = up_to.put;
+  },
+  up_to.ended none,
+)

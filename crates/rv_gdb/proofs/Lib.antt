@@ -1,2 +1,3 @@
 mod Starting
 mod Joining
+mod Reading

@@ -1,2 +1,3 @@
 pub mod JobSessions
 pub mod Conversing
+pub mod Chunks

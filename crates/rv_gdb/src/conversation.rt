@@ -1,13 +1,22 @@
 //! What gdb sends, and what it is answered.
 
-ghost use Rattle.std.specs.Prelude.{◌≡◌, IfErr, IfOk, OnOk, false, true};
+ghost use Rattle.std.specs.Prelude.{◌≡◌, ◌≢◌, ◌<◌, ◌==◌, IfErr, IfOk, None, OnOk, is_some, length, option_map, true};
+ghost use Rattle.std.specs.Io.KnownBytes.{Appends};
 ghost use Rattle.rv_base.specs.Counts.{one_more};
-ghost use Rattle.rv_gdb.specs.Conversing.{IsConversed, IsEnded, IsReadAnswered};
+ghost use Rattle.rv_gdb.specs.Conversing.{IsChunkRead, IsConversed, IsEnded};
+ghost use Rattle.rv_gdb.specs.Chunks.{IsByteAnswered, IsBytePut, IsChunkAnswered, IsMovePut};
+ghost use Rattle.rv_session.specs.Heard.{is_interrupted};
+ghost use Rattle.rv_session.specs.Sessions.{IsSameRun, MayAsk};
 
+use crate::ctrl_c::{Coming, Raised, Unraised};
 use rv_base::{Sink, put_all};
-use rv_session::{EndText, Session, cuts_are_not_seen};
+use rv_history::Interrupt;
+use rv_session::{EndText, Session};
 use std::alloc::{AllocError, Global};
 use std::io::{ErrorKind, Read};
+use std::sync::atomic::AtomicBool;
+use std::sync::atomic::Ordering::SeqCst;
+use std::thread::{Threads, join_mut};
 
 /// Why a session was broken off.
 #[derive(Clone, Copy, Debug, PartialEq, Eq)]
@@ -33,57 +42,293 @@ impl From<AllocError> for Broken {
 // A read asks for as many bytes at most: gdb's packets have up to 16,384.
 const CHUNK: usize = 16_384;
 
+// The answer to a move for which there is no memory.
+const NO_MEMORY: &str = "$E.out of memory#79";
+
+// What gdb sends for Ctrl-C.
+const CTRL_C: u8 = 0x03;
+
+/// The means of a conversation.
+#[derive(Drop)]
+pub struct Means<'a, R, E> {
+    pub rt: &'a R,
+    pub alloc: Global,
+    /// What is said at the end of the session's run.
+    pub end: &'a E,
+}
+
 /// Hears the bytes of a reader, and puts what the session answers to them, until gdb ends the session or the reader has no more. No
-/// read begins once the session is over.
-pub fn converse<E: EndText, I: Read, O: Sink>(
-    alloc: Global,
+/// read begins once the session is over. While a move is under way that nothing waits behind, another thread reads on: only 0x03 breaks
+/// the move off, or the end of the bytes.
+pub fn converse<R: Threads, E: EndText, I: Read + Send, O: Sink>(
+    means: &Means<'_, R, E>,
     session: &mut Session,
-    end: &E,
     input: &mut I,
     out: &mut O,
 ) -> Result<(), Broken>
-    ensures heard { OnOk result (IsConversed (E.end_text end.now) session.old (I.remaining input.old) (I.remaining input.new)
-        (O.taken out.old) (O.taken out.new) session.new) }
+    requires asked { session.old.asked ≡ None }
+    requires of_run { E.start means.now.end.now ≡ session.old.history.start }
+    ensures heard { OnOk result (IsConversed (E.end_text means.now.end.now) session.old (I.remaining input.old)
+        (I.remaining input.new) (O.taken out.old) (O.taken out.new) session.new) }
     ensures ended { OnOk result (IsEnded session.new (I.remaining input.new)) }
     ensures failed { IfErr result (λ broken. broken ≡ Broken.Unput → O.failed out.new ≡ one_more (O.failed out.old)) }
+    ensures unfailed { IfErr result (λ broken. broken ≢ Broken.Unput → O.failed out.new ≡ O.failed out.old) }
     ensures counted { OnOk result (O.failed out.new ≡ O.failed out.old) }
 {
-    cuts_are_not_seen();
     if session.is_over() {
         return Ok(());
     }
+    let mut chunk = read_chunk(means.alloc, input)?;
     for _ in 0..u64::MAX {
-        if !answer_chunk(alloc, session, end, input, out)? {
+        if chunk.is_empty() {
             return Ok(());
+        }
+        match answer_chunk(means, session, chunk.as_slice(), input, out)? {
+            Some(next) => chunk = next,
+            None => return Ok(()),
         }
     }
     // So many reads are never done.
     Err(Broken::Unread(ErrorKind::TimedOut))
 }
 
-// Reads once, and puts what the session answers. It says whether another read may begin.
-fn answer_chunk<E: EndText, I: Read, O: Sink>(
-    alloc: Global,
+// Reads once: no byte is the end.
+fn read_chunk<I: Read>(alloc: Global, input: &mut I) -> Result<Vec<u8>, Broken>
+    ensures read { IfOk result (λ chunk. IsChunkRead (I.remaining input.old) (I.remaining input.new) chunk.items) }
+    ensures failed { IfErr result (λ broken. broken ≢ Broken.Unput) }
+{
+    let mut buffer = [0u8; CHUNK];
+    match input.read(&mut buffer) {
+        Ok(count) => Ok(Vec::from_slice(alloc, &buffer[..count])?),
+        Err(error) => Err(Broken::Unread(error.kind())),
+    }
+}
+
+// Answers the bytes of a read, and reads once more unless the session is over then.
+fn answer_chunk<R: Threads, E: EndText, I: Read + Send, O: Sink>(
+    means: &Means<'_, R, E>,
     session: &mut Session,
-    end: &E,
+    chunk: &[u8],
     input: &mut I,
     out: &mut O,
-) -> Result<bool, Broken>
-    ensures heard { OnOk result (IsReadAnswered (E.end_text end.now) session.old (I.remaining input.old) (I.remaining input.new)
-        (O.taken out.old) (O.taken out.new) session.new) }
-    ensures going { IfOk result (λ more. more ≡ true → session.new.is_over ≡ false) }
-    ensures ended { IfOk result (λ more. more ≡ false → IsEnded session.new (I.remaining input.new)) }
+) -> Result<Option<Vec<u8>>, Broken>
+    requires asked { session.old.asked ≡ None }
+    requires of_run { E.start means.now.end.now ≡ session.old.history.start }
+    ensures answered { IfOk result (λ next. IsChunkAnswered (E.end_text means.now.end.now) session.old chunk.now
+        (I.remaining input.old) (I.remaining input.new) (O.taken out.old) (O.taken out.new)
+        (option_map (λ bytes. bytes.items) next) session.new) }
+    ensures run { OnOk result (IsSameRun session.old session.new) }
     ensures failed { IfErr result (λ broken. broken ≡ Broken.Unput → O.failed out.new ≡ one_more (O.failed out.old)) }
+    ensures unfailed { IfErr result (λ broken. broken ≢ Broken.Unput → O.failed out.new ≡ O.failed out.old) }
     ensures counted { OnOk result (O.failed out.new ≡ O.failed out.old) }
 {
-    let mut chunk = [0u8; CHUNK];
-    let count = match input.read(&mut chunk) {
-        Ok(count) => count,
-        Err(error) => return Err(Broken::Unread(error.kind())),
-    };
-    let told = session.feed(alloc, end, &chunk[..count])?;
-    match put_all(out, told.as_slice()) {
-        Ok(()) => Ok(count > 0 && !session.is_over()),
+    for index in 0..chunk.len() {
+        if answer_byte(means, session, chunk, index, out)? {
+            return Ok(Some(move_while_reading(means, session, input, out)?));
+        }
+    }
+    if session.is_over() {
+        return Ok(None);
+    }
+    Ok(Some(read_chunk(means.alloc, input)?))
+}
+
+// Answers a byte of a chunk, and makes the move that it asks for if another byte waits behind it. It says whether a move waits.
+fn answer_byte<R, E: EndText, O: Sink>(
+    means: &Means<'_, R, E>,
+    session: &mut Session,
+    chunk: &[u8],
+    index: usize,
+    out: &mut O,
+) -> Result<bool, Broken>
+    requires within { index < length chunk.now }
+    requires asked { session.old.asked ≡ None }
+    requires of_run { E.start means.now.end.now ≡ session.old.history.start }
+    ensures answered { IfOk result (λ waits. IsByteAnswered (E.end_text means.now.end.now) session.old chunk.now index waits
+        (O.taken out.old) (O.taken out.new) session.new) }
+    ensures not_over { OnOk result (MayAsk session.new) }
+    ensures run { OnOk result (IsSameRun session.old session.new) }
+    ensures failed { IfErr result (λ broken. broken ≡ Broken.Unput → O.failed out.new ≡ one_more (O.failed out.old)) }
+    ensures unfailed { IfErr result (λ broken. broken ≢ Broken.Unput → O.failed out.new ≡ O.failed out.old) }
+    ensures counted { OnOk result (O.failed out.new ≡ O.failed out.old) }
+{
+    put_answer(means.alloc, session, chunk[index], out)?;
+    if !session.is_asked() {
+        return Ok(false);
+    }
+    if index + 1 == chunk.len() {
+        return Ok(true);
+    }
+    put_move_before(means, session, chunk[index + 1], out)?;
+    Ok(false)
+}
+
+// Makes the move behind which a byte waits: 0x03 breaks it off.
+fn put_move_before<R, E: EndText, O: Sink>(
+    means: &Means<'_, R, E>,
+    session: &mut Session,
+    behind: u8,
+    out: &mut O,
+) -> Result<(), Broken>
+    requires asked { is_some session.old.asked ≡ true }
+    requires of_run { E.start means.now.end.now ≡ session.old.history.start }
+    ensures moved { OnOk result (IsMovePut (E.end_text means.now.end.now) (behind == 3) session.old (O.taken out.old)
+        (O.taken out.new) session.new) }
+    ensures run { OnOk result (IsSameRun session.old session.new) }
+    ensures failed { IfErr result (λ broken. broken ≡ Broken.Unput → O.failed out.new ≡ one_more (O.failed out.old)) }
+    ensures unfailed { IfErr result (λ broken. broken ≢ Broken.Unput → O.failed out.new ≡ O.failed out.old) }
+    ensures counted { OnOk result (O.failed out.new ≡ O.failed out.old) }
+{
+    if behind == CTRL_C {
+        put_move(means, session, &mut Raised, out)
+    } else {
+        put_move(means, session, &mut Unraised, out)
+    }
+}
+
+// Puts what the session answers to a byte.
+fn put_answer<O: Sink>(
+    alloc: Global,
+    session: &mut Session,
+    byte: u8,
+    out: &mut O,
+) -> Result<(), Broken>
+    requires { session.old.asked ≡ None }
+    ensures answered { OnOk result (IsBytePut session.old byte (O.taken out.old) (O.taken out.new) session.new) }
+    ensures not_over { OnOk result (MayAsk session.new) }
+    ensures run { OnOk result (IsSameRun session.old session.new) }
+    ensures failed { IfErr result (λ broken. broken ≡ Broken.Unput → O.failed out.new ≡ one_more (O.failed out.old)) }
+    ensures unfailed { IfErr result (λ broken. broken ≢ Broken.Unput → O.failed out.new ≡ O.failed out.old) }
+    ensures counted { OnOk result (O.failed out.new ≡ O.failed out.old) }
+{
+    let told = session.hear(alloc, byte)?;
+    put_told(out, told.as_slice())
+}
+
+// Makes the move that is asked for, and puts what the session says of it.
+fn put_move<R, E: EndText, J: Interrupt, O: Sink>(
+    means: &Means<'_, R, E>,
+    session: &mut Session,
+    interrupt: &mut J,
+    out: &mut O,
+) -> Result<(), Broken>
+    requires asked { is_some session.old.asked ≡ true }
+    requires of_run { E.start means.now.end.now ≡ session.old.history.start }
+    ensures moved { OnOk result (IsMovePut (E.end_text means.now.end.now) (J.was_raised interrupt.new) session.old
+        (O.taken out.old) (O.taken out.new) session.new) }
+    ensures run { OnOk result (IsSameRun session.old session.new) }
+    ensures failed { IfErr result (λ broken. broken ≡ Broken.Unput → O.failed out.new ≡ one_more (O.failed out.old)) }
+    ensures unfailed { IfErr result (λ broken. broken ≢ Broken.Unput → O.failed out.new ≡ O.failed out.old) }
+    ensures counted { OnOk result (O.failed out.new ≡ O.failed out.old) }
+{
+    match session.work(means.alloc, means.end, interrupt) {
+        Ok(told) => put_told(out, told.as_slice()),
+        Err(error) => {
+            // gdb waits for an answer, and a read for gdb.
+            put_told(out, NO_MEMORY.as_bytes())?;
+            Err(error.into())
+        }
+    }
+}
+
+fn put_told<O: Sink>(out: &mut O, told: &[u8]) -> Result<(), Broken>
+    ensures put { OnOk result (Appends (O.taken out.old) (O.taken out.new) told.now) }
+    ensures failed { IfErr result (λ broken. broken ≡ Broken.Unput → O.failed out.new ≡ one_more (O.failed out.old)) }
+    ensures unfailed { IfErr result (λ broken. broken ≢ Broken.Unput → O.failed out.new ≡ O.failed out.old) }
+    ensures counted { OnOk result (O.failed out.new ≡ O.failed out.old) }
+{
+    match put_all(out, told) {
+        Ok(()) => Ok(()),
         Err(_) => Err(Broken::Unput),
+    }
+}
+
+// Makes the move while another thread reads once.
+fn move_while_reading<R: Threads, E: EndText, I: Read + Send, O: Sink>(
+    means: &Means<'_, R, E>,
+    session: &mut Session,
+    input: &mut I,
+    out: &mut O,
+) -> Result<Vec<u8>, Broken>
+    requires asked { is_some session.old.asked ≡ true }
+    requires of_run { E.start means.now.end.now ≡ session.old.history.start }
+    ensures read { IfOk result (λ chunk. IsChunkRead (I.remaining input.old) (I.remaining input.new) chunk.items) }
+    ensures moved { IfOk result (λ chunk. IsMovePut (E.end_text means.now.end.now) (is_interrupted chunk.items true)
+        session.old (O.taken out.old) (O.taken out.new) session.new) }
+    ensures run { OnOk result (IsSameRun session.old session.new) }
+    ensures failed { IfErr result (λ broken. broken ≡ Broken.Unput → O.failed out.new ≡ one_more (O.failed out.old)) }
+    ensures unfailed { IfErr result (λ broken. broken ≢ Broken.Unput → O.failed out.new ≡ O.failed out.old) }
+    ensures counted { OnOk result (O.failed out.new ≡ O.failed out.old) }
+{
+    let raised = AtomicBool::new(false);
+    move_beside_reader(means, session, input, out, &raised)
+}
+
+// Makes the move while another thread reads once, which raises an interrupt where the move is to be broken off.
+fn move_beside_reader<R: Threads, E: EndText, I: Read + Send, O: Sink>(
+    means: &Means<'_, R, E>,
+    session: &mut Session,
+    input: &mut I,
+    out: &mut O,
+    raised: &AtomicBool,
+) -> Result<Vec<u8>, Broken>
+    requires asked { is_some session.old.asked ≡ true }
+    requires of_run { E.start means.now.end.now ≡ session.old.history.start }
+    ensures read { IfOk result (λ chunk. IsChunkRead (I.remaining input.old) (I.remaining input.new) chunk.items) }
+    ensures moved { IfOk result (λ chunk. IsMovePut (E.end_text means.now.end.now) (is_interrupted chunk.items true)
+        session.old (O.taken out.old) (O.taken out.new) session.new) }
+    ensures run { OnOk result (IsSameRun session.old session.new) }
+    ensures failed { IfErr result (λ broken. broken ≡ Broken.Unput → O.failed out.new ≡ one_more (O.failed out.old)) }
+    ensures unfailed { IfErr result (λ broken. broken ≢ Broken.Unput → O.failed out.new ≡ O.failed out.old) }
+    ensures counted { OnOk result (O.failed out.new ≡ O.failed out.old) }
+{
+    let alloc = means.alloc;
+    let mut coming = Coming {
+        raised,
+        was_seen: false,
+    };
+    let (read, put) = join_mut(
+        means.rt,
+        &mut || read_ahead(alloc, input, raised),
+        &mut || put_move(means, session, &mut coming, out),
+    );
+    put?;
+    let chunk = read?;
+    check_raised(coming.was_seen, chunk.as_slice())?;
+    Ok(chunk)
+}
+
+// The reading thread raises an interrupt for what it read alone. No clause says what another thread stored, so it is looked at.
+fn check_raised(was_seen: bool, chunk: &[u8]) -> Result<(), Broken>
+    ensures raised { OnOk result (was_seen ≡ true → is_interrupted chunk.now true ≡ true) }
+    ensures failed { IfErr result (λ broken. broken ≢ Broken.Unput) }
+{
+    if was_seen && !is_interrupted(chunk) {
+        return Err(Broken::Unread(ErrorKind::Interrupted));
+    }
+    Ok(())
+}
+
+// Reads once, and raises an interrupt where a move is to be broken off for it, or where the reader failed.
+fn read_ahead<I: Read>(alloc: Global, input: &mut I, raised: &AtomicBool) -> Result<Vec<u8>, Broken>
+    ensures read { IfOk result (λ chunk. IsChunkRead (I.remaining input.old) (I.remaining input.new) chunk.items) }
+    ensures failed { IfErr result (λ broken. broken ≢ Broken.Unput) }
+{
+    let read = read_chunk(alloc, input);
+    let is_raised = match &read {
+        Ok(chunk) => is_interrupted(chunk.as_slice()),
+        Err(_) => true,
+    };
+    raised.store(is_raised, SeqCst);
+    read
+}
+
+// Whether a move is broken off for bytes that come while it is under way: they begin with 0x03, or are the end.
+fn is_interrupted(bytes: &[u8]) -> bool
+    ensures { result ≡ is_interrupted bytes.now true }
+{
+    match bytes.first() {
+        Some(byte) => *byte == CTRL_C,
+        None => true,
     }
 }

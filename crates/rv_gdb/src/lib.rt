@@ -1,11 +1,12 @@
 //! A job of a plan under gdb.
 //!
 //! [`session_at`] is the session over the run of a job, at its first step; [`converse`] hears what a reader has of gdb, and puts what
-//! the session answers.
+//! the session answers. Ctrl-C breaks off a move that is under way.
 #![tactic(auto)]
 
 mod conversation;
+mod ctrl_c;
 mod job_session;
 
-pub use conversation::{Broken, converse};
+pub use conversation::{Broken, Means, converse};
 pub use job_session::session_at;

@@ -12,7 +12,7 @@ use Rattle.rv_history.specs.declared.stepping.Stepped.{Stepped}
 use Rattle.rv_history.specs.declared.stepping.Stepped.TheVariants as stepped
 use Rattle.rv_history.specs.declared.stops.Stops.{Stops}
 use Rattle.rv_history.specs.LastStop.{AreQuiet, IsLastOn, IsQuietAt, last_at, last_behind}
-use Rattle.rv_history.specs.Moves.{GoesOnBack, IsChangeBefore, IsStepBefore, IsStopBefore, MeetsBack}
+use Rattle.rv_history.specs.Moves.{GoesOnBack, IsChangeBefore, IsStepBefore, IsStopBefore, IsUnbroken, MeetsBack}
 use Rattle.rv_history.specs.Places.{IsBreakAt, IsChangeAt, IsReached, last_place}
 use Rattle.rv_history.specs.Stepping.{IsStepped}
 use Rattle.rv_history.specs.Stops.{IsSetOff, IsUnset, is_break}
@@ -49,15 +49,16 @@ no_break_later stops from place start order absent before is =
 
 -- what a move meets, it meets from a place later, if there is no break where it began
 meets_later : (stops : Stops) (budget from place : ℕ) (start : State) (found : Found) → place ≤ from
-    → (IsBreakAt stops start from → ⊥) → MeetsBack stops budget start from place found
+    → (IsBreakAt stops start from → ⊥) → IsUnbroken found → MeetsBack stops budget start from place found
     → MeetsBack stops budget start (from + 1) place found
-meets_later stops budget from place start found.Break order absent meets = (omega arith, meets.1)
-meets_later stops budget from place start found.Change order absent meets =
+meets_later stops budget from place start found.Break order absent unbroken meets = (omega arith, meets.1)
+meets_later stops budget from place start found.Change order absent unbroken meets =
     (meets.0, λ below is. no_break_later stops from place start order absent meets.1 is)
-meets_later stops budget from place start found.Begin order absent meets =
+meets_later stops budget from place start found.Begin order absent unbroken meets =
     (meets.0, λ below is. no_break_later stops from place start order absent meets.1 is)
-meets_later stops budget from place start (found.End ending) order absent meets = meets
-meets_later stops budget from place start found.Done order absent meets = meets
+meets_later stops budget from place start (found.End ending) order absent unbroken meets = meets
+meets_later stops budget from place start found.Done order absent unbroken meets = meets
+meets_later stops budget from place start found.Interrupted order absent unbroken meets = absurd (unbroken refl)
 
 goes_later : (stops : Stops) (budget from j : ℕ) (start : State) → j ≤ from → (IsBreakAt stops start from → ⊥)
     → GoesOnBack stops budget start from j → GoesOnBack stops budget start (from + 1) j
@@ -76,11 +77,11 @@ goes_there stops budget from start none = record {
 
 -- behind a step that changes nothing, at whose place there is no breakpoint
 last_stays : (stops : Stops) (budget from : ℕ) (start : State) (last : Arrival) → (IsBreakAt stops start from → ⊥)
-    → (IsChangeAt stops budget start from → ⊥) → IsLastStop stops budget start from last
+    → (IsChangeAt stops budget start from → ⊥) → IsUnbroken last.found → IsLastStop stops budget start from last
     → IsLastStop stops budget start (from + 1) last
-last_stays stops budget from start last absent none stop = record {
+last_stays stops budget from start last absent none unbroken stop = record {
   order = let order = stop.order in omega arith;
-  meets = meets_later stops budget from last.place start last.found stop.order absent stop.meets;
+  meets = meets_later stops budget from last.place start last.found stop.order absent unbroken stop.meets;
   between = λ j low high. elim (cases_eq j (from + 1)) [
     | inl there ↦ rw there (goes_there stops budget from start none)
     | inr other ↦ goes_later stops budget from j start (omega arith) absent (stop.between j low (omega arith))
@@ -115,14 +116,14 @@ last_stays_on stops budget begin from start None quiet stop = λ j low high. eli
   | inr other ↦ stop j low (omega arith)
 ]
 last_stays_on stops budget begin from start (Some last) quiet stop =
-    last_stays stops budget from start last quiet.no_break quiet.no_change stop
+    (last_stays stops budget from start last quiet.no_break quiet.no_change stop.1 stop.0, stop.1)
 
 -- with a breakpoint or without one
 last_quiet : (stops : Stops) (budget begin from : ℕ) (start s : State) (last : Option Arrival) (is : Bool) → IsReached start from s
     → is ≡ is_break stops s.pc → (IsChangeAt stops budget start from → ⊥) → IsLastOn stops budget start begin from last
     → IsLastOn stops budget start begin (from + 1) (last_at last from is)
 last_quiet stops budget begin from start s last true reached told none stop =
-    last_breaks stops budget from start (ap (λ (t : State). is_break stops t.pc) (sym reached.same) ∙ sym told) none
+    (last_breaks stops budget from start (ap (λ (t : State). is_break stops t.pc) (sym reached.same) ∙ sym told) none, λ same. cc same)
 last_quiet stops budget begin from start s last false reached told none stop =
     last_stays_on stops budget begin from start last (record {
       no_break = λ is. both_ways (is_break stops s.pc) (sym told) (ap (λ (t : State). is_break stops t.pc) reached.same ∙ is);
@@ -134,33 +135,34 @@ pub last_more : (stops : Stops) (budget begin from : ℕ) (start s t : State) (l
     → IsReached start from s → from < last_place budget start → is ≡ is_break stops s.pc → IsStepped stops s t kind → from < budget
     → IsLastOn stops budget start begin from last → IsLastOn stops budget start begin (from + 1) (last_behind last from is kind)
 last_more stops budget begin from start s t last is stepped.Changed reached goes told did within stop =
-    last_changes stops budget from start (change_at stops budget from start s t reached within did.0 did.1)
+    (last_changes stops budget from start (change_at stops budget from start s t reached within did.0 did.1), λ same. cc same)
 last_more stops budget begin from start s t last is stepped.Quiet reached goes told did within stop =
     last_quiet stops budget begin from start s last is reached told (no_change_at stops budget from start s t reached did.0 did.1) stop
 last_more stops budget begin from start s t last is (stepped.Ended ending) reached goes told did within stop =
-    let ok = ap step_of reached.same ∙ each_completes budget from start goes in absurd (cc (sym did, ok))
+    let ok = ap step_of reached.same ∙ each_completes budget from start goes in absurd (cc (sym did.0, ok))
 
 -- ---- the parts of a search
 
 -- the last stop before a place is that before a later one, if the steps between them are quiet
 stays_over : (stops : Stops) (budget end more : ℕ) (start : State) (last : Arrival) → AreQuiet stops budget start end (end + more)
-    → IsLastStop stops budget start end last → IsLastStop stops budget start (end + more) last
-stays_over stops budget end zero start last quiet stop =
+    → IsUnbroken last.found → IsLastStop stops budget start end last → IsLastStop stops budget start (end + more) last
+stays_over stops budget end zero start last quiet unbroken stop =
     subst (λ (k : ℕ). IsLastStop stops budget start k last) (sym (add-zero end)) stop
-stays_over stops budget end (suc more) start last quiet stop =
+stays_over stops budget end (suc more) start last quiet unbroken stop =
     let before : end + more + 1 ≡ end + suc more = omega arith in
     let here = quiet (end + more) (omega arith) (omega arith) in
     subst (λ (k : ℕ). IsLastStop stops budget start k last) before
-    (last_stays stops budget (end + more) start last here.no_break here.no_change
-    (stays_over stops budget end more start last (λ j low high. quiet j low (omega arith)) stop))
+    (last_stays stops budget (end + more) start last here.no_break here.no_change unbroken
+    (stays_over stops budget end more start last (λ j low high. quiet j low (omega arith)) unbroken stop))
 
 pub last_before : (stops : Stops) (budget end from : ℕ) (start : State) (last : Arrival) → end ≤ from
-    → AreQuiet stops budget start end from → IsLastStop stops budget start end last → IsLastStop stops budget start from last
-last_before stops budget end from start last order quiet stop =
+    → AreQuiet stops budget start end from → IsUnbroken last.found → IsLastStop stops budget start end last
+    → IsLastStop stops budget start from last
+last_before stops budget end from start last order quiet unbroken stop =
     let more = from - end in
     let sum : end + more ≡ from = omega arith in
     subst (λ (k : ℕ). IsLastStop stops budget start k last) sum
-    (stays_over stops budget end more start last (subst (λ (k : ℕ). AreQuiet stops budget start end k) (sym sum) quiet) stop)
+    (stays_over stops budget end more start last (subst (λ (k : ℕ). AreQuiet stops budget start end k) (sym sum) quiet) unbroken stop)
 
 -- two parts where nothing is met
 pub quiet_joined : (stops : Stops) (budget begin end from : ℕ) (start : State) → AreQuiet stops budget start begin end
@@ -174,7 +176,16 @@ quiet_joined stops budget begin end from start one other j low high = elim (case
 pub begins_over : (stops : Stops) (budget from : ℕ) (start : State) → AreQuiet stops budget start 0 from
     → IsStopBefore stops budget start from 0 found.Begin
 begins_over stops budget from start quiet =
-    last_before stops budget 0 from start (record { place = 0; found = found.Begin }) (omega arith) quiet (begins stops budget start)
+    last_before stops budget 0 from start (record { place = 0; found = found.Begin }) (omega arith) quiet (λ same. cc same)
+    (begins stops budget start)
+
+-- where an interrupt breaks it off, it stays
+pub stays_broken : (stops : Stops) (budget from : ℕ) (start : State) → IsStopBefore stops budget start from from found.Interrupted
+stays_broken stops budget from start = record {
+  order = omega arith;
+  meets = refl;
+  between = λ j low high. absurd (omega arith);
+}
 
 -- the machine behind a step that completes
 pub stepped_place : (stops : Stops) (budget from : ℕ) (start s t : State) (kind : Stepped) → IsReached start from s
@@ -182,7 +193,7 @@ pub stepped_place : (stops : Stops) (budget from : ℕ) (start s t : State) (kin
 stepped_place stops budget from start s t stepped.Changed reached goes did = next_place start s t from reached did.0
 stepped_place stops budget from start s t stepped.Quiet reached goes did = next_place start s t from reached did.0
 stepped_place stops budget from start s t (stepped.Ended ending) reached goes did =
-    let ok = ap step_of reached.same ∙ each_completes budget from start goes in absurd (cc (sym did, ok))
+    let ok = ap step_of reached.same ∙ each_completes budget from start goes in absurd (cc (sym did.0, ok))
 
 -- ---- one step back
 
@@ -210,3 +221,4 @@ back_within stops budget from place start found.Change stop = let is = stop.0 in
 back_within stops budget from place start found.Begin stop = let is = stop.0 in omega arith
 back_within stops budget from place start found.Break stop = absurd stop
 back_within stops budget from place start (found.End ending) stop = absurd stop
+back_within stops budget from place start found.Interrupted stop = absurd stop

@@ -1,5 +1,5 @@
 -- Runs between breakpoints.
-use Rattle.std.proofs.Common.{◌≡◌, ◌∙◌, ◌+◌, ◌<◌, ◌≤◌, ◌&&◌, ◌||◌, ℕ, zero, suc, Bool, true, false, List, length, take, Option, Some, None, Ok, Err, MatchOption, ap, arith, inl, inr, ltb, refl, subst, sym}
+use Rattle.std.proofs.Common.{◌≡◌, ◌∙◌, ◌+◌, ◌<◌, ◌≤◌, ◌&&◌, ◌||◌, ℕ, zero, suc, true, false, List, length, take, Option, Some, None, Ok, Err, MatchOption, ap, arith, inl, inr, ltb, subst, sym}
 use Rattle.std.specs.List.{list_any}
 use Rattle.std.specs.Prelude.{◌==◌, slice_index_or}
 use Rattle.std.proofs.lemmas.Bool.{and_right, cases_Bool, eqb-true}
@@ -18,11 +18,11 @@ use Rattle.rv_history.specs.declared.stepping.Stepped.TheVariants as stepped
 use Rattle.rv_history.specs.declared.stops.Stops.{Stops}
 use Rattle.rv_history.specs.LastStop.{IsLastOn}
 use Rattle.rv_history.specs.Places.{IsReached, last_place}
-use Rattle.rv_history.specs.Stops.{is_break, is_halt, is_outside}
+use Rattle.rv_history.specs.Stops.{AreUnwatched, is_break, is_halt, is_outside}
 use Rattle.rv_history.proofs.Backward.{last_more}
 use Rattle.rv_history.proofs.Forward.{QuietUpTo, quiet_more}
-use Rattle.rv_history.proofs.Reaching.{by_step, ending_first, next_place, run_goes_on, run_none, same_ran, state_first, steps_end, steps_first}
-use Rattle.rv_history.proofs.Unstopped.{AreUnwatched, is_unset}
+use Rattle.rv_history.proofs.Reaching.{by_step, next_place, run_goes_on, run_none, same_ran, state_first, steps_end}
+use Rattle.rv_history.proofs.Unstopped.{is_unset}
 
 -- so many steps complete, and come to a state
 abbrev pub Completes : ℕ → State → State → Type 0

@@ -104,6 +104,16 @@ stops_by_end stops bounds budget from place start s ending reached low within e 
   between = quiet;
 }
 
+pub stops_by_interrupt : (stops : Stops) (bounds : Bounds) (budget from place : ℕ) (start s : State) → IsReached start place s
+    → from ≤ place → place ≤ budget → (ltb from place && is_halt stops bounds s.pc) ≡ false
+    → QuietUpTo stops bounds budget start from place → IsNextStop stops bounds budget start from place found.Interrupted
+stops_by_interrupt stops bounds budget from place start s reached low within absent quiet = record {
+  order = low;
+  within = comes_within budget place start reached.completed within;
+  meets = no_halt_at stops bounds start s from place reached absent;
+  between = quiet;
+}
+
 -- at the budget, where no step is left
 at_budget : (stops : Stops) (bounds : Bounds) (budget from place : ℕ) (start s : State) → place ≡ budget → IsReached start place s
     → QuietUpTo stops bounds budget start from place → IsReached start budget s × QuietUpTo stops bounds budget start from budget

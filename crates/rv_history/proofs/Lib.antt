@@ -4,6 +4,7 @@ mod Reaching
 mod SingleSteps
 mod Standing
 mod Forward
+mod Ways
 mod Backward
 mod Unstopped
 mod Between

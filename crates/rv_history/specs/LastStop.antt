@@ -1,10 +1,11 @@
 -- The last stop on the way.
 use Rattle.std.specs.Prelude.{ℕ, ◌+◌, ◌<◌, ◌≤◌, Bool, Option, Some, None, if◌then◌else◌}
 use Rattle.rv_machine.specs.State.{State}
-use Rattle.rv_history.specs.Moves.{IsStopBefore}
+use Rattle.rv_history.specs.Moves.{IsStopBefore, IsUnbroken}
 use Rattle.rv_history.specs.Places.{IsBreakAt, IsChangeAt}
 use Rattle.rv_history.specs.declared.found.Arrival.{Arrival}
 use Rattle.rv_history.specs.declared.found.Found.TheVariants as found
+use Rattle.rv_history.specs.declared.search_back.Part.{Part}
 use Rattle.rv_history.specs.declared.stepping.Stepped.{Stepped}
 use Rattle.rv_history.specs.declared.stepping.Stepped.TheVariants as stepped
 use Rattle.rv_history.specs.declared.stops.Stops.{Stops}
@@ -29,5 +30,10 @@ AreQuiet stops budget start begin end = (j : ℕ) → begin ≤ j → j < end �
 
 -- the last stop before a place, where a step from another place on is none of these
 abbrev pub IsLastOn : Stops → ℕ → State → ℕ → ℕ → Option Arrival → Type 0
-IsLastOn stops budget start begin end (Some last) = IsStopBefore stops budget start end last.place last.found
+IsLastOn stops budget start begin end (Some last) = IsStopBefore stops budget start end last.place last.found × IsUnbroken last.found
 IsLastOn stops budget start begin end None = AreQuiet stops budget start begin end
+
+-- the last stop before a place that a part of the run tells, whatever the budget
+pub record IsPart (stops : Stops) (start : State) (end : ℕ) (part : Part) : Type 0 where
+  pub begin : part.begin < end
+  pub last : (budget : ℕ) → end ≤ budget → IsLastOn stops budget start part.begin end part.last

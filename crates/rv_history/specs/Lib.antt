@@ -10,4 +10,4 @@ pub mod Stands
 pub mod StandInside
 pub mod Printing
 pub mod Kept
-pub mod Ends
+pub mod Legs

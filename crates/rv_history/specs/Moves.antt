@@ -14,10 +14,19 @@ use Rattle.rv_history.specs.declared.stops.Stops.{Stops}
 abbrev pub IsEndAt : ℕ → State → ℕ → Ending → Type 0
 IsEndAt budget start place ending = (place ≡ last_place budget start) × (ending ≡ (run_of budget start).ending)
 
+-- an interrupt broke a move off
+abbrev pub IsBroken : Found → Type 0
+IsBroken what = what ≡ found.Interrupted
+
+-- nothing broke it off
+abbrev pub IsUnbroken : Found → Type 0
+IsUnbroken what = IsBroken what → ⊥
+
 -- ---- forwards
 
 -- What a move forward from a place meets at this one: a breakpoint or an address outside the bounds first, but not where it began,
--- then the end, then a change by the step in front of which it stands.
+-- then the end, then a change by the step in front of which it stands. An interrupt breaks it off anywhere else than at a breakpoint or
+-- outside the bounds, which a move from there would pass over.
 abbrev pub MeetsAhead : Stops → Bounds → ℕ → State → ℕ → ℕ → Found → Type 0
 MeetsAhead stops bounds budget start from place found.Break = (from < place) × IsHaltAt stops bounds start place
 MeetsAhead stops bounds budget start from place (found.End ending) =
@@ -26,6 +35,7 @@ MeetsAhead stops bounds budget start from place found.Change =
     IsChangeAt stops budget start place × (from < place → IsHaltAt stops bounds start place → ⊥)
 MeetsAhead stops bounds budget start from place found.Done = ⊥
 MeetsAhead stops bounds budget start from place found.Begin = ⊥
+MeetsAhead stops bounds budget start from place found.Interrupted = from < place → IsHaltAt stops bounds start place → ⊥
 
 -- what a move forward finds at the budget, where it met nothing before
 abbrev pub found_at_budget : Bool → Found
@@ -52,6 +62,7 @@ IsNextStep stops budget start from place (found.End ending) = (place ≡ from) �
 IsNextStep stops budget start from place found.Change = (place ≡ from) × IsChangeAt stops budget start from
 IsNextStep stops budget start from place found.Break = ⊥
 IsNextStep stops budget start from place found.Begin = ⊥
+IsNextStep stops budget start from place found.Interrupted = ⊥
 
 -- ---- backwards
 
@@ -62,7 +73,7 @@ pub record IsChangeBefore (stops : Stops) (budget : ℕ) (start : State) (place 
   pub change : IsChangeAt stops budget start before
 
 -- What a move backward from a place meets at this one: a break first, but not where it began, then a change by the step before;
--- at 0 it is at the beginning.
+-- at 0 it is at the beginning. Where an interrupt breaks it off, it stands where it began.
 abbrev pub MeetsBack : Stops → ℕ → State → ℕ → ℕ → Found → Type 0
 MeetsBack stops budget start from place found.Break = (place < from) × IsBreakAt stops start place
 MeetsBack stops budget start from place found.Change =
@@ -70,6 +81,7 @@ MeetsBack stops budget start from place found.Change =
 MeetsBack stops budget start from place found.Begin = (place ≡ 0) × (place < from → IsBreakAt stops start place → ⊥)
 MeetsBack stops budget start from place (found.End ending) = ⊥
 MeetsBack stops budget start from place found.Done = ⊥
+MeetsBack stops budget start from place found.Interrupted = place ≡ from
 
 -- it meets nothing there
 pub record GoesOnBack (stops : Stops) (budget : ℕ) (start : State) (from place : ℕ) : Type 0 where
@@ -90,3 +102,4 @@ IsStepBefore stops budget start from place found.Change = (place ≡ from) × Is
 IsStepBefore stops budget start from place found.Begin = (place ≡ 0) × (from ≡ 0)
 IsStepBefore stops budget start from place found.Break = ⊥
 IsStepBefore stops budget start from place (found.End ending) = ⊥
+IsStepBefore stops budget start from place found.Interrupted = ⊥

@@ -8,6 +8,6 @@ use Rattle.rv_history.specs.declared.stepping.Stepped.TheVariants as stepped
 use Rattle.rv_history.specs.declared.stops.Stops.{Stops}
 
 abbrev pub IsStepped : Stops → State → State → Stepped → Type 0
-IsStepped stops s t (stepped.Ended ending) = step_of s ≡ Err ending
+IsStepped stops s t (stepped.Ended ending) = (step_of s ≡ Err ending) × (t ≡ s)
 IsStepped stops s t stepped.Changed = (step_of s ≡ Ok t) × IsSetOff stops s t
 IsStepped stops s t stepped.Quiet = (step_of s ≡ Ok t) × IsUnset stops s t

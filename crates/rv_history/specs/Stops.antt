@@ -17,6 +17,14 @@ use Rattle.rv_history.specs.declared.stops.Watch.{Watch}
 abbrev pub is_break : Stops → ℕ → Bool
 is_break stops pc = list_any (λ address. address == pc) stops.breaks
 
+-- no byte is watched
+abbrev pub AreUnwatched : Stops → Type 0
+AreUnwatched stops = (stops.watches ≡ []) × ((stops.reads ≡ []) × (stops.accesses ≡ []))
+
+-- there is nothing where it would stop
+abbrev pub AreNone : Stops → Type 0
+AreNone stops = (stops.breaks ≡ []) × AreUnwatched stops
+
 -- an address outside the bounds of a move: below the first, or at the second or above
 abbrev pub is_outside : Bounds → ℕ → Bool
 is_outside bounds.All pc = false

@@ -1,83 +1,90 @@
 //! Searches for breakpoints alone: between two of them a run goes at its full speed.
 
-ghost use Rattle.std.specs.Prelude.{◌≡◌, ◌≤◌, ◌<◌, [], ℕ, IfOk, false};
+ghost use Rattle.std.specs.Prelude.{◌≡◌, ◌≤◌, ◌<◌, ℕ, IfNone, IfOk, IfSome, false, true};
 ghost use Rattle.rv_machine.specs.Machine.{state_of};
 ghost use Rattle.rv_machine.specs.Run.{run_of};
 ghost use Rattle.rv_machine.specs.declared.ending.Ending.TheVariants.{Budget};
-ghost use Rattle.rv_history.specs.LastStop.{IsLastOn};
-ghost use Rattle.rv_history.specs.Moves.{IsNextStop};
-ghost use Rattle.rv_history.specs.Stops.{is_break};
+ghost use Rattle.rv_history.specs.LastStop.{IsPart};
+ghost use Rattle.rv_history.specs.Legs.{IsArrival, IsUnderWay};
+ghost use Rattle.rv_history.specs.Stops.{AreUnwatched, is_break};
 ghost use Rattle.rv_history.specs.declared.bounds.Bounds.TheVariants.{All as AllAddresses};
+ghost use Rattle.rv_history.specs.declared.found.Found.TheVariants.{Interrupted};
 
-use crate::found::{Arrival, Found};
-use crate::search::{Leg, end_of_leg, is_halt_behind};
+use crate::found::Found;
+use crate::interrupt::Interrupt;
+use crate::leg::{Arrived, Leg};
 use crate::search_back::{Part, last_behind};
+use crate::slices::{fill_a_slice, is_slice_end, slice_end};
 use crate::stepping::{Stepped, step};
 use crate::stops::Stops;
 use crate::track::Track;
 use rv_machine::Machine;
 use std::alloc::{AllocError, Global};
 
-/// The next stop on a leg without bounds, where no byte is watched.
-pub(crate) fn next_break(
+/// The next stop of a move without bounds, where no byte is watched.
+pub(crate) fn next_break<I: Interrupt>(
     alloc: Global,
-    track: &Track,
-    leg: Leg,
+    track: &mut Track,
+    mut leg: Leg,
     stops: &Stops,
-) -> Result<Arrival, AllocError>
-    requires comes { (run_of leg.from track.now).steps ≡ leg.from }
-    requires within { leg.from ≤ leg.budget }
+    interrupt: &mut I,
+) -> Result<Arrived, AllocError>
+    requires way { IsUnderWay stops.now track.old leg }
     requires unbounded { leg.bounds ≡ AllAddresses }
-    requires unwatched { (stops.now.watches ≡ []) × ((stops.now.reads ≡ []) × (stops.now.accesses ≡ [])) }
-    ensures { IfOk result
-        (λ arrival. IsNextStop stops.now leg.bounds leg.budget track.now leg.from arrival.place arrival.found) }
+    requires unwatched { AreUnwatched stops.now }
+    ensures stop { IfOk result (IsArrival stops.now track.old leg) }
+    ensures broken_off { IfOk result (λ arrived. arrived.found ≡ Interrupted → I.was_raised interrupt.new ≡ true) }
+    ensures same { track.new ≡ track.old }
 {
-    let mut machine = track.machine_after(alloc, leg.from)?;
-    let mut place = leg.from;
-    'places: while place < leg.budget {
-        if is_halt_behind(stops, leg, &machine, place) {
-            return Ok(Arrival {
-                place,
-                found: Found::Break,
-            });
+    'places: while leg.at.place < leg.budget {
+        if leg.is_halted(stops) {
+            return Ok(leg.arrived(Found::Break));
         }
-        if let Some(ending) = step(&mut machine) {
-            return Ok(Arrival {
-                place,
-                found: Found::End(ending),
-            });
+        if leg.keep_and_ask(alloc, track, interrupt)? {
+            return Ok(leg.arrived(Found::Interrupted));
         }
-        place += 1;
-        place += run_between(&mut machine, stops, leg.budget - place);
+        let end = slice_end(leg.at.place, leg.budget);
+        if let Some(ending) = step(&mut leg.at.machine) {
+            return Ok(leg.arrived(Found::End(ending)));
+        }
+        leg.at.place += 1;
+        let left = end - leg.at.place;
+        leg.at.place += run_between(&mut leg.at.machine, stops, left);
     }
-    Ok(end_of_leg(stops, leg, &machine))
+    let found = leg.found_at_budget(stops);
+    Ok(leg.arrived(found))
 }
 
-/// The last breakpoint up to a place, behind the last state at hand before it, where no byte is watched.
-pub(crate) fn search_breaks(
+/// The last breakpoint up to a place, behind the last state at hand before it, where no byte is watched, unless an interrupt breaks the
+/// search off.
+pub(crate) fn search_breaks<I: Interrupt>(
     alloc: Global,
     track: &Track,
     end: u32,
     stops: &Stops,
-) -> Result<Part, AllocError>
+    interrupt: &mut I,
+) -> Result<Option<Part>, AllocError>
     requires some { 0 < end }
     requires comes { (run_of end track.now).steps ≡ end }
-    requires unwatched { (stops.now.watches ≡ []) × ((stops.now.reads ≡ []) × (stops.now.accesses ≡ [])) }
-    ensures begin { IfOk result (λ part. part.begin < end) }
-    ensures last { IfOk result (λ part. (budget : ℕ) → end ≤ budget
-        → IsLastOn stops.now budget track.now part.begin end part.last) }
+    requires unwatched { AreUnwatched stops.now }
+    ensures part { IfOk result (λ searched. IfSome searched (IsPart stops.now track.now end)) }
+    ensures broken_off { IfOk result (λ searched. IfNone searched (I.was_raised interrupt.new ≡ true)) }
 {
     let mut at = track.before(alloc, end - 1)?;
     let begin = at.place;
     let mut last = None;
     'places: while at.place < end {
+        if is_slice_end(at.place) && fill_a_slice(at.place - begin) && interrupt.is_raised() {
+            return Ok(None);
+        }
+        let slice = slice_end(at.place, end);
         let is_break = stops.has_break(at.machine.pc());
         let _ = step(&mut at.machine);
         last = last_behind(last, at.place, is_break, Stepped::Quiet);
         at.place += 1;
-        at.place += run_between(&mut at.machine, stops, end - at.place);
+        at.place += run_between(&mut at.machine, stops, slice - at.place);
     }
-    Ok(Part { begin, last })
+    Ok(Some(Part { begin, last }))
 }
 
 // At most so many steps of a machine, none of them from a breakpoint; how many. It takes the time of a run.

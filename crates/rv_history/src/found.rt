@@ -15,6 +15,8 @@ pub enum Found {
     End(Ending),
     /// The run begins here.
     Begin,
+    /// An interrupt broke the move off.
+    Interrupted,
 }
 
 /// A place of a run, and what is found there.

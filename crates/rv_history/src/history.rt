@@ -1,23 +1,27 @@
 //! A place in a run, and the moves from it.
 
-ghost use Rattle.std.specs.Prelude.{◌≡◌, ◌+◌, ◌-◌, ◌<◌, ◌≤◌, ◌↔◌, IfOk, IsTrue, MatchBool, OnErr, if◌then◌else◌};
+ghost use Rattle.std.specs.Prelude.{◌≡◌, ◌+◌, ◌-◌, ◌<◌, ◌≤◌, ◌↔◌, IfOk, IsTrue, MatchBool, OnErr, if◌then◌else◌, true};
 ghost use Rattle.rv_machine.specs.Machine.{state_of};
 ghost use Rattle.rv_trace.specs.Trace.{state_after};
 
 use crate::bounds::Bounds;
 use crate::counts::{Count, first_with};
 use crate::found::{Arrival, Found};
-use crate::search::{Leg, next_step, next_stop};
+use crate::interrupt::Interrupt;
+use crate::leg::Leg;
+use crate::machine_at::MachineAt;
+use crate::search::next_stop;
 use crate::search_back::{step_before, stop_before};
 use crate::start::Start;
+use crate::stepping::{Stepped, step_watched};
 use crate::stops::{SetOff, Stops};
 use crate::track::Track;
-use rv_machine::Machine;
+use rv_machine::{Ending, Machine};
 use std::alloc::{AllocError, Global};
 use std::marker::Model;
 
 /// A place in the run from a start within a budget, and the machine there. No move changes the run, and what it answers does not depend
-/// on which states of the run are at hand.
+/// on which states of the run are at hand, but for where an interrupt breaks a move off.
 #[derive(Drop)]
 pub struct History {
     track: Track,
@@ -45,7 +49,6 @@ impl Model for History {
 impl History {
     ghost use Rattle.rv_history.specs.Counts.{IsFirstWith, IsFound};
     ghost use Rattle.rv_history.specs.Moves.{IsNextStep, IsNextStop, IsStepBefore, IsStopBefore};
-    ghost use Rattle.rv_history.specs.Ends.{IsFoundEnd};
     ghost use Rattle.rv_history.specs.Places.{IsReached, last_place};
     ghost use Rattle.rv_history.specs.Starts.{start_of};
     ghost use Rattle.rv_history.specs.Stops.{first_set_off};
@@ -87,28 +90,33 @@ impl History {
     }
 
     /// Goes to the next stop, which may be an end of the run. It does not stop at a breakpoint where it stands, and it may begin
-    /// outside the bounds.
-    pub fn go_on(
+    /// outside the bounds. Where it is interrupted, it stands at a place up to which it met nothing.
+    pub fn go_on<I: Interrupt>(
         &mut self,
         alloc: Global,
         stops: &Stops,
         bounds: Bounds,
+        interrupt: &mut I,
     ) -> Result<Found, AllocError>
         ensures stop { IfOk result (IsNextStop stops.now bounds self.old.budget self.old.start self.old.place self.new.place) }
+        ensures broken_off { IfOk result (λ found. found ≡ Found.Interrupted → I.was_raised interrupt.new ≡ true) }
         ensures run { self.new ≡ record self.old { place = self.new.place } }
         ensures same { OnErr result (self.new ≡ self.old) }
     {
+        let machine = self.machine.copied(alloc)?;
         let leg = Leg {
             from: self.place,
             budget: self.budget,
             bounds,
+            at: MachineAt {
+                place: self.place,
+                machine,
+            },
         };
-        // With nothing to look for on the way, the run goes at its full speed.
-        if bounds.are_all() && stops.are_none() {
-            return self.go_to_end(alloc);
-        }
-        let arrival = next_stop(alloc, &self.track, leg, stops)?;
-        self.arrive(alloc, arrival)
+        let arrived = next_stop(alloc, &mut self.track, leg, stops, interrupt)?;
+        self.place = arrived.at.place;
+        self.machine = arrived.at.machine;
+        Ok(arrived.found)
     }
 
     /// Goes a step on, unless that is an end or would set off a watch.
@@ -117,17 +125,46 @@ impl History {
         ensures run { self.new ≡ record self.old { place = self.new.place } }
         ensures same { OnErr result (self.new ≡ self.old) }
     {
-        let arrival = next_step(alloc, &self.track, self.budget, self.place, stops)?;
-        self.arrive(alloc, arrival)
+        if self.place == self.budget {
+            return Ok(Found::End(Ending::Budget));
+        }
+        let mut machine = self.machine.copied(alloc)?;
+        match step_watched(alloc, &mut machine, stops)? {
+            Stepped::Ended(ending) => Ok(Found::End(ending)),
+            Stepped::Changed => Ok(Found::Change),
+            Stepped::Quiet => {
+                self.machine = machine;
+                self.place += 1;
+                Ok(Found::Done)
+            }
+        }
     }
 
-    /// Goes back to the stop before, or to the start.
-    pub fn go_back(&mut self, alloc: Global, stops: &Stops) -> Result<Found, AllocError>
+    /// Goes back to the stop before, or to the start. Where it is interrupted, it stands where it stood.
+    pub fn go_back<I: Interrupt>(
+        &mut self,
+        alloc: Global,
+        stops: &Stops,
+        interrupt: &mut I,
+    ) -> Result<Found, AllocError>
         ensures stop { IfOk result (IsStopBefore stops.now self.old.budget self.old.start self.old.place self.new.place) }
+        ensures broken_off { IfOk result (λ found. found ≡ Found.Interrupted → I.was_raised interrupt.new ≡ true) }
         ensures run { self.new ≡ record self.old { place = self.new.place } }
         ensures same { OnErr result (self.new ≡ self.old) }
     {
-        let arrival = stop_before(alloc, &self.track, self.place, stops)?;
+        if stops.are_none() {
+            let begin = Arrival {
+                place: 0,
+                found: Found::Begin,
+            };
+            return self.arrive(alloc, begin);
+        }
+        // From now on there are states at hand near to here, and the parts of the search are short.
+        let _ = self.track.reach(alloc, self.place)?;
+        let arrival = stop_before(alloc, &self.track, self.place, stops, interrupt)?;
+        if let Found::Interrupted = arrival.found {
+            return Ok(arrival.found);
+        }
         self.arrive(alloc, arrival)
     }
 
@@ -207,18 +244,6 @@ impl History {
         stops.first_set_off(alloc, &behind, &self.machine)
     }
 
-    // Goes to the end of the run.
-    fn go_to_end(&mut self, alloc: Global) -> Result<Found, AllocError>
-        ensures end { IfOk result (λ found. IsFoundEnd self.old.budget self.old.start self.new.place found) }
-        ensures run { self.new ≡ record self.old { place = self.new.place } }
-        ensures same { OnErr result (self.new ≡ self.old) }
-    {
-        let (at, ending) = self.track.reach(alloc, self.budget)?;
-        self.machine = at.machine;
-        self.place = at.place;
-        Ok(Found::End(ending))
-    }
-
     // Goes to where a search ended.
     fn arrive(&mut self, alloc: Global, arrival: Arrival) -> Result<Found, AllocError>
         requires { arrival.place ≤ last_place self.old.budget self.old.start }
@@ -226,7 +251,7 @@ impl History {
         ensures moved { IfOk result (λ found. self.new ≡ record self.old { place = arrival.place }) }
         ensures same { OnErr result (self.new ≡ self.old) }
     {
-        let (at, _) = self.track.reach(alloc, arrival.place)?;
+        let at = self.track.come_to(alloc, arrival.place)?;
         self.machine = at.machine;
         self.place = arrival.place;
         Ok(arrival.found)

@@ -62,6 +62,14 @@ impl KeptStates {
         None
     }
 
+    /// Whether the state at a place is kept.
+    pub(crate) fn has(&self, place: u32) -> bool {
+        match self.last_up_to(place) {
+            Some(at) => at.place == place,
+            None => false,
+        }
+    }
+
     /// Keeps one more in place of those that are not before it, and of the first where there are too many.
     pub(crate) fn keep(&mut self, at: MachineAt) -> Result<(), AllocError>
         ensures { (start : State) → AreStates start self.old → IsAt start at → AreStates start self.new }

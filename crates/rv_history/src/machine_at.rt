@@ -32,8 +32,9 @@ impl MachineAt {
     /// Goes on to a place, or to where the run ends before it.
     pub(crate) fn go_to(&mut self, place: u32) -> Ending
         requires { self.old.place ≤ place }
-        ensures { (start : State) → IsAt start self.old → run_of place start
+        ensures ran { (start : State) → IsAt start self.old → run_of place start
             ≡ record { ending = result; steps = self.new.place; state = state_of self.new.machine } }
+        ensures onward { self.old.place ≤ self.new.place }
     {
         let ran = self.machine.run(place - self.place);
         self.place += ran.steps;

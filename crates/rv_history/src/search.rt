@@ -1,133 +1,118 @@
 //! Searches forward in a run.
 
-ghost use Rattle.std.specs.Prelude.{◌≡◌, ◌≤◌, ◌&&◌, IfOk, nat_lt};
-ghost use Rattle.rv_machine.specs.Machine.{state_of};
-ghost use Rattle.rv_machine.specs.Run.{run_of};
-ghost use Rattle.rv_history.specs.Moves.{IsNextStep, IsNextStop, found_at_budget};
-ghost use Rattle.rv_history.specs.Stops.{is_halt};
+ghost use Rattle.std.specs.Prelude.{◌≡◌, ◌≤◌, IfOk, true};
+ghost use Rattle.rv_history.specs.Kept.{IsAt};
+ghost use Rattle.rv_history.specs.Legs.{IsArrival, IsUnderWay};
+ghost use Rattle.rv_history.specs.Stops.{AreNone};
+ghost use Rattle.rv_history.specs.declared.bounds.Bounds.TheVariants.{All as AllAddresses};
+ghost use Rattle.rv_history.specs.declared.found.Found.TheVariants.{Interrupted};
+ghost use Rattle.rv_history.specs.declared.stops.Stops.{Stops};
 
-use crate::bounds::Bounds;
 use crate::breaks::next_break;
-use crate::found::{Arrival, Found};
-use crate::stepping::{Stepped, step_beside, step_watched};
+use crate::found::Found;
+use crate::interrupt::Interrupt;
+use crate::leg::{Arrived, Leg};
+use crate::slices::slice_end;
+use crate::stepping::{Stepped, step_beside};
 use crate::stops::Stops;
 use crate::track::Track;
-use rv_machine::{Ending, Machine};
+use rv_machine::Ending;
 use std::alloc::{AllocError, Global};
 
-/// What a move forward goes through.
-#[derive(Clone, Copy)]
-pub(crate) struct Leg {
-    /// The place where it begins.
-    pub from: u32,
-    pub budget: u32,
-    pub bounds: Bounds,
-}
-
-/// The next stop on a leg. It goes through it step by step, if there is more to look for than breakpoints.
-pub(crate) fn next_stop(
+/// The next stop of a move, with the machine there. States are kept on the way.
+pub(crate) fn next_stop<I: Interrupt>(
     alloc: Global,
-    track: &Track,
+    track: &mut Track,
     leg: Leg,
     stops: &Stops,
-) -> Result<Arrival, AllocError>
-    requires comes { (run_of leg.from track.now).steps ≡ leg.from }
-    requires within { leg.from ≤ leg.budget }
-    ensures { IfOk result
-        (λ arrival. IsNextStop stops.now leg.bounds leg.budget track.now leg.from arrival.place arrival.found) }
+    interrupt: &mut I,
+) -> Result<Arrived, AllocError>
+    requires { IsUnderWay stops.now track.old leg }
+    ensures stop { IfOk result (IsArrival stops.now track.old leg) }
+    ensures broken_off { IfOk result (λ arrived. arrived.found ≡ Interrupted → I.was_raised interrupt.new ≡ true) }
+    ensures same { track.new ≡ track.old }
 {
-    if stops.have_no_watch() && leg.bounds.are_all() {
-        return next_break(alloc, track, leg, stops);
+    if !leg.bounds.are_all() {
+        return next_watched(alloc, track, leg, stops, interrupt);
     }
-    let mut machine = track.machine_after(alloc, leg.from)?;
-    let mut watched = stops.watched_bytes(alloc, machine.bus())?;
-    for place in leg.from..leg.budget {
-        if is_halt_behind(stops, leg, &machine, place) {
-            return Ok(Arrival {
-                place,
-                found: Found::Break,
-            });
+    // With nothing to look for on the way, the run goes at its full speed.
+    if stops.are_none() {
+        return end_of_run(alloc, track, leg, interrupt);
+    }
+    if stops.have_no_watch() {
+        return next_break(alloc, track, leg, stops, interrupt);
+    }
+    next_watched(alloc, track, leg, stops, interrupt)
+}
+
+// The same step by step.
+fn next_watched<I: Interrupt>(
+    alloc: Global,
+    track: &mut Track,
+    mut leg: Leg,
+    stops: &Stops,
+    interrupt: &mut I,
+) -> Result<Arrived, AllocError>
+    requires { IsUnderWay stops.now track.old leg }
+    ensures stop { IfOk result (IsArrival stops.now track.old leg) }
+    ensures broken_off { IfOk result (λ arrived. arrived.found ≡ Interrupted → I.was_raised interrupt.new ≡ true) }
+    ensures same { track.new ≡ track.old }
+{
+    let mut watched = stops.watched_bytes(alloc, leg.at.machine.bus())?;
+    'places: while leg.at.place < leg.budget {
+        if leg.is_halted(stops) {
+            return Ok(leg.arrived(Found::Break));
         }
-        match step_beside(alloc, &mut machine, stops, &mut watched)? {
-            Stepped::Ended(ending) => {
-                return Ok(Arrival {
-                    place,
-                    found: Found::End(ending),
-                });
-            }
+        if leg.keep_and_ask(alloc, track, interrupt)? {
+            return Ok(leg.arrived(Found::Interrupted));
+        }
+        match step_beside(alloc, &mut leg.at.machine, stops, &mut watched)? {
+            Stepped::Ended(ending) => return Ok(leg.arrived(Found::End(ending))),
             Stepped::Changed => {
-                return Ok(Arrival {
-                    place,
-                    found: Found::Change,
-                });
+                // The machine is behind the step, and the move in front of it.
+                let at = track.come_to(alloc, leg.at.place)?;
+                let found = Found::Change;
+                return Ok(Arrived { at, found });
             }
             Stepped::Quiet => {}
         }
+        leg.at.place += 1;
     }
-    Ok(end_of_leg(stops, leg, &machine))
+    let found = leg.found_at_budget(stops);
+    Ok(leg.arrived(found))
 }
 
-/// What is found at the budget, where a machine stands that came there without a stop.
-pub(crate) fn end_of_leg(stops: &Stops, leg: Leg, machine: &Machine) -> Arrival
-    ensures place { result.place ≡ leg.budget }
-    ensures found { result.found
-        ≡ found_at_budget (nat_lt leg.from leg.budget && is_halt stops.now leg.bounds (state_of machine.now).pc) }
-{
-    let found = if is_halt_behind(stops, leg, machine, leg.budget) {
-        Found::Break
-    } else {
-        Found::End(Ending::Budget)
-    };
-    Arrival {
-        place: leg.budget,
-        found,
-    }
-}
-
-/// Whether a machine at a place stands at a breakpoint or outside the bounds, and behind the place where the move began.
-pub(crate) fn is_halt_behind(stops: &Stops, leg: Leg, machine: &Machine, place: u32) -> bool
-    ensures { result ≡ (nat_lt leg.from place && is_halt stops.now leg.bounds (state_of machine.now).pc) }
-{
-    leg.from < place && is_halt(stops, leg.bounds, machine.pc())
-}
-
-fn is_halt(stops: &Stops, bounds: Bounds, pc: u32) -> bool
-    ensures { result ≡ is_halt stops.now bounds pc }
-{
-    stops.has_break(pc) || bounds.is_outside(pc)
-}
-
-/// A step forward from a place.
-pub(crate) fn next_step(
+// The end of the run, where there is nowhere to stop before.
+fn end_of_run<I: Interrupt>(
     alloc: Global,
-    track: &Track,
-    budget: u32,
-    from: u32,
-    stops: &Stops,
-) -> Result<Arrival, AllocError>
-    requires comes { (run_of from track.now).steps ≡ from }
-    requires within { from ≤ budget }
-    ensures { IfOk result (λ arrival. IsNextStep stops.now budget track.now from arrival.place arrival.found) }
+    track: &mut Track,
+    leg: Leg,
+    interrupt: &mut I,
+) -> Result<Arrived, AllocError>
+    requires there { IsAt track.old leg.at }
+    requires order { leg.from ≤ leg.at.place }
+    requires within { leg.at.place ≤ leg.budget }
+    requires unbounded { leg.bounds ≡ AllAddresses }
+    ensures stop { IfOk result (λ arrived. (stops : Stops) → AreNone stops → IsArrival stops track.old leg arrived) }
+    ensures broken_off { IfOk result (λ arrived. arrived.found ≡ Interrupted → I.was_raised interrupt.new ≡ true) }
+    ensures same { track.new ≡ track.old }
 {
-    if from == budget {
-        return Ok(Arrival {
-            place: from,
-            found: Found::End(Ending::Budget),
-        });
+    let at = track.last_of(alloc, leg.at, leg.budget)?;
+    let mut way = Leg {
+        from: leg.from,
+        budget: leg.budget,
+        bounds: leg.bounds,
+        at,
+    };
+    'places: while way.at.place < way.budget {
+        if way.keep_and_ask(alloc, track, interrupt)? {
+            return Ok(way.arrived(Found::Interrupted));
+        }
+        let end = slice_end(way.at.place, way.budget);
+        let ending = way.at.go_to(end);
+        if way.at.place < end {
+            return Ok(way.arrived(Found::End(ending)));
+        }
     }
-    let mut machine = track.machine_after(alloc, from)?;
-    match step_watched(alloc, &mut machine, stops)? {
-        Stepped::Ended(ending) => Ok(Arrival {
-            place: from,
-            found: Found::End(ending),
-        }),
-        Stepped::Changed => Ok(Arrival {
-            place: from,
-            found: Found::Change,
-        }),
-        Stepped::Quiet => Ok(Arrival {
-            place: from + 1,
-            found: Found::Done,
-        }),
-    }
+    Ok(way.arrived(Found::End(Ending::Budget)))
 }

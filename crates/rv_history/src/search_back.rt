@@ -1,12 +1,15 @@
 //! Searches backward in a run: it is run again in parts, each from a state that is at hand, the last part first.
 
-ghost use Rattle.std.specs.Prelude.{◌≡◌, ◌≤◌, ◌<◌, ℕ, IfOk};
+ghost use Rattle.std.specs.Prelude.{◌≡◌, ◌≤◌, ◌<◌, ℕ, IfNone, IfOk, IfSome, true};
 ghost use Rattle.rv_machine.specs.Run.{run_of};
-ghost use Rattle.rv_history.specs.LastStop.{IsLastOn, last_behind};
+ghost use Rattle.rv_history.specs.LastStop.{IsPart, last_behind};
 ghost use Rattle.rv_history.specs.Moves.{IsStepBefore, IsStopBefore};
+ghost use Rattle.rv_history.specs.declared.found.Found.TheVariants.{Interrupted};
 
 use crate::breaks::search_breaks;
 use crate::found::{Arrival, Found};
+use crate::interrupt::Interrupt;
+use crate::slices::{fill_a_slice, is_slice_end};
 use crate::stepping::{Stepped, step_beside, step_watched};
 use crate::stops::Stops;
 use crate::track::Track;
@@ -21,56 +24,72 @@ pub(crate) struct Part {
     pub last: Option<Arrival>,
 }
 
-/// The stop before a place, whatever the budget within which the run comes there.
-pub(crate) fn stop_before(
+/// The stop before a place, whatever the budget within which the run comes there. It asks behind each part, once they fill a
+/// slice.
+pub(crate) fn stop_before<I: Interrupt>(
     alloc: Global,
     track: &Track,
     from: u32,
     stops: &Stops,
+    interrupt: &mut I,
 ) -> Result<Arrival, AllocError>
     requires { (run_of from track.now).steps ≡ from }
-    ensures { IfOk result (λ arrival. (budget : ℕ) → from ≤ budget
+    ensures stop { IfOk result (λ arrival. (budget : ℕ) → from ≤ budget
         → IsStopBefore stops.now budget track.now from arrival.place arrival.found) }
+    ensures broken_off { IfOk result (λ arrival. arrival.found ≡ Interrupted → I.was_raised interrupt.new ≡ true) }
 {
-    let none = Arrival {
-        place: 0,
-        found: Found::Begin,
+    let broken_off = Arrival {
+        place: from,
+        found: Found::Interrupted,
     };
-    if stops.are_none() {
-        return Ok(none);
-    }
     let mut end = from;
     while 0 < end {
-        let part = search_part(alloc, track, end, stops)?;
+        if fill_a_slice(from - end) && interrupt.is_raised() {
+            return Ok(broken_off);
+        }
+        let Some(part) = search_part(alloc, track, end, stops, interrupt)? else {
+            return Ok(broken_off);
+        };
         if let Some(last) = part.last {
             return Ok(last);
         }
         end = part.begin;
     }
-    Ok(none)
+    Ok(Arrival {
+        place: 0,
+        found: Found::Begin,
+    })
 }
 
-// The last stop up to a place, behind the last state at hand before it.
-fn search_part(alloc: Global, track: &Track, end: u32, stops: &Stops) -> Result<Part, AllocError>
+// The last stop up to a place, behind the last state at hand before it, unless an interrupt breaks the search off.
+fn search_part<I: Interrupt>(
+    alloc: Global,
+    track: &Track,
+    end: u32,
+    stops: &Stops,
+    interrupt: &mut I,
+) -> Result<Option<Part>, AllocError>
     requires some { 0 < end }
     requires comes { (run_of end track.now).steps ≡ end }
-    ensures begin { IfOk result (λ part. part.begin < end) }
-    ensures last { IfOk result (λ part. (budget : ℕ) → end ≤ budget
-        → IsLastOn stops.now budget track.now part.begin end part.last) }
+    ensures part { IfOk result (λ searched. IfSome searched (IsPart stops.now track.now end)) }
+    ensures broken_off { IfOk result (λ searched. IfNone searched (I.was_raised interrupt.new ≡ true)) }
 {
     if stops.have_no_watch() {
-        return search_breaks(alloc, track, end, stops);
+        return search_breaks(alloc, track, end, stops, interrupt);
     }
     let mut at = track.before(alloc, end - 1)?;
     let begin = at.place;
     let mut watched = stops.watched_bytes(alloc, at.machine.bus())?;
     let mut last = None;
     for place in begin..end {
+        if is_slice_end(place) && fill_a_slice(place - begin) && interrupt.is_raised() {
+            return Ok(None);
+        }
         let is_break = stops.has_break(at.machine.pc());
         let stepped = step_beside(alloc, &mut at.machine, stops, &mut watched)?;
         last = last_behind(last, place, is_break, stepped);
     }
-    Ok(Part { begin, last })
+    Ok(Some(Part { begin, last }))
 }
 
 /// The last stop behind the step at a place, once the stop before it is known.

@@ -16,7 +16,7 @@ use std::marker::Model;
 // At first a state is kept at each multiple of so many steps.
 const INTERVAL: u32 = 1 << 22;
 
-// Where a move ends, a state is kept at most so many steps before.
+// Where a move back, a seek or a watch ended, a state is kept at most so many steps before.
 const NEAR: u32 = 1 << 16;
 
 // A session takes so many megabytes at most, if none is told another number.
@@ -24,10 +24,13 @@ const MEGABYTES: u32 = 256;
 
 const MEGABYTE: usize = 1 << 20;
 
-// So many of them are for what is not kept.
+// So many of them are for what is not kept, beside machines.
 const MEGABYTES_BESIDE: usize = 32;
 
-// One in so many of the states is for the way to where the last moves ended.
+// While a move goes on, so many machines are at hand that are not kept.
+const MACHINES_BESIDE: usize = 4;
+
+// One in so many of the states is for the way to where the last move back, seek or watch ended.
 const NEAR_SHARE: usize = 8;
 
 // The bytes that a machine has for each byte of its regions, and at most beside them.
@@ -36,14 +39,14 @@ const BYTES_OF_BYTE: usize = 3;
 const BYTES_BESIDE: usize = 1 << 18;
 
 /// A run from its start, with some of its states at hand, so that a move need not begin at the start: each is the state behind as many
-/// steps as its place says, and which they are is never seen.
+/// steps as its place says. Which they are is seen only where an interrupt breaks a move off.
 #[derive(Drop)]
 pub(crate) struct Track {
     start: Start,
     interval: u32,
     // At multiples of the interval.
     coarse: KeptStates,
-    // On the way to where the last moves ended, each half as far from there as the one before.
+    // On the way to where moves back, seeks and watches ended, each half as far from there as the one before.
     near: KeptStates,
 }
 
@@ -108,6 +111,24 @@ impl Track {
         Ok(MachineAt { place: 0, machine })
     }
 
+    /// The last of another machine of the run and those at the states at hand, up to a place.
+    pub(crate) fn last_of(
+        &self,
+        alloc: Global,
+        at: MachineAt,
+        place: u32,
+    ) -> Result<MachineAt, AllocError>
+        requires there { IsAt self.now at }
+        requires within { at.place ≤ place }
+        ensures there { IfOk result (IsAt self.now) }
+        ensures order { IfOk result (λ last. (at.place ≤ last.place) × (last.place ≤ place)) }
+    {
+        match self.nearest(place) {
+            Some(kept) if at.place < kept.place => kept.copied(alloc),
+            _ => Ok(at),
+        }
+    }
+
     // The last state that is kept up to a place.
     fn nearest(&self, place: u32) -> Option<&MachineAt>
         ensures state { IfSome result (λ at. IsAt self.now at.now) }
@@ -154,6 +175,28 @@ impl Track {
         Ok((at, ending))
     }
 
+    /// The machine at a place to which the run comes. States are kept on the way.
+    pub(crate) fn come_to(&mut self, alloc: Global, place: u32) -> Result<MachineAt, AllocError>
+        requires { (run_of place self.old).steps ≡ place }
+        ensures place { IfOk result (λ at. at.place ≡ place) }
+        ensures there { IfOk result (IsAt self.old) }
+        ensures same { self.new ≡ self.old }
+    {
+        let (at, _) = self.reach(alloc, place)?;
+        Ok(at)
+    }
+
+    /// Keeps the state of a machine at a multiple of the interval, if none is kept there.
+    pub(crate) fn keep_multiple(&mut self, alloc: Global, at: &MachineAt) -> Result<(), AllocError>
+        requires { IsAt self.old at.now }
+        ensures { self.new ≡ self.old }
+    {
+        if at.place == 0 || at.place % self.interval != 0 || self.coarse.has(at.place) {
+            return Ok(());
+        }
+        self.keep(alloc, at)
+    }
+
     // The next place on the way from one place to another where a state is to be kept.
     fn next_kept(&self, at: u32, place: u32) -> Option<u32>
         requires { at ≤ place }
@@ -189,14 +232,14 @@ impl Track {
 }
 
 // None yet of the states of a machine over a bus, of which so many megabytes keep as many as they can: those at multiples, and those near
-// to where the last moves ended.
+// to where moves back, seeks and watches ended.
 fn kept_states(alloc: Global, bus: &Bus, megabytes: u32) -> (KeptStates, KeptStates)
     ensures { (result.0 ≡ []) × (result.1 ≡ []) }
 {
     let room = (megabytes as usize)
         .saturating_sub(MEGABYTES_BESIDE)
         .saturating_mul(MEGABYTE);
-    let states = room / machine_size(bus);
+    let states = (room / machine_size(bus)).saturating_sub(MACHINES_BESIDE);
     let near = states / NEAR_SHARE;
     let coarse = KeptStates::new(alloc, states - near);
     (coarse, KeptStates::new(alloc, near))

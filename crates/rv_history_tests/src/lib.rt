@@ -1,5 +1,9 @@
-//! Tests of `rv_history`: moves in a run that was written out by hand.
+//! Tests of `rv_history`: moves in runs that were written out by hand.
 #![tactic(auto)]
 
+#[cfg(test)]
+mod alarm;
+#[cfg(test)]
+mod broken_off;
 #[cfg(test)]
 mod moves;

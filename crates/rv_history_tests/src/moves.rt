@@ -1,9 +1,10 @@
 //! Moves among the places of a run, by the lines of a table.
+use crate::alarm::Alarm;
 use rv_base::Sequence;
 use rv_history::{Bounds, Found, History, Start, Stops, Watch};
 use rv_isa::Isa;
 use rv_machine::Ending;
-use rv_memory::{Bus, Map, Misaligned};
+use rv_memory::{Bus, Map, Misaligned, Region};
 use samples::{agree, cell_of, has_lines, hex_of, numbers};
 use std::alloc::{AllocError, Global};
 use std::test::Fail;
@@ -40,12 +41,15 @@ fn watch_of(text: &str) -> Result<Watch, Fail> {
     Ok(Watch { address, count })
 }
 
-fn stops_of(alloc: Global, text: &str) -> Result<Stops, Fail> {
+pub fn stops_of(alloc: Global, text: &str) -> Result<Stops, Fail> {
     let mut breaks = Vec::new(alloc);
     let mut watches = Vec::new(alloc);
     let mut reads = Vec::new(alloc);
     let mut accesses = Vec::new(alloc);
     for stop in text.split(' ') {
+        if stop == "none" {
+            continue;
+        }
         if let Some(address) = stop.strip_prefix('b') {
             breaks.push(hex_of(address)?)?;
         } else if let Some(range) = stop.strip_prefix('w') {
@@ -65,14 +69,15 @@ fn stops_of(alloc: Global, text: &str) -> Result<Stops, Fail> {
     })
 }
 
-fn history_of(alloc: Global, budget: u32) -> Result<History, Fail> {
-    let mut bus = Bus::new(
-        alloc,
-        Map::default_map(),
-        Vec::new(alloc),
-        Misaligned::Fault,
-    )?;
-    let code = numbers(alloc, CODE)?;
+pub fn history_of(alloc: Global, code: &str, budget: u32) -> Result<History, Fail> {
+    // It is small, since each move copies it.
+    let map = Map::of(&[Region {
+        base: 0x8000_0000,
+        size: 0x1000,
+        writable: true,
+    }])?;
+    let mut bus = Bus::new(alloc, map, Vec::new(alloc), Misaligned::Fault)?;
+    let code = numbers(alloc, code)?;
     if code.len() > 0x100 || !bus.map().in_one(0x8000_0000, code.len() as u32) {
         return Err("a place".into());
     }
@@ -85,12 +90,13 @@ fn history_of(alloc: Global, budget: u32) -> Result<History, Fail> {
     Ok(History::new(alloc, start, budget)?)
 }
 
-fn found_text(alloc: Global, found: Found) -> Result<String, AllocError> {
+pub fn found_text(alloc: Global, found: Found) -> Result<String, AllocError> {
     match found {
         Found::Done => String::from_str(alloc, "done"),
         Found::Break => String::from_str(alloc, "break"),
         Found::Change => String::from_str(alloc, "change"),
         Found::Begin => String::from_str(alloc, "begin"),
+        Found::Interrupted => String::from_str(alloc, "interrupted"),
         Found::End(Ending::Exit(code)) => format!(in alloc; "exit {code}"),
         Found::End(Ending::Budget) => String::from_str(alloc, "budget"),
         Found::End(Ending::Fault(..)) => String::from_str(alloc, "fault"),
@@ -104,8 +110,8 @@ fn moved(alloc: Global, history: &mut History, stops: &Stops, asked: &str) -> Re
         return Ok(format!(in alloc; "{told} {}", history.place())?);
     }
     let found = match asked {
-        "go_on" => history.go_on(alloc, stops, Bounds::All)?,
-        "go_back" => history.go_back(alloc, stops)?,
+        "go_on" => history.go_on(alloc, stops, Bounds::All, &mut Alarm::never())?,
+        "go_back" => history.go_back(alloc, stops, &mut Alarm::never())?,
         "step" => history.step(alloc, stops)?,
         "step_back" => history.step_back(alloc, stops)?,
         _ => return Err("a move".into()),
@@ -114,13 +120,24 @@ fn moved(alloc: Global, history: &mut History, stops: &Stops, asked: &str) -> Re
     Ok(format!(in alloc; "{} {told}", history.place())?)
 }
 
+// A move, and what it is to come to.
+fn check_move(
+    alloc: Global,
+    history: &mut History,
+    stops: &Stops,
+    line: &str,
+    part: &str,
+) -> Result<(), Fail> {
+    let (asked, wanted) = part.split_once(" = ").ok_or("a move and an answer")?;
+    let met = moved(alloc, history, stops, asked)?;
+    agree(line, met.as_str(), wanted)
+}
+
 fn check_moves(alloc: Global, line: &str) -> Result<(), Fail> {
     let stops = stops_of(alloc, cell_of(line, 2))?;
-    let mut history = history_of(alloc, cell_of(line, 1).parse()?)?;
+    let mut history = history_of(alloc, CODE, cell_of(line, 1).parse()?)?;
     for part in cell_of(line, 3).split("; ") {
-        let (asked, wanted) = part.split_once(" = ").ok_or("a move and an answer")?;
-        let met = moved(alloc, &mut history, &stops, asked)?;
-        agree(line, met.as_str(), wanted)?;
+        check_move(alloc, &mut history, &stops, line, part)?;
     }
     Ok(())
 }
@@ -138,7 +155,7 @@ fn moves_stop(rt: HostRuntime) -> Result<(), Fail> {
 #[test]
 fn registers_are_of_the_place(rt: HostRuntime) -> Result<(), Fail> {
     let alloc = rt.alloc();
-    let mut history = history_of(alloc, 100)?;
+    let mut history = history_of(alloc, CODE, 100)?;
     for (place, x6) in [(2, 0), (3, 3), (5, 2), (13, 0), (8, 1)] {
         assert!(rt; history.seek(alloc, place)?);
         assert_eq!(rt; history.machine().reg(6), x6, "at {place}");

@@ -3,3 +3,4 @@ pub mod Signatures
 pub mod Loadables
 pub mod Narrower
 pub mod Wholes
+pub mod RestsOfRuns

@@ -140,9 +140,9 @@ pub(crate) fn attempt_over_image(
     }
 }
 
-// The image and the signature's range, or the first refusal.
+/// The image and the signature's range, or the first refusal.
 #[tactic(auto, unfolding(crate::specs::Outcome::loadable_image))]
-fn loadable_image(alloc: Global, job: &Job, file: &[u8]) -> Result<Loadable, ImageError>
+pub(crate) fn loadable_image(alloc: Global, job: &Job, file: &[u8]) -> Result<Loadable, ImageError>
     requires { IfSome job.now.signature (λ names. (0 < length names.begin)
         × (0 < length names.end)) }
     ensures { MatchResult result (λ loadable. loadable_image job.now file.now ≡ Ok loadable)
@@ -228,7 +228,7 @@ fn copy_bytes(alloc: Global, bytes: &[u8]) -> Result<Vec<u8>, AllocError>
     bytes.to_vec(alloc)
 }
 
-// What a run within a budget comes to.
+/// What a run within a budget comes to.
 pub(crate) fn run_machine(machine: Machine, budget: u32, range: Option<SignatureRange>) -> EndedRun
     requires { IfSome range
         (λ range. signature_check range.begin range.end (state_of machine).bus.regions ≡ accepted) }

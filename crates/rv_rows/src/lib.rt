@@ -2,7 +2,8 @@
 //!
 //! [`row_at`] is the row of a plan's job: what the job comes to over what is kept of its files, and the verdict on it.
 //! [`run_one`] is all rows, in list order; [`flat_row`] is the row of a flat image. Each answers exactly what the
-//! definitions of `specs/` make of the run; [`machine_at`] is the machine in which that run begins.
+//! definitions of `specs/` make of the run; [`machine_at`] is the machine in which that run begins, and [`row_from`] the row of a job
+//! whose machine has come some way.
 //! [`narrower_sets_only_refuse`] is a law of rows. A [`Telling`] gives a text for each row. The rows and their report are those
 //! of `rv_report`, and stand here under their names too.
 #![tactic(auto)]
@@ -13,6 +14,7 @@ mod law;
 mod outcome;
 mod plan_rows;
 mod recent_outcomes;
+mod rest_of_run;
 mod spare_bus;
 mod telling;
 mod verdict;
@@ -25,6 +27,7 @@ pub use plan_rows::{
     run_one, signature_reference_bytes,
 };
 pub use recent_outcomes::Recent;
+pub use rest_of_run::row_from;
 pub use rv_base::{Sink, SinkFailed, put_all};
 pub use rv_report::{
     LINE, Refusal, Report, Row, RowEnd, Rows, Verdict, Words, WriteError, word_line, write_report,

@@ -51,9 +51,30 @@ pub fn row_at_with_recent(
         ≡ row_of plan.now (slice_index_or plan.now.jobs i d)) }
     ensures recent { OnOk result (AreOutcomes plan.now recent.new) }
 {
-    let job = plan.job(i);
     let outcome = outcome_at(alloc, plan, i, spare)?;
-    let same = is_same_as_named(plan, job, &outcome, spare, recent)?;
+    let same = is_same_as_named(plan, plan.job(i), &outcome, spare, recent)?;
+    keep_outcome_if_named(alloc, plan, i, &outcome, recent)?;
+    judged_row(alloc, plan, i, outcome, same)
+}
+
+/// The row of the job at a place, whose outcome this is, and of which it is known whether it is the same as that of the job
+/// that it names.
+#[tactic(auto, unfolding(crate::specs::Rows::row_of))]
+pub(crate) fn judged_row(
+    alloc: Global,
+    plan: &Plan,
+    i: usize,
+    outcome: Outcome,
+    same: bool,
+) -> Result<Row, AllocError>
+    requires place { i < length plan.now.jobs }
+    requires outcome { outcome_at plan.now i ≡ Some outcome }
+    requires same { (d : AJob) → let job = slice_index_or plan.now.jobs i d in same
+        ≡ is_same_as_named job.same_as (named_job_outcome plan.now job) outcome }
+    ensures { IfOk result (λ row. (d : AJob) → row
+        ≡ row_of plan.now (slice_index_or plan.now.jobs i d)) }
+{
+    let job = plan.job(i);
     let verdict = verdict_of(
         job,
         &outcome,
@@ -61,7 +82,6 @@ pub fn row_at_with_recent(
         expected_console_bytes(plan, i),
         same,
     );
-    keep_outcome_if_named(alloc, plan, i, &outcome, recent)?;
     row_of_outcome(alloc, job.name.as_str(), outcome, verdict)
 }
 
@@ -150,8 +170,8 @@ pub fn machine_at(
     }
 }
 
-// Whether an outcome is the same as that of the job that a job names, if it names one.
-fn is_same_as_named(
+/// Whether an outcome is the same as that of the job that a job names, if it names one.
+pub(crate) fn is_same_as_named(
     plan: &Plan,
     job: &Job,
     outcome: &Outcome,

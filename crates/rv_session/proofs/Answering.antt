@@ -21,15 +21,15 @@ pub record IsLook (request : Request) : Type 0 where
   pub no_detach : request ≡ ask.Detach → ⊥
   pub no_kill : request ≡ ask.Kill → ⊥
 
-pub looked : (end_text : List ℕ) (session : Session) (request : Request) (reply : Reply) → IsLook request → reply ≡ shown_reply session request
-    → IsAnswered end_text session request reply session
-looked end_text session (ask.WriteRegister register value) reply look is = absurd (look.no_write register value refl)
-looked end_text session (ask.Set place) reply look is = absurd (look.no_set place refl)
-looked end_text session (ask.Clear place) reply look is = absurd (look.no_clear place refl)
-looked end_text session (ask.Move asked) reply look is = absurd (look.no_move asked refl)
-looked end_text session (ask.Command text) reply look is = absurd (look.no_command text refl)
-looked end_text session ask.Restart reply look is = absurd (look.no_restart refl)
-looked end_text session ask.NoAcknowledgements reply look is = absurd (look.no_mode refl)
-looked end_text session ask.Detach reply look is = absurd (look.no_detach refl)
-looked end_text session ask.Kill reply look is = absurd (look.no_kill refl)
-looked end_text session request reply look is = (is, refl)
+pub looked : (session : Session) (request : Request) (reply : Reply) → IsLook request → reply ≡ shown_reply session request
+    → IsAnswered session request reply session
+looked session (ask.WriteRegister register value) reply look is = absurd (look.no_write register value refl)
+looked session (ask.Set place) reply look is = absurd (look.no_set place refl)
+looked session (ask.Clear place) reply look is = absurd (look.no_clear place refl)
+looked session (ask.Move asked) reply look is = absurd (look.no_move asked refl)
+looked session (ask.Command text) reply look is = absurd (look.no_command text refl)
+looked session ask.Restart reply look is = absurd (look.no_restart refl)
+looked session ask.NoAcknowledgements reply look is = absurd (look.no_mode refl)
+looked session ask.Detach reply look is = absurd (look.no_detach refl)
+looked session ask.Kill reply look is = absurd (look.no_kill refl)
+looked session request reply look is = (is, refl)

@@ -1,16 +1,14 @@
 -- What is appended to the bytes that go out.
-use Rattle.std.proofs.Common.{◌≡◌, ◌∙◌, ◌++◌, ◌∷◌, ◌+◌, ◌<◌, [], ℕ, Bool, true, false, List, Some, ap, append-nil, append_assoc, get_or, length, refl, subst, sym, take}
-use Rattle.std.proofs.lemmas.List.{take_more}
+use Rattle.std.proofs.Common.{◌≡◌, ◌∙◌, ◌++◌, [], ℕ, Bool, true, false, List, Some, ap, append-nil, append_assoc, refl, subst, sym}
 use Rattle.std.specs.Prelude.{Option, Result, Ok, Err}
 use Rattle.std.specs.Result.{IfOk, OnOk}
 use Rattle.rv_remote.specs.Frames.{Frame, frame_behind, heard_at}
 use Rattle.rv_remote.specs.Packets.{request_of}
 use Rattle.rv_remote.specs.declared.frame.Heard.{Heard}
 use Rattle.rv_session.specs.Answers.{IsAnswered}
-use Rattle.rv_session.specs.Heard.{IsAppended, IsByteFed, IsFed, IsRespondedTo, IsResponse, IsResponseUnless, IsTaken, acknowledgement, packets_of, with_sent}
+use Rattle.rv_session.specs.Heard.{IsAppended, IsByteFed, IsRespondedTo, IsResponse, IsResponseUnless, IsTaken, acknowledgement, packets_of, with_sent}
 use Rattle.rv_session.specs.declared.reply.Reply.{Reply}
 use Rattle.rv_session.specs.declared.session.Session.{Session}
-use Rattle.rv_session.proofs.Cuts.{fed_byte}
 
 -- nothing is appended
 pub nothing_more : (old : List ℕ) (IsSuch : List ℕ → Type 0) → IsSuch [] → IsAppended old old IsSuch
@@ -19,6 +17,11 @@ nothing_more old IsSuch such = record { out = []; new_is = sym (append-nil old);
 -- these bytes are
 pub these_more : (old new out : List ℕ) (IsSuch : List ℕ → Type 0) → new ≡ old ++ out → IsSuch out → IsAppended old new IsSuch
 these_more old new out IsSuch is such = record { out = out; new_is = is; such = such }
+
+-- what is appended to nothing
+pub to_nothing : (old new : List ℕ) (IsSuch : List ℕ → Type 0) → old ≡ [] → IsAppended old new IsSuch → IsSuch new
+to_nothing old new IsSuch none more =
+    subst IsSuch (ap (λ (front : List ℕ). front ++ more.out) (sym none) ∙ sym more.new_is) more.such
 
 -- what is appended has another name
 pub named_otherwise : (old new : List ℕ) (IsSuch IsOther : List ℕ → Type 0) → ((out : List ℕ) → IsSuch out → IsOther out)
@@ -39,19 +42,19 @@ both_if P R Q (Err error) first second together = tt
 
 -- ---- answers
 
-pub not_over : (end_text : List ℕ) (session next : Session) (heard : Heard) (out : List ℕ) → session.is_over ≡ false → IsResponse end_text session heard out next
-    → IsRespondedTo end_text session (Some heard) out next
-not_over end_text session next heard out is response =
-    subst (λ (over : Bool). IsResponseUnless end_text over session heard out next) (sym is) response
+pub not_over : (session next : Session) (heard : Heard) (out : List ℕ) → session.is_over ≡ false → IsResponse session heard out next
+    → IsRespondedTo session (Some heard) out next
+not_over session next heard out is response =
+    subst (λ (over : Bool). IsResponseUnless over session heard out next) (sym is) response
 
-pub over : (end_text : List ℕ) (session : Session) (heard : Heard) → session.is_over ≡ true → IsRespondedTo end_text session (Some heard) [] session
-over end_text session heard is = subst (λ (over : Bool). IsResponseUnless end_text over session heard [] session) (sym is) (refl, refl)
+pub over : (session : Session) (heard : Heard) → session.is_over ≡ true → IsRespondedTo session (Some heard) [] session
+over session heard is = subst (λ (over : Bool). IsResponseUnless over session heard [] session) (sym is) (refl, refl)
 
-pub taken : (end_text : List ℕ) (session behind next : Session) (body old middle last : List ℕ) (reply : Reply)
-    → middle ≡ old ++ acknowledgement session → IsAnswered end_text session (request_of body) reply behind
+pub taken : (session behind next : Session) (body old middle last : List ℕ) (reply : Reply)
+    → middle ≡ old ++ acknowledgement session → IsAnswered session (request_of body) reply behind
     → last ≡ middle ++ packets_of reply → next ≡ with_sent behind reply
-    → IsAppended old last (λ out. IsTaken end_text session body out next)
-taken end_text session behind next body old middle last reply acknowledged answered sent kept = record {
+    → IsAppended old last (λ out. IsTaken session body out next)
+taken session behind next body old middle last reply acknowledged answered sent kept = record {
   out = acknowledgement session ++ packets_of reply;
   new_is = sent ∙ ap (λ (front : List ℕ). front ++ packets_of reply) acknowledged
       ∙ append_assoc old (acknowledgement session) (packets_of reply);
@@ -60,23 +63,10 @@ taken end_text session behind next body old middle last reply acknowledged answe
 
 -- ---- bytes
 
-pub fed_more : (end_text : List ℕ) (session between next : Session) (bytes told new : List ℕ) (byte : ℕ) → IsFed end_text session bytes told between
-    → IsAppended told new (λ out. IsByteFed end_text between byte out next) → IsFed end_text session (bytes ++ byte ∷ []) new next
-fed_more end_text session between next bytes told new byte fed more =
-    subst (λ (out : List ℕ). IsFed end_text session (bytes ++ byte ∷ []) out next) (sym more.new_is)
-    (fed_byte end_text session between next bytes told more.out byte fed more.such)
-
-pub fed_at : (end_text : List ℕ) (session between next : Session) (bytes told new : List ℕ) (i byte : ℕ) → i < length bytes
-    → IsFed end_text session (take i bytes) told between → IsAppended told new (λ out. IsByteFed end_text between (get_or bytes i byte) out next)
-    → IsFed end_text session (take (i + 1) bytes) new next
-fed_at end_text session between next bytes told new i byte within fed more =
-    subst (λ (front : List ℕ). IsFed end_text session front new next) (sym (take_more bytes i byte within))
-    (fed_more end_text session between next (take i bytes) told new (get_or bytes i byte) fed more)
-
 -- a byte is heard by the reader first
-pub byte_heard : (end_text : List ℕ) (session next : Session) (reader : Frame) (heard : Option Heard) (byte : ℕ) (out : List ℕ)
+pub byte_heard : (session next : Session) (reader : Frame) (heard : Option Heard) (byte : ℕ) (out : List ℕ)
     → reader ≡ frame_behind session.reader byte → heard ≡ heard_at session.reader byte
-    → IsRespondedTo end_text (record session { reader = reader }) heard out next → IsByteFed end_text session byte out next
-byte_heard end_text session next reader heard byte out is same response =
-    subst (λ (f : Frame). IsRespondedTo end_text (record session { reader = f }) (heard_at session.reader byte) out next) is
-    (subst (λ (h : Option Heard). IsRespondedTo end_text (record session { reader = reader }) h out next) same response)
+    → IsRespondedTo (record session { reader = reader }) heard out next → IsByteFed session byte out next
+byte_heard session next reader heard byte out is same response =
+    subst (λ (f : Frame). IsRespondedTo (record session { reader = f }) (heard_at session.reader byte) out next) is
+    (subst (λ (h : Option Heard). IsRespondedTo (record session { reader = reader }) h out next) same response)

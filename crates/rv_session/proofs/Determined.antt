@@ -1,8 +1,9 @@
 -- What goes out, and the session behind it, are determined by the session and by the bytes that come.
 use Rattle.std.proofs.Common.{◌≡◌, ◌∙◌, ◌++◌, ◌∷◌, ◌+◌, ◌≤◌, ◌^◌, ◌&&◌, [], ℕ, List, Bool, true, false, Some, None, ap, refl, subst, sym}
 use Rattle.std.specs.Prelude.{Option, Result, Ok, Err, ◌==◌}
-use Rattle.std.proofs.lemmas.Bool.{and_parts, eqb-true}
+use Rattle.std.proofs.lemmas.Bool.{and_parts, both_ways, eqb-true, ne_eqb}
 use Rattle.std.proofs.Math.Bridge.{le_prop}
+use Rattle.rv_history.specs.Moves.{IsBroken, IsUnbroken}
 use Rattle.rv_history.specs.declared.counts.Count.{Count}
 use Rattle.rv_history.specs.declared.counts.Count.TheVariants as count
 use Rattle.rv_history.specs.declared.found.Found.{Found}
@@ -29,7 +30,7 @@ use Rattle.rv_remote.specs.declared.request.Request.TheVariants as ask
 use Rattle.rv_remote.specs.declared.request.Trap.{Trap}
 use Rattle.rv_remote.specs.declared.request.Trap.TheVariants as trap
 use Rattle.rv_session.specs.Answers.{IsAnswered, IsSet, IsSought, IsSoughtAs, IsTrapAsked, IsWritten}
-use Rattle.rv_session.specs.Heard.{IsByteFed, IsFed, IsJudged, IsRespondedTo, IsResponse, IsResponseUnless, IsTaken, acknowledgement, byte_first, is_wrong, no_bytes, packets_of, with_sent}
+use Rattle.rv_session.specs.Heard.{HasNoInterrupt, IsByteFed, IsFed, IsJudged, IsRespondedTo, IsResponse, IsResponseUnless, IsTaken, IsWorked, acknowledgement, byte_first, is_interrupted, is_wrong, move_first, no_bytes, packets_of, with_sent}
 use Rattle.rv_session.specs.Moved.{IsGone, IsMoved, end_text_at, printed_on, shown_on, stop_of}
 use Rattle.rv_session.specs.Replies.{granted_if, stopping}
 use Rattle.rv_session.specs.Sessions.{at_place, state_at}
@@ -40,23 +41,28 @@ use Rattle.rv_session.specs.declared.session.Session.{Session}
 -- ---- moves
 
 gone_one : (asked : Move) (stops : Stops) (budget from p q : ℕ) (start : State) (one other : Found)
-    → IsGone asked stops budget start from p one → IsGone asked stops budget start from q other → (p ≡ q) × (one ≡ other)
-gone_one move.Continue stops budget from p q start one other first second =
-    one_next_stop stops bounds.All budget from p q start one other first second
-gone_one move.Step stops budget from p q start one other first second =
+    → IsGone asked stops budget start from p one → IsGone asked stops budget start from q other → IsUnbroken one → IsUnbroken other
+    → (p ≡ q) × (one ≡ other)
+gone_one move.Continue stops budget from p q start one other first second whole again =
+    one_next_stop stops bounds.All budget from p q start one other first second whole again
+gone_one move.Step stops budget from p q start one other first second whole again =
     one_next_step stops budget from p q start one other first second
-gone_one (move.StepWithin low high) stops budget from p q start one other first second =
-    one_next_stop stops (bounds.Within low high) budget from p q start one other first second
-gone_one move.ContinueBack stops budget from p q start one other first second =
-    one_stop_before stops budget from p q start one other first second
-gone_one move.StepBack stops budget from p q start one other first second =
+gone_one (move.StepWithin low high) stops budget from p q start one other first second whole again =
+    one_next_stop stops (bounds.Within low high) budget from p q start one other first second whole again
+gone_one move.ContinueBack stops budget from p q start one other first second whole again =
+    one_stop_before stops budget from p q start one other first second whole again
+gone_one move.StepBack stops budget from p q start one other first second whole again =
     one_step_before stops budget from p q start one other first second
 
-moved_one : (end_text : List ℕ) (session one other : Session) (asked : Move) (reply again : Reply) → IsMoved end_text session asked reply one
-    → IsMoved end_text session asked again other → (reply ≡ again) × (one ≡ other)
-moved_one end_text session one other asked reply again first second =
+unbroken : (may_break : Bool) (found : Found) → may_break ≡ false → (IsBroken found → may_break ≡ true) → IsUnbroken found
+unbroken may_break found never broken is = both_ways may_break never (broken is)
+
+moved_one : (end_text : List ℕ) (may_break : Bool) (session one other : Session) (asked : Move) (reply again : Reply) → may_break ≡ false
+    → IsMoved end_text may_break session asked reply one → IsMoved end_text may_break session asked again other → (reply ≡ again) × (one ≡ other)
+moved_one end_text may_break session one other asked reply again never first second =
     let same = gone_one asked session.stops session.history.budget session.history.place first.place second.place
-    session.history.start first.found second.found first.gone second.gone in
+    session.history.start first.found second.found first.gone second.gone
+    (unbroken may_break first.found never first.broken_off) (unbroken may_break second.found never second.broken_off) in
     let said : ℕ → Found → Reply = λ place found.
     stopping (printed_on session asked (state_at session place)) (end_text_at end_text found)
     (stop_text (stop_of session asked place found)) in
@@ -171,63 +177,104 @@ trap_one session one other place reply again first second =
 
 -- ---- answers
 
-answered_one : (end_text : List ℕ) (session one other : Session) (request : Request) (reply again : Reply) → IsAnswered end_text session request reply one
-    → IsAnswered end_text session request again other → (reply ≡ again) × (one ≡ other)
-answered_one end_text session one other (ask.Move asked) reply again first second =
-    moved_one end_text session one other asked reply again first second
-answered_one end_text session one other (ask.WriteRegister register value) reply again first second =
+answered_one : (session one other : Session) (request : Request) (reply again : Reply) → IsAnswered session request reply one
+    → IsAnswered session request again other → (reply ≡ again) × (one ≡ other)
+answered_one session one other (ask.WriteRegister register value) reply again first second =
     written_one session one other register value reply again first second
-answered_one end_text session one other (ask.Set place) reply again first second =
+answered_one session one other (ask.Set place) reply again first second =
     trap_one session one other place reply again first second
-answered_one end_text session one other request reply again first second = (first.0 ∙ sym second.0, first.1 ∙ sym second.1)
+answered_one session one other request reply again first second = (first.0 ∙ sym second.0, first.1 ∙ sym second.1)
 
-taken_one : (end_text : List ℕ) (session one other : Session) (body out more : List ℕ) → IsTaken end_text session body out one
-    → IsTaken end_text session body more other → (out ≡ more) × (one ≡ other)
-taken_one end_text session one other body out more first second =
-    let same = answered_one end_text session first.behind second.behind (request_of body) first.reply second.reply
+taken_one : (session one other : Session) (body out more : List ℕ) → IsTaken session body out one
+    → IsTaken session body more other → (out ≡ more) × (one ≡ other)
+taken_one session one other body out more first second =
+    let same = answered_one session first.behind second.behind (request_of body) first.reply second.reply
     first.answered second.answered in (
       first.out_is ∙ ap (λ (reply : Reply). acknowledgement session ++ packets_of reply) same.0 ∙ sym second.out_is,
       first.next_is ∙ ap (with_sent first.behind) same.0 ∙ ap (λ (s : Session). with_sent s second.reply) same.1
           ∙ sym second.next_is,
     )
 
-judged_one : (end_text : List ℕ) (session one other : Session) (again : Bool) (body out more : List ℕ) → IsJudged end_text session again body out one
-    → IsJudged end_text session again body more other → (out ≡ more) × (one ≡ other)
-judged_one end_text session one other true body out more first second = (first.0 ∙ sym second.0, first.1 ∙ sym second.1)
-judged_one end_text session one other false body out more first second = taken_one end_text session one other body out more first second
+judged_one : (session one other : Session) (again : Bool) (body out more : List ℕ) → IsJudged session again body out one
+    → IsJudged session again body more other → (out ≡ more) × (one ≡ other)
+judged_one session one other true body out more first second = (first.0 ∙ sym second.0, first.1 ∙ sym second.1)
+judged_one session one other false body out more first second = taken_one session one other body out more first second
 
-response_one : (end_text : List ℕ) (session one other : Session) (heard : Heard) (out more : List ℕ) → IsResponse end_text session heard out one
-    → IsResponse end_text session heard more other → (out ≡ more) × (one ≡ other)
-response_one end_text session one other (heard.Packet body sum) out more first second =
-    judged_one end_text session one other (session.acknowledges && is_wrong sum) body out more first second
-response_one end_text session one other heard.Interrupt out more first second = (first.0 ∙ sym second.0, first.1 ∙ sym second.1)
-response_one end_text session one other heard.Arrived out more first second = (first.0 ∙ sym second.0, first.1 ∙ sym second.1)
-response_one end_text session one other heard.Again out more first second = (first.0 ∙ sym second.0, first.1 ∙ sym second.1)
-response_one end_text session one other heard.TooLong out more first second = (first.0 ∙ sym second.0, first.1 ∙ sym second.1)
+response_one : (session one other : Session) (heard : Heard) (out more : List ℕ) → IsResponse session heard out one
+    → IsResponse session heard more other → (out ≡ more) × (one ≡ other)
+response_one session one other (heard.Packet body sum) out more first second =
+    judged_one session one other (session.acknowledges && is_wrong sum) body out more first second
+response_one session one other heard.Interrupt out more first second = (first.0 ∙ sym second.0, first.1 ∙ sym second.1)
+response_one session one other heard.Arrived out more first second = (first.0 ∙ sym second.0, first.1 ∙ sym second.1)
+response_one session one other heard.Again out more first second = (first.0 ∙ sym second.0, first.1 ∙ sym second.1)
+response_one session one other heard.TooLong out more first second = (first.0 ∙ sym second.0, first.1 ∙ sym second.1)
 
-unless_one : (end_text : List ℕ) (session one other : Session) (over : Bool) (heard : Heard) (out more : List ℕ)
-    → IsResponseUnless end_text over session heard out one → IsResponseUnless end_text over session heard more other → (out ≡ more) × (one ≡ other)
-unless_one end_text session one other true heard out more first second = (first.0 ∙ sym second.0, first.1 ∙ sym second.1)
-unless_one end_text session one other false heard out more first second = response_one end_text session one other heard out more first second
+unless_one : (session one other : Session) (over : Bool) (heard : Heard) (out more : List ℕ)
+    → IsResponseUnless over session heard out one → IsResponseUnless over session heard more other → (out ≡ more) × (one ≡ other)
+unless_one session one other true heard out more first second = (first.0 ∙ sym second.0, first.1 ∙ sym second.1)
+unless_one session one other false heard out more first second = response_one session one other heard out more first second
 
-responded_one : (end_text : List ℕ) (session one other : Session) (heard : Option Heard) (out more : List ℕ) → IsRespondedTo end_text session heard out one
-    → IsRespondedTo end_text session heard more other → (out ≡ more) × (one ≡ other)
-responded_one end_text session one other None out more first second = (first.0 ∙ sym second.0, first.1 ∙ sym second.1)
-responded_one end_text session one other (Some heard) out more first second =
-    unless_one end_text session one other session.is_over heard out more first second
+responded_one : (session one other : Session) (heard : Option Heard) (out more : List ℕ) → IsRespondedTo session heard out one
+    → IsRespondedTo session heard more other → (out ≡ more) × (one ≡ other)
+responded_one session one other None out more first second = (first.0 ∙ sym second.0, first.1 ∙ sym second.1)
+responded_one session one other (Some heard) out more first second =
+    unless_one session one other session.is_over heard out more first second
 
-byte_one : (end_text : List ℕ) (session one other : Session) (byte : ℕ) (out more : List ℕ) → IsByteFed end_text session byte out one
-    → IsByteFed end_text session byte more other → (out ≡ more) × (one ≡ other)
-byte_one end_text session one other byte out more first second =
-    responded_one end_text (record session { reader = frame_behind session.reader byte }) one other (heard_at session.reader byte) out more
+byte_one : (session one other : Session) (byte : ℕ) (out more : List ℕ) → IsByteFed session byte out one
+    → IsByteFed session byte more other → (out ≡ more) × (one ≡ other)
+byte_one session one other byte out more first second =
+    responded_one (record session { reader = frame_behind session.reader byte }) one other (heard_at session.reader byte) out more
     first second
 
-pub fed_one : (end_text : List ℕ) (session one other : Session) (bytes out more : List ℕ) → IsFed end_text session bytes out one
-    → IsFed end_text session bytes more other → (out ≡ more) × (one ≡ other)
-fed_one end_text session one other bytes out more (no_bytes same) (no_bytes again) = (refl, refl)
-fed_one end_text session one other bytes out more (byte_first same between last byte rest told sent first later)
-    (byte_first again middle end again_byte again_rest said shown second further) =
-    let here = byte_one end_text session between middle byte told said first second in
-    let there = fed_one end_text between one other rest sent shown later
-    (subst (λ (s : Session). IsFed end_text s rest shown other) (sym here.1) further) in
+-- ---- bytes and moves
+
+worked_one : (end_text : List ℕ) (may_break : Bool) (session one other : Session) (out more : List ℕ) → may_break ≡ false
+    → IsWorked end_text may_break session out one → IsWorked end_text may_break session more other → (out ≡ more) × (one ≡ other)
+worked_one end_text may_break session one other out more never first second =
+    let asked : first.asked ≡ second.asked = some_one first.asked second.asked (sym first.asked_is ∙ second.asked_is) in
+    let same = moved_one end_text may_break (record session { asked = None }) first.behind second.behind second.asked first.reply
+    second.reply never
+    (subst (λ (a : Move). IsMoved end_text may_break (record session { asked = None }) a first.reply first.behind) asked first.moved)
+    second.moved in (
+      first.out_is ∙ ap packets_of same.0 ∙ sym second.out_is,
+      first.next_is ∙ ap (with_sent first.behind) same.0 ∙ ap (λ (s : Session). with_sent s second.reply) same.1
+          ∙ sym second.next_is,
+    )
+  where
+    some_one : (a b : Move) → Some a ≡ Some b → a ≡ b
+    some_one a b is = cc is
+
+not_asked : (end_text : List ℕ) (may_break : Bool) (session next : Session) (out : List ℕ) → session.asked ≡ None
+    → IsWorked end_text may_break session out next → ⊥
+not_asked end_text may_break session next out going made = absurd (cc (going, made.asked_is))
+
+none_next : (bytes : List ℕ) → HasNoInterrupt bytes → is_interrupted bytes false ≡ false
+none_next [] none = refl
+none_next (byte ∷ rest) none = ne_eqb byte 3 none.0
+
+pub fed_one : (end_text : List ℕ) (session one other : Session) (bytes out more : List ℕ) → HasNoInterrupt bytes
+    → IsFed end_text false session bytes out one → one.asked ≡ None → IsFed end_text false session bytes more other
+    → other.asked ≡ None → (out ≡ more) × (one ≡ other)
+fed_one end_text session one other bytes out more none (no_bytes same) going (no_bytes again) opened = (refl, refl)
+fed_one end_text session one other bytes out more none (no_bytes same) going (move_first again middle end rest said shown made further) opened =
+    absurd (not_asked end_text (is_interrupted bytes false) session middle said going made)
+fed_one end_text session one other bytes out more none (move_first same between last rest told sent made later) going (no_bytes again) opened =
+    absurd (not_asked end_text (is_interrupted bytes false) session between told opened made)
+fed_one end_text session one other bytes out more none (move_first same between last rest told sent made later) going
+    (byte_first again middle end again_byte again_rest said shown unasked second further) opened =
+    absurd (not_asked end_text (is_interrupted bytes false) session between told unasked made)
+fed_one end_text session one other bytes out more none (byte_first same between last byte rest told sent unasked first later) going
+    (move_first again middle end again_rest said shown made further) opened =
+    absurd (not_asked end_text (is_interrupted bytes false) session middle said unasked made)
+fed_one end_text session one other bytes out more none (byte_first same between last byte rest told sent unasked first later) going
+    (byte_first again middle end again_byte again_rest said shown still second further) opened =
+    let here = byte_one session between middle byte told said first second in
+    let there = fed_one end_text between one other rest sent shown none.1 later going
+    (subst (λ (s : Session). IsFed end_text false s rest shown other) (sym here.1) further) opened in
+    (ap (λ (front : List ℕ). front ++ sent) here.0 ∙ ap (λ (behind : List ℕ). said ++ behind) there.0, there.1)
+fed_one end_text session one other bytes out more none (move_first same between last rest told sent made later) going
+    (move_first again middle end again_rest said shown again_made further) opened =
+    let here = worked_one end_text (is_interrupted bytes false) session between middle told said (none_next bytes none) made again_made in
+    let there = fed_one end_text between one other bytes sent shown none later going
+    (subst (λ (s : Session). IsFed end_text false s bytes shown other) (sym here.1) further) opened in
     (ap (λ (front : List ℕ). front ++ sent) here.0 ∙ ap (λ (behind : List ℕ). said ++ behind) there.0, there.1)

@@ -1,5 +1,5 @@
 -- The stop that is told tells the ending.
-use Rattle.std.proofs.Common.{◌≡◌, ◌∙◌, ◌+◌, ◌-◌, ℕ, List, Option, Some, None, ap, refl, sym}
+use Rattle.std.proofs.Common.{◌≡◌, ◌∙◌, ◌+◌, ◌-◌, ℕ, Bool, List, Option, Some, None, ap, refl, sym}
 use Rattle.std.specs.Prelude.{if◌then◌else◌}
 use Rattle.rv_history.specs.declared.found.Found.{Found}
 use Rattle.rv_history.specs.declared.found.Found.TheVariants as found
@@ -35,6 +35,7 @@ stop_is_told session asked place found.Change = watch_is_none
     (if is_forward asked then watch_between session place (place + 1) else watch_between session (place - 1) place)
 stop_is_told session asked place (found.End ending) = end_is_told ending
 stop_is_told session asked place found.Begin = refl
+stop_is_told session asked place found.Interrupted = refl
 
 fault_has_text : (kind : FaultKind) (end_text : List ℕ) → text_with (told_by_fault kind) end_text ≡ end_text
 fault_has_text fault.FetchAccess end_text = refl
@@ -57,11 +58,12 @@ text_is_told end_text found.Done = refl
 text_is_told end_text found.Break = refl
 text_is_told end_text found.Change = refl
 text_is_told end_text found.Begin = refl
+text_is_told end_text found.Interrupted = refl
 
-pub end_told : (end_text : List ℕ) (session next : Session) (asked : Move) (reply : Reply)
-    (moved : IsMoved end_text session asked reply next)
+pub end_told : (end_text : List ℕ) (may_break : Bool) (session next : Session) (asked : Move) (reply : Reply)
+    (moved : IsMoved end_text may_break session asked reply next)
     → (told_by next.last ≡ told_by_found moved.found) × (reply.end_text ≡ text_with (told_by next.last) end_text)
-end_told end_text session next asked reply moved =
+end_told end_text may_break session next asked reply moved =
     let told : told_by next.last ≡ told_by_found moved.found =
     ap (λ (s : Session). told_by s.last) moved.next_is ∙ stop_is_told session asked moved.place moved.found in (
       told,

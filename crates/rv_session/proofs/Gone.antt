@@ -1,8 +1,8 @@
 -- Moves, and the stops that are told.
-use Rattle.std.proofs.Common.{◌≡◌, ◌∙◌, ◌<◌, ℕ, List, true, ap, arith, subst, sym}
+use Rattle.std.proofs.Common.{◌≡◌, ◌∙◌, ◌<◌, ◌≤◌, ℕ, Bool, List, true, ap, arith, subst, sym}
 use Rattle.std.proofs.lemmas.Bool.{false≢true}
-use Rattle.rv_history.specs.Moves.{IsNextStep, MeetsAhead}
-use Rattle.rv_history.specs.Places.{last_place}
+use Rattle.rv_history.specs.Moves.{IsBroken, IsNextStep, MeetsAhead}
+use Rattle.rv_history.specs.Places.{IsReached, last_place}
 use Rattle.rv_history.specs.declared.bounds.Bounds.{Bounds}
 use Rattle.rv_history.specs.declared.bounds.Bounds.TheVariants as bounds
 use Rattle.rv_history.specs.declared.found.Found.{Found}
@@ -13,11 +13,23 @@ use Rattle.rv_remote.specs.Stops.{stop_text}
 use Rattle.rv_remote.specs.declared.request.Move.{Move}
 use Rattle.rv_remote.specs.declared.request.Move.TheVariants as move
 use Rattle.rv_remote.specs.declared.stop.Stop.{Stop}
+use Rattle.rv_trace.proofs.Public.{completes}
+use Rattle.rv_trace.specs.Trace.{state_after}
 use Rattle.rv_session.specs.Moved.{CanTell, IsGone, IsMoved, end_text_at, is_forward, printed_on, shown_on, stop_of}
 use Rattle.rv_session.specs.Replies.{stopping}
 use Rattle.rv_session.specs.Sessions.{at_place, here, state_at}
 use Rattle.rv_session.specs.declared.reply.Reply.{Reply}
 use Rattle.rv_session.specs.declared.session.Session.{Session}
+
+-- the machine of a session stands at its place of the run
+pub stands : (session : Session) (start : State) (place : ℕ) (s : State) → start ≡ session.history.start
+    → place ≡ session.history.place → place ≤ last_place session.history.budget session.history.start
+    → s ≡ state_after session.history.place session.history.start → IsReached start place s
+stands session start place s starts is within same =
+    subst (λ (t : State). IsReached t place s) (sym starts) (record {
+      completed = completes session.history.budget place session.history.start within;
+      same = same ∙ ap (λ (k : ℕ). state_after k session.history.start) (sym is);
+    })
 
 changes_within : (stops : Stops) (limits : Bounds) (budget from place : ℕ) (start : State) (what : Found)
     → MeetsAhead stops limits budget start from place what → what ≡ found.Change → place < last_place budget start
@@ -56,16 +68,17 @@ can_tell session between asked found same gone is forward =
     subst (λ (s : State). between.history.place < last_place between.history.budget s) (sym start)
     (subst (λ (b : ℕ). between.history.place < last_place b session.history.start) (sym budget) within)
 
-moved_at : (end_text : List ℕ) (session next : Session) (asked : Move) (reply : Reply) (place : ℕ) (found : Found) (told : Stop)
+moved_at : (end_text : List ℕ) (may_break : Bool) (session next : Session) (asked : Move) (reply : Reply) (place : ℕ) (found : Found) (told : Stop)
     → IsGone asked session.stops session.history.budget session.history.start session.history.place place found
-    → told ≡ stop_of (at_place session place) asked place found
+    → (IsBroken found → may_break ≡ true) → told ≡ stop_of (at_place session place) asked place found
     → reply ≡ stopping (printed_on session asked (state_at session place)) (end_text_at end_text found) (stop_text told)
     → next ≡ record (at_place session place) { shown = shown_on session asked (state_at session place); last = told }
-    → IsMoved end_text session asked reply next
-moved_at end_text session next asked reply place found told gone is said stands = record {
+    → IsMoved end_text may_break session asked reply next
+moved_at end_text may_break session next asked reply place found told gone broken is said stands = record {
   place = place;
   found = found;
   gone = gone;
+  broken_off = broken;
   reply_is = said ∙ ap (λ (stop : Stop). stopping (printed_on session asked (state_at session place)) (end_text_at end_text found)
       (stop_text stop)) is;
   next_is = stands ∙ ap (λ (stop : Stop). record (at_place session place) {
@@ -74,15 +87,15 @@ moved_at end_text session next asked reply place found told gone is said stands 
   }) is;
 }
 
-pub moved : (end_text : List ℕ) (session between next : Session) (asked : Move) (reply : Reply) (found : Found) (told : Stop)
+pub moved : (end_text : List ℕ) (may_break : Bool) (session between next : Session) (asked : Move) (reply : Reply) (found : Found) (told : Stop)
     → between ≡ at_place session between.history.place
     → IsGone asked session.stops session.history.budget session.history.start session.history.place between.history.place found
-    → told ≡ stop_of between asked between.history.place found
+    → (IsBroken found → may_break ≡ true) → told ≡ stop_of between asked between.history.place found
     → reply ≡ stopping (printed_on between asked (here between)) (end_text_at end_text found) (stop_text told)
-    → next ≡ record between { shown = shown_on between asked (here between); last = told } → IsMoved end_text session asked reply next
-moved end_text session between next asked reply found told same gone =
+    → next ≡ record between { shown = shown_on between asked (here between); last = told } → IsMoved end_text may_break session asked reply next
+moved end_text may_break session between next asked reply found told same gone broken =
     let place = between.history.place in
     subst (λ (b : Session). told ≡ stop_of b asked place found
     → reply ≡ stopping (printed_on b asked (state_at b place)) (end_text_at end_text found) (stop_text told)
-    → next ≡ record b { shown = shown_on b asked (state_at b place); last = told } → IsMoved end_text session asked reply next)
-    (sym same) (moved_at end_text session next asked reply place found told gone)
+    → next ≡ record b { shown = shown_on b asked (state_at b place); last = told } → IsMoved end_text may_break session asked reply next)
+    (sym same) (moved_at end_text may_break session next asked reply place found told gone broken)

@@ -9,3 +9,6 @@ mod Sought
 mod Showing
 mod Ending
 mod Trapping
+mod Asking
+mod Breaking
+pub mod Public

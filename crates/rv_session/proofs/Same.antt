@@ -14,7 +14,7 @@ use Rattle.rv_remote.specs.declared.request.Request.TheVariants as ask
 use Rattle.rv_history.specs.declared.stops.Stops.{Stops}
 use Rattle.rv_remote.specs.declared.request.Refusal.TheVariants as refusal
 use Rattle.rv_session.specs.Answers.{IsAnswered, IsSet, IsWritten, is_reset}
-use Rattle.rv_session.specs.Heard.{IsByteFed, IsFed, IsJudged, IsRespondedTo, IsResponse, IsResponseUnless, IsTaken, byte_first, is_wrong, no_bytes, with_sent}
+use Rattle.rv_session.specs.Heard.{IsByteFed, IsFed, IsJudged, IsRespondedTo, IsResponse, IsResponseUnless, IsTaken, IsWorked, byte_first, is_interrupted, is_wrong, move_first, no_bytes, with_sent}
 use Rattle.rv_session.specs.Replies.{refused}
 use Rattle.rv_session.specs.Sessions.{IsSameRun, at_place}
 use Rattle.rv_session.specs.declared.reply.Reply.{Reply}
@@ -39,103 +39,144 @@ same_run_on session between next first second = record {
   script_is = second.script_is ∙ first.script_is;
 }
 
+-- ---- what is heard
+
+-- the run is the same, and as many printed bytes went out in front of stops
+record IsQuiet (session next : Session) : Type 0 where
+  pub run : IsSameRun session next
+  pub shown_is : next.shown ≡ session.shown
+
+quiet_by : (session next other : Session) → next ≡ other → IsQuiet session other → IsQuiet session next
+quiet_by session next other is quiet = record {
+  run = same_run_by session next other is quiet.run;
+  shown_is = ap (λ (s : Session). s.shown) is ∙ quiet.shown_is;
+}
+
+quiet_on : (session between next : Session) → IsQuiet session between → IsQuiet between next → IsQuiet session next
+quiet_on session between next first second = record {
+  run = same_run_on session between next first.run second.run;
+  shown_is = second.shown_is ∙ first.shown_is;
+}
+
 -- what is the session but for other things
 by_fields : (session next other : Session) → next ≡ other → other.history.start ≡ session.history.start
     → other.history.budget ≡ session.history.budget → other.program ≡ session.program → other.script ≡ session.script
-    → IsSameRun session next
-by_fields session next other is start budget program script =
-    same_run_by session next other is (record { start_is = start; budget_is = budget; program_is = program; script_is = script })
+    → other.shown ≡ session.shown → IsQuiet session next
+by_fields session next other is start budget program script shown = quiet_by session next other is (record {
+  run = record { start_is = start; budget_is = budget; program_is = program; script_is = script };
+  shown_is = shown;
+})
 
-stays : (session next : Session) → next ≡ session → IsSameRun session next
-stays session next is = by_fields session next session is refl refl refl refl
+stays : (session next : Session) → next ≡ session → IsQuiet session next
+stays session next is = by_fields session next session is refl refl refl refl refl
 
-goes : (session next : Session) (place : ℕ) → next ≡ at_place session place → IsSameRun session next
-goes session next place is = by_fields session next (at_place session place) is refl refl refl refl
+goes : (session next : Session) (place : ℕ) → next ≡ at_place session place → IsQuiet session next
+goes session next place is = by_fields session next (at_place session place) is refl refl refl refl refl
 
 stays_or_goes : (session next : Session) (place : ℕ) (moves : Bool)
-    → next ≡ (if moves then at_place session place else session) → IsSameRun session next
+    → next ≡ (if moves then at_place session place else session) → IsQuiet session next
 stays_or_goes session next place true is = goes session next place is
 stays_or_goes session next place false is = stays session next is
 
-set_same : (session next : Session) (outcome : Result Stops Refusal) (reply : Reply) → IsSet session outcome reply next
-    → IsSameRun session next
-set_same session next (Ok stops) reply set =
-    by_fields session next (record session { stops = stops }) set.1 refl refl refl refl
-set_same session next (Err refusal) reply set = stays session next set.1
+set_quiet : (session next : Session) (outcome : Result Stops Refusal) (reply : Reply) → IsSet session outcome reply next
+    → IsQuiet session next
+set_quiet session next (Ok stops) reply set =
+    by_fields session next (record session { stops = stops }) set.1 refl refl refl refl refl
+set_quiet session next (Err refusal) reply set = stays session next set.1
 
-written_same : (session next : Session) (register : Register) (value : ℕ) (reply : Reply)
-    → IsWritten session register value reply next → IsSameRun session next
-written_same session next (reg.Hart number) value reply written = stays session next written.1
-written_same session next reg.Steps value reply written =
+written_quiet : (session next : Session) (register : Register) (value : ℕ) (reply : Reply)
+    → IsWritten session register value reply next → IsQuiet session next
+written_quiet session next (reg.Hart number) value reply written = stays session next written.1
+written_quiet session next reg.Steps value reply written =
     stays_or_goes session next value (nat_le value (last_place session.history.budget session.history.start)) written.1
-written_same session next reg.Printed value reply written = goes session next next.history.place written.run
-written_same session next reg.Taken value reply written = goes session next next.history.place written.run
+written_quiet session next reg.Printed value reply written = goes session next next.history.place written.run
+written_quiet session next reg.Taken value reply written = goes session next next.history.place written.run
 
-answered_same : (end_text : List ℕ) (session next : Session) (request : Request) (reply : Reply) → IsAnswered end_text session request reply next
-    → IsSameRun session next
-answered_same end_text session next (ask.Move asked) reply answered = same_run_by session next _ answered.next_is
-    (record { start_is = refl; budget_is = refl; program_is = refl; script_is = refl })
-answered_same end_text session next (ask.WriteRegister register value) reply answered =
-    written_same session next register value reply answered
-answered_same end_text session next (ask.Set place) reply answered = set_same session next answered.outcome reply answered.set
-answered_same end_text session next (ask.Clear place) reply answered = same_run_by session next _ answered.1
-    (record { start_is = refl; budget_is = refl; program_is = refl; script_is = refl })
-answered_same end_text session next (ask.Command text) reply answered =
+answered_quiet : (session next : Session) (request : Request) (reply : Reply) → IsAnswered session request reply next
+    → IsQuiet session next
+answered_quiet session next (ask.Move asked) reply answered = by_fields session next _ answered.1 refl refl refl refl refl
+answered_quiet session next (ask.WriteRegister register value) reply answered =
+    written_quiet session next register value reply answered
+answered_quiet session next (ask.Set place) reply answered = set_quiet session next answered.outcome reply answered.set
+answered_quiet session next (ask.Clear place) reply answered = by_fields session next _ answered.1 refl refl refl refl refl
+answered_quiet session next (ask.Command text) reply answered =
     stays_or_goes session next 0 (is_reset text) answered.1
-answered_same end_text session next ask.Restart reply answered = same_run_by session next _ answered.1
-    (record { start_is = refl; budget_is = refl; program_is = refl; script_is = refl })
-answered_same end_text session next ask.NoAcknowledgements reply answered = same_run_by session next _ answered.1
-    (record { start_is = refl; budget_is = refl; program_is = refl; script_is = refl })
-answered_same end_text session next ask.Detach reply answered = same_run_by session next _ answered.1
-    (record { start_is = refl; budget_is = refl; program_is = refl; script_is = refl })
-answered_same end_text session next ask.Kill reply answered = same_run_by session next _ answered.1
-    (record { start_is = refl; budget_is = refl; program_is = refl; script_is = refl })
-answered_same end_text session next request reply answered = stays session next answered.1
+answered_quiet session next ask.Restart reply answered = by_fields session next _ answered.1 refl refl refl refl refl
+answered_quiet session next ask.NoAcknowledgements reply answered = by_fields session next _ answered.1 refl refl refl refl refl
+answered_quiet session next ask.Detach reply answered = by_fields session next _ answered.1 refl refl refl refl refl
+answered_quiet session next ask.Kill reply answered = by_fields session next _ answered.1 refl refl refl refl refl
+answered_quiet session next request reply answered = stays session next answered.1
 
-sent_same : (session next : Session) (reply : Reply) → next ≡ with_sent session reply → IsSameRun session next
-sent_same session next reply is = by_fields session next (with_sent session reply) is refl refl refl refl
+sent_quiet : (session next : Session) (reply : Reply) → next ≡ with_sent session reply → IsQuiet session next
+sent_quiet session next reply is = by_fields session next (with_sent session reply) is refl refl refl refl refl
 
-taken_same : (end_text : List ℕ) (session next : Session) (body out : List ℕ) → IsTaken end_text session body out next → IsSameRun session next
-taken_same end_text session next body out took = same_run_on session took.behind next
-    (answered_same end_text session took.behind (request_of body) took.reply took.answered)
-    (sent_same took.behind next took.reply took.next_is)
+taken_quiet : (session next : Session) (body out : List ℕ) → IsTaken session body out next → IsQuiet session next
+taken_quiet session next body out took = quiet_on session took.behind next
+    (answered_quiet session took.behind (request_of body) took.reply took.answered)
+    (sent_quiet took.behind next took.reply took.next_is)
 
-judged_same : (end_text : List ℕ) (session next : Session) (again : Bool) (body out : List ℕ) → IsJudged end_text session again body out next
-    → IsSameRun session next
-judged_same end_text session next true body out judged = stays session next judged.1
-judged_same end_text session next false body out judged = taken_same end_text session next body out judged
+judged_quiet : (session next : Session) (again : Bool) (body out : List ℕ) → IsJudged session again body out next
+    → IsQuiet session next
+judged_quiet session next true body out judged = stays session next judged.1
+judged_quiet session next false body out judged = taken_quiet session next body out judged
 
-response_same : (end_text : List ℕ) (session next : Session) (heard : Heard) (out : List ℕ) → IsResponse end_text session heard out next
-    → IsSameRun session next
-response_same end_text session next heard.Interrupt out response = stays session next response.1
-response_same end_text session next heard.Arrived out response = stays session next response.1
-response_same end_text session next heard.Again out response = stays session next response.1
-response_same end_text session next heard.TooLong out response = sent_same session next (refused refusal.TooLong) response.1
-response_same end_text session next (heard.Packet body sum) out response =
-    judged_same end_text session next (session.acknowledges && is_wrong sum) body out response
+response_quiet : (session next : Session) (heard : Heard) (out : List ℕ) → IsResponse session heard out next
+    → IsQuiet session next
+response_quiet session next heard.Interrupt out response = stays session next response.1
+response_quiet session next heard.Arrived out response = stays session next response.1
+response_quiet session next heard.Again out response = stays session next response.1
+response_quiet session next heard.TooLong out response = sent_quiet session next (refused refusal.TooLong) response.1
+response_quiet session next (heard.Packet body sum) out response =
+    judged_quiet session next (session.acknowledges && is_wrong sum) body out response
 
-unless_same : (end_text : List ℕ) (session next : Session) (over : Bool) (heard : Heard) (out : List ℕ)
-    → IsResponseUnless end_text over session heard out next → IsSameRun session next
-unless_same end_text session next true heard out response = stays session next response.1
-unless_same end_text session next false heard out response = response_same end_text session next heard out response
+unless_quiet : (session next : Session) (over : Bool) (heard : Heard) (out : List ℕ)
+    → IsResponseUnless over session heard out next → IsQuiet session next
+unless_quiet session next true heard out response = stays session next response.1
+unless_quiet session next false heard out response = response_quiet session next heard out response
 
-responded_same : (end_text : List ℕ) (session next : Session) (heard : Option Heard) (out : List ℕ) → IsRespondedTo end_text session heard out next
-    → IsSameRun session next
-responded_same end_text session next None out response = stays session next response.1
-responded_same end_text session next (Some heard) out response = unless_same end_text session next session.is_over heard out response
+responded_quiet : (session next : Session) (heard : Option Heard) (out : List ℕ) → IsRespondedTo session heard out next
+    → IsQuiet session next
+responded_quiet session next None out response = stays session next response.1
+responded_quiet session next (Some heard) out response = unless_quiet session next session.is_over heard out response
 
--- a byte that is heard leaves the run as it is
-byte_same : (end_text : List ℕ) (session next : Session) (byte : ℕ) (out : List ℕ) → IsByteFed end_text session byte out next → IsSameRun session next
-byte_same end_text session next byte out fed =
+byte_quiet : (session next : Session) (byte : ℕ) (out : List ℕ) → IsByteFed session byte out next → IsQuiet session next
+byte_quiet session next byte out fed =
     let listening : Session = record session { reader = frame_behind session.reader byte } in
-    let heard = responded_same end_text listening next (heard_at session.reader byte) out fed in record {
-      start_is = heard.start_is;
-      budget_is = heard.budget_is;
-      program_is = heard.program_is;
-      script_is = heard.script_is;
+    let heard = responded_quiet listening next (heard_at session.reader byte) out fed in record {
+      run = record {
+        start_is = heard.run.start_is;
+        budget_is = heard.run.budget_is;
+        program_is = heard.run.program_is;
+        script_is = heard.run.script_is;
+      };
+      shown_is = heard.shown_is;
     }
 
-pub fed_same : (end_text : List ℕ) (session next : Session) (bytes out : List ℕ) → IsFed end_text session bytes out next → IsSameRun session next
-fed_same end_text session next bytes out (no_bytes same) = same_run session
-fed_same end_text session next bytes out (byte_first same between last byte rest told more one fed) =
-    same_run_on session between next (byte_same end_text session between byte told one) (fed_same end_text between next rest more fed)
+-- a byte that is heard leaves the run as it is
+pub byte_same : (session next : Session) (byte : ℕ) (out : List ℕ) → IsByteFed session byte out next → IsSameRun session next
+byte_same session next byte out fed = (byte_quiet session next byte out fed).run
+
+-- and no printed byte goes out in front of a stop
+pub byte_shows_none : (session next : Session) (byte : ℕ) (out : List ℕ) → IsByteFed session byte out next
+    → next.shown ≡ session.shown
+byte_shows_none session next byte out fed = (byte_quiet session next byte out fed).shown_is
+
+-- ---- what is made
+
+-- a move leaves the run as it is
+pub worked_same : (end_text : List ℕ) (may_break : Bool) (session next : Session) (out : List ℕ)
+    → IsWorked end_text may_break session out next → IsSameRun session next
+worked_same end_text may_break session next out made = same_run_on session made.behind next
+    (same_run_by session made.behind _ made.moved.next_is
+    (record { start_is = refl; budget_is = refl; program_is = refl; script_is = refl }))
+    (sent_quiet made.behind next made.reply made.next_is).run
+
+pub fed_same : (end_text : List ℕ) (behind : Bool) (session next : Session) (bytes out : List ℕ)
+    → IsFed end_text behind session bytes out next → IsSameRun session next
+fed_same end_text behind session next bytes out (no_bytes same) = same_run session
+fed_same end_text behind session next bytes out (byte_first same between last byte rest told more going one fed) =
+    same_run_on session between next (byte_same session between byte told one)
+    (fed_same end_text behind between next rest more fed)
+fed_same end_text behind session next bytes out (move_first same between last rest told more made fed) =
+    same_run_on session between next (worked_same end_text (is_interrupted bytes behind) session between told made)
+    (fed_same end_text behind between next bytes more fed)

@@ -13,8 +13,11 @@ use Rattle.rv_machine.specs.State.{State}
 use Rattle.rv_remote.specs.declared.request.Move.{Move}
 use Rattle.rv_remote.specs.declared.request.Move.TheVariants as move
 use Rattle.rv_session.specs.Console.{HasShown, printed_by}
+use Rattle.rv_session.specs.Heard.{IsByteFed}
 use Rattle.rv_session.specs.Moved.{IsGone, IsMoved, is_forward, printed_on, shown_on}
 use Rattle.rv_session.specs.Sessions.{state_at}
+use Rattle.rv_trace.specs.Trace.{state_after}
+use Rattle.rv_session.proofs.Same.{byte_same, byte_shows_none}
 use Rattle.rv_session.specs.declared.reply.Reply.{Reply}
 use Rattle.rv_session.specs.declared.session.Session.{Session}
 
@@ -49,6 +52,7 @@ stepped_within stops budget from place start found.Change step =
     let there = step.0 in let goes = step.1.completes in omega arith
 stepped_within stops budget from place start found.Break step = absurd step
 stepped_within stops budget from place start found.Begin step = absurd step
+stepped_within stops budget from place start found.Interrupted step = absurd step
 
 went_within : (asked : Move) (stops : Stops) (budget from place : ℕ) (start : State) (found : Found)
     → is_forward asked ≡ true → IsGone asked stops budget start from place found → place ≤ last_place budget start
@@ -92,9 +96,9 @@ shows_on session asked place found shown true forward gone before =
 shows_on session asked place found shown false forward gone before =
     rw forward (append-nil shown ∙ before.first_bytes, before.within)
 
-pub shown_once : (end_text : List ℕ) (session next : Session) (asked : Move) (reply : Reply) (shown : List ℕ) → HasShown session shown
-    → IsMoved end_text session asked reply next → HasShown next (shown ++ reply.printed)
-shown_once end_text session next asked reply shown before moved =
+pub shown_once : (end_text : List ℕ) (may_break : Bool) (session next : Session) (asked : Move) (reply : Reply) (shown : List ℕ) → HasShown session shown
+    → IsMoved end_text may_break session asked reply next → HasShown next (shown ++ reply.printed)
+shown_once end_text may_break session next asked reply shown before moved =
     let last = last_place session.history.budget session.history.start in
     let shows = shows_on session asked moved.place moved.found shown (is_forward asked) refl moved.gone before in
     let printed : reply.printed ≡ printed_on session asked (state_at session moved.place) =
@@ -106,4 +110,19 @@ shown_once end_text session next asked reply shown before moved =
           ∙ ap (λ (k : ℕ). take k (printed_by session)) (sym counted) ∙ ap (take next.shown) (sym same);
       within = subst (λ (text : List ℕ). next.shown ≤ length text) (sym same)
           (subst (λ (k : ℕ). k ≤ length (printed_by session)) (sym counted) shows.1);
+    }
+
+-- ---- of bytes that are heard
+
+pub shown_still : (session next : Session) (byte : ℕ) (out shown : List ℕ) → HasShown session shown → IsByteFed session byte out next
+    → HasShown next shown
+shown_still session next byte out shown before fed =
+    let run = byte_same session next byte out fed in
+    let counted = byte_shows_none session next byte out fed in
+    let same : printed_by next ≡ printed_by session =
+    ap (λ (start : State). (state_after (last_place next.history.budget start) start).bus.output) run.start_is
+    ∙ ap (λ (budget : ℕ). (state_at session (last_place budget session.history.start)).bus.output) run.budget_is in record {
+      first_bytes = before.first_bytes ∙ ap (λ (k : ℕ). take k (printed_by session)) (sym counted) ∙ ap (take next.shown) (sym same);
+      within = subst (λ (text : List ℕ). next.shown ≤ length text) (sym same)
+          (subst (λ (k : ℕ). k ≤ length (printed_by session)) (sym counted) before.within);
     }

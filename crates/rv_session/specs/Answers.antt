@@ -1,5 +1,5 @@
 -- What a session answers to each request, and how it stands behind it.
-use Rattle.std.specs.Prelude.{ℕ, List, [], ◌∷◌, ◌++◌, ◌≡◌, ◌-◌, ◌==◌, ◌||◌, Bool, true, false, None, Result, Ok, Err, codes, if◌then◌else◌, drop, length, min, nat_le, nat_lt, take, unwrap_or}
+use Rattle.std.specs.Prelude.{ℕ, List, [], ◌∷◌, ◌++◌, ◌≡◌, ◌-◌, ◌==◌, ◌||◌, Bool, true, false, Some, None, Result, Ok, Err, codes, if◌then◌else◌, drop, length, min, nat_le, nat_lt, take, unwrap_or}
 use Rattle.std.specs.Fmt.{decimal}
 use Rattle.std.specs.Int.{w32, to_be_bytes}
 use Rattle.std.specs.List.{flat_map}
@@ -25,8 +25,7 @@ use Rattle.rv_remote.specs.declared.request.Trap.{Trap}
 use Rattle.rv_remote.specs.declared.stop.Stop.TheVariants as stop
 use Rattle.rv_remote.specs.declared.target.TheConstants.{TARGET}
 use Rattle.rv_session.specs.Memory.{bytes_from, stand_at}
-use Rattle.rv_session.specs.Moved.{IsMoved}
-use Rattle.rv_session.specs.Replies.{granted, granted_if, printing, refused, saying}
+use Rattle.rv_session.specs.Replies.{granted, granted_if, printing, refused, saying, silent}
 use Rattle.rv_session.specs.Sessions.{at_place, here}
 use Rattle.rv_session.specs.Traps.{IsTrapped, without_trap}
 use Rattle.rv_session.specs.declared.monitor.TheConstants.{HELP}
@@ -167,18 +166,18 @@ abbrev pub IsCommanded : Session → List ℕ → Reply → Session → Type 0
 IsCommanded session text reply next =
     (reply ≡ command_reply session text) × (next ≡ (if is_reset text then at_place session 0 else session))
 
--- what a session answers, and how it stands behind the answer
-abbrev pub IsAnswered : List ℕ → Session → Request → Reply → Session → Type 0
-IsAnswered end_text session (ask.Move asked) reply next = IsMoved end_text session asked reply next
-IsAnswered end_text session (ask.WriteRegister register value) reply next = IsWritten session register value reply next
-IsAnswered end_text session (ask.Set place) reply next = IsTrapAsked session place reply next
-IsAnswered end_text session (ask.Clear place) reply next =
+-- What a session answers, and how it stands behind the answer. A move is asked for, and answered once it is made.
+abbrev pub IsAnswered : Session → Request → Reply → Session → Type 0
+IsAnswered session (ask.Move asked) reply next = (reply ≡ silent) × (next ≡ record session { asked = Some asked })
+IsAnswered session (ask.WriteRegister register value) reply next = IsWritten session register value reply next
+IsAnswered session (ask.Set place) reply next = IsTrapAsked session place reply next
+IsAnswered session (ask.Clear place) reply next =
     (reply ≡ granted) × (next ≡ record session { stops = without_trap session.stops place })
-IsAnswered end_text session (ask.Command text) reply next = IsCommanded session text reply next
-IsAnswered end_text session ask.Restart reply next =
+IsAnswered session (ask.Command text) reply next = IsCommanded session text reply next
+IsAnswered session ask.Restart reply next =
     (reply ≡ saying (stop_text stop.Here)) × (next ≡ record (at_place session 0) { last = stop.Here })
-IsAnswered end_text session ask.NoAcknowledgements reply next = (reply ≡ granted) × (next ≡ record session { acknowledges = false })
-IsAnswered end_text session ask.Detach reply next = (reply ≡ granted) × (next ≡ record session { is_over = true })
-IsAnswered end_text session ask.Kill reply next =
-    (reply ≡ record { printed = []; end_text = []; body = None }) × (next ≡ record session { is_over = true })
-IsAnswered end_text session request reply next = (reply ≡ shown_reply session request) × (next ≡ session)
+IsAnswered session ask.NoAcknowledgements reply next = (reply ≡ granted) × (next ≡ record session { acknowledges = false })
+IsAnswered session ask.Detach reply next = (reply ≡ granted) × (next ≡ record session { is_over = true })
+IsAnswered session ask.Kill reply next =
+    (reply ≡ silent) × (next ≡ record session { is_over = true })
+IsAnswered session request reply next = (reply ≡ shown_reply session request) × (next ≡ session)

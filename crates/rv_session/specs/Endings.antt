@@ -18,6 +18,7 @@ told_by_found found.Done = NoEnding
 told_by_found found.Break = NoEnding
 told_by_found found.Change = NoEnding
 told_by_found found.Begin = NoEnding
+told_by_found found.Interrupted = NoEnding
 
 -- a text that goes with what tells an ending alone
 abbrev pub text_with : Told → List ℕ → List ℕ

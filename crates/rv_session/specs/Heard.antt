@@ -1,5 +1,5 @@
 -- What goes out for the bytes that come.
-use Rattle.std.specs.Prelude.{ℕ, List, [], ◌∷◌, ◌++◌, ◌≡◌, ◌&&◌, ◌+◌, ◌*◌, ◌-◌, ◌/◌, Bool, true, false, Option, Some, None, drop, if◌then◌else◌, length, take}
+use Rattle.std.specs.Prelude.{ℕ, List, ⊤, [], ◌∷◌, ◌++◌, ◌≡◌, ◌≢◌, ◌&&◌, ◌+◌, ◌*◌, ◌-◌, ◌/◌, ◌==◌, Bool, true, false, Option, Some, None, drop, if◌then◌else◌, length, take}
 use Rattle.std.specs.List.{flat_map, range_with_len}
 use Rattle.hex.specs.Hex.{encode_lower}
 use Rattle.rv_remote.specs.Frames.{frame_behind, heard_at}
@@ -9,8 +9,10 @@ use Rattle.rv_remote.specs.declared.frame.Heard.{Heard}
 use Rattle.rv_remote.specs.declared.frame.Heard.TheVariants as heard
 use Rattle.rv_remote.specs.declared.frame.Sum.{Sum}
 use Rattle.rv_remote.specs.declared.frame.Sum.TheVariants as verdict
+use Rattle.rv_remote.specs.declared.request.Move.{Move}
 use Rattle.rv_remote.specs.declared.request.Refusal.TheVariants as refusal
 use Rattle.rv_session.specs.Answers.{IsAnswered}
+use Rattle.rv_session.specs.Moved.{IsMoved}
 use Rattle.rv_session.specs.Replies.{refused}
 use Rattle.rv_session.specs.declared.reply.Reply.{Reply}
 use Rattle.rv_session.specs.declared.session.Session.{Session}
@@ -64,48 +66,73 @@ pub record IsAppended (old new : List ℕ) (IsSuch : List ℕ → Type 0) : Type
 -- ---- what is heard
 
 -- a whole packet is acknowledged, read and answered
-pub record IsTaken (end_text : List ℕ) (session : Session) (body out : List ℕ) (next : Session) : Type 0 where
+pub record IsTaken (session : Session) (body out : List ℕ) (next : Session) : Type 0 where
   pub reply : Reply
   pub behind : Session
-  pub answered : IsAnswered end_text session (request_of body) reply behind
+  pub answered : IsAnswered session (request_of body) reply behind
   pub out_is : out ≡ acknowledgement session ++ packets_of reply
   pub next_is : next ≡ with_sent behind reply
 
 -- a packet whose sum is wrong is asked for again, while packets are acknowledged
-abbrev pub IsJudged : List ℕ → Session → Bool → List ℕ → List ℕ → Session → Type 0
-IsJudged end_text session true body out next = (out ≡ 45 ∷ []) × (next ≡ session)
-IsJudged end_text session false body out next = IsTaken end_text session body out next
+abbrev pub IsJudged : Session → Bool → List ℕ → List ℕ → Session → Type 0
+IsJudged session true body out next = (out ≡ 45 ∷ []) × (next ≡ session)
+IsJudged session false body out next = IsTaken session body out next
 
 abbrev pub is_wrong : Sum → Bool
 is_wrong verdict.Wrong = true
 is_wrong verdict.Right = false
 
--- Ctrl-C finds no move under way
-abbrev pub IsResponse : List ℕ → Session → Heard → List ℕ → Session → Type 0
-IsResponse end_text session heard.Interrupt out next = (out ≡ []) × (next ≡ session)
-IsResponse end_text session heard.Arrived out next = (out ≡ []) × (next ≡ session)
-IsResponse end_text session heard.Again out next = (out ≡ sent_again session) × (next ≡ session)
-IsResponse end_text session heard.TooLong out next =
+-- 0x03 breaks nothing off where no move is under way
+abbrev pub IsResponse : Session → Heard → List ℕ → Session → Type 0
+IsResponse session heard.Interrupt out next = (out ≡ []) × (next ≡ session)
+IsResponse session heard.Arrived out next = (out ≡ []) × (next ≡ session)
+IsResponse session heard.Again out next = (out ≡ sent_again session) × (next ≡ session)
+IsResponse session heard.TooLong out next =
     (out ≡ acknowledgement session ++ packets_of (refused refusal.TooLong)) × (next ≡ with_sent session (refused refusal.TooLong))
-IsResponse end_text session (heard.Packet body sum) out next =
-    IsJudged end_text session (session.acknowledges && is_wrong sum) body out next
+IsResponse session (heard.Packet body sum) out next =
+    IsJudged session (session.acknowledges && is_wrong sum) body out next
 
 -- what is heard once the session is over is not answered
-abbrev pub IsResponseUnless : List ℕ → Bool → Session → Heard → List ℕ → Session → Type 0
-IsResponseUnless end_text true session heard out next = (out ≡ []) × (next ≡ session)
-IsResponseUnless end_text false session heard out next = IsResponse end_text session heard out next
+abbrev pub IsResponseUnless : Bool → Session → Heard → List ℕ → Session → Type 0
+IsResponseUnless true session heard out next = (out ≡ []) × (next ≡ session)
+IsResponseUnless false session heard out next = IsResponse session heard out next
 
-abbrev pub IsRespondedTo : List ℕ → Session → Option Heard → List ℕ → Session → Type 0
-IsRespondedTo end_text session None out next = (out ≡ []) × (next ≡ session)
-IsRespondedTo end_text session (Some heard) out next = IsResponseUnless end_text session.is_over session heard out next
+abbrev pub IsRespondedTo : Session → Option Heard → List ℕ → Session → Type 0
+IsRespondedTo session None out next = (out ≡ []) × (next ≡ session)
+IsRespondedTo session (Some heard) out next = IsResponseUnless session.is_over session heard out next
 
 -- a byte is heard
-abbrev pub IsByteFed : List ℕ → Session → ℕ → List ℕ → Session → Type 0
-IsByteFed end_text session byte out next = IsRespondedTo end_text (record session { reader = frame_behind session.reader byte })
+abbrev pub IsByteFed : Session → ℕ → List ℕ → Session → Type 0
+IsByteFed session byte out next = IsRespondedTo (record session { reader = frame_behind session.reader byte })
     (heard_at session.reader byte) out next
 
--- bytes are heard one behind the other
-pub data IsFed (end_text : List ℕ) : Session → List ℕ → List ℕ → Session → Type 0 where
-  no_bytes : (session : Session) → IsFed end_text session [] [] session
-  byte_first : (session between next : Session) (byte : ℕ) (rest out more : List ℕ) → IsByteFed end_text session byte out between
-      → IsFed end_text between rest more next → IsFed end_text session (byte ∷ rest) (out ++ more) next
+-- the move that is asked for is made, and what goes out for it
+pub record IsWorked (end_text : List ℕ) (may_break : Bool) (session : Session) (out : List ℕ) (next : Session) : Type 0 where
+  pub asked : Move
+  pub asked_is : session.asked ≡ Some asked
+  pub reply : Reply
+  pub behind : Session
+  pub moved : IsMoved end_text may_break (record session { asked = None }) asked reply behind
+  pub out_is : out ≡ packets_of reply
+  pub next_is : next ≡ with_sent behind reply
+
+-- 0x03, which gdb sends for Ctrl-C, comes next, so that a move under way may be broken off; behind the last byte it is as is said
+abbrev pub is_interrupted : List ℕ → Bool → Bool
+is_interrupted [] behind = behind
+is_interrupted (byte ∷ rest) behind = byte == 3
+
+-- none of the bytes is 0x03
+abbrev pub HasNoInterrupt : List ℕ → Type 0
+HasNoInterrupt [] = ⊤
+HasNoInterrupt (byte ∷ rest) = (byte ≢ 3) × HasNoInterrupt rest
+
+-- Bytes are heard one behind the other. A move that is asked for is made before the next byte is heard. Whether one that is asked for
+-- by the last byte may be broken off hangs on what comes behind them.
+pub data IsFed (end_text : List ℕ) (behind : Bool) : Session → List ℕ → List ℕ → Session → Type 0 where
+  no_bytes : (session : Session) → IsFed end_text behind session [] [] session
+  byte_first : (session between next : Session) (byte : ℕ) (rest out more : List ℕ) → session.asked ≡ None
+      → IsByteFed session byte out between → IsFed end_text behind between rest more next
+      → IsFed end_text behind session (byte ∷ rest) (out ++ more) next
+  move_first : (session between next : Session) (bytes out more : List ℕ)
+      → IsWorked end_text (is_interrupted bytes behind) session out between → IsFed end_text behind between bytes more next
+      → IsFed end_text behind session bytes (out ++ more) next

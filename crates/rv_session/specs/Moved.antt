@@ -1,6 +1,6 @@
 -- Moves in the run, and the stops that are told of them.
 use Rattle.std.specs.Prelude.{ℕ, List, [], ◌≡◌, ◌+◌, ◌-◌, ◌<◌, Bool, true, false, Option, Some, None, drop, if◌then◌else◌, length, max}
-use Rattle.rv_history.specs.Moves.{IsNextStep, IsNextStop, IsStepBefore, IsStopBefore}
+use Rattle.rv_history.specs.Moves.{IsBroken, IsNextStep, IsNextStop, IsStepBefore, IsStopBefore}
 use Rattle.rv_history.specs.Places.{last_place}
 use Rattle.rv_history.specs.Stops.{first_set_off}
 use Rattle.rv_history.specs.declared.bounds.Bounds.TheVariants as bounds
@@ -73,6 +73,7 @@ stop_of session asked place found.Break = stop.Here
 stop_of session asked place found.Change = watch_stop session asked place
 stop_of session asked place (found.End ending) = end_stop ending
 stop_of session asked place found.Begin = stop.Beginning
+stop_of session asked place found.Interrupted = stop.Interrupt
 
 -- the printed bytes that go out in front of the stop: on a move forward those that did not go out before
 abbrev pub printed_on : Session → Move → State → List ℕ
@@ -88,12 +89,15 @@ end_text_at end_text found.Done = []
 end_text_at end_text found.Break = []
 end_text_at end_text found.Change = []
 end_text_at end_text found.Begin = []
+end_text_at end_text found.Interrupted = []
 
--- a session over a run of whose end this is the text moved, and what it says
-pub record IsMoved (end_text : List ℕ) (session : Session) (asked : Move) (reply : Reply) (next : Session) : Type 0 where
+-- A session over a run of whose end this is the text moved, and what it says. The move was broken off only where it may be.
+pub record IsMoved (end_text : List ℕ) (may_break : Bool) (session : Session) (asked : Move) (reply : Reply) (next : Session)
+    : Type 0 where
   pub place : ℕ
   pub found : Found
   pub gone : IsGone asked session.stops session.history.budget session.history.start session.history.place place found
+  pub broken_off : IsBroken found → may_break ≡ true
   pub reply_is : reply ≡ stopping (printed_on session asked (state_at session place)) (end_text_at end_text found)
       (stop_text (stop_of session asked place found))
   pub next_is : next ≡ record session {

@@ -1,5 +1,5 @@
 -- Replies, before they are framed.
-use Rattle.std.specs.Prelude.{ℕ, List, [], Some, Bool, codes, if◌then◌else◌}
+use Rattle.std.specs.Prelude.{ℕ, List, [], Some, None, Bool, codes, if◌then◌else◌}
 use Rattle.rv_remote.specs.Replies.{refusal_text}
 use Rattle.rv_remote.specs.declared.request.Refusal.{Refusal}
 use Rattle.rv_session.specs.declared.reply.Reply.{Reply}
@@ -11,6 +11,10 @@ saying body = record { printed = []; end_text = []; body = Some body }
 -- printed bytes, and a body behind them
 abbrev pub printing : List ℕ → List ℕ → Reply
 printing printed body = record { printed = printed; end_text = []; body = Some body }
+
+-- nothing
+abbrev pub silent : Reply
+silent = record { printed = []; end_text = []; body = None }
 
 -- a stop, behind what was printed up to it and what is said of the run at its end
 abbrev pub stopping : List ℕ → List ℕ → List ℕ → Reply

@@ -1,5 +1,5 @@
 -- A session, and what it shows of its run.
-use Rattle.std.specs.Prelude.{ℕ, [], ◌≡◌, true, false, length}
+use Rattle.std.specs.Prelude.{ℕ, [], ◌≡◌, ◌⊎◌, None, true, false, length}
 use Rattle.rv_history.specs.Starts.{start_of}
 use Rattle.rv_history.specs.declared.start.Start.{Start}
 use Rattle.rv_machine.specs.State.{State}
@@ -21,6 +21,7 @@ at_first start budget program = record {
   shown = 0;
   last = stop.Here;
   sent = [];
+  asked = None;
   is_over = false;
 }
 
@@ -35,6 +36,10 @@ here session = state_at session session.history.place
 -- it stands at another place of its run
 abbrev pub at_place : Session → ℕ → Session
 at_place session place = record session { history = record session.history { place = place } }
+
+-- a session is not over that a move is asked for in
+abbrev pub MayAsk : Session → Type 0
+MayAsk session = (session.asked ≡ None) ⊎ (session.is_over ≡ false)
 
 -- One session comes of another by whatever is fed: the run is the same.
 pub record IsSameRun (session next : Session) : Type 0 where

@@ -1,31 +1,24 @@
 //! What a session answers to each request.
 
-ghost use Rattle.std.specs.Prelude.{◌≡◌, [], IfOk, None, false, true};
+ghost use Rattle.std.specs.Prelude.{◌≡◌, IfOk, Some, false, true};
 ghost use Rattle.rv_remote.specs.Replies.{part_text};
 ghost use Rattle.rv_remote.specs.Stops.{stop_text};
 ghost use Rattle.rv_remote.specs.declared.stop.Stop.TheVariants as stop;
 ghost use Rattle.rv_session.specs.Answers.{IsAnswered, IsTrapAsked, fixed_answer, shown_reply};
-ghost use Rattle.rv_session.specs.Replies.{granted, saying};
+ghost use Rattle.rv_session.specs.Replies.{granted, saying, silent};
 ghost use Rattle.rv_session.specs.Sessions.{at_place};
 ghost use Rattle.rv_session.specs.Traps.{without_trap};
 
-use crate::end_text::EndText;
 use crate::reply::Reply;
 use crate::session::Session;
 use crate::traps::{with_trap, without_trap};
-use rv_base::Bytes;
-use rv_remote::{Part, Request, Stop, TARGET, Trap, fixed_reply, push_part, push_stop};
+use rv_remote::{Move, Part, Request, Stop, TARGET, Trap, fixed_reply, push_part, push_stop};
 use std::alloc::{AllocError, Global};
 
 impl Session {
-    /// Answers a request.
-    pub(crate) fn answer<E: EndText>(
-        &mut self,
-        alloc: Global,
-        end: &E,
-        request: &Request,
-    ) -> Result<Reply, AllocError>
-        ensures { IfOk result (λ reply. IsAnswered (E.end_text end.now) self.old request.now reply self.new) }
+    /// Answers a request, but for a move, which is answered once it is made.
+    pub(crate) fn answer(&mut self, alloc: Global, request: &Request) -> Result<Reply, AllocError>
+        ensures { IfOk result (λ reply. IsAnswered self.old request.now reply self.new) }
     {
         match request {
             Request::WriteRegister(register, value) => {
@@ -33,7 +26,7 @@ impl Session {
             }
             Request::Set(trap) => self.set(alloc, *trap),
             Request::Clear(trap) => self.clear(alloc, *trap),
-            Request::Move(asked) => self.move_as(alloc, end, *asked),
+            Request::Move(asked) => Ok(self.ask(alloc, *asked)),
             Request::Command(text) => self.command(alloc, text.as_slice()),
             Request::Restart => self.restart(alloc),
             Request::NoAcknowledgements => self.end_acknowledgements(alloc),
@@ -126,17 +119,22 @@ impl Session {
         Ok(reply)
     }
 
+    // `vCont;`, `c`, `s`, `bc`, `bs`: the move is made before another byte is heard.
+    fn ask(&mut self, alloc: Global, asked: Move) -> Reply
+        ensures reply { result ≡ silent }
+        ensures next { self.new ≡ record self.old { asked = Some asked } }
+    {
+        self.asked = Some(asked);
+        Reply::silent(alloc)
+    }
+
     // `k`
     fn end(&mut self, alloc: Global) -> Reply
-        ensures reply { result ≡ record { printed = []; end_text = []; body = None } }
+        ensures reply { result ≡ silent }
         ensures next { self.new ≡ record self.old { is_over = true } }
     {
         self.is_over = true;
-        Reply {
-            printed: Bytes::new(Vec::new(alloc)),
-            end_text: Bytes::new(Vec::new(alloc)),
-            body: None,
-        }
+        Reply::silent(alloc)
     }
 }
 

@@ -1,13 +1,12 @@
 //! What is heard from gdb, and the packets that go out.
 
-ghost use Rattle.std.specs.Prelude.{◌≡◌, ◌++◌, ◌∷◌, ◌&&◌, [], IfOk, OnOk, Some};
+ghost use Rattle.std.specs.Prelude.{◌≡◌, ◌++◌, ◌∷◌, ◌&&◌, [], IfOk, None, OnOk, Some};
 ghost use Rattle.rv_remote.specs.Sums.{framed};
-ghost use Rattle.rv_session.specs.Heard.{IsAppended, IsByteFed, IsFed, IsRespondedTo, IsTaken, acknowledgement, is_wrong, packets_of, printed_packet, printed_packets, printed_part, sent_again, with_sent};
+ghost use Rattle.rv_session.specs.Heard.{IsAppended, IsByteFed, IsRespondedTo, IsTaken, acknowledgement, is_wrong, packets_of, printed_packet, printed_packets, printed_part, sent_again, with_sent};
 ghost use Rattle.rv_session.specs.Replies.{refused};
-ghost use Rattle.rv_session.specs.Sessions.{IsSameRun};
+ghost use Rattle.rv_session.specs.Sessions.{IsSameRun, MayAsk};
 ghost use Rattle.rv_remote.specs.declared.request.Refusal.TheVariants as refusal;
 
-use crate::end_text::EndText;
 use crate::reply::Reply;
 use crate::session::Session;
 use rv_base::Bytes;
@@ -18,50 +17,34 @@ use std::alloc::{AllocError, Global};
 const MOST_PRINTED: usize = 8184;
 
 impl Session {
-    /// Hears bytes of gdb, in any cuts, and gives the bytes that go out. A move runs to its end within the call. After an error the
-    /// session is to be given up.
-    pub fn feed<E: EndText>(
-        &mut self,
-        alloc: Global,
-        end: &E,
-        bytes: &[u8],
-    ) -> Result<Vec<u8>, AllocError>
-        ensures fed { IfOk result (λ out. IsFed (E.end_text end.now) self.old bytes.now out.items self.new) }
+    /// Hears a byte of gdb, and gives the bytes that go out. Where a move is asked for then, [`Session::work`] makes it before another
+    /// byte is heard. After an error the session is to be given up.
+    pub fn hear(&mut self, alloc: Global, byte: u8) -> Result<Vec<u8>, AllocError>
+        requires { self.old.asked ≡ None }
+        ensures heard { IfOk result (λ out. IsByteFed self.old byte out.items self.new) }
+        ensures not_over { OnOk result (MayAsk self.new) }
         ensures run { OnOk result (IsSameRun self.old self.new) }
     {
         let mut out = Vec::new(alloc);
-        for byte in bytes {
-            self.hear_byte(alloc, end, &mut out, *byte)?;
-        }
+        self.hear_byte(alloc, &mut out, byte)?;
         Ok(out)
     }
 
-    fn hear_byte<E: EndText>(
-        &mut self,
-        alloc: Global,
-        end: &E,
-        out: &mut Vec<u8>,
-        byte: u8,
-    ) -> Result<(), AllocError>
+    // Appends what goes out for a byte.
+    fn hear_byte(&mut self, alloc: Global, out: &mut Vec<u8>, byte: u8) -> Result<(), AllocError>
         ensures { OnOk result (IsAppended out.old.items out.new.items
-            (λ told. IsByteFed (E.end_text end.now) self.old byte told self.new)) }
+            (λ told. IsByteFed self.old byte told self.new)) }
     {
         match self.reader.take(alloc, byte)? {
-            Some(heard) => self.respond(alloc, end, out, &heard),
+            Some(heard) => self.respond(alloc, out, &heard),
             None => Ok(()),
         }
     }
 
     // Appends what goes out for what is heard. Ctrl-C finds no move under way.
-    fn respond<E: EndText>(
-        &mut self,
-        alloc: Global,
-        end: &E,
-        out: &mut Vec<u8>,
-        heard: &Heard,
-    ) -> Result<(), AllocError>
+    fn respond(&mut self, alloc: Global, out: &mut Vec<u8>, heard: &Heard) -> Result<(), AllocError>
         ensures { OnOk result (IsAppended out.old.items out.new.items
-            (λ told. IsRespondedTo (E.end_text end.now) self.old (Some heard.now) told self.new)) }
+            (λ told. IsRespondedTo self.old (Some heard.now) told self.new)) }
     {
         if self.is_over {
             return Ok(());
@@ -75,7 +58,7 @@ impl Session {
                 if self.is_refused(*sum) {
                     return ask_again(out);
                 }
-                self.take_body(alloc, end, out, body.as_slice())
+                self.take_body(alloc, out, body.as_slice())
             }
         }
     }
@@ -108,19 +91,13 @@ impl Session {
     }
 
     // A packet that is acknowledged.
-    fn take_body<E: EndText>(
-        &mut self,
-        alloc: Global,
-        end: &E,
-        out: &mut Vec<u8>,
-        body: &[u8],
-    ) -> Result<(), AllocError>
+    fn take_body(&mut self, alloc: Global, out: &mut Vec<u8>, body: &[u8]) -> Result<(), AllocError>
         ensures { OnOk result (IsAppended out.old.items out.new.items
-            (λ told. IsTaken (E.end_text end.now) self.old body.now told self.new)) }
+            (λ told. IsTaken self.old body.now told self.new)) }
     {
         self.acknowledge(out)?;
         let request = parse_request(alloc, body)?;
-        let reply = self.answer(alloc, end, &request)?;
+        let reply = self.answer(alloc, &request)?;
         self.send(alloc, out, &reply)
     }
 
@@ -134,7 +111,12 @@ impl Session {
     }
 
     // Appends a reply's packets, and keeps the last one.
-    fn send(&mut self, alloc: Global, out: &mut Vec<u8>, reply: &Reply) -> Result<(), AllocError>
+    pub(crate) fn send(
+        &mut self,
+        alloc: Global,
+        out: &mut Vec<u8>,
+        reply: &Reply,
+    ) -> Result<(), AllocError>
         ensures out { OnOk result (out.new.items ≡ out.old.items ++ packets_of reply.now) }
         ensures next { OnOk result (self.new ≡ with_sent self.old reply.now) }
     {

@@ -1,38 +1,47 @@
 //! Laws of sessions, with nothing to run.
 
-ghost use Rattle.std.specs.Prelude.{◌≡◌, ◌++◌, ℕ, List};
+ghost use Rattle.std.specs.Prelude.{◌≡◌, ◌++◌, ℕ, Bool, List, None, false};
 ghost use Rattle.rv_remote.specs.Stops.{told_by};
 ghost use Rattle.rv_remote.specs.declared.request.Move.{Move};
 ghost use Rattle.rv_session.specs.Console.{HasShown};
 ghost use Rattle.rv_session.specs.Endings.{text_with, told_by_found};
-ghost use Rattle.rv_session.specs.Heard.{IsFed};
+ghost use Rattle.rv_session.specs.Heard.{HasNoInterrupt, IsByteFed, IsFed, is_interrupted};
 ghost use Rattle.rv_session.specs.Moved.{IsMoved};
 ghost use Rattle.rv_session.specs.declared.reply.Reply.{Reply};
 ghost use Rattle.rv_session.specs.declared.session.Session.{Session};
 
 /// What goes out for bytes that come in two reads goes out for the same bytes in one.
 pub fn cuts_are_not_seen()
-    ensures { (end_text : List ℕ) (session between next : Session) (front rest out more : List ℕ)
-        → IsFed end_text session front out between → IsFed end_text between rest more next
-        → IsFed end_text session (front ++ rest) (out ++ more) next }
+    ensures { (end_text : List ℕ) (behind : Bool) (session between next : Session) (front rest out more : List ℕ)
+        → IsFed end_text (is_interrupted rest behind) session front out between → IsFed end_text behind between rest more next
+        → IsFed end_text behind session (front ++ rest) (out ++ more) next }
 {}
 
-/// What goes out, and the session behind it, are determined by the session and by the bytes that come.
+/// Where no 0x03 comes, what goes out, and the session behind it, are determined by the session and by the bytes that come, once all
+/// moves that are asked for are made.
 pub fn answers_are_determined()
     ensures { (end_text : List ℕ) (session one other : Session) (bytes out more : List ℕ)
-        → IsFed end_text session bytes out one → IsFed end_text session bytes more other → (out ≡ more) × (one ≡ other) }
+        → HasNoInterrupt bytes → IsFed end_text false session bytes out one → one.asked ≡ None
+        → IsFed end_text false session bytes more other → other.asked ≡ None → (out ≡ more) × (one ≡ other) }
 {}
 
 /// The printed bytes that go out in front of stops are the first ones that the run prints, in their order and each once.
 pub fn printed_bytes_go_out_once()
-    ensures { (end_text : List ℕ) (session next : Session) (asked : Move) (reply : Reply) (shown : List ℕ)
-        → HasShown session shown → IsMoved end_text session asked reply next → HasShown next (shown ++ reply.printed) }
+    ensures { (end_text : List ℕ) (may_break : Bool) (session next : Session) (asked : Move) (reply : Reply) (shown : List ℕ)
+        → HasShown session shown → IsMoved end_text may_break session asked reply next
+        → HasShown next (shown ++ reply.printed) }
+{}
+
+/// What is heard puts out no byte of the run in front of a stop: only moves do.
+pub fn only_moves_show_printed_bytes()
+    ensures { (session next : Session) (byte : ℕ) (out shown : List ℕ)
+        → HasShown session shown → IsByteFed session byte out next → HasShown next shown }
 {}
 
 /// The stop that a move tells is the run's ending where the move comes to it, and no ending elsewhere. What is said of the run at its
 /// end goes out with it, and with no other stop.
 pub fn ends_are_told()
-    ensures { (end_text : List ℕ) (session next : Session) (asked : Move) (reply : Reply)
-        (moved : IsMoved end_text session asked reply next)
+    ensures { (end_text : List ℕ) (may_break : Bool) (session next : Session) (asked : Move) (reply : Reply)
+        (moved : IsMoved end_text may_break session asked reply next)
         → (told_by next.last ≡ told_by_found moved.found) × (reply.end_text ≡ text_with (told_by next.last) end_text) }
 {}

@@ -1,7 +1,8 @@
 //! A session with gdb over a run: bytes that come and bytes that go.
 //!
 //! A [`Session`] stands at a place of a run, forwards and backwards of which gdb moves it. It shows registers and memory as they stand
-//! there, and refuses every write that would change something. What is said of the run at its end is an [`EndText`].
+//! there, and refuses every write that would change something. It hears byte after byte; a move that is asked for is made apart, and an
+//! interrupt may break it off. What is said of the run at its end is an [`EndText`].
 #![tactic(auto)]
 
 mod answer;

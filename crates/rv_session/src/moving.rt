@@ -1,50 +1,88 @@
 //! Moves in the run, and the stops that are told of them.
 
-ghost use Rattle.std.specs.Prelude.{◌≡◌, IfOk, OnOk};
+ghost use Rattle.std.specs.Prelude.{◌≡◌, IfOk, None, OnOk, is_some, true};
+ghost use Rattle.rv_history.specs.Moves.{IsBroken};
 ghost use Rattle.rv_history.specs.declared.found.Found.TheVariants as found;
 ghost use Rattle.rv_remote.specs.Stops.{stop_text};
 ghost use Rattle.rv_session.specs.Moved.{CanTell, IsGone, IsMoved, end_stop, end_text_at, is_forward, printed_on, shown_on, stop_of, watch_stop, watch_told};
+ghost use Rattle.rv_session.specs.Heard.{IsWorked};
 ghost use Rattle.rv_session.specs.Replies.{stopping};
-ghost use Rattle.rv_session.specs.Sessions.{at_place, here};
+ghost use Rattle.rv_session.specs.Sessions.{IsSameRun, at_place, here};
 
 use crate::end_text::EndText;
 use crate::reply::Reply;
 use crate::session::Session;
 use rv_base::Bytes;
-use rv_history::{Bounds, Found, SetOff};
+use rv_history::{Bounds, Found, Interrupt, SetOff};
 use rv_machine::Ending;
 use rv_remote::{Move, Stop, Watched, push_stop};
 use std::alloc::{AllocError, Global};
 
 impl Session {
+    /// Makes the move that is asked for, and gives the bytes that go out for it. Where the interrupt is raised the move stops on its
+    /// way, and says so. After an error the session is to be given up.
+    pub fn work<E: EndText, I: Interrupt>(
+        &mut self,
+        alloc: Global,
+        end: &E,
+        interrupt: &mut I,
+    ) -> Result<Vec<u8>, AllocError>
+        requires asked { is_some self.old.asked ≡ true }
+        requires of_run { E.start end.now ≡ self.old.history.start }
+        ensures worked { IfOk result
+            (λ out. IsWorked (E.end_text end.now) (I.was_raised interrupt.new) self.old out.items self.new) }
+        ensures made { OnOk result (self.new.asked ≡ None) }
+        ensures run { OnOk result (IsSameRun self.old self.new) }
+    {
+        let Some(asked) = self.asked.take() else {
+            return Ok(Vec::new(alloc));
+        };
+        let reply = self.move_as(alloc, end, asked, interrupt)?;
+        let mut out = Vec::new(alloc);
+        self.send(alloc, &mut out, &reply)?;
+        Ok(out)
+    }
+
     // `vCont;`, `c`, `s`, `bc`, `bs`: moves, and tells the stop.
-    pub(crate) fn move_as<E: EndText>(
+    fn move_as<E: EndText, I: Interrupt>(
         &mut self,
         alloc: Global,
         end: &E,
         asked: Move,
+        interrupt: &mut I,
     ) -> Result<Reply, AllocError>
-        ensures { IfOk result (λ reply. IsMoved (E.end_text end.now) self.old asked reply self.new) }
+        requires { E.start end.now ≡ self.old.history.start }
+        ensures { IfOk result
+            (λ reply. IsMoved (E.end_text end.now) (I.was_raised interrupt.new) self.old asked reply self.new) }
     {
-        let found = self.go(alloc, asked)?;
+        let found = self.go(alloc, asked, interrupt)?;
         let stop = self.stop_of(alloc, asked, found)?;
-        let text = end_text_at(alloc, end, found)?;
+        let text = self.end_text_at(alloc, end, found)?;
         self.tell(alloc, asked, stop, text)
     }
 
-    fn go(&mut self, alloc: Global, asked: Move) -> Result<Found, AllocError>
+    fn go<I: Interrupt>(
+        &mut self,
+        alloc: Global,
+        asked: Move,
+        interrupt: &mut I,
+    ) -> Result<Found, AllocError>
         ensures gone { IfOk result (IsGone asked self.old.stops self.old.history.budget self.old.history.start
             self.old.history.place self.new.history.place) }
+        ensures broken_off { IfOk result (λ found. IsBroken found → I.was_raised interrupt.new ≡ true) }
         ensures same { self.new ≡ at_place self.old self.new.history.place }
     {
         match asked {
-            Move::Continue => self.history.go_on(alloc, &self.stops, Bounds::All),
+            Move::Continue => {
+                self.history
+                    .go_on(alloc, &self.stops, Bounds::All, interrupt)
+            }
             Move::Step => self.history.step(alloc, &self.stops),
             Move::StepWithin(low, high) => {
                 let bounds = Bounds::Within(low, high);
-                self.history.go_on(alloc, &self.stops, bounds)
+                self.history.go_on(alloc, &self.stops, bounds, interrupt)
             }
-            Move::ContinueBack => self.history.go_back(alloc, &self.stops),
+            Move::ContinueBack => self.history.go_back(alloc, &self.stops, interrupt),
             Move::StepBack => self.history.step_back(alloc, &self.stops),
         }
     }
@@ -56,6 +94,7 @@ impl Session {
         match found {
             Found::Done | Found::Break => Ok(Stop::Here),
             Found::Begin => Ok(Stop::Beginning),
+            Found::Interrupted => Ok(Stop::Interrupt),
             Found::End(ending) => Ok(end_stop(ending)),
             Found::Change => self.watch_stop(alloc, asked),
         }
@@ -73,6 +112,27 @@ impl Session {
             let behind = self.history.watch_behind(alloc, &self.stops)?;
             Ok(watch_told(behind))
         }
+    }
+
+    // What is said of the run where a move comes to its end, and nothing elsewhere.
+    fn end_text_at<E: EndText>(
+        &self,
+        alloc: Global,
+        end: &E,
+        found: Found,
+    ) -> Result<Vec<u8>, AllocError>
+        requires { E.start end.now ≡ self.now.history.start }
+        ensures { IfOk result (λ text. text.items ≡ end_text_at (E.end_text end.now) found) }
+    {
+        let mut text = Vec::new(alloc);
+        match found {
+            Found::End(_) => {
+                let (place, machine) = (self.history.place(), self.history.machine());
+                end.push_end_text(alloc, place, machine, &mut text)?;
+            }
+            Found::Done | Found::Break | Found::Change | Found::Begin | Found::Interrupted => {}
+        }
+        Ok(text)
     }
 
     // Says a stop, what is printed up to it, and what is said of the run there.
@@ -111,18 +171,6 @@ impl Session {
         self.shown = self.shown.max(console.len());
         Ok(printed)
     }
-}
-
-// What is said of the run where a move comes to its end, and nothing elsewhere.
-fn end_text_at<E: EndText>(alloc: Global, end: &E, found: Found) -> Result<Vec<u8>, AllocError>
-    ensures { IfOk result (λ text. text.items ≡ end_text_at (E.end_text end.now) found) }
-{
-    let mut text = Vec::new(alloc);
-    match found {
-        Found::End(_) => end.push_end_text(alloc, &mut text)?,
-        Found::Done | Found::Break | Found::Change | Found::Begin => {}
-    }
-    Ok(text)
 }
 
 fn is_forward(asked: Move) -> bool

@@ -18,7 +18,7 @@ pub struct Reply {
 }
 
 impl Reply {
-    ghost use Rattle.rv_session.specs.Replies.{granted, granted_if, printing, refused, saying};
+    ghost use Rattle.rv_session.specs.Replies.{granted, granted_if, printing, refused, saying, silent};
 
     /// A body alone.
     pub(crate) fn saying(alloc: Global, body: Vec<u8>) -> Reply
@@ -28,6 +28,17 @@ impl Reply {
             printed: Bytes::new(Vec::new(alloc)),
             end_text: Bytes::new(Vec::new(alloc)),
             body: Some(Bytes::new(body)),
+        }
+    }
+
+    /// Nothing.
+    pub(crate) fn silent(alloc: Global) -> Reply
+        ensures { result ≡ silent }
+    {
+        Reply {
+            printed: Bytes::new(Vec::new(alloc)),
+            end_text: Bytes::new(Vec::new(alloc)),
+            body: None,
         }
     }
 

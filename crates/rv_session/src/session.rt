@@ -1,13 +1,13 @@
 //! A session with gdb.
 
-ghost use Rattle.std.specs.Prelude.{◌≡◌, ◌≤◌, IfOk};
+ghost use Rattle.std.specs.Prelude.{◌≡◌, ◌≤◌, IfOk, is_some};
 ghost use Rattle.rv_history.specs.Places.{last_place};
 ghost use Rattle.rv_session.specs.Sessions.{at_first};
 
 use crate::program::Program;
 use rv_base::{Bytes, Sequence};
 use rv_history::{History, Start, Stops};
-use rv_remote::{Reader, Stop};
+use rv_remote::{Move, Reader, Stop};
 use std::alloc::{AllocError, Global};
 
 /// A session with gdb over the run from a start within a budget.
@@ -27,6 +27,8 @@ pub struct Session {
     pub(crate) last: Stop,
     /// The last packet that went out.
     pub(crate) sent: Bytes,
+    /// The move that is asked for and not made yet.
+    pub(crate) asked: Option<Move>,
     pub(crate) is_over: bool,
 }
 
@@ -57,6 +59,7 @@ impl Session {
             shown: 0,
             last: Stop::Here,
             sent: Bytes::new(Vec::new(alloc)),
+            asked: None,
             is_over: false,
         })
     }
@@ -74,6 +77,13 @@ impl Session {
         ensures within { result ≤ last_place self.now.history.budget self.now.history.start }
     {
         self.history.place()
+    }
+
+    /// Whether a move is asked for that is not made yet.
+    pub fn is_asked(&self) -> bool
+        ensures { result ≡ is_some self.now.asked }
+    {
+        self.asked.is_some()
     }
 
     /// Whether gdb ended the session. Nothing is answered from then on.

@@ -1,7 +1,15 @@
 //! Requests and answers, by the lines of a table.
+
+ghost use Rattle.std.specs.Prelude.{◌≡◌, OnOk, false, is_some};
+ghost use Rattle.std.specs.Coded.{Coded-set};
+ghost use Rattle.rv_history.specs.Starts.{start_of};
+ghost use Rattle.rv_machine.proofs.Public.{state_code};
+ghost use Rattle.rv_session_tests.specs.Talks.{IsReady};
+
 use rv_base::Bytes;
-use rv_history::Start;
+use rv_history::{Interrupt, Start};
 use rv_isa::Isa;
+use rv_machine::Machine;
 use rv_memory::{Bus, Map, Misaligned, Region};
 use rv_remote::push_frame;
 use rv_session::{EndText, Program, Session};
@@ -83,16 +91,85 @@ $qSymbol::#5b > $#00
 ";
 
 // Of each run `end` and a line feed are said at its end.
-struct End;
+#[derive(Drop)]
+struct End {
+    start: Start,
+}
 
 impl EndText for End {
     ghost use Rattle.std.specs.Prelude.{codes};
+    ghost use Rattle.rv_history.specs.Starts.{start_of};
+
+    ghost start = { λ end. start_of end.start };
 
     ghost end_text = { λ _. codes "end\n" };
 
-    fn push_end_text(&self, _alloc: Global, text: &mut Vec<u8>) -> Result<(), AllocError> {
+    fn push_end_text(
+        &self,
+        _alloc: Global,
+        _place: u32,
+        _machine: &Machine,
+        text: &mut Vec<u8>,
+    ) -> Result<(), AllocError> {
         text.extend_from_slice(b"end\n")
     }
+}
+
+// Nothing breaks a move off.
+#[derive(Drop)]
+struct Never;
+
+impl Interrupt for Never {
+    ghost use Rattle.std.specs.Prelude.{false};
+
+    ghost was_raised = { λ _. false };
+
+    fn is_raised(&mut self) -> bool {
+        false
+    }
+}
+
+// A session, and what is said at the end of its run.
+#[derive(Drop)]
+struct Talk {
+    session: Session,
+    end: End,
+    ghost same_run: { start_of end.start ≡ session.history.start } by { Coded-set state_code (start_of end.start) session.history.start },
+    ghost unasked: { is_some session.asked ≡ false },
+}
+
+// Appends what goes out for a byte, and for the move that it asks for.
+fn answer_byte(
+    alloc: Global,
+    session: &mut Session,
+    end: &End,
+    byte: u8,
+    sent: &mut Vec<u8>,
+) -> Result<(), Fail>
+    requires { IsReady (start_of end.now.start) session.old }
+    ensures { OnOk result (IsReady (start_of end.now.start) session.new) }
+{
+    let told = session.hear(alloc, byte)?;
+    sent.extend_from_slice(told.as_slice())?;
+    if !session.is_asked() {
+        return Ok(());
+    }
+    let told = session.work(alloc, end, &mut Never)?;
+    sent.extend_from_slice(told.as_slice())?;
+    Ok(())
+}
+
+// What goes out for the bytes of gdb.
+fn answered(alloc: Global, session: &mut Session, end: &End, heard: &[u8]) -> Result<String, Fail>
+    requires { IsReady (start_of end.now.start) session.old }
+    ensures { OnOk result (IsReady (start_of end.now.start) session.new) }
+{
+    let mut sent = Vec::new(alloc);
+    for byte in heard {
+        answer_byte(alloc, session, end, *byte, &mut sent)?;
+    }
+    let text = std::str::from_utf8(sent.as_slice())?;
+    Ok(String::from_str(alloc, text)?)
 }
 
 fn bus_of(alloc: Global, code: &str) -> Result<Bus, Fail> {
@@ -112,24 +189,25 @@ fn bus_of(alloc: Global, code: &str) -> Result<Bus, Fail> {
     Ok(bus)
 }
 
-fn session_of(alloc: Global, code: &str, budget: u32) -> Result<Session, Fail> {
-    let start = Start {
-        bus: bus_of(alloc, code)?,
-        entry: 0x8000_0000,
-        isa: Isa::Imc,
+fn session_of(alloc: Global, code: &str, budget: u32) -> Result<Talk, Fail> {
+    let bus = bus_of(alloc, code)?;
+    let copy = bus.copied(alloc)?;
+    let (entry, isa) = (0x8000_0000, Isa::Imc);
+    let start = Start { bus, entry, isa };
+    let again = Start {
+        bus: copy,
+        entry,
+        isa,
     };
     let program = Program {
         path: Bytes::new(Vec::from_slice(alloc, b"a.elf")?),
         image: Bytes::new(Vec::from_slice(alloc, b"ELF!")?),
     };
-    Ok(Session::new(alloc, start, budget, program)?)
-}
-
-// What goes out for the bytes of gdb.
-fn answered(alloc: Global, session: &mut Session, heard: &[u8]) -> Result<String, Fail> {
-    let sent = session.feed(alloc, &End, heard)?;
-    let text = std::str::from_utf8(sent.as_slice())?;
-    Ok(String::from_str(alloc, text)?)
+    let session = Session::new(alloc, start, budget, program)?;
+    Ok(Talk {
+        session,
+        end: End { start: again },
+    })
 }
 
 // Bodies in their frames: `empty` is a body of no bytes, and `nothing` is no body.
@@ -146,30 +224,49 @@ fn framed(alloc: Global, bodies: &str) -> Result<Vec<u8>, Fail> {
 }
 
 // A session of a line of the table, without acknowledgements.
-fn session_of_line(alloc: Global, line: &str) -> Result<Session, Fail> {
-    let mut session = session_of(alloc, cell_of(line, 1), cell_of(line, 2).parse()?)?;
-    let met = answered(alloc, &mut session, b"+$QStartNoAckMode#b0")?;
+fn session_of_line(alloc: Global, line: &str) -> Result<Talk, Fail> {
+    let talk = session_of(alloc, cell_of(line, 1), cell_of(line, 2).parse()?)?;
+    let Talk { mut session, end } = talk;
+    let met = answered(alloc, &mut session, &end, b"+$QStartNoAckMode#b0")?;
     agree(line, met.as_str(), "+$OK#9a")?;
-    Ok(session)
+    Ok(Talk { session, end })
 }
 
 // What goes out for the packet of a body.
-fn answered_body(alloc: Global, session: &mut Session, body: &str) -> Result<String, Fail> {
+fn answered_body(
+    alloc: Global,
+    session: &mut Session,
+    end: &End,
+    body: &str,
+) -> Result<String, Fail>
+    requires { IsReady (start_of end.now.start) session.old }
+    ensures { OnOk result (IsReady (start_of end.now.start) session.new) }
+{
     let packet = framed(alloc, body)?;
-    answered(alloc, session, packet.as_slice())
+    answered(alloc, session, end, packet.as_slice())
 }
 
-fn check_answer(alloc: Global, session: &mut Session, line: &str, part: &str) -> Result<(), Fail> {
+fn check_answer(
+    alloc: Global,
+    session: &mut Session,
+    end: &End,
+    line: &str,
+    part: &str,
+) -> Result<(), Fail>
+    requires { IsReady (start_of end.now.start) session.old }
+    ensures { OnOk result (IsReady (start_of end.now.start) session.new) }
+{
     let (asked, wanted) = part.split_once(" > ").ok_or("a request and an answer")?;
-    let met = answered_body(alloc, session, asked)?;
+    let met = answered_body(alloc, session, end, asked)?;
     let wanted = framed(alloc, wanted)?;
     agree(line, met.as_str(), std::str::from_utf8(wanted.as_slice())?)
 }
 
 fn check_answers(alloc: Global, line: &str) -> Result<(), Fail> {
-    let mut session = session_of_line(alloc, line)?;
+    let talk = session_of_line(alloc, line)?;
+    let Talk { mut session, end } = talk;
     for part in cell_of(line, 3).split(" / ") {
-        check_answer(alloc, &mut session, line, part)?;
+        check_answer(alloc, &mut session, &end, line, part)?;
     }
     Ok(())
 }
@@ -183,43 +280,22 @@ fn requests_are_answered(rt: HostRuntime) -> Result<(), Fail> {
     Ok(())
 }
 
-// What goes out for the bytes of gdb, if they come one by one.
-fn answered_by_bytes(alloc: Global, session: &mut Session, heard: &[u8]) -> Result<String, Fail> {
-    let mut met = String::new(alloc);
-    for byte in heard {
-        met.push_str(answered(alloc, session, &[*byte])?.as_str())?;
-    }
-    Ok(met)
-}
-
-fn check_recording(
-    alloc: Global,
-    session: &mut Session,
-    cut: &mut Session,
-    line: &str,
-) -> Result<(), Fail> {
+fn check_recording(alloc: Global, session: &mut Session, end: &End, line: &str) -> Result<(), Fail>
+    requires { IsReady (start_of end.now.start) session.old }
+    ensures { OnOk result (IsReady (start_of end.now.start) session.new) }
+{
     let (heard, wanted) = line.split_once(" > ").ok_or("a line of a recording")?;
     let wanted = if wanted == "nothing" { "" } else { wanted };
-    agree(
-        line,
-        answered(alloc, session, heard.as_bytes())?.as_str(),
-        wanted,
-    )?;
-    agree(
-        line,
-        answered_by_bytes(alloc, cut, heard.as_bytes())?.as_str(),
-        wanted,
-    )
+    let met = answered(alloc, session, end, heard.as_bytes())?;
+    agree(line, met.as_str(), wanted)
 }
 
-// The same whatever cuts the bytes come in.
 #[test]
 fn a_recorded_session_is_replayed(rt: HostRuntime) -> Result<(), Fail> {
     let alloc = rt.alloc();
-    let mut session = session_of(alloc, "LOOP", 100)?;
-    let mut cut = session_of(alloc, "LOOP", 100)?;
+    let Talk { mut session, end } = session_of(alloc, "LOOP", 100)?;
     for line in LLDB.lines() {
-        check_recording(alloc, &mut session, &mut cut, line)?;
+        check_recording(alloc, &mut session, &end, line)?;
     }
     Ok(())
 }

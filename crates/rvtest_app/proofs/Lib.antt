@@ -8,7 +8,6 @@ mod AddedTables
 mod BegunSums
 mod ChosenTexts
 mod CountedRuns
-mod CoverAnswers
 mod Numbers
 mod Sent
 mod Results
@@ -17,10 +16,12 @@ mod StoreAfter
 mod PutTexts
 mod PutStops
 mod PartTexts
+mod JobStarts
 mod JobTexts
 mod FailedRows
 mod RunTellings
 mod Unwritten
 mod UnreadableWords
+mod ViewAnswers
 mod WordsStops
 mod WrittenTexts

@@ -5,6 +5,7 @@ use Rattle.rv_base.specs.Files.{FileContents}
 use Rattle.rv_cli.specs.declared.rvtest.accept.AcceptAsked.{AcceptAsked}
 use Rattle.rv_cli.specs.declared.rvtest.counts.CountsAsked.{CountsAsked}
 use Rattle.rv_cli.specs.declared.rvtest.diff.DiffAsked.{DiffAsked}
+use Rattle.rv_cli.specs.declared.rvtest.gdb.GdbAsked.{GdbAsked}
 use Rattle.rv_cli.specs.declared.rvtest.merge.MergeAsked.{MergeAsked}
 use Rattle.rv_cli.specs.declared.rvtest.requests.Asked.TheVariants as asked
 use Rattle.rv_cli.specs.declared.rvtest.run.RunAsked.{RunAsked}
@@ -14,7 +15,7 @@ use Rattle.rv_command.specs.Texts.{IsTextAt, optional_text}
 use Rattle.rv_command.specs.declared.stop.Stop.{Stop}
 use Rattle.rv_command.specs.declared.stop.Stop.TheVariants as stop
 use Rattle.rvtest_app.specs.Accepts.{IsAcceptedAt}
-use Rattle.rvtest_app.specs.CommandStops.{IsCommandStop, IsDiffAtStop}
+use Rattle.rvtest_app.specs.CommandStops.{IsCommandStop, IsDiffAtStop, IsGdbStop, IsGdbStopped}
 use Rattle.rvtest_app.specs.CountSums.{IsSumPut}
 use Rattle.rvtest_app.specs.Merges.{IsMergedAt}
 use Rattle.rvtest_app.specs.Outlets.{is_stdout}
@@ -53,6 +54,12 @@ diff_stop_at known words old (Err failed) why read found unread =
     ⊎_elim (λ memory. inl (inl (inl memory)))
     (⊎_elim (λ fault. inl (inr (old, read, fault)))
     (λ is. inr (is.0, (record { bytes = old; found = read; of = is.1 }, inl (rw is.2 unread)))))
+
+-- what was said, and which puts failed, is left away
+pub gdb_stop : (known : Option FileContents) (is_terminal : Bool) (words : GdbAsked) (before after : Said) (x y : ℕ) (why : Stop)
+    → IsGdbStopped known is_terminal words why before after x y → IsGdbStop known is_terminal words why
+gdb_stop known is_terminal words before after x y why =
+    ⊎_elim (λ unshown. inl unshown.0) (λ broken. inr (broken.0, (broken.1.0, broken.1.1.0)))
 
 -- a run that had jobs to run may be stopped by a failed write, and one that had none put nothing
 pub unshown_run : (known : Option FileContents) (is_terminal : Bool) (words : RunAsked) (Untouched : Type 0)

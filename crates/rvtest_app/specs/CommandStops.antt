@@ -31,12 +31,13 @@ use Rattle.rvtest_app.specs.Answers.{AskForHelp}
 use Rattle.rvtest_app.specs.Commands.{failure_rule}
 use Rattle.rvtest_app.specs.CountStops.{IsCountsStop}
 use Rattle.rvtest_app.specs.CoverStops.{IsCoverStop}
-use Rattle.rvtest_app.specs.Debugging.{IsBrokenStop, IsNoGdbStop, IsUnopenedOfStop}
+use Rattle.rvtest_app.specs.Debugging.{IsBrokenStop, IsFailureTold, IsNoGdbStop, IsUnopenedOfStop}
 use Rattle.rvtest_app.specs.HelpTopics.{IsNoTopicStop}
 use Rattle.rvtest_app.specs.MergeStops.{IsMergeStop}
 use Rattle.rvtest_app.specs.ProfileStops.{IsProfileStop}
 use Rattle.rvtest_app.specs.PutStops.{IsOutputStop}
 use Rattle.rvtest_app.specs.RunStops.{IsRunStop}
+use Rattle.rvtest_app.specs.Said.{Said}
 use Rattle.rvtest_app.specs.ToldStops.{IsHelpAsked}
 
 -- `check`: the list was not read; or memory was wanting, or the list has a fault
@@ -65,10 +66,22 @@ IsUnopenedAtStop known words why = IsListUnreadStop known words.list.now why
     ⊎ ((text : List ℕ) × (IsTextAt known words.list.now text
     × (IsNoJobStop words.list.now text words.name.now why ⊎ IsUnopenedOfStop known words text why)))
 
--- standard output is a terminal, or it is none, and the job was not shown, or not to the end
+-- standard output is a terminal, or it is none and the job is not shown
+abbrev pub IsUnshownStop : Option FileContents → Bool → GdbAsked → Stop → Type 0
+IsUnshownStop known is_terminal words why = ((is_terminal ≡ true) × IsNoGdbStop why)
+    ⊎ ((is_terminal ≡ false) × IsUnopenedAtStop known words why)
+
+-- the job was not shown, or the session was broken off
 abbrev pub IsGdbStop : Option FileContents → Bool → GdbAsked → Stop → Type 0
-IsGdbStop known is_terminal words why = ((is_terminal ≡ true) × IsNoGdbStop why)
-    ⊎ ((is_terminal ≡ false) × (IsUnopenedAtStop known words why ⊎ ((broken : Broken) × IsBrokenStop broken why)))
+IsGdbStop known is_terminal words why = IsUnshownStop known is_terminal words why
+    ⊎ ((is_terminal ≡ false) × ((broken : Broken) × IsBrokenStop broken why))
+
+-- The job was not shown, and nothing was said. Or the session was broken off: by a put if one failed of those to standard output,
+-- which are counted before and behind, and by something else if none did.
+abbrev pub IsGdbStopped : Option FileContents → Bool → GdbAsked → Stop → Said → Said → ℕ → ℕ → Type 0
+IsGdbStopped known is_terminal words why before after failures_before failures_after =
+    (IsUnshownStop known is_terminal words why × (after ≡ before))
+    ⊎ ((is_terminal ≡ false) × ((broken : Broken) × (IsBrokenStop broken why × IsFailureTold broken failures_before failures_after)))
 
 -- a text is no list, or words choose no job of it
 abbrev pub IsNoChoiceStop : Option FileContents → RunAsked → List ℕ → Stop → Type 0

@@ -1,7 +1,9 @@
 -- What `gdb` answers gdb, of a job.
-use Rattle.std.specs.Prelude.{◌≡◌, ◌⊎◌, ℕ, Bool, List, [], ◌∷◌, Option, Some, None, Ok, codes, false, is_ok, slice_get, slice_index_or}
-use Rattle.std.specs.Io.KnownBytes.{Consumes}
+use Rattle.std.specs.Prelude.{◌≡◌, ◌≢◌, ◌⊎◌, ℕ, Bool, List, [], ◌∷◌, Option, Some, None, Ok, codes, false, is_ok, option_and_then, slice_get, slice_index_or, true, unwrap_or}
+use Rattle.std.specs.Io.KnownBytes.{Consumes, IsAtEnd}
+use Rattle.std.specs.Result.{result_ok}
 use Rattle.std.specs.declared.io.ErrorKind.{ErrorKind}
+use Rattle.rv_base.specs.Counts.{one_more}
 use Rattle.rv_base.specs.Files.{FileContents}
 use Rattle.rv_cli.specs.declared.rvtest.gdb.GdbAsked.{GdbAsked}
 use Rattle.rv_command.specs.Messages.{path_message}
@@ -21,6 +23,8 @@ use Rattle.rv_job_text.specs.Telling.{outcome_text, row_line}
 use Rattle.rv_jobs.specs.Plans.{AreKept, Planned, jobs_needed_for, paths_of, paths_used}
 use Rattle.rv_lists.specs.JobList.{job_list_of}
 use Rattle.rv_lists.specs.declared.job.Job.{Job}
+use Rattle.rv_machine.specs.State.{State}
+use Rattle.rv_rows.specs.Flat.{flat_state}
 use Rattle.rv_rows.specs.Rows.{row_of, start_in}
 use Rattle.rv_session.specs.Heard.{IsFed}
 use Rattle.rv_session.specs.declared.session.Session.{Session}
@@ -35,6 +39,11 @@ end_text_of_job plan unread (Some job) = outcome_text plan unread (judging_by_ru
 -- the same of the job at a place
 unfoldable pub job_end_text : Planned → List Unread → ℕ → List ℕ
 job_end_text plan unread place = end_text_of_job plan unread (slice_get plan.jobs place)
+
+-- the state in which the run of the job at a place starts; where none does, as of an image without a byte
+unfoldable pub job_start : Planned → ℕ → State
+job_start plan place =
+    unwrap_or (option_and_then (λ (job : Job). result_ok (start_in plan.answers job)) (slice_get plan.jobs place)) (flat_state [])
 
 -- the session is over the run of the job at a place, whose image's path is taken from a folder, over answers for the paths that its
 -- row needs, which agree with what stands there; and the text is what is said of the job
@@ -66,7 +75,7 @@ pub record IsOpenedAt (known : Option FileContents) (words : GdbAsked) (end_text
 
 -- bytes of standard input were read, up to the end of the session or of the bytes, none once the session was over, and what the session answers to them went to
 -- standard output, which is no terminal, and nothing else did; in front of each stop at the end of the run goes what `run` says of the
--- job
+-- job. A move was broken off only where 0x03 came next, or the end of the bytes.
 pub record IsGdbAnswered (known : Option FileContents) (is_terminal : Bool) (words : GdbAsked) (input rest : Option (List ℕ))
     (status : ℕ) (before after : Said) : Type 0 where
   pub spoken : is_terminal ≡ false
@@ -78,7 +87,10 @@ pub record IsGdbAnswered (known : Option FileContents) (is_terminal : Bool) (wor
   pub while_open : IsReadWhileOpen end_text first heard
   pub told : List ℕ
   pub last : Session
-  pub fed : IsFed end_text first heard told last
+  pub may_end : Bool
+  pub at_end : may_end ≡ true → IsAtEnd rest
+  pub fed : IsFed end_text may_end first heard told last
+  pub made : last.asked ≡ None
   pub ended : IsEnded last rest
   pub put : IsOnlyPut told before after
   pub done : status ≡ 0
@@ -119,3 +131,7 @@ abbrev pub IsBrokenStop : Broken → Stop → Type 0
 IsBrokenStop broken.OutOfMemory why = why ≡ stop.OutOfMemory
 IsBrokenStop (broken.Unread reason) why = IsSystemStop (codes "standard input") reason why
 IsBrokenStop broken.Unput why = why ≡ stop.WriteFailed
+
+-- a put broke the session off where one failed, and something else where none did, as the count of failed puts tells
+abbrev pub IsFailureTold : Broken → ℕ → ℕ → Type 0
+IsFailureTold cause before after = (cause ≡ broken.Unput → after ≡ one_more before) × (cause ≢ broken.Unput → after ≡ before)

@@ -1,6 +1,7 @@
 //! The command `gdb`.
 
 ghost use Rattle.std.specs.Prelude.{◌≡◌, ◌<◌, ◌⊎◌, IfErr, IfOk, MatchOption, false, is_ok, length, slice_index_or};
+ghost use Rattle.std.specs.Coded.{Coded-set};
 ghost use Rattle.rv_lists.specs.declared.job.Job.{Job as AJob};
 ghost use Rattle.rv_command.specs.Stops.{IsStop};
 ghost use Rattle.rv_command.specs.Texts.{optional_text};
@@ -9,9 +10,10 @@ ghost use Rattle.rv_expect.specs.declared.passing.Rule.TheVariants.{Strict};
 ghost use Rattle.rv_files.specs.UnreadPaths.{contents_below, resolved_path};
 ghost use Rattle.rv_gdb.specs.JobSessions.{IsSessionOf};
 ghost use Rattle.rv_job_text.specs.Telling.{row_line};
+ghost use Rattle.rv_machine.proofs.Public.{state_code};
 ghost use Rattle.rv_rows.specs.Rows.{row_of, start_in};
-ghost use Rattle.rvtest_app.specs.CommandStops.{IsGdbStop, IsNoJobStop, IsUnopenedAtStop};
-ghost use Rattle.rvtest_app.specs.Debugging.{IsBrokenStop, IsGdbAnswered, IsJobOpened, IsNoGdbStop, IsOpenedAt, IsOpenedOf, IsUnopenedOfStop, IsUnopenedStop, job_end_text};
+ghost use Rattle.rvtest_app.specs.CommandStops.{IsGdbStopped, IsNoJobStop, IsUnopenedAtStop};
+ghost use Rattle.rvtest_app.specs.Debugging.{IsBrokenStop, IsGdbAnswered, IsJobOpened, IsNoGdbStop, IsOpenedAt, IsOpenedOf, IsUnopenedOfStop, IsUnopenedStop, job_end_text, job_start};
 ghost use Rattle.rvtest_app.specs.Said.{said};
 
 use crate::destinations::Destinations;
@@ -23,7 +25,7 @@ use rv_cli::rvtest::GdbAsked;
 use rv_command::{DONE, Stop, file_error_stop, path_message, read_list_text};
 use rv_expect::{Judge, Rule};
 use rv_files::{FileError, Inputs, NotingStore, Outputs, Unread};
-use rv_gdb::{Broken, converse, session_at};
+use rv_gdb::{Broken, Means, converse, session_at};
 use rv_job_text::{RowTelling, Verbosity};
 use rv_jobs::{Plan, gather_places};
 use rv_rows::{Sink, row_at};
@@ -31,20 +33,23 @@ use rv_session::Session;
 use std::alloc::{AllocError, Global};
 use std::io::Read;
 use std::path::Path;
+use std::thread::Threads;
 
 /// A session over the run of a job, and the job.
 #[derive(Drop)]
 struct Opened {
     session: Session,
     job: JobEnd,
+    ghost same_run: { job_start job.plan job.place ≡ session.history.start } by { Coded-set state_code (job_start job.plan job.place) session.history.start },
 }
 
 /// Shows the run of the job of a name to gdb, whose bytes the reader has, and puts the replies to standard output, until gdb ends the
-/// session or sends no more. The status is 0. Where standard output is a terminal nobody there would understand them.
+/// session or sends no more. Only Ctrl-C breaks a move off, or the end of gdb's bytes. The status is 0. Where standard output is a
+/// terminal nobody there would understand them.
 pub(crate) fn show_job_to_gdb<
-    R,
+    R: Threads,
     D: Inputs,
-    I: Read,
+    I: Read + Send,
     F: Outputs + Drop,
     O: Sink + Drop,
     E: Sink + Drop,
@@ -59,7 +64,9 @@ pub(crate) fn show_job_to_gdb<
         (I.remaining input.old) (I.remaining input.new) status
         (said F.placed O.taken E.taken E.failed to.old) (said F.placed O.taken E.taken E.failed to.new)) }
     ensures done { IfOk result (λ status. status ≡ 0) }
-    ensures stopped { IfErr result (IsGdbStop (D.contents host.now.inputs.now) is_terminal asked.entry) }
+    ensures stopped { IfErr result (λ why. IsGdbStopped (D.contents host.now.inputs.now) is_terminal asked.entry why
+        (said F.placed O.taken E.taken E.failed to.old) (said F.placed O.taken E.taken E.failed to.new)
+        (O.failed to.old.out) (O.failed to.new.out)) }
 {
     let alloc = host.alloc;
     if is_terminal {
@@ -68,7 +75,12 @@ pub(crate) fn show_job_to_gdb<
     let opened = session_of_named_job(host.inputs, alloc, asked)?;
     let Opened { mut session, job } = opened;
     set_memory(alloc, &mut session, asked.memory);
-    match converse(alloc, &mut session, &job, input, &mut to.out) {
+    let means = Means {
+        rt: host.rt,
+        alloc,
+        end: &job,
+    };
+    match converse(&means, &mut session, input, &mut to.out) {
         Ok(()) => Ok(DONE),
         Err(broken) => Err(broken_stop(alloc, broken)),
     }

@@ -1,33 +1,47 @@
 //! What gdb is told of a job at the end of its run.
 
-ghost use Rattle.std.specs.Prelude.{◌<◌, length};
+ghost use Rattle.std.specs.Prelude.{◌≡◌, ◌<◌, IfOk, is_ok, length, slice_index_or, true};
+ghost use Rattle.rv_history.specs.Places.{IsReached};
+ghost use Rattle.rv_lists.specs.declared.job.Job.{Job as AJob};
+ghost use Rattle.rv_machine.specs.Machine.{state_of};
+ghost use Rattle.rv_rows.specs.Rows.{row_of, start_in};
+ghost use Rattle.rvtest_app.specs.Debugging.{job_start};
 
 use rv_expect::{Judge, Rule};
 use rv_files::Unread;
 use rv_job_text::{RowTelling, Verbosity};
 use rv_jobs::Plan;
-use rv_rows::row_at;
+use rv_machine::Machine;
+use rv_rows::{Row, row_at, row_from};
 use rv_session::EndText;
 use std::alloc::{AllocError, Global};
 
-/// The job at a place of a plan, and what was noted of the plan's paths.
+/// The job at a place of a plan, which is not refused, and what was noted of the plan's paths.
 #[derive(Drop)]
 pub(crate) struct JobEnd {
     pub(crate) plan: Plan,
     pub(crate) unread: Vec<Unread>,
     pub(crate) place: usize,
     ghost within: { place < length plan.jobs },
+    ghost runs: { (d : AJob) → is_ok (start_in plan.answers (slice_index_or plan.jobs place d)) ≡ true },
 }
 
 impl EndText for JobEnd {
     ghost use Rattle.rvtest_app.specs.Debugging.{job_end_text};
 
+    ghost start = { λ job. job_start job.plan job.place };
+
     ghost end_text = { λ job. job_end_text job.plan job.unread.items job.place };
 
-    // The job is run again for it.
     #[tactic(auto, unfolding(crate::specs::Debugging::job_end_text))]
-    fn push_end_text(&self, alloc: Global, text: &mut Vec<u8>) -> Result<(), AllocError> {
-        let row = row_at(alloc, &self.plan, self.place)?;
+    fn push_end_text(
+        &self,
+        alloc: Global,
+        place: u32,
+        machine: &Machine,
+        text: &mut Vec<u8>,
+    ) -> Result<(), AllocError> {
+        let row = row_behind(alloc, self, place, machine)?;
         let telling = RowTelling {
             plan: &self.plan,
             unread: self.unread.as_slice(),
@@ -37,4 +51,17 @@ impl EndText for JobEnd {
         };
         telling.push_outcome(alloc, self.place, &row, text)
     }
+}
+
+// The row of the job, whose machine stands behind so many steps of its run.
+fn row_behind(alloc: Global, job: &JobEnd, steps: u32, machine: &Machine) -> Result<Row, AllocError>
+    requires { IsReached (job_start job.now.plan job.now.place) steps (state_of machine.now) }
+    ensures { IfOk result (λ row. (d : AJob) → row
+        ≡ row_of job.now.plan (slice_index_or job.now.plan.jobs job.now.place d)) }
+{
+    // No session stands behind its budget; there the machine would be of no use.
+    if job.plan.job(job.place).budget < steps {
+        return row_at(alloc, &job.plan, job.place);
+    }
+    row_from(alloc, &job.plan, job.place, steps, machine.copied(alloc)?)
 }

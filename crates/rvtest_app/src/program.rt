@@ -52,7 +52,7 @@ pub fn run_rvtest<
     O: Closable + Drop + Send,
     E: Sink + Drop + Send,
     P: Write + Drop + Send,
-    I: Read,
+    I: Read + Send,
 >(
     host: &Host<'_, R, D>,
     words: &'a [T],
@@ -96,7 +96,7 @@ fn answer_words<
     O: Sink + Drop + Send,
     E: Sink + Drop + Send,
     P: Write + Drop + Send,
-    I: Read,
+    I: Read + Send,
 >(
     host: &Host<'_, R, D>,
     words: &'a [T],
@@ -135,7 +135,7 @@ fn run_in_colors<
     O: Sink + Drop + Send,
     E: Sink + Drop + Send,
     P: Write + Drop + Send,
-    I: Read,
+    I: Read + Send,
 >(
     host: &Host<'_, R, D>,
     asked: Asked<'_>,
@@ -187,7 +187,7 @@ fn run_subcommand<
     O: Sink + Drop + Send,
     E: Sink + Drop + Send,
     P: Write + Drop + Send,
-    I: Read,
+    I: Read + Send,
 >(
     host: &Host<'_, R, D>,
     asked: Asked<'_>,

@@ -12,7 +12,7 @@ use Rattle.rv_history.proofs.Unstopped.{is_unset}
 use Rattle.rv_history.proofs.breaks.search_breaks.Goals as goal
 
 pub places-preserved : goal.places-preserved
-places-preserved c =
+places-preserved g c =
     let stops = c.args.stops.now in
     let start = c.args.track.now in
     let end = c.args.end in
@@ -45,9 +45,13 @@ places-preserved c =
       last = λ budget within. (later budget within).0;
     }
 
-pub returns-clause-last : goal.returns-clause-last
-returns-clause-last c = λ budget within.
-    let order = c.places.invariant.within in
-    let end : c.places.at.place ≡ c.args.end = omega (arith, order, c.places-test.false) in
-    subst (λ (k : ℕ). IsLastOn c.args.stops.now budget c.args.track.now c.in_ok-at.at.place k c.places.last) end
-    (c.places.invariant.last budget within)
+pub returns-clause-part : goal.returns-clause-part
+returns-clause-part g c =
+    let near = c.in_ok-at.ensures.1 in record {
+      begin = omega (arith, near, c.requires.some);
+      last = λ budget within.
+          let order = c.places.invariant.within in
+          let end : c.places.at.place ≡ c.args.end = omega (arith, order, c.places-test.false) in
+          subst (λ (k : ℕ). IsLastOn c.args.stops.now budget c.args.track.now c.in_ok-at.at.place k c.places.last) end
+          (c.places.invariant.last budget within);
+    }

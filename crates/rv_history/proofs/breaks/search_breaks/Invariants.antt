@@ -1,11 +1,11 @@
-use Rattle.std.proofs.Common.{◌≡◌, ◌-◌, ◌≤◌, ℕ}
+use Rattle.std.proofs.Common.{◌-◌, ◌≤◌, ℕ}
 use Rattle.rv_machine.specs.Machine.{state_of}
 use Rattle.rv_history.specs.LastStop.{IsLastOn}
 use Rattle.rv_history.specs.Places.{IsReached}
 use Rattle.rv_history.proofs.breaks.search_breaks.Given as goal
 
 abbrev pub invariant-places : goal.invariant-places
-invariant-places l = record {
+invariant-places g l = record {
   reached : IsReached l.track l.at.place (state_of l.at.machine);
   low : l.begin ≤ l.at.place;
   within : l.at.place ≤ l.end;
@@ -13,4 +13,4 @@ invariant-places l = record {
 }
 
 abbrev pub decreases-places : goal.decreases-places
-decreases-places l = l.end - l.at.place
+decreases-places g l = l.end - l.at.place

@@ -9,14 +9,14 @@ use Rattle.rv_history.proofs.Reaching.{comes_within}
 use Rattle.rv_history.proofs.search_back.search_part.Goals as goal
 
 pub loop-place-init : goal.loop-place-init
-loop-place-init c = record {
+loop-place-init g c = record {
   reached = c.in_ok-at.ensures.0;
   watched = c.in_ok-watched.ensures ∙ ap (watched_bytes c.args.stops.now) c.bus.ensures;
   last = λ budget within j low high. absurd (omega arith);
 }
 
 pub loop-place-preserved : goal.loop-place-preserved
-loop-place-preserved c =
+loop-place-preserved g c =
     let stops = c.args.stops.now in
     let start = c.args.track.now in
     let s = state_of c.loop-place.at.machine in
@@ -35,9 +35,12 @@ loop-place-preserved c =
           (sym c.last_behind-last.ensures) more;
     }
 
-pub returns-clause-last : goal.returns-clause-last
-returns-clause-last c = λ budget within.
-    let near = c.in_ok-at.ensures.1 in
-    let end : c.loop-place.place ≡ c.args.end = omega (arith, near, c.requires.some) in
-    subst (λ (k : ℕ). IsLastOn c.args.stops.now budget c.args.track.now c.in_ok-at.at.place k c.loop-place.last) end
-    (c.loop-place.invariant.last budget within)
+pub returns-clause-part : goal.returns-clause-part
+returns-clause-part g c =
+    let near = c.in_ok-at.ensures.1 in record {
+      begin = omega (arith, near, c.requires.some);
+      last = λ budget within.
+          let end : c.loop-place.place ≡ c.args.end = omega (arith, near, c.requires.some) in
+          subst (λ (k : ℕ). IsLastOn c.args.stops.now budget c.args.track.now c.in_ok-at.at.place k c.loop-place.last) end
+          (c.loop-place.invariant.last budget within);
+    }

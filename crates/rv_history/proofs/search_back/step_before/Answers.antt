@@ -42,5 +42,5 @@ returns c = λ budget within.
       | inr ended ↦
           let did = rw ended.1 at c.in_ok-step_watched.ensures in
           let ok = completes_before before c.args.from start s (omega arith) c.requires reached in
-          absurd (cc (sym did, ok))
+          absurd (cc (sym did.0, ok))
     ]

@@ -2,37 +2,41 @@ use Rattle.std.proofs.Common.{ℕ, ◌≡◌, arith, subst}
 use Rattle.rv_trace.proofs.Public.{completes}
 use Rattle.rv_history.specs.LastStop.{AreQuiet}
 use Rattle.rv_history.proofs.Backward.{begins_over, last_before, quiet_joined}
-use Rattle.rv_history.proofs.Unstopped.{begins_unstopped}
 use Rattle.rv_history.proofs.search_back.stop_before.Goals as goal
 
 pub search_part-requires-clause-comes : goal.search_part-requires-clause-comes
-search_part-requires-clause-comes c =
+search_part-requires-clause-comes g c =
     completes c.args.from c.loop-end.end c.args.track.now (let order = c.loop-end.invariant.order in omega (arith, c.requires))
 
-pub returns-then-are_none : goal.returns-then-are_none
-returns-then-are_none c = λ budget within.
-    begins_unstopped c.args.stops.now budget c.args.from c.args.track.now (c.are_none.ensures.0 c.if-are_none.true)
-
-pub returns-in-Some : goal.returns-in-Some
-returns-in-Some c = λ budget within.
+pub returns-in-Some-last-clause-stop : goal.returns-in-Some-last-clause-stop
+returns-in-Some-last-clause-stop g c = λ budget within.
     let order = c.loop-end.invariant.order in
-    let found = c.in_ok-part.ensures.last budget (omega (arith, order, within)) in
-    last_before c.args.stops.now budget c.loop-end.end c.args.from c.args.track.now c.in-Some.last order
-    (c.loop-end.invariant.quiet budget within) (rw c.in-Some.is at found)
+    let part = rw c.in-Some.is at c.in_ok-part.ensures.part in
+    let found = rw c.in-Some-last.is at part.last budget (omega (arith, order, within)) in
+    last_before c.args.stops.now budget c.loop-end.end c.args.from c.args.track.now c.in-Some-last.last order
+    (c.loop-end.invariant.quiet budget within) found.1 found.0
+
+pub returns-in-Some-last-clause-broken_off : goal.returns-in-Some-last-clause-broken_off
+returns-in-Some-last-clause-broken_off g c = λ is.
+    let order = c.loop-end.invariant.order in
+    let part = rw c.in-Some.is at c.in_ok-part.ensures.part in
+    let found = rw c.in-Some-last.is at part.last c.args.from order in
+    absurd (found.1 is)
 
 pub loop-end-preserved : goal.loop-end-preserved
-loop-end-preserved c =
+loop-end-preserved g c =
     let order = c.loop-end.invariant.order in
-    let before = c.in_ok-part.ensures.begin in record {
+    let part = rw c.in-Some.is at c.in_ok-part.ensures.part in
+    let before = part.begin in record {
       order = omega (arith, order, before);
       quiet = λ budget within.
-          let found = c.in_ok-part.ensures.last budget (omega (arith, order, within)) in
-          quiet_joined c.args.stops.now budget c.in_ok-part.part.begin c.loop-end.end c.args.from c.args.track.now
-          (rw c.in_default.is at found) (c.loop-end.invariant.quiet budget within);
+          let found = rw c.in_default-last.is at part.last budget (omega (arith, order, within)) in
+          quiet_joined c.args.stops.now budget c.in-Some.part.begin c.loop-end.end c.args.from c.args.track.now
+          found (c.loop-end.invariant.quiet budget within);
     }
 
-pub returns : goal.returns
-returns c = λ budget within.
+pub returns-clause-stop : goal.returns-clause-stop
+returns-clause-stop g c = λ budget within.
     let none : c.loop-end.end ≡ 0 = omega arith in
     begins_over c.args.stops.now budget c.args.from c.args.track.now
     (subst (λ (k : ℕ). AreQuiet c.args.stops.now budget c.args.track.now k c.args.from) none

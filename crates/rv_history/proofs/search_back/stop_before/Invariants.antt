@@ -3,10 +3,10 @@ use Rattle.rv_history.specs.LastStop.{AreQuiet}
 use Rattle.rv_history.proofs.search_back.stop_before.Given as goal
 
 abbrev pub invariant-loop-end : goal.invariant-loop-end
-invariant-loop-end l = record {
+invariant-loop-end g l = record {
   order : l.end ≤ l.from;
   quiet : (budget : ℕ) → l.from ≤ budget → AreQuiet l.stops budget l.track l.end l.from;
 }
 
 abbrev pub decreases-loop-end : goal.decreases-loop-end
-decreases-loop-end l = l.end
+decreases-loop-end g l = l.end

@@ -1,5 +1,18 @@
-use Rattle.std.proofs.Common.{◌∙◌, ap, inr, length, refl, rules}
+use Rattle.std.proofs.Common.{◌∙◌, ◌<◌, [], List, ap, inr, length, refl, rules, subst, sym}
+use Rattle.rv_lists.specs.Jobs.{single_job}
+use Rattle.rv_lists.specs.declared.job.Job.{Job}
+use Rattle.rvtest_app.proofs.JobStarts.{session_starts_there}
 use Rattle.rvtest_app.proofs.gdb.session_of_job.Goals as goal
+
+pub invariant_of-result : goal.invariant_of-result
+invariant_of-result g c =
+    let place = c.args.named.place in
+    let any = single_job [] 0 [] in
+    record {
+      same_run = session_starts_there c.in_ok-plan.plan place any _ c.in-Some.session
+          (subst (λ (jobs : List Job). place < length jobs) (sym c.in_ok-plan.ensures.jobs) c.requires)
+          (rw c.in-Some.is at (c.in_ok-session.ensures any));
+    }
 
 pub returns-in-Some-clause-opened : goal.returns-in-Some-clause-opened
 returns-in-Some-clause-opened g c =

@@ -1,7 +1,15 @@
-use Rattle.std.proofs.Common.{inl, inr, refl}
+use Rattle.std.proofs.Common.{◌∙◌, [], ap, inl, inr, refl}
 use Rattle.std.proofs.lemmas.Result.{err_from_is_err_and}
+use Rattle.rv_lists.specs.Jobs.{single_job}
+use Rattle.rv_session.specs.declared.session.Session.{Session}
 use Rattle.rvtest_app.specs.Debugging.{job_end_text}
 use Rattle.rvtest_app.proofs.gdb.show_job_to_gdb.Goals as goal
+
+pub converse-requires-clause-asked : goal.converse-requires-clause-asked
+converse-requires-clause-asked g c =
+    let opened = c.in_ok-opened.ensures.opened in λ lifetimes outlive.
+    ap (λ (s : Session). s.asked) c.set_memory.ensures
+    ∙ ap (λ (s : Session). s.asked) (opened.of_list.of_job.over (single_job [] 0 [])).session_is
 
 pub returns-in-Ok-clause-answered : goal.returns-in-Ok-clause-answered
 returns-in-Ok-clause-answered g c =
@@ -15,7 +23,10 @@ returns-in-Ok-clause-answered g c =
       while_open = heard.while_open;
       told = heard.told;
       last = c.converse.new.session;
+      may_end = heard.may_end;
+      at_end = heard.ended;
       fed = heard.fed;
+      made = heard.made;
       ended = rw c.in-Ok.is at c.converse.ensures.ended;
       put = (heard.put, refl, refl, refl);
       done = refl;
@@ -24,8 +35,16 @@ returns-in-Ok-clause-answered g c =
 pub returns-in_err-opened-clause-stopped : goal.returns-in_err-opened-clause-stopped
 returns-in_err-opened-clause-stopped g c =
     let is = err_from_is_err_and c.from_residual.result c.from_residual.ensures.1 in
-    rw (is.1, is.2) (inr (c.if-is_terminal.false, inl c.in_err-opened.ensures.stopped))
+    rw (is.1, is.2) (inl (inr (c.if-is_terminal.false, c.in_err-opened.ensures.stopped), refl))
 
 pub returns-clause-stopped : goal.returns-clause-stopped
-returns-clause-stopped g c =
-    inr (c.if-is_terminal.false, inr (c.in-Err.broken, c.broken_stop.ensures))
+returns-clause-stopped g c = inr (
+  c.if-is_terminal.false,
+  (
+    c.in-Err.broken,
+    (
+      c.broken_stop.ensures,
+      (rw c.in-Err.is at c.converse.ensures.failed, rw c.in-Err.is at c.converse.ensures.unfailed),
+    ),
+  ),
+)

@@ -1,7 +1,7 @@
 use Rattle.std.proofs.Common.{inl, inr, refl}
 use Rattle.rv_gdb.specs.declared.conversation.Broken.TheVariants as cause
 use Rattle.rvtest_app.proofs.Results.{IfOk-from, IfOk-map}
-use Rattle.rvtest_app.proofs.StopLemmas.{put_or_found, unshown_accept, unshown_merge, unshown_report, unshown_run, unshown_sum}
+use Rattle.rvtest_app.proofs.StopLemmas.{IfErr-map, gdb_stop, put_or_found, unshown_accept, unshown_merge, unshown_report, unshown_run, unshown_sum}
 use Rattle.rvtest_app.proofs.program.run_subcommand.Goals as goal
 use Rattle.rvtest_app.proofs.program.run_subcommand.Goals.{in-Explain, in-List, in-Console, in-Gdb, in-Check, in-Accept, in-Merge, in-Diff, in-Show, in-Counts, in-Cover, in-Profile, in-Help}
 
@@ -27,7 +27,9 @@ returns-clause-stopped g c = elim c.match-asked.branch [
       w.put_findings-answer-in-Check.ensures.stopped)
   | in-List w ↦ rw (w.answer-is, w.in-List.is) w.list_chosen_jobs-answer.ensures.stopped
   | in-Console w ↦ rw (w.answer-is, w.in-Console.is) w.put_job_console-answer.ensures.stopped
-  | in-Gdb w ↦ rw (w.answer-is, w.in-Gdb.is) w.show_job_to_gdb-answer.ensures.stopped
+  | in-Gdb w ↦
+      rw (w.answer-is, w.in-Gdb.is)
+      (IfErr-map w.show_job_to_gdb-answer.result _ _ (gdb_stop _ _ _ _ _ _ _) w.show_job_to_gdb-answer.ensures.stopped)
   | in-Accept w ↦ rw (w.answer-is, w.in-Accept.is) w.accept_runs-answer.ensures.stopped
   | in-Merge w ↦ rw (w.answer-is, w.in-Merge.is) w.merge_reports-answer.ensures.stopped
   | in-Diff w ↦
@@ -51,7 +53,7 @@ returns-clause-untouched g c = elim c.match-asked.branch [
   | in-Console w ↦ rw (w.answer-is, w.in-Console.is) (IfOk-from w.put_job_console-answer.result _ (inl (inl refl)))
   | in-Gdb w ↦
       rw (w.answer-is, w.in-Gdb.is)
-      (IfOk-map w.show_job_to_gdb-answer.result _ _ (λ status done. inl (inr (done.spoken, inr (cause.Unput, refl))))
+      (IfOk-map w.show_job_to_gdb-answer.result _ _ (λ status done. inl (inr (done.spoken, (cause.Unput, refl))))
       w.show_job_to_gdb-answer.ensures.answered)
   | in-Accept w ↦
       rw (w.answer-is, w.in-Accept.is)

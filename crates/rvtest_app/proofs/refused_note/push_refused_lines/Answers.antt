@@ -3,7 +3,7 @@ use Rattle.std.proofs.lemmas.List.{get_or_default}
 use Rattle.rv_expect.specs.Judgement.{judging_of}
 use Rattle.rv_jobs.specs.Jobs.{single_job}
 use Rattle.rvtest_app.specs.RefusedNotes.{refused_line, refused_lines}
-use Rattle.rvtest_app.proofs.CoverAnswers.{refused_more}
+use Rattle.rvtest_app.proofs.ViewAnswers.{refused_more}
 use Rattle.rvtest_app.proofs.refused_note.push_refused_lines.Goals as goal
 
 pub loop-place-preserved : goal.loop-place-preserved

@@ -1,19 +1,20 @@
-use Rattle.std.proofs.Common.{ap, arith}
+use Rattle.std.proofs.Common.{ℕ, arith, subst}
 use Rattle.rv_machine.specs.Machine.{state_of}
-use Rattle.rv_machine.specs.Run.{Ran}
-use Rattle.rv_history.proofs.Reaching.{comes, ran_there, within_budget}
+use Rattle.rv_history.specs.Places.{IsReached}
+use Rattle.rv_history.proofs.Reaching.{comes, within_budget}
 use Rattle.rv_history.proofs.history.History.arrive.Goals as goal
+
+pub come_to-requires : goal.come_to-requires
+come_to-requires c =
+    let there = rw (← c.self.view_is) at c.requires in
+    comes c.self.inside.budget c.args.arrival.place c.self.inside.track there
 
 pub invariant_of-self-2 : goal.invariant_of-self-2
 invariant_of-self-2 c =
     let track = c.self.inside.track in
-    let place = c.args.arrival.place in
     let there = rw (← c.self.view_is) at c.requires in
     let few = within_budget c.self.inside.budget track in
-    let full = comes c.self.inside.budget place track there in
-    let ran = c.in_ok-at.ensures.run in
-    let count = ap (λ (r : Ran). r.steps) ran in
-    rw c.reach.ensures.same (
-      ran_there track (state_of c.in_ok-at.at.machine) place c.in_ok-at.at.place _ ran (omega (arith, full, count)),
+    rw c.come_to.ensures.same (
+      subst (λ (k : ℕ). IsReached track k (state_of c.in_ok-at.at.machine)) c.in_ok-at.ensures.place c.in_ok-at.ensures.there,
       omega (arith, there, few),
     )

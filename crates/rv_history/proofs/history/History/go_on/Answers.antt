@@ -1,13 +1,23 @@
-use Rattle.std.proofs.Common.{◌≤◌}
-use Rattle.rv_history.specs.Places.{last_place}
-use Rattle.rv_history.proofs.Reaching.{comes_within}
-use Rattle.rv_history.proofs.Unstopped.{ends_told}
+use Rattle.std.proofs.Common.{◌∙◌, arith}
+use Rattle.rv_history.proofs.Reaching.{within_budget}
 use Rattle.rv_history.proofs.history.History.go_on.Goals as goal
 
-pub returns-then-are_none-clause-stop : goal.returns-then-are_none-clause-stop
-returns-then-are_none-clause-stop c =
-    let here = c.args.self.now in
-    let within : here.place ≤ last_place here.budget here.start = rw (← c.self.view_is)
-    (comes_within c.self.inside.budget c.self.inside.place c.self.inside.track c.self.invariant.0.completed c.self.invariant.1) in
-    ends_told c.args.stops.now c.args.bounds here.budget here.place c.go_to_end.new.self.place here.start c.go_to_end.result
-    (c.are_none.ensures.0 c.if-are_none.true) (c.are_all.ensures.0 c.if-are_all.true) within c.go_to_end.ensures.end
+pub next_stop-requires : goal.next_stop-requires
+next_stop-requires g c = record {
+  there = record {
+    completed = c.self.invariant.0.completed;
+    same = c.in_ok-machine.ensures ∙ c.self.invariant.0.same;
+  };
+  order = omega arith;
+  within = c.self.invariant.1;
+  quiet = λ j low high. absurd (omega arith);
+}
+
+pub invariant_of-self-2 : goal.invariant_of-self-2
+invariant_of-self-2 g c =
+    let few = within_budget c.self.inside.budget c.self.inside.track in
+    let within = c.in_ok-arrived.ensures.stop.1.within in
+    rw c.next_stop.ensures.same (c.in_ok-arrived.ensures.stop.0, omega (arith, few, within))
+
+pub returns-clause-stop : goal.returns-clause-stop
+returns-clause-stop g c = rw (← c.self.view_is) c.in_ok-arrived.ensures.stop.1

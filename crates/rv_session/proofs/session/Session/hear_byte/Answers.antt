@@ -4,13 +4,13 @@ use Rattle.rv_session.proofs.Appending.{byte_heard, named_otherwise, nothing_mor
 use Rattle.rv_session.proofs.session.Session.hear_byte.Goals as goal
 
 pub returns-in-Some : goal.returns-in-Some
-returns-in-Some g c = on_ok_weaker c.respond.result
+returns-in-Some c = on_ok_weaker c.respond.result
     (named_otherwise _ _ _ _
-    (λ out response. byte_heard (g.E.EndText.end_text c.args.end.now) c.args.self.now c.respond.new.self c.take.new.self (Some c.in-Some.heard) c.args.byte out
+    (λ out response. byte_heard c.args.self.now c.respond.new.self c.take.new.self (Some c.in-Some.heard) c.args.byte out
     c.in_ok-heard.ensures.frame (sym c.in-Some.is ∙ c.in_ok-heard.ensures.heard) response))
     c.respond.ensures
 
 pub returns-in-None : goal.returns-in-None
-returns-in-None g c = nothing_more _ _
-    (byte_heard (g.E.EndText.end_text c.args.end.now) c.args.self.now _ c.take.new.self None c.args.byte [] c.in_ok-heard.ensures.frame
+returns-in-None c = nothing_more _ _
+    (byte_heard c.args.self.now _ c.take.new.self None c.args.byte [] c.in_ok-heard.ensures.frame
     (sym c.in-None.is ∙ c.in_ok-heard.ensures.heard) (refl, refl))

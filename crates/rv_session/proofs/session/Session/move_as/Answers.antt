@@ -1,7 +1,7 @@
 use Rattle.std.proofs.Common.{◌∙◌, ℕ, List, ap}
 use Rattle.rv_remote.specs.Stops.{stop_text}
-use Rattle.rv_session.specs.Moved.{printed_on}
 use Rattle.rv_session.specs.Replies.{stopping}
+use Rattle.rv_session.specs.Moved.{printed_on}
 use Rattle.rv_session.specs.Sessions.{here}
 use Rattle.rv_session.proofs.Appending.{both_if}
 use Rattle.rv_session.proofs.Gone.{can_tell, moved}
@@ -13,7 +13,9 @@ stop_of-requires g c =
 
 pub returns : goal.returns
 returns g c = both_if _ _ _ c.tell.result c.tell.ensures.reply c.tell.ensures.next
-    (λ reply said stands. moved (g.E.EndText.end_text c.args.end.now) c.args.self.now c.go.new.self c.tell.new.self c.args.asked reply
-    c.in_ok-found.found c.in_ok-stop.stop c.go.ensures.same c.in_ok-found.ensures.gone c.in_ok-stop.ensures
+    (λ reply said stands. moved (g.E.EndText.end_text c.args.end.now) (g.I.Interrupt.was_raised c.go.new.interrupt) c.args.self.now
+    c.go.new.self c.tell.new.self c.args.asked reply
+    c.in_ok-found.found c.in_ok-stop.stop c.go.ensures.same c.in_ok-found.ensures.gone c.in_ok-found.ensures.broken_off
+    c.in_ok-stop.ensures
     (said ∙ ap (λ (text : List ℕ). stopping (printed_on c.go.new.self c.args.asked (here c.go.new.self)) text
     (stop_text c.in_ok-stop.stop)) c.in_ok-text.ensures) stands)

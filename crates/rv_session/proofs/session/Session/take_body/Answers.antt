@@ -5,12 +5,11 @@ use Rattle.rv_session.proofs.Appending.{both_ok, taken}
 use Rattle.rv_session.proofs.session.Session.take_body.Goals as goal
 
 pub returns : goal.returns
-returns g c =
+returns c =
     let session = c.args.self.now in
-    let end_text = g.E.EndText.end_text c.args.end.now in
     both_ok _ _ _ c.send.result c.send.ensures.out c.send.ensures.next
-    (λ sent kept. taken end_text session c.answer.new.self c.send.new.self c.args.body.now c.args.out.now.items c.acknowledge.new.out.items
+    (λ sent kept. taken session c.answer.new.self c.send.new.self c.args.body.now c.args.out.now.items c.acknowledge.new.out.items
     c.send.new.out.items c.in_ok-reply.reply c.in_ok-acknowledge.ensures
-    (subst (λ (request : Request). IsAnswered end_text session request c.in_ok-reply.reply c.answer.new.self) c.in_ok-request.ensures
+    (subst (λ (request : Request). IsAnswered session request c.in_ok-reply.reply c.answer.new.self) c.in_ok-request.ensures
     c.in_ok-reply.ensures)
     sent kept)

@@ -1,0 +1,61 @@
+-- The answers to what one read gave.
+use Rattle.std.specs.Prelude.{◌≡◌, ◌⊎◌, ◌+◌, ◌<◌, ◌==◌, ℕ, Bool, List, None, Some, Option, false, is_some, length, slice_index_or, true}
+use Rattle.std.specs.Io.KnownBytes.{Appends}
+use Rattle.rv_gdb.specs.Conversing.{IsChunkRead}
+use Rattle.rv_session.specs.Heard.{IsByteFed, IsFed, IsWorked, is_interrupted}
+use Rattle.rv_session.specs.declared.session.Session.{Session}
+
+-- what the session answers to a byte went out
+pub record IsBytePut (session : Session) (byte : ℕ) (old new : Option (List ℕ)) (next : Session) : Type 0 where
+  pub told : List ℕ
+  pub heard : IsByteFed session byte told next
+  pub put : Appends old new told
+
+-- what the session says of the move that was asked for went out
+pub record IsMovePut (end_text : List ℕ) (may_break : Bool) (session : Session) (old new : Option (List ℕ)) (next : Session) : Type 0 where
+  pub told : List ℕ
+  pub made : IsWorked end_text may_break session told next
+  pub put : Appends old new told
+
+-- the move that a byte of a chunk asked for was made, since another byte waits behind it
+pub record IsMoveMade (end_text : List ℕ) (session : Session) (chunk : List ℕ) (index : ℕ) (old new : Option (List ℕ)) (next : Session)
+    : Type 0 where
+  pub standing : Session
+  pub middle : Option (List ℕ)
+  pub within : index + 1 < length chunk
+  pub heard : IsBytePut session (slice_index_or chunk index 0) old middle standing
+  pub moved : IsMovePut end_text (slice_index_or chunk (index + 1) 0 == 3) standing middle new next
+
+-- a byte of a chunk was answered: a move waits that the last byte asked for, or none was asked for, or it was made
+abbrev pub IsByteAnswered : List ℕ → Session → List ℕ → ℕ → Bool → Option (List ℕ) → Option (List ℕ) → Session → Type 0
+IsByteAnswered end_text session chunk index true old new next =
+    (index + 1 ≡ length chunk) × (IsBytePut session (slice_index_or chunk index 0) old new next × (is_some next.asked ≡ true))
+IsByteAnswered end_text session chunk index false old new next =
+    (IsBytePut session (slice_index_or chunk index 0) old new next × (next.asked ≡ None))
+    ⊎ IsMoveMade end_text session chunk index old new next
+
+-- a move at the end of a chunk may be broken off for the one that comes next, if one comes
+abbrev pub comes_next : Option (List ℕ) → Bool
+comes_next None = false
+comes_next (Some bytes) = is_interrupted bytes true
+
+-- the session was not over behind a chunk, when the next one was read
+pub record IsOpenBehind (end_text : List ℕ) (session : Session) (chunk bytes : List ℕ) : Type 0 where
+  pub told : List ℕ
+  pub standing : Session
+  pub fed : IsFed end_text (is_interrupted bytes true) session chunk told standing
+  pub is_open : standing.is_over ≡ false
+
+-- the next chunk was read while the session was open; or the session is over, and nothing was read
+abbrev pub IsNextRead : List ℕ → Session → List ℕ → Option (List ℕ) → Option (List ℕ) → Option (List ℕ) → Session → Type 0
+IsNextRead end_text session chunk before after None next = (after ≡ before) × (next.is_over ≡ true)
+IsNextRead end_text session chunk before after (Some bytes) next =
+    IsChunkRead before after bytes × IsOpenBehind end_text session chunk bytes
+
+pub record IsChunkAnswered (end_text : List ℕ) (session : Session) (chunk : List ℕ) (before after old new coming : Option (List ℕ))
+    (next : Session) : Type 0 where
+  pub told : List ℕ
+  pub fed : IsFed end_text (comes_next coming) session chunk told next
+  pub made : next.asked ≡ None
+  pub put : Appends old new told
+  pub read : IsNextRead end_text session chunk before after coming next

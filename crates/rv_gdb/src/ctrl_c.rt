@@ -1,0 +1,50 @@
+//! Ctrl-C, which gdb sends as the byte 0x03 while a move is under way.
+
+use rv_history::Interrupt;
+use std::sync::atomic::AtomicBool;
+use std::sync::atomic::Ordering::SeqCst;
+
+/// An interrupt that is raised.
+#[derive(Drop)]
+pub(crate) struct Raised;
+
+impl Interrupt for Raised {
+    ghost use Rattle.std.specs.Prelude.{true};
+
+    ghost was_raised = { λ _. true };
+
+    fn is_raised(&mut self) -> bool {
+        true
+    }
+}
+
+/// An interrupt that is not raised.
+#[derive(Drop)]
+pub(crate) struct Unraised;
+
+impl Interrupt for Unraised {
+    ghost use Rattle.std.specs.Prelude.{false};
+
+    ghost was_raised = { λ _. false };
+
+    fn is_raised(&mut self) -> bool {
+        false
+    }
+}
+
+/// An interrupt that another thread raises.
+#[derive(Drop)]
+pub(crate) struct Coming<'a> {
+    pub raised: &'a AtomicBool,
+    /// Whether it was seen.
+    pub was_seen: bool,
+}
+
+impl Interrupt for Coming<'_> {
+    ghost was_raised = { λ coming. coming.was_seen };
+
+    fn is_raised(&mut self) -> bool {
+        self.was_seen = self.raised.load(SeqCst);
+        self.was_seen
+    }
+}

@@ -1,0 +1,90 @@
+//! Moves forward on their way.
+
+ghost use Rattle.std.specs.Prelude.{◌≡◌, ◌≤◌, ◌&&◌, IfOk, IsTrue, nat_lt, true};
+ghost use Rattle.rv_machine.specs.Machine.{state_of};
+ghost use Rattle.rv_history.specs.Kept.{IsAt};
+ghost use Rattle.rv_history.specs.Moves.{found_at_budget};
+ghost use Rattle.rv_history.specs.Stops.{is_halt};
+
+use crate::bounds::Bounds;
+use crate::found::Found;
+use crate::interrupt::Interrupt;
+use crate::machine_at::MachineAt;
+use crate::slices::{fill_a_slice, is_slice_end};
+use crate::stops::Stops;
+use crate::track::Track;
+use rv_machine::Ending;
+use std::alloc::{AllocError, Global};
+
+/// A move forward, as far as it has come.
+#[derive(Drop)]
+pub(crate) struct Leg {
+    /// The place where it began.
+    pub from: u32,
+    pub budget: u32,
+    pub bounds: Bounds,
+    /// Where it stands.
+    pub at: MachineAt,
+}
+
+/// Where a move forward ended, and what is found there.
+#[derive(Drop)]
+pub(crate) struct Arrived {
+    pub at: MachineAt,
+    pub found: Found,
+}
+
+impl Leg {
+    /// It ends where it stands.
+    pub(crate) fn arrived(self, found: Found) -> Arrived
+        ensures { result ≡ record { at = self.at; found = found } }
+    {
+        Arrived { at: self.at, found }
+    }
+
+    /// Whether it stands at a breakpoint or outside the bounds, and behind the place where it began.
+    pub(crate) fn is_halted(&self, stops: &Stops) -> bool
+        ensures { result ≡ (nat_lt self.now.from self.now.at.place
+            && is_halt stops.now self.now.bounds (state_of self.now.at.machine).pc) }
+    {
+        self.from < self.at.place && is_halt(stops, self.bounds, self.at.machine.pc())
+    }
+
+    /// What is found at the budget, where it came to there without a stop.
+    pub(crate) fn found_at_budget(&self, stops: &Stops) -> Found
+        ensures { result ≡ found_at_budget (nat_lt self.now.from self.now.at.place
+            && is_halt stops.now self.now.bounds (state_of self.now.at.machine).pc) }
+    {
+        if self.is_halted(stops) {
+            Found::Break
+        } else {
+            Found::End(Ending::Budget)
+        }
+    }
+
+    /// Whether it is broken off where it stands. At the end of a slice its state may be kept, and it asks there once its steps fill a
+    /// slice.
+    pub(crate) fn keep_and_ask<I: Interrupt>(
+        &self,
+        alloc: Global,
+        track: &mut Track,
+        interrupt: &mut I,
+    ) -> Result<bool, AllocError>
+        requires there { IsAt track.old self.now.at }
+        requires order { self.now.from ≤ self.now.at.place }
+        ensures raised { IfOk result (λ broken. IsTrue broken → I.was_raised interrupt.new ≡ true) }
+        ensures same { track.new ≡ track.old }
+    {
+        if !is_slice_end(self.at.place) {
+            return Ok(false);
+        }
+        track.keep_multiple(alloc, &self.at)?;
+        Ok(fill_a_slice(self.at.place - self.from) && interrupt.is_raised())
+    }
+}
+
+fn is_halt(stops: &Stops, bounds: Bounds, pc: u32) -> bool
+    ensures { result ≡ is_halt stops.now bounds pc }
+{
+    stops.has_break(pc) || bounds.is_outside(pc)
+}

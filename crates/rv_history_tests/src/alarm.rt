@@ -1,0 +1,34 @@
+//! Interrupts of the tests' own.
+use rv_history::Interrupt;
+
+/// An interrupt that rises at one of the times that it is asked, the first being 1, and falls again.
+#[derive(Drop)]
+pub struct Alarm {
+    asked: u32,
+    rises_at: u32,
+    was_raised: bool,
+}
+
+impl Alarm {
+    pub fn at(rises_at: u32) -> Alarm {
+        Alarm {
+            asked: 0,
+            rises_at,
+            was_raised: false,
+        }
+    }
+
+    pub fn never() -> Alarm {
+        Alarm::at(0)
+    }
+}
+
+impl Interrupt for Alarm {
+    ghost was_raised = { λ alarm. alarm.was_raised };
+
+    fn is_raised(&mut self) -> bool {
+        self.asked = self.asked.saturating_add(1);
+        self.was_raised = self.asked == self.rises_at;
+        self.was_raised
+    }
+}

@@ -1,0 +1,116 @@
+//! Moves that an interrupt breaks off, by the lines of a table.
+use crate::alarm::Alarm;
+use crate::moves::{found_text, history_of, stops_of};
+use rv_history::{Bounds, History, Stops};
+use samples::{agree, cell_of, has_lines};
+use std::alloc::Global;
+use std::test::Fail;
+
+// It adds 1 to x5 for ever, and stores nothing.
+const CODE: &str = "00128293 ffdff06f X";
+
+// No instruction is at 80000040, and each move is longer than 2^16 steps, behind which it asks.
+// label | budget | stops | the ask at which the interrupt rises | where it breaks the move off | where the move ends then
+const AHEAD: &str = "\
+a run, at once | 66000 | none | 1 | 65536 interrupted | 66000 budget
+a run, later | 132000 | none | 2 | 131072 interrupted | 132000 budget
+past a breakpoint, at once | 66000 | b80000040 | 1 | 65536 interrupted | 66000 budget
+past a breakpoint, later | 132000 | b80000040 | 2 | 131072 interrupted | 132000 budget
+past a watch | 66000 | w80000100,4 | 1 | 65536 interrupted | 66000 budget
+";
+
+// The same, beginning at the budget: a move back that is broken off has not moved.
+const BACK: &str = "\
+back to the start | 132000 | b80000040 | 2 | 132000 interrupted | 0 begin
+back past a watch | 132000 | w80000100,4 | 1 | 132000 interrupted | 0 begin
+";
+
+#[derive(Clone, Copy)]
+enum Way {
+    Ahead,
+    Back,
+}
+
+// The place from which a move of this way is asked for: the start of the run, or its budget.
+fn history_at(alloc: Global, way: Way, budget: u32) -> Result<History, Fail> {
+    let mut history = history_of(alloc, CODE, budget)?;
+    if let Way::Back = way {
+        let _ = history.seek(alloc, budget)?;
+    }
+    Ok(history)
+}
+
+// Where a move ends, and what it found there.
+fn moved_to(
+    alloc: Global,
+    history: &mut History,
+    way: Way,
+    stops: &Stops,
+    alarm: &mut Alarm,
+) -> Result<String, Fail> {
+    let found = match way {
+        Way::Ahead => history.go_on(alloc, stops, Bounds::All, alarm)?,
+        Way::Back => history.go_back(alloc, stops, alarm)?,
+    };
+    let told = found_text(alloc, found)?;
+    Ok(format!(in alloc; "{} {told}", history.place())?)
+}
+
+// Going on, the move that is broken off comes to where it ends if nothing breaks it off.
+fn check_moves_from(
+    alloc: Global,
+    history: &mut History,
+    way: Way,
+    stops: &Stops,
+    line: &str,
+) -> Result<(), Fail> {
+    let mut alarm = Alarm::at(cell_of(line, 3).parse()?);
+    let met = moved_to(alloc, history, way, stops, &mut alarm)?;
+    agree(line, met.as_str(), cell_of(line, 4))?;
+    let met = moved_to(alloc, history, way, stops, &mut Alarm::never())?;
+    agree(line, met.as_str(), cell_of(line, 5))
+}
+
+fn check_broken_off(alloc: Global, way: Way, line: &str) -> Result<(), Fail> {
+    let stops = stops_of(alloc, cell_of(line, 2))?;
+    let budget = cell_of(line, 1).parse()?;
+    let mut history = history_at(alloc, way, budget)?;
+    check_moves_from(alloc, &mut history, way, &stops, line)
+}
+
+#[test]
+fn moves_ahead_are_broken_off(rt: HostRuntime) -> Result<(), Fail> {
+    has_lines(AHEAD, 5)?;
+    for line in AHEAD.lines() {
+        check_broken_off(rt.alloc(), Way::Ahead, line)?;
+    }
+    Ok(())
+}
+
+#[test]
+fn moves_back_are_broken_off(rt: HostRuntime) -> Result<(), Fail> {
+    has_lines(BACK, 2)?;
+    for line in BACK.lines() {
+        check_broken_off(rt.alloc(), Way::Back, line)?;
+    }
+    Ok(())
+}
+
+// A move of less than 2^16 steps does not ask.
+fn check_short_moves(alloc: Global, history: &mut History, stops: &Stops) -> Result<(), Fail> {
+    let met = moved_to(alloc, history, Way::Ahead, stops, &mut Alarm::at(1))?;
+    agree("ahead", met.as_str(), "65000 budget")?;
+    let met = moved_to(alloc, history, Way::Back, stops, &mut Alarm::at(1))?;
+    agree("back", met.as_str(), "0 begin")
+}
+
+#[test]
+fn short_moves_do_not_ask(rt: HostRuntime) -> Result<(), Fail> {
+    let alloc = rt.alloc();
+    for text in ["none", "b80000040"] {
+        let stops = stops_of(alloc, text)?;
+        let mut history = history_of(alloc, CODE, 65_000)?;
+        check_short_moves(alloc, &mut history, &stops)?;
+    }
+    Ok(())
+}

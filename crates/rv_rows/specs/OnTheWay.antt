@@ -1,0 +1,13 @@
+-- A state on the way of a run within a budget.
+use Rattle.std.specs.Prelude.{◌≡◌, ◌≤◌, ℕ, Result, Ok}
+use Rattle.rv_machine.specs.Run.{run_of}
+use Rattle.rv_machine.specs.State.{State}
+use Rattle.rv_report.specs.declared.row.Refusal.{Refusal}
+
+-- The run starts, and so many of its steps complete, no more than the budget: the state is the one behind them.
+pub record IsOnTheWay (start : Result State Refusal) (budget steps : ℕ) (state : State) : Type 0 where
+  pub first : State
+  pub starts : start ≡ Ok first
+  pub completed : (run_of steps first).steps ≡ steps
+  pub same : state ≡ (run_of steps first).state
+  pub within : steps ≤ budget

@@ -1,0 +1,110 @@
+//! The row of a job whose machine has come some way in its run.
+
+ghost use Rattle.std.specs.Prelude.{◌≡◌, ◌<◌, ◌≤◌, IfOk, IfSome, Ok, length, slice_index_or};
+ghost use Rattle.rv_elf.specs.Rows.{accepted};
+ghost use Rattle.rv_elf.specs.Symbols.{signature_check};
+ghost use Rattle.rv_jobs.specs.declared_job.Job.{Job as AJob};
+ghost use Rattle.rv_machine.specs.Machine.{state_of};
+ghost use Rattle.rv_machine.specs.Run.{run_of};
+ghost use Rattle.rv_machine.specs.State.{State};
+ghost use Rattle.rv_rows.specs.Attempt.{HasSignature, IsReadable, outcome_in_bus, outcome_of_attempt};
+ghost use Rattle.rv_rows.specs.OnTheWay.{IsOnTheWay};
+ghost use Rattle.rv_rows.specs.Outcome.{file_outcome_of, loadable_image, outcome_of_run, start_if_loadable};
+ghost use Rattle.rv_rows.specs.Rows.{outcome_in, row_of, start_in};
+
+use crate::attempt::{image_file_or_refusal, loadable_image, run_machine};
+use crate::outcome::{Attempt, EndedRun, SignatureRange};
+use crate::plan_rows::{is_same_as_named, judged_row};
+use crate::recent_outcomes::Recent;
+use crate::spare_bus::Spare;
+use rv_elf::ImageError;
+use rv_jobs::{Job, Plan};
+use rv_machine::Machine;
+use rv_report::{Refusal, Row};
+use std::alloc::{AllocError, Global};
+
+/// The row of the job at a place, counted from 0, whose machine stands behind so many steps of its run: the same as that of
+/// [`crate::row_at`], and only what is left of the run is run. A job that it names is run whole.
+pub fn row_from(
+    alloc: Global,
+    plan: &Plan,
+    i: usize,
+    steps: u32,
+    machine: Machine,
+) -> Result<Row, AllocError>
+    requires place { i < length plan.now.jobs }
+    requires way { (d : AJob) → let job = slice_index_or plan.now.jobs i d in
+        IsOnTheWay (start_in plan.now.answers job) job.budget steps (state_of machine) }
+    ensures { IfOk result (λ row. (d : AJob) → row
+        ≡ row_of plan.now (slice_index_or plan.now.jobs i d)) }
+{
+    let attempt = attempt_on_way(alloc, plan, i, steps, machine)?;
+    let outcome = attempt.outcome(alloc)?;
+    let (mut spare, mut recent) = (Spare::new(), Recent::new(alloc));
+    spare.keep(attempt);
+    let same = is_same_as_named(plan, plan.job(i), &outcome, &mut spare, &mut recent)?;
+    judged_row(alloc, plan, i, outcome, same)
+}
+
+// What the job comes to.
+#[tactic(auto, unfolding(crate::specs::Outcome::outcome_of))]
+fn attempt_on_way(
+    alloc: Global,
+    plan: &Plan,
+    i: usize,
+    steps: u32,
+    machine: Machine,
+) -> Result<Attempt, AllocError>
+    requires place { i < length plan.now.jobs }
+    requires way { (d : AJob) → let job = slice_index_or plan.now.jobs i d in
+        IsOnTheWay (start_in plan.now.answers job) job.budget steps (state_of machine) }
+    ensures outcome { IfOk result (λ attempt. (d : AJob) → outcome_of_attempt attempt
+        ≡ outcome_in plan.now.answers (slice_index_or plan.now.jobs i d)) }
+    ensures readable { IfOk result IsReadable }
+{
+    match image_file_or_refusal(plan.image(i), plan.reference(i), plan.console_reference(i)) {
+        Ok(file) => attempt_over_file(alloc, plan.job(i), file, steps, machine),
+        Err(why) => Ok(Attempt::Refused(why)),
+    }
+}
+
+// The same over its image's bytes.
+#[tactic(auto, unfolding(crate::specs::Outcome::file_outcome_of))]
+fn attempt_over_file(
+    alloc: Global,
+    job: &Job,
+    file: &[u8],
+    steps: u32,
+    machine: Machine,
+) -> Result<Attempt, AllocError>
+    requires named { IfSome job.now.signature (λ names. (0 < length names.begin)
+        × (0 < length names.end)) }
+    requires way { IsOnTheWay (start_if_loadable job.now file.now (loadable_image job.now file.now))
+        job.now.budget steps (state_of machine) }
+    ensures outcome { IfOk result (λ attempt. outcome_of_attempt attempt
+        ≡ file_outcome_of job.now file.now) }
+    ensures readable { IfOk result IsReadable }
+{
+    match loadable_image(alloc, job, file) {
+        Ok(loadable) => {
+            let run = rest_of_run(machine, steps, job.budget, loadable.range);
+            Ok(Attempt::Ran(run))
+        }
+        Err(ImageError::OutOfMemory) => Err(AllocError),
+        Err(error) => Ok(Attempt::Refused(Refusal::Image(error))),
+    }
+}
+
+// What a run within a budget comes to, of which so many steps have been run.
+fn rest_of_run(machine: Machine, steps: u32, budget: u32, range: Option<SignatureRange>) -> EndedRun
+    requires within { steps ≤ budget }
+    requires range { IfSome range
+        (λ range. signature_check range.begin range.end (state_of machine).bus.regions ≡ accepted) }
+    ensures outcome { (start : State) → IsOnTheWay (Ok start) budget steps (state_of machine)
+        → outcome_in_bus result ≡ outcome_of_run (run_of budget start) range }
+    ensures readable { HasSignature result }
+{
+    let mut run = run_machine(machine, budget - steps, range);
+    run.steps += steps;
+    run
+}

@@ -1,0 +1,37 @@
+-- Moves that may be broken off for more than one reason.
+use Rattle.std.proofs.Common.{◌≡◌, ◌∙◌, ℕ, List, Bool, true, None, ap}
+use Rattle.rv_remote.specs.declared.request.Move.{Move}
+use Rattle.rv_session.specs.Heard.{IsWorked}
+use Rattle.rv_session.specs.Moved.{IsMoved}
+use Rattle.rv_session.specs.declared.reply.Reply.{Reply}
+use Rattle.rv_session.specs.declared.session.Session.{Session}
+
+moved_more : (end_text : List ℕ) (one other : Bool) (session next : Session) (asked : Move) (reply : Reply)
+    → (one ≡ true → other ≡ true) → IsMoved end_text one session asked reply next → IsMoved end_text other session asked reply next
+moved_more end_text one other session next asked reply more moved = record {
+  place = moved.place;
+  found = moved.found;
+  gone = moved.gone;
+  broken_off = λ broken. more (moved.broken_off broken);
+  reply_is = moved.reply_is;
+  next_is = moved.next_is;
+}
+
+-- what may be broken off for one reason may be broken off for a wider one
+pub worked_more : (end_text : List ℕ) (one other : Bool) (session next : Session) (out : List ℕ) → (one ≡ true → other ≡ true)
+    → IsWorked end_text one session out next → IsWorked end_text other session out next
+worked_more end_text one other session next out more made = record {
+  asked = made.asked;
+  asked_is = made.asked_is;
+  reply = made.reply;
+  behind = made.behind;
+  moved = moved_more end_text one other (record session { asked = None }) made.behind made.asked made.reply more made.moved;
+  out_is = made.out_is;
+  next_is = made.next_is;
+}
+
+-- no move is asked for once it is made
+pub worked_unasked : (end_text : List ℕ) (may_break : Bool) (session next : Session) (out : List ℕ)
+    → IsWorked end_text may_break session out next → next.asked ≡ None
+worked_unasked end_text may_break session next out made =
+    ap (λ (s : Session). s.asked) made.next_is ∙ ap (λ (s : Session). s.asked) made.moved.next_is

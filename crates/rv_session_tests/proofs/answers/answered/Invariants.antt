@@ -1,0 +1,6 @@
+use Rattle.rv_history.specs.Starts.{start_of}
+use Rattle.rv_session_tests.specs.Talks.{IsReady}
+use Rattle.rv_session_tests.proofs.answers.answered.Given as goal
+
+abbrev pub invariant-loop-byte : goal.invariant-loop-byte
+invariant-loop-byte l = IsReady (start_of l.end.start) l.session

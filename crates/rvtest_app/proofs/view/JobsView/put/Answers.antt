@@ -1,0 +1,62 @@
+use Rattle.std.proofs.Common.{None, Some, arith, inl, inr, refl}
+use Rattle.std.proofs.lemmas.Result.{err_from_is_err_and}
+use Rattle.rvtest_app.specs.Said.{said}
+use Rattle.rvtest_app.proofs.Results.{IfOk-map}
+use Rattle.rvtest_app.proofs.StopLemmas.{IfErr-map}
+use Rattle.rvtest_app.proofs.view.JobsView.put.Goals as goal
+
+pub returns-in_err-requested-clause-stopped : goal.returns-in_err-requested-clause-stopped
+returns-in_err-requested-clause-stopped g c =
+    let is = err_from_is_err_and c.from_residual.result c.from_residual.ensures.1 in
+    rw (is.1, is.2) (inr (inl c.in_err-requested.ensures.stopped))
+
+pub returns-in-Some-clause-put : goal.returns-in-Some-clause-put
+returns-in-Some-clause-put g c =
+    IfOk-map c.put_of_marked.result _ _
+    (λ status put. record {
+      jobs = c.in_ok-requested.requested.jobs;
+      marks = Some c.in-Some.marks.items;
+      shard = c.in_ok-requested.requested.frame.shard;
+      old = c.in_ok-requested.requested.frame.old;
+      notes = c.in_ok-requested.requested.notes.items;
+      asked = rw c.in-Some.is at c.in_ok-requested.ensures.asked;
+      middle = said g.F.Outputs.placed g.O.Sink.taken g.E.Sink.taken g.E.Sink.failed
+          (record c.args.to.now { errors = c.put_message.new.errors });
+      told = (refl, rw c.as_slice.ensures.value at c.put_message.ensures, refl);
+      viewed = put.1;
+      done = put.0;
+    })
+    (rw c.as_slice-in-Some.ensures.value at c.put_of_marked.ensures.put)
+
+pub returns-in-Some-clause-low : goal.returns-in-Some-clause-low
+returns-in-Some-clause-low g c =
+    IfOk-map c.put_of_marked.result _ _ (λ status put. omega (arith, put.0)) c.put_of_marked.ensures.put
+
+pub returns-in-Some-clause-stopped : goal.returns-in-Some-clause-stopped
+returns-in-Some-clause-stopped g c =
+    IfErr-map c.put_of_marked.result _ _
+    (λ why is. inr (inr (record {
+      jobs = c.in_ok-requested.requested.jobs;
+      marks = c.in-Some.marks.items;
+      shard = c.in_ok-requested.requested.frame.shard;
+      old = c.in_ok-requested.requested.frame.old;
+      notes = c.in_ok-requested.requested.notes.items;
+      asked = rw c.in-Some.is at c.in_ok-requested.ensures.asked;
+      unviewed = is;
+    })))
+    (rw c.as_slice-in-Some.ensures.value at c.put_of_marked.ensures.stopped)
+
+pub returns-clause-put : goal.returns-clause-put
+returns-clause-put g c = record {
+  jobs = c.in_ok-requested.requested.jobs;
+  marks = None;
+  shard = c.in_ok-requested.requested.frame.shard;
+  old = c.in_ok-requested.requested.frame.old;
+  notes = c.in_ok-requested.requested.notes.items;
+  asked = rw c.in-None.is at c.in_ok-requested.ensures.asked;
+  middle = said g.F.Outputs.placed g.O.Sink.taken g.E.Sink.taken g.E.Sink.failed
+      (record c.args.to.now { errors = c.put_message.new.errors });
+  told = (refl, rw c.as_slice.ensures.value at c.put_message.ensures, refl);
+  viewed = refl;
+  done = refl;
+}

@@ -1,0 +1,140 @@
+-- Why `cover` or `profile` ended before its work was done.
+use Rattle.std.specs.Prelude.{◌≡◌, ◌⊎◌, ◌++◌, ℕ, Bool, false, List, Option, Some, None, codes, unwrap_or}
+use Rattle.rv_base.specs.Files.{FileContents}
+use Rattle.rv_cli.specs.declared.rvtest.run.RunAsked.{RunAsked}
+use Rattle.rv_command.specs.Messages.{path_message}
+use Rattle.rv_command.specs.Stops.{IsStop, IsUnreadStop}
+use Rattle.rv_command.specs.Texts.{IsTextAt, optional_text}
+use Rattle.rv_command.specs.declared.stop.Stop.{Stop}
+use Rattle.rv_command.specs.declared.stop.Stop.TheVariants as stop
+use Rattle.rv_counts.specs.declared.sum.SumError.{SumError}
+use Rattle.rv_counts.specs.declared.table.CountTable.{CountTable}
+use Rattle.rv_cover.specs.ImageCounts.{other_image}
+use Rattle.rv_cover.specs.JobImages.{FileImage, images_of}
+use Rattle.rv_coverage.specs.JobTables.{jobs_at}
+use Rattle.rv_files.specs.UnreadPaths.{contents_below}
+use Rattle.rv_files.specs.declared.noting_store.Unread.{Unread}
+use Rattle.rv_jobs.specs.Plans.{Planned}
+use Rattle.rv_lists.specs.declared.job.Job.{Job}
+use Rattle.rv_profile.specs.ImageStacks.{image_past_64_bits}
+use Rattle.rv_report.specs.declared.row.Row.{Row}
+use Rattle.rv_report.specs.declared.saved.Shard.{Shard}
+use Rattle.rv_stacks.specs.StackTables.{HaveNoStacks}
+use Rattle.rv_text.specs.Printable.{printable_text}
+use Rattle.rvtest_app.specs.CountStops.{IsSumErrorStop, IsTableFaultStop}
+use Rattle.rvtest_app.specs.CountSums.{IsTableAt}
+use Rattle.rvtest_app.specs.RunStops.{IsUnrequestedStop}
+use Rattle.rvtest_app.specs.Runs.{AreRequestedJobs, IsPlanFor, places_of_marks}
+use Rattle.rvtest_app.specs.Views.{IsTableFor, has_counts_for}
+use Rattle.rvtest_app.specs.declared.view.View.{View}
+use Rattle.rvtest_app.specs.declared.view.View.TheVariants as view
+
+-- ---- no table at a path
+
+-- the table at a path has no counts of the image of another path, but of one that stood there
+abbrev pub other_image_message : List ℕ → List ℕ → List ℕ
+other_image_message table path = codes "rvtest: " ++ printable_text table ++ codes ": " ++ printable_text path
+    ++ codes ": another image than that of the chosen jobs\n"
+
+-- the table at a path has counts of another image than one of these
+abbrev pub IsOtherImageStop : Option FileContents → List ℕ → List FileImage → Stop → Type 0
+IsOtherImageStop known path images why = (table : CountTable) × (IsTableAt known path table
+    × ((other : List ℕ) × ((other_image table images ≡ Some other) × IsStop 2 (other_image_message path other) why)))
+
+-- the table at a path was not read; or its text is no table; or it has counts of another image
+abbrev pub IsNoTableStop : Option FileContents → List ℕ → List FileImage → Stop → Type 0
+IsNoTableStop known path images why = IsUnreadStop known path why
+    ⊎ (((text : List ℕ) × (IsTextAt known path text × IsTableFaultStop path text why))
+    ⊎ IsOtherImageStop known path images why)
+
+abbrev pub no_stacks_message : List ℕ → List ℕ
+no_stacks_message table = path_message table (codes "a table without stacks: rvtest run LIST --counts FILE --stacks writes one with them")
+
+-- the table at a path has not what is shown
+abbrev pub IsStacklessStop : Option FileContents → View → List ℕ → Stop → Type 0
+IsStacklessStop known shown path why = (table : CountTable) × (IsTableAt known path table
+    × ((has_counts_for shown table ≡ false) × IsStop 2 (no_stacks_message path) why))
+
+-- it is none for these images; or it has not what is shown
+abbrev pub IsUnfitTableStop : Option FileContents → View → List ℕ → List FileImage → Stop → Type 0
+IsUnfitTableStop known shown path images why = IsNoTableStop known path images why ⊎ IsStacklessStop known shown path why
+
+-- ---- no table of a run
+
+-- the stacks of the runs of the jobs at some places have no sum, which is told of a path
+abbrev pub IsUnstackedJobsStop : Planned → List ℕ → List ℕ → Stop → Type 0
+IsUnstackedJobsStop plan places path why =
+    (error : SumError) × (HaveNoStacks plan places error × IsSumErrorStop path error why)
+
+-- memory was wanting to count the runs; or their stacks have no sum
+abbrev pub IsUncountedStop : View → Planned → List ℕ → List ℕ → Stop → Type 0
+IsUncountedStop (view.Cover csv) plan places path why = why ≡ stop.OutOfMemory
+IsUncountedStop (view.Profile format) plan places path why = IsUnstackedJobsStop plan places path why
+
+-- there is no table: of a run of the jobs at some places, or at a path
+abbrev pub IsUntabledStop : Option FileContents → RunAsked → View → Option (List ℕ) → Planned → List ℕ → Stop → Type 0
+IsUntabledStop known words shown None plan places why = IsUncountedStop shown plan places words.list.now why
+IsUntabledStop known words shown (Some path) plan places why =
+    IsUnfitTableStop known shown path (images_of plan.answers (jobs_at plan places)) why
+
+-- ---- too many steps
+
+-- the table that words name, or the list
+abbrev pub counts_source : RunAsked → List ℕ
+counts_source words = unwrap_or (optional_text words.counts) words.list.now
+
+-- of a table or list, and the image of a path
+abbrev pub past_64_bits_message : List ℕ → List ℕ → List ℕ
+past_64_bits_message source path = codes "rvtest: " ++ printable_text source ++ codes ": " ++ printable_text path
+    ++ codes ": the sum of its stacks does not fit in 64 bits\n"
+
+-- an image's stacks have 2^64 steps or more, or as many arrivals
+abbrev pub IsPast64BitsStop : CountTable → List FileImage → List ℕ → Stop → Type 0
+IsPast64BitsStop table images source why = (path : List ℕ)
+    × ((image_past_64_bits table images ≡ Some path) × IsStop 2 (past_64_bits_message source path) why)
+
+-- memory was wanting; or, where it is shown where steps were, these are too many
+abbrev pub IsTextlessStop : View → CountTable → List FileImage → List ℕ → Stop → Type 0
+IsTextlessStop (view.Cover csv) table images source why = why ≡ stop.OutOfMemory
+IsTextlessStop (view.Profile format) table images source why = (why ≡ stop.OutOfMemory) ⊎ IsPast64BitsStop table images source why
+
+-- that is so of the images of the jobs at some places
+abbrev pub IsTextlessTableStop : Option FileContents → RunAsked → View → Planned → List ℕ → Stop → Type 0
+IsTextlessTableStop known words shown plan places why = (table : CountTable)
+    × (IsTableFor known shown (optional_text words.counts) plan places table
+    × IsTextlessStop shown table (images_of plan.answers (jobs_at plan places)) (counts_source words) why)
+
+-- ---- the command
+
+-- memory was wanting, or there is no table, or no text of one
+abbrev pub IsUnshownStop : Option FileContents → RunAsked → View → Planned → List ℕ → Stop → Type 0
+IsUnshownStop known words shown plan places why = (why ≡ stop.OutOfMemory)
+    ⊎ (IsUntabledStop known words shown (optional_text words.counts) plan places why
+    ⊎ IsTextlessTableStop known words shown plan places why)
+
+-- that happened over a plan of the jobs
+pub record IsUnshownOfPlaces (known : Option FileContents) (words : RunAsked) (shown : View) (jobs : List Job) (places : List ℕ)
+    (why : Stop) : Type 0 where
+  pub plan : Planned
+  pub unread : List Unread
+  pub planned : IsPlanFor (contents_below (optional_text words.root) known) jobs places plan unread
+  pub unshown : IsUnshownStop known words shown plan places why
+
+-- or memory was wanting, or the text was not put
+abbrev pub IsUnviewedStop : Option FileContents → RunAsked → View → List Job → List ℕ → Stop → Type 0
+IsUnviewedStop known words shown jobs places why = (why ≡ stop.OutOfMemory)
+    ⊎ ((why ≡ stop.WriteFailed) ⊎ IsUnshownOfPlaces known words shown jobs places why)
+
+-- the jobs that words ask for were found, and that happened to them
+pub record IsUnviewedAtStop (known : Option FileContents) (words : RunAsked) (shown : View) (why : Stop) : Type 0 where
+  pub jobs : List Job
+  pub marks : List Bool
+  pub shard : Option Shard
+  pub old : Option (List Row)
+  pub notes : List ℕ
+  pub asked : AreRequestedJobs known words jobs (Some marks) shard old notes
+  pub unviewed : IsUnviewedStop known words shown jobs (places_of_marks marks) why
+
+-- no jobs were found that words ask for, or they were, and what is shown of their images was not put
+abbrev pub IsViewStop : Option FileContents → RunAsked → View → Stop → Type 0
+IsViewStop known words shown why = IsUnrequestedStop known words why ⊎ IsUnviewedAtStop known words shown why

@@ -1,0 +1,96 @@
+-- What `cover` and `profile` put: what is shown of the images of the jobs that words ask for, by a run of these jobs or by a table of counts.
+use Rattle.std.specs.Prelude.{◌≡◌, ℕ, Bool, true, List, None, Option, Some}
+use Rattle.rv_base.specs.Files.{FileContents}
+use Rattle.rv_cli.specs.declared.rvtest.run.RunAsked.{RunAsked}
+use Rattle.rv_command.specs.Texts.{optional_text}
+use Rattle.rv_counts.specs.declared.table.CountTable.{CountTable}
+use Rattle.rv_cover.specs.ImageCounts.{other_image}
+use Rattle.rv_cover.specs.ImagesText.{IsCoverText}
+use Rattle.rv_cover.specs.JobImages.{FileImage, images_of}
+use Rattle.rv_coverage.specs.JobTables.{IsTableOfPlaces, jobs_at}
+use Rattle.rv_files.specs.UnreadPaths.{contents_below}
+use Rattle.rv_files.specs.declared.noting_store.Unread.{Unread}
+use Rattle.rv_jobs.specs.Plans.{Planned}
+use Rattle.rv_lists.specs.declared.job.Job.{Job}
+use Rattle.rv_profile.specs.ImageStacks.{has_stacks}
+use Rattle.rv_profile.specs.ProfileText.{IsProfileText}
+use Rattle.rv_report.specs.declared.row.Row.{Row}
+use Rattle.rv_report.specs.declared.saved.Shard.{Shard}
+use Rattle.rv_stacks.specs.StackTables.{AreStacksOfPlaces}
+use Rattle.rvtest_app.specs.CountSums.{IsTableAt}
+use Rattle.rvtest_app.specs.RefusedNotes.{refused_note}
+use Rattle.rvtest_app.specs.Runs.{AreRequestedJobs, IsPlanFor, places_of_marks}
+use Rattle.rvtest_app.specs.Said.{IsOnlyPut, IsOnlyTold, Said}
+use Rattle.rvtest_app.specs.declared.view.View.{View}
+use Rattle.rvtest_app.specs.declared.view.View.TheVariants as view
+
+-- ---- what a view takes and shows
+
+-- a run of the jobs at some places gives the table: of their counts, or of their stacks
+abbrev pub IsCountedFor : View → Planned → List ℕ → CountTable → Type 0
+IsCountedFor (view.Cover csv) plan places table = IsTableOfPlaces plan places table
+IsCountedFor (view.Profile format) plan places table = AreStacksOfPlaces plan places table
+
+-- any table tells what ran; only one with stacks tells where steps were
+abbrev pub has_counts_for : View → CountTable → Bool
+has_counts_for (view.Cover csv) table = true
+has_counts_for (view.Profile format) table = has_stacks table
+
+-- this is shown of images by a table
+abbrev pub IsViewText : View → CountTable → List FileImage → List ℕ → Type 0
+IsViewText (view.Cover csv) table images text = IsCoverText csv table images text
+IsViewText (view.Profile format) table images text = IsProfileText format table images text
+
+-- ---- what is shown
+
+-- the table at a path has what is shown, and no counts of other images than these at their paths
+pub record IsFitTableAt (known : Option FileContents) (shown : View) (path : List ℕ) (images : List FileImage) (table : CountTable)
+    : Type 0 where
+  pub at : IsTableAt known path table
+  pub of_images : other_image table images ≡ None
+  pub fit : has_counts_for shown table ≡ true
+
+-- the table is that of a run of the jobs at some places, or that at a path
+abbrev pub IsTableFor : Option FileContents → View → Option (List ℕ) → Planned → List ℕ → CountTable → Type 0
+IsTableFor known shown None plan places table = IsCountedFor shown plan places table
+IsTableFor known shown (Some path) plan places table = IsFitTableAt known shown path (images_of plan.answers (jobs_at plan places)) table
+
+-- this is shown of the images of the jobs at some places of a plan
+abbrev pub IsViewOfPlan : Option FileContents → RunAsked → View → Planned → List ℕ → List ℕ → Type 0
+IsViewOfPlan known words shown plan places text = (table : CountTable)
+    × (IsTableFor known shown (optional_text words.counts) plan places table
+    × IsViewText shown table (images_of plan.answers (jobs_at plan places)) text)
+
+-- ---- the command
+
+-- over a plan of the jobs at some places this was told, and then what is shown was put
+pub record IsViewOfPlaces (known : Option FileContents) (words : RunAsked) (shown : View) (jobs : List Job) (places : List ℕ)
+    (before after : Said) : Type 0 where
+  pub plan : Planned
+  pub unread : List Unread
+  pub planned : IsPlanFor (contents_below (optional_text words.root) known) jobs places plan unread
+  pub middle : Said
+  pub told : IsOnlyTold (refused_note words plan unread places) before middle
+  pub text : List ℕ
+  pub of_plan : IsViewOfPlan known words shown plan places text
+  pub put : IsOnlyPut text middle after
+
+-- the same of the jobs that are marked; where there are none, nothing is put
+abbrev pub IsViewOfMarked : Option FileContents → RunAsked → View → List Job → Option (List Bool) → Said → Said → Type 0
+IsViewOfMarked known words shown jobs None before after = after ≡ before
+IsViewOfMarked known words shown jobs (Some marks) before after =
+    IsViewOfPlaces known words shown jobs (places_of_marks marks) before after
+
+-- what is said of the choice went to standard error, and then what is shown of the images of the jobs that words ask for was put; the
+-- status is 0
+pub record IsViewPut (known : Option FileContents) (words : RunAsked) (shown : View) (status : ℕ) (before after : Said) : Type 0 where
+  pub jobs : List Job
+  pub marks : Option (List Bool)
+  pub shard : Option Shard
+  pub old : Option (List Row)
+  pub notes : List ℕ
+  pub asked : AreRequestedJobs known words jobs marks shard old notes
+  pub middle : Said
+  pub told : IsOnlyTold notes before middle
+  pub viewed : IsViewOfMarked known words shown jobs marks middle after
+  pub done : status ≡ 0

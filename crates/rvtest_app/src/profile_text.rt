@@ -1,0 +1,52 @@
+//! What `profile` shows by a table, and refuses.
+
+ghost use Rattle.std.specs.Prelude.{◌≡◌, ◌⊎◌, IfErr, IfOk};
+ghost use Rattle.rv_counts.specs.Table.{IsTable};
+ghost use Rattle.rv_cover.specs.JobImages.{images_of_files};
+ghost use Rattle.rv_profile.specs.ProfileText.{IsProfileText};
+ghost use Rattle.rvtest_app.specs.ViewStops.{IsPast64BitsStop, past_64_bits_message};
+
+use rv_command::Stop;
+use rv_counts::CountTable;
+use rv_cover::ImageFile;
+use rv_profile::{ProfileFormat, image_past_64_bits, profile_text};
+use rv_text::{Span, text_of_spans};
+use std::alloc::{AllocError, Global};
+
+/// What is shown of images by the stacks of a table, unless they are too many: then it is told where the stacks are from.
+pub(crate) fn text_of_profile(
+    alloc: Global,
+    source: &str,
+    format: ProfileFormat,
+    table: &CountTable,
+    images: &[ImageFile<'_>],
+) -> Result<Vec<u8>, Stop>
+    requires { IsTable table.now }
+    ensures shown { IfOk result (λ text. IsProfileText format table.now (images_of_files images.now) text.items) }
+    ensures stopped { IfErr result (λ why. (why ≡ Stop.OutOfMemory)
+        ⊎ IsPast64BitsStop table.now (images_of_files images.now) source.now why) }
+{
+    match image_past_64_bits(table, images) {
+        Some(path) => Err(Stop::of_refusal(past_64_bits_message(alloc, source, path))),
+        None => Ok(profile_text(alloc, format, table, images)?),
+    }
+}
+
+fn past_64_bits_message<'a>(
+    alloc: Global,
+    source: &'a str,
+    path: &'a str,
+) -> Result<Vec<u8>, AllocError>
+    ensures { IfOk result (λ text. text.items ≡ past_64_bits_message source.now path.now) }
+{
+    text_of_spans(
+        alloc,
+        &[
+            Span::Text("rvtest: "),
+            Span::Shown(source.as_bytes()),
+            Span::Text(": "),
+            Span::Shown(path.as_bytes()),
+            Span::Text(": the sum of its stacks does not fit in 64 bits\n"),
+        ],
+    )
+}

@@ -1,0 +1,147 @@
+//! What `cover` and `profile` have in common: jobs run or have been counted, and something of their images is shown.
+
+ghost use Rattle.std.specs.Prelude.{◌≡◌, ◌⊎◌, ◌≤◌, IfErr, IfOk, length};
+ghost use Rattle.std.specs.List.Sorted.{IsStrictlyIncreasing};
+ghost use Rattle.rv_counts.specs.Table.{IsTable};
+ghost use Rattle.rv_cover.specs.JobImages.{AreSmall, images_of_files};
+ghost use Rattle.rv_fleet.specs.Choices.{AreJobPlaces};
+ghost use Rattle.rvtest_app.specs.Runs.{places_of_marks};
+ghost use Rattle.rvtest_app.specs.Said.{said};
+ghost use Rattle.rvtest_app.specs.ViewStops.{IsTextlessStop, IsUnshownStop, IsUnviewedStop, IsViewStop, counts_source};
+ghost use Rattle.rvtest_app.specs.Views.{IsViewOfPlaces, IsViewOfPlan, IsViewPut, IsViewText};
+
+use crate::destinations::Destinations;
+use crate::host::Host;
+use crate::planned_run::RequestedJobs;
+use crate::profile_text::text_of_profile;
+use crate::refused_note::refused_note;
+use crate::rules::failure_rule;
+use crate::run::{ListRun, gather_jobs_at};
+use rv_cli::rvtest::{ChoosingCommand, RunAsked};
+use rv_command::{DONE, Stop, put_message, put_results};
+use rv_counts::CountTable;
+use rv_cover::{ImageFile, cover_text, images_of_places};
+use rv_files::{Inputs, NotingStore, Outputs};
+use rv_jobs::{JobList, Plan, marked_places};
+use rv_profile::ProfileFormat;
+use rv_rows::Sink;
+use std::thread::Threads;
+
+/// What is shown of images by a table of counts.
+#[derive(Clone, Copy)]
+pub(crate) enum View {
+    /// What of them ran.
+    Cover {
+        /// Whether it is written for tools.
+        csv: bool,
+    },
+    /// In which functions steps were.
+    Profile(ProfileFormat),
+}
+
+/// A view of the images of the jobs that words ask for.
+#[derive(Drop)]
+pub(crate) struct JobsView<'x, R, D> {
+    pub(crate) host: &'x Host<'x, R, D>,
+    pub(crate) asked: &'x RunAsked<'x>,
+    pub(crate) view: View,
+}
+
+impl<'x, R: Threads + Sync, D: Inputs> JobsView<'x, R, D> {
+    /// Shows it, by a run of the jobs or by a table of counts. The status is 0. A refusal of words shows the usage of the command.
+    pub(crate) fn put<F: Outputs + Drop, O: Sink + Drop, E: Sink + Drop>(
+        &self,
+        command: ChoosingCommand,
+        to: &mut Destinations<F, O, E>,
+    ) -> Result<u8, Stop>
+        ensures put { IfOk result (λ status. IsViewPut (D.contents self.now.host.now.inputs.now) self.now.asked.now
+            self.now.view status
+            (said F.placed O.taken E.taken E.failed to.old) (said F.placed O.taken E.taken E.failed to.new)) }
+        ensures low { IfOk result (λ status. status ≤ 1) }
+        ensures stopped { IfErr result (λ why. (why ≡ Stop.WriteFailed)
+            ⊎ IsViewStop (D.contents self.now.host.now.inputs.now) self.now.asked.now self.now.view why) }
+    {
+        let run = ListRun {
+            host: self.host,
+            asked: self.asked,
+            rule: failure_rule(self.asked.lenient),
+        };
+        let requested = run.requested_jobs(command)?;
+        put_message(&mut to.errors, requested.notes.as_slice());
+        let RequestedJobs { jobs, marks, .. } = requested;
+        match marks {
+            Some(marks) => self.put_of_marked(jobs, marks.as_slice(), to),
+            None => Ok(DONE),
+        }
+    }
+
+    // The same of the jobs that are marked.
+    fn put_of_marked<F: Outputs + Drop, O: Sink + Drop, E: Sink + Drop>(
+        &self,
+        jobs: JobList,
+        marks: &[bool],
+        to: &mut Destinations<F, O, E>,
+    ) -> Result<u8, Stop>
+        requires { length marks.now ≡ length jobs }
+        ensures put { IfOk result (λ status. (status ≡ 0) × IsViewOfPlaces (D.contents self.now.host.now.inputs.now)
+            self.now.asked.now self.now.view jobs (places_of_marks marks.now)
+            (said F.placed O.taken E.taken E.failed to.old) (said F.placed O.taken E.taken E.failed to.new)) }
+        ensures stopped { IfErr result (IsUnviewedStop (D.contents self.now.host.now.inputs.now) self.now.asked.now
+            self.now.view jobs (places_of_marks marks.now)) }
+    {
+        let (alloc, inputs) = (self.host.alloc, self.host.inputs);
+        let marked = marked_places(alloc, marks)?;
+        let places = marked.as_slice();
+        let mut store = NotingStore::new(inputs, alloc, self.asked.root);
+        let plan = gather_jobs_at(alloc, jobs, places, &mut store)?;
+        let note = refused_note(alloc, self.asked, &plan, store.unread_paths(), places)?;
+        put_message(&mut to.errors, note.as_slice());
+        let text = self.text_of_places(&plan, places)?;
+        put_results(&mut to.out, text.as_slice())?;
+        Ok(DONE)
+    }
+
+    // What is shown of the images of the jobs at some places of a plan.
+    fn text_of_places(&self, plan: &Plan, places: &[usize]) -> Result<Vec<u8>, Stop>
+        requires within { AreJobPlaces plan.now places.now }
+        requires rising { IsStrictlyIncreasing places.now }
+        requires small { AreSmall plan.now.answers }
+        ensures shown { IfOk result (λ text. IsViewOfPlan (D.contents self.now.host.now.inputs.now) self.now.asked.now
+            self.now.view plan.now places.now text.items) }
+        ensures stopped { IfErr result (IsUnshownStop (D.contents self.now.host.now.inputs.now) self.now.asked.now
+            self.now.view plan.now places.now) }
+    {
+        let files = images_of_places(self.host.alloc, plan, places)?;
+        let images = files.as_slice();
+        let table = self.table_for_images(plan, places, images)?;
+        self.text_of_table(&table, images)
+    }
+}
+
+impl<'x, R, D> JobsView<'x, R, D> {
+    // What is shown of images by a table.
+    fn text_of_table(&self, table: &CountTable, images: &[ImageFile<'_>]) -> Result<Vec<u8>, Stop>
+        requires { IsTable table.now }
+        ensures shown { IfOk result (λ text. IsViewText self.now.view table.now (images_of_files images.now) text.items) }
+        ensures stopped { IfErr result (IsTextlessStop self.now.view table.now (images_of_files images.now)
+            (counts_source self.now.asked.now)) }
+    {
+        let alloc = self.host.alloc;
+        match self.view {
+            View::Cover { csv } => Ok(cover_text(alloc, csv, table, images)?),
+            View::Profile(format) => {
+                text_of_profile(alloc, counts_source(self.asked), format, table, images)
+            }
+        }
+    }
+}
+
+// Where counts come from: the table that words name, or the list.
+fn counts_source<'a>(asked: &RunAsked<'a>) -> &'a str
+    ensures { result.now ≡ counts_source asked.now }
+{
+    match asked.counts {
+        Some(path) => path,
+        None => asked.list,
+    }
+}

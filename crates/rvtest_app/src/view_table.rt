@@ -1,0 +1,173 @@
+//! The counts by which something is shown of the images of jobs: those of a run of the jobs, or those of a table that words name.
+
+ghost use Rattle.std.specs.Prelude.{◌≡◌, IfErr, IfOk, None};
+ghost use Rattle.std.specs.List.Sorted.{IsStrictlyIncreasing};
+ghost use Rattle.rv_command.specs.Texts.{optional_text};
+ghost use Rattle.rv_cover.specs.ImageCounts.{other_image};
+ghost use Rattle.rv_cover.specs.JobImages.{images_of, images_of_files};
+ghost use Rattle.rv_coverage.specs.JobTables.{IsTableOfPlaces, jobs_at};
+ghost use Rattle.rv_fleet.specs.Choices.{AreJobPlaces};
+ghost use Rattle.rv_stacks.specs.StackTables.{AreStacksOfPlaces};
+ghost use Rattle.rvtest_app.specs.CountSums.{IsTableAt};
+ghost use Rattle.rvtest_app.specs.ViewStops.{IsNoTableStop, IsUncountedStop, IsUnfitTableStop, IsUnstackedJobsStop, IsUntabledStop, no_stacks_message, other_image_message};
+ghost use Rattle.rvtest_app.specs.Views.{IsCountedFor, IsFitTableAt, IsTableFor, has_counts_for};
+
+use crate::counts::{sum_error_stop, table_of_text};
+use crate::crew::requested_crew;
+use crate::host::Host;
+use crate::view::{JobsView, View};
+use rv_cli::rvtest::RunAsked;
+use rv_command::{Stop, path_message, read_file};
+use rv_counts::CountTable;
+use rv_cover::{ImageFile, other_image};
+use rv_coverage::count_places;
+use rv_files::Inputs;
+use rv_fleet::Batch;
+use rv_jobs::Plan;
+use rv_profile::has_stacks;
+use rv_stacks::stacks_of_places;
+use rv_text::{Span, text_of_spans};
+use std::alloc::{AllocError, Global};
+use std::thread::Threads;
+
+impl<'x, R: Threads + Sync, D: Inputs> JobsView<'x, R, D> {
+    /// The counts of a run of the jobs at some places, whose images these are; or those of the table that words name.
+    pub(crate) fn table_for_images(
+        &self,
+        plan: &Plan,
+        places: &[usize],
+        images: &[ImageFile<'_>],
+    ) -> Result<CountTable, Stop>
+        requires within { AreJobPlaces plan.now places.now }
+        requires rising { IsStrictlyIncreasing places.now }
+        requires images { images_of_files images.now ≡ images_of plan.now.answers (jobs_at plan.now places.now) }
+        ensures table { IfOk result (IsTableFor (D.contents self.now.host.now.inputs.now) self.now.view
+            (optional_text self.now.asked.now.counts) plan.now places.now) }
+        ensures stopped { IfErr result (IsUntabledStop (D.contents self.now.host.now.inputs.now) self.now.asked.now
+            self.now.view (optional_text self.now.asked.now.counts) plan.now places.now) }
+    {
+        match self.asked.counts {
+            Some(path) => self.read_fit_table(path, images),
+            None => self.count_jobs(plan, places),
+        }
+    }
+
+    // The counts of a run of the jobs at some places.
+    fn count_jobs(&self, plan: &Plan, places: &[usize]) -> Result<CountTable, Stop>
+        requires within { AreJobPlaces plan.now places.now }
+        requires rising { IsStrictlyIncreasing places.now }
+        ensures counted { IfOk result (IsCountedFor self.now.view plan.now places.now) }
+        ensures stopped { IfErr result (IsUncountedStop self.now.view plan.now places.now self.now.asked.now.list.now) }
+    {
+        match self.view {
+            View::Cover { .. } => Ok(counts_of_jobs(self.host, self.asked, plan, places)?),
+            View::Profile(_) => stacks_of_jobs(self.host, self.asked, plan, places),
+        }
+    }
+
+    // The table at a path, which has what is shown, and no counts of other images than these at their paths.
+    fn read_fit_table(&self, path: &str, images: &[ImageFile<'_>]) -> Result<CountTable, Stop>
+        ensures table { IfOk result (IsFitTableAt (D.contents self.now.host.now.inputs.now) self.now.view path.now
+            (images_of_files images.now)) }
+        ensures stopped { IfErr result (IsUnfitTableStop (D.contents self.now.host.now.inputs.now) self.now.view path.now
+            (images_of_files images.now)) }
+    {
+        let alloc = self.host.alloc;
+        let table = read_table_for_images(self.host.inputs, alloc, path, images)?;
+        if has_counts_for(self.view, &table) {
+            Ok(table)
+        } else {
+            Err(Stop::of_refusal(no_stacks_message(alloc, path)))
+        }
+    }
+}
+
+// How often the instructions of the jobs at some places ran.
+fn counts_of_jobs<R: Threads + Sync, D>(
+    host: &Host<'_, R, D>,
+    asked: &RunAsked<'_>,
+    plan: &Plan,
+    places: &[usize],
+) -> Result<CountTable, AllocError>
+    requires within { AreJobPlaces plan.now places.now }
+    requires rising { IsStrictlyIncreasing places.now }
+    ensures { IfOk result (IsTableOfPlaces plan.now places.now) }
+{
+    let crew = requested_crew(host.rt, host.alloc, asked);
+    count_places(&crew, &Batch::new(plan, places))
+}
+
+// The stacks of the jobs at some places.
+fn stacks_of_jobs<R: Threads + Sync, D>(
+    host: &Host<'_, R, D>,
+    asked: &RunAsked<'_>,
+    plan: &Plan,
+    places: &[usize],
+) -> Result<CountTable, Stop>
+    requires within { AreJobPlaces plan.now places.now }
+    requires rising { IsStrictlyIncreasing places.now }
+    ensures stacks { IfOk result (AreStacksOfPlaces plan.now places.now) }
+    ensures stopped { IfErr result (IsUnstackedJobsStop plan.now places.now asked.now.list.now) }
+{
+    let crew = requested_crew(host.rt, host.alloc, asked);
+    match stacks_of_places(&crew, &Batch::new(plan, places)) {
+        Ok(table) => Ok(table),
+        Err(error) => Err(sum_error_stop(host.alloc, asked.list, error)),
+    }
+}
+
+// The table at a path, which has no counts of other images than these at their paths.
+fn read_table_for_images<D: Inputs>(
+    inputs: &D,
+    alloc: Global,
+    path: &str,
+    images: &[ImageFile<'_>],
+) -> Result<CountTable, Stop>
+    ensures read { IfOk result (IsTableAt (D.contents inputs.now) path.now) }
+    ensures of_images { IfOk result (λ table. other_image table (images_of_files images.now) ≡ None) }
+    ensures stopped { IfErr result (IsNoTableStop (D.contents inputs.now) path.now (images_of_files images.now)) }
+{
+    let text = read_file(inputs, alloc, path)?;
+    let table = table_of_text(alloc, path, text.as_slice())?;
+    match other_image(alloc, &table, images)? {
+        Some(other) => Err(Stop::of_refusal(other_image_message(alloc, path, other))),
+        None => Ok(table),
+    }
+}
+
+// Whether a table has what is shown.
+fn has_counts_for(view: View, table: &CountTable) -> bool
+    ensures { result ≡ has_counts_for view table.now }
+{
+    match view {
+        View::Cover { .. } => true,
+        View::Profile(_) => has_stacks(table),
+    }
+}
+
+fn other_image_message<'a>(
+    alloc: Global,
+    table: &'a str,
+    path: &'a str,
+) -> Result<Vec<u8>, AllocError>
+    ensures { IfOk result (λ text. text.items ≡ other_image_message table.now path.now) }
+{
+    text_of_spans(
+        alloc,
+        &[
+            Span::Text("rvtest: "),
+            Span::Shown(table.as_bytes()),
+            Span::Text(": "),
+            Span::Shown(path.as_bytes()),
+            Span::Text(": another image than that of the chosen jobs\n"),
+        ],
+    )
+}
+
+fn no_stacks_message(alloc: Global, path: &str) -> Result<Vec<u8>, AllocError>
+    ensures { IfOk result (λ text. text.items ≡ no_stacks_message path.now) }
+{
+    let what =
+        "a table without stacks: rvtest run LIST --counts FILE --stacks writes one with them";
+    path_message(alloc, path, what)
+}
