@@ -1,6 +1,6 @@
 -- What is known of a job that is chosen and accepted: its row is that of a plan, and it is not left for it.
-use Rattle.std.proofs.Common.{◌≡◌, ◌+◌, ◌∷◌, [], ℕ, zero, suc, Bool, true, false, ◌&&◌, List, Option, Some, None, ap, arith, cond, drop, is_some, length, map, not, option_map, refl}
-use Rattle.std.specs.Prelude.{if◌then◌else◌, slice_get, slice_index_or}
+use Rattle.std.proofs.Common.{◌≡◌, ◌+◌, ◌∷◌, [], ℕ, zero, suc, Bool, true, false, List, Option, Some, None, ap, arith, cond, drop, is_some, length, map, not, option_map, refl}
+use Rattle.std.specs.Prelude.{slice_get, slice_index_or}
 use Rattle.std.specs.List.{filter, range_with_len}
 use Rattle.rv_jobs.specs.Choices.{marked_places}
 use Rattle.rv_jobs.specs.Jobs.{single_job}

@@ -7,7 +7,7 @@ use Rattle.std.proofs.lemmas.List.Elements.{All-append, All-cons, All-head, All-
 use Rattle.std.proofs.lemmas.Slice.Eq.{bytes_eq-Decides}
 use Rattle.rv_jobs.specs.Jobs.{console_path}
 use Rattle.rv_jobs.specs.declared_job.Job.{Job}
-use Rattle.rv_accept.specs.Claims.{claims_if_named, claims_of_run, claims_of_runs, text_if}
+use Rattle.rv_accept.specs.Claims.{claims_if_named, claims_of_run, claims_of_runs}
 use Rattle.rv_accept.specs.Sharing.{is_path, names_golden_file}
 use Rattle.rv_accept.specs.Targets.{is_of_accepted, is_target, target_of, with_target}
 use Rattle.rv_accept.specs.declared.claims.Claim.{Claim}

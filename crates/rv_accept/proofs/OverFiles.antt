@@ -3,22 +3,18 @@ use Rattle.std.proofs.Common.{◌≡◌, ◌∙◌, ℕ, Bool, true, false, List
 use Rattle.rv_jobs.specs.Jobs.{console_path, without_expectations}
 use Rattle.rv_jobs.specs.Plans.{Planned, kept_for}
 use Rattle.rv_jobs.specs.declared.answers.Answer.{Answer}
-use Rattle.rv_jobs.specs.declared.kept.Kept.{Kept}
 use Rattle.rv_jobs.specs.declared.kept.Kept.TheVariants as kept
 use Rattle.rv_jobs.specs.declared_job.ExpectedConsole.{ExpectedConsole}
 use Rattle.rv_jobs.specs.declared_job.ExpectedConsole.TheVariants.{Text, File}
 use Rattle.rv_jobs.specs.declared_job.Job.{Job}
-use Rattle.rv_rows.specs.Outcome.{file_outcome_of, outcome_of}
 use Rattle.rv_rows.specs.Rows.{content_if_read, named_job_outcome, outcome_in, row_of}
 use Rattle.rv_rows.specs.Verdict.{did_run, lines_of_signature, verdict_of}
 use Rattle.rv_rows.specs.declared.outcome.Outcome.{Outcome}
 use Rattle.rv_rows.specs.declared_row.Row.{Row}
-use Rattle.rv_rows.specs.declared_row.RowEnd.{RowEnd}
 use Rattle.rv_accept.proofs.ImagesThatRan.{RanOver, outcome_over, ran_over, runs_alike}
 use Rattle.rv_accept.proofs.Meeting.{ran_if_accepted}
 use Rattle.rv_accept.proofs.Passing.{accepted_if_kept, accepted_passes, unasked_passes}
 use Rattle.rv_accept.specs.Accepted.{accepted_job, console_met}
-use Rattle.rv_accept.specs.Ends.{is_accepted_end}
 use Rattle.rv_accept.specs.Passing.{FindsItsFiles, is_pass_or_unasked, outcome_of_row}
 use Rattle.rv_accept.specs.Runs.{takes_from_run, why_chosen_is_left}
 use Rattle.rv_accept.specs.declared.ends.Acceptance.{Acceptance}

@@ -1,5 +1,5 @@
 -- A chosen job that is not left passes, or nothing is expected of it, once it is what its run gave.
-use Rattle.std.proofs.Common.{◌≡◌, ◌∙◌, sym, ℕ, Bool, true, false, ◌&&◌, ◌||◌, List, Option, Some, None, refl, not, cond, is_some, IfSome}
+use Rattle.std.proofs.Common.{◌≡◌, ◌∙◌, sym, ℕ, Bool, true, false, ◌||◌, List, Option, Some, None, refl, not, is_some, IfSome}
 use Rattle.std.specs.Prelude.{if◌then◌else◌}
 use Rattle.std.proofs.lemmas.Bool.{false≢true}
 use Rattle.rv_jobs.specs.Jobs.{console_path}
@@ -13,12 +13,12 @@ use Rattle.rv_rows.specs.declared_row.Row.{Row}
 use Rattle.rv_rows.specs.declared_row.RowEnd.{RowEnd}
 use Rattle.rv_rows.specs.declared_row.RowEnd.TheVariants as ending
 use Rattle.rv_rows.specs.declared_row.Verdict.TheVariants as verdict
-use Rattle.rv_rows.specs.Verdict.{expects_anything, lines_of_signature, meets_all_expectations, verdict_of}
+use Rattle.rv_rows.specs.Verdict.{expects_anything, lines_of_signature, verdict_of}
 use Rattle.rv_accept.proofs.Meeting.{meets_over}
 use Rattle.rv_accept.specs.Accepted.{accepted_job, console_met, end_met, exit_met}
 use Rattle.rv_accept.specs.Ends.{is_accepted_end}
-use Rattle.rv_accept.specs.Passing.{is_pass_or_unasked, outcome_of_row}
-use Rattle.rv_accept.specs.Runs.{takes_from_run, why_chosen_is_left, why_left, why_text_is_left}
+use Rattle.rv_accept.specs.Passing.{is_pass_or_unasked}
+use Rattle.rv_accept.specs.Runs.{takes_from_run, why_chosen_is_left, why_text_is_left}
 use Rattle.rv_accept.specs.declared.ends.Acceptance.{Acceptance}
 use Rattle.rv_accept.specs.declared.runs.WhyLeft.{WhyLeft}
 use Rattle.rv_accept.specs.declared.runs.WhyLeft.TheVariants as why

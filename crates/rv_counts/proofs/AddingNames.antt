@@ -1,21 +1,19 @@
 -- The first of a sum of names, in each of the cases; and names are told apart by their functions.
-use Rattle.std.proofs.Common.{◌≡◌, ◌∙◌, ◌==◌, ◌+◌, ◌^◌, ◌<◌, ◌≤◌, ℕ, zero, suc, Bool, true, false, cond, List, [], ◌∷◌, ◌++◌, Option, Some, None, length, drop, get_or, refl, sym, ap, subst, append-nil, arith, inl, inr}
+use Rattle.std.proofs.Common.{◌≡◌, ◌∙◌, ◌==◌, ◌+◌, ◌<◌, ◌≤◌, ℕ, zero, suc, Bool, true, false, cond, List, [], ◌∷◌, ◌++◌, Option, Some, None, length, drop, get_or, refl, sym, ap, subst, append-nil, arith, inl, inr}
 use Rattle.std.proofs.lemmas.Bool.{and_parts, and_from, cases_Bool, eqb-true}
 use Rattle.std.proofs.lemmas.Bool.Decides.{nat_tests}
 use Rattle.std.proofs.lemmas.List.{drop_all}
-use Rattle.std.specs.Prelude.{◌&&◌, nat_le}
+use Rattle.std.specs.Prelude.{nat_le}
 use Rattle.std.specs.List.{AllByRecursion}
-use Rattle.std.specs.Str.{IsUtf8}
 use Rattle.rv_counts.specs.declared.table.FunctionName.{FunctionName}
 use Rattle.rv_counts.specs.declared.sum_of_names.NextName.{NextName}
-use Rattle.rv_counts.specs.Lines.{lacks}
-use Rattle.rv_counts.specs.Table.{name_at, names_rise, least_path, least_path_of, AreNames, IsName}
+use Rattle.rv_counts.specs.Table.{name_at, names_rise, least_path_of, AreNames, IsName}
 use Rattle.rv_counts.specs.Sum.{Agree, HasName, IsSumOfNames, NamesHaveNoSum}
 use Rattle.rv_counts.specs.declared.sum.SumError.{SumError}
 use Rattle.rv_counts.specs.declared.sum.SumError.TheVariants.{OutOfMemory, Count, Spot, Names, Runs}
 use Rattle.rv_counts.specs.SumSteps.{NamesAddUp, IsNextName}
 use Rattle.rv_counts.proofs.AddingImages.{agree_with_none, least_is, path_parts}
-use Rattle.rv_counts.proofs.Paths.{any_first, either, second_first}
+use Rattle.rv_counts.proofs.Paths.{any_first, second_first}
 use Rattle.rv_counts.proofs.Told.{elsewhere, here}
 
 -- ---- functions in their order

@@ -1,5 +1,5 @@
 -- What stands behind the line of an image, as one list.
-use Rattle.std.proofs.Common.{◌≡◌, ◌∙◌, ◌+◌, ◌<◌, ◌≤◌, ℕ, Bool, true, false, List, [], ◌∷◌, ◌++◌, Option, Some, None, length, map, refl, sym, ap, subst, append_assoc}
+use Rattle.std.proofs.Common.{◌≡◌, ◌∙◌, ◌+◌, ℕ, true, List, [], ◌∷◌, ◌++◌, Option, Some, None, map, refl, sym, ap, subst, append_assoc}
 use Rattle.std.proofs.lemmas.Bool.{and_parts, false≢true}
 use Rattle.std.specs.Prelude.{nat_le}
 use Rattle.std.specs.List.{AllByRecursion, flat_map}
@@ -7,13 +7,13 @@ use Rattle.rv_counts.specs.declared.table.AddressCounts.{AddressCounts}
 use Rattle.rv_counts.specs.declared.table.FunctionName.{FunctionName}
 use Rattle.rv_counts.specs.declared.table.ImageCounts.{ImageCounts}
 use Rattle.rv_counts.specs.declared.table.NamedSpot.{NamedSpot}
-use Rattle.rv_counts.specs.Table.{has_name, name_of, rise_from, AreNames, AreNamesOf, IsCounted, IsImage, IsName, IsSpot}
+use Rattle.rv_counts.specs.Table.{has_name, name_of, rise_from, AreNamesOf, IsCounted, IsImage, IsName, IsSpot}
 use Rattle.rv_counts.specs.Text.{address_line, image_line, image_text, line_of_spot, named}
 use Rattle.rv_counts.specs.ReadSteps.{Entry, OfAddress, OfSpot, IsEntry, entry_line, entry_of_spot, entries_of, Place, at_image, nowhere, behind_entry, place_behind, is_from, AgreesWith, MayStand, IsNoEntry, IsNoAddress, IsNoSpot, function_name, lowest_behind, with_name, with_names}
 use Rattle.rv_counts.proofs.NamesOfSpots.{agree_more, first_is_last, further, named_fits, one_list_of_first_names, AgreeWithAll}
 use Rattle.rv_spots.specs.Profiles.{is_last_of_some}
 use Rattle.rv_spots.specs.declared.spot.Spot.{Spot}
-use Rattle.rv_spots.specs.Trees.{last_path, path_behind, StandBehind, StandsBehind}
+use Rattle.rv_spots.specs.Trees.{last_path, path_behind, StandBehind}
 
 abbrev pub all_entries : List AddressCounts → List FunctionName → List Spot → List Entry
 all_entries cs ns ss = map OfAddress cs ++ map (entry_of_spot ns) ss

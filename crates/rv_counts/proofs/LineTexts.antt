@@ -1,9 +1,9 @@
 -- The lines of a table: what their parts say, and that no two are alike.
-use Rattle.std.proofs.Common.{◌≡◌, ◌∙◌, ◌==◌, ◌+◌, ◌/◌, ◌%◌, ◌<◌, ◌≤◌, ◌^◌, ℕ, zero, suc, Bool, true, false, not, List, [], ◌∷◌, ◌++◌, length, take, drop, get_or, slice_index, refl, sym, ap, subst, append_assoc, length-append, arith}
+use Rattle.std.proofs.Common.{◌≡◌, ◌∙◌, ◌==◌, ◌+◌, ◌/◌, ◌%◌, ◌<◌, ◌^◌, ℕ, zero, suc, true, not, List, [], ◌∷◌, ◌++◌, take, drop, get_or, slice_index, refl, sym, ap, append_assoc, length-append, arith}
 use Rattle.std.proofs.lemmas.Bool.{false≢true}
 use Rattle.std.proofs.lemmas.List.{take_at, drop_at}
 use Rattle.std.specs.Prelude.{codes}
-use Rattle.std.specs.List.{AllByRecursion, flat_map}
+use Rattle.std.specs.List.{AllByRecursion}
 use Rattle.std.specs.Fmt.{decimal}
 use Rattle.hex.specs.Hex.{IsBytes, encode_lower, encode_with, lower_digits}
 use Rattle.rv_text.specs.Words.{word_digits}
@@ -13,9 +13,9 @@ use Rattle.rv_counts.specs.declared.table.NamedSpot.{NamedSpot}
 use Rattle.rv_counts.specs.Lines.{lacks, text_before_byte, text_after_byte, hex_bytes}
 use Rattle.rv_counts.specs.ReadSteps.{Entry, OfAddress, OfSpot, IsEntry, entry_line}
 use Rattle.rv_counts.specs.Table.{IsCounted, IsImage, IsNamedSpot, IsSpot}
-use Rattle.rv_counts.specs.Text.{line, address_line, image_line, image_text, last_line, spot_line, words_of_spot}
+use Rattle.rv_counts.specs.Text.{line, address_line, image_line, last_line, spot_line, words_of_spot}
 use Rattle.rv_spots.specs.declared.spot.Spot.{Spot}
-use Rattle.rv_counts.proofs.Pieces.{lacks-append, before_at, after_at, same_cut}
+use Rattle.rv_counts.proofs.Pieces.{lacks-append, before_at, after_at}
 use Rattle.rv_counts.proofs.Words.{lacks-decimal, lacks-digits, lacks-encode, decimal_number_on, number_of-decimal, hex_number, word_of-digits, bytes_of-encode, eight_digits, digit_is_other, is_no_digit}
 use Rattle.rv_counts.proofs.Told.{same_entry}
 

@@ -1,7 +1,6 @@
 -- The order of bytes is total, so of several paths the same one comes first, whichever two are compared first.
-use Rattle.std.proofs.Common.{◌≡◌, ◌∙◌, ◌==◌, ◌<◌, ◌⊎◌, inl, inr, ℕ, zero, Bool, true, false, cond, List, [], ◌∷◌, Option, Some, None, refl, sym, ap, arith}
-use Rattle.std.proofs.lemmas.Bool.{and_parts, and_cases, or_cases, or_parts, cases_Bool, cases_order, cond-true, cond-false, ltb-true, eqb-true, lt-ltb, eq-eqb, both_ways}
-use Rattle.std.specs.Prelude.{◌&&◌, ◌||◌, nat_lt}
+use Rattle.std.proofs.Common.{◌≡◌, ◌∙◌, ◌<◌, ◌⊎◌, inl, inr, ℕ, zero, true, false, List, [], ◌∷◌, Option, Some, None, refl, sym, ap, arith}
+use Rattle.std.proofs.lemmas.Bool.{cases_Bool, cases_order, cond-true, cond-false, both_ways}
 use Rattle.rv_counts.specs.Table.{is_before, least_path, least_path_of}
 use Rattle.rv_counts.proofs.ByteOrder.{less, more, same}
 

@@ -1,10 +1,10 @@
 -- From the images that were read to the table, or to the line that is refused.
-use Rattle.std.proofs.Common.{◌≡◌, ◌∙◌, ◌==◌, ◌+◌, ◌-◌, ◌<◌, ◌≤◌, ◌^◌, ℕ, zero, suc, Bool, true, false, not, cond, List, [], ◌∷◌, ◌++◌, Option, Some, None, length, drop, take, get_or, refl, sym, ap, subst, append_assoc, append-nil, length-append, length-drop, arith, inl, inr}
+use Rattle.std.proofs.Common.{◌≡◌, ◌∙◌, ◌==◌, ◌+◌, ◌<◌, ◌≤◌, ◌^◌, ℕ, Bool, true, false, not, cond, List, [], ◌∷◌, ◌++◌, None, length, drop, take, get_or, refl, sym, ap, subst, append_assoc, append-nil, length-append, length-drop, arith, inl, inr}
 use Rattle.std.proofs.lemmas.List.{drop-drop, take_at, take_more, drop_all}
 use Rattle.std.proofs.lemmas.Bool.{not-false, not-true, both_ways}
 use Rattle.std.specs.Cmp.Lexicographic.{bytes_decides}
 use Rattle.std.specs.Str.{bytes_eq}
-use Rattle.std.specs.List.{AllByRecursion, flat_map}
+use Rattle.std.specs.List.{flat_map}
 use Rattle.rv_counts.specs.declared.table.ImageCounts.{ImageCounts}
 use Rattle.rv_counts.specs.declared.table.CountTable.{CountTable}
 use Rattle.rv_counts.specs.declared.read_lines.ImageLines.{ImageLines}
@@ -18,7 +18,7 @@ use Rattle.rv_counts.specs.Read.{IsLeast, IsLeastRefusedLine, read_error_at}
 use Rattle.rv_counts.proofs.Pieces.{cases_line, line_at, no_line}
 use Rattle.rv_counts.proofs.Reading.{feeds-append}
 use Rattle.rv_counts.proofs.ReadingLines.{whole_split, whole_within}
-use Rattle.rv_counts.proofs.Refusing.{AreImages, text_so_far, is_table, text_of, refused_line, refused_first, refused_end, cut_first, cut_behind}
+use Rattle.rv_counts.proofs.Refusing.{AreImages, text_so_far, text_of, refused_line, refused_first, refused_end, cut_first, cut_behind}
 use Rattle.rv_counts.proofs.Refusing.{no_table_refused, no_table_cut, no_table_cut_first}
 
 -- ---- the number of a line

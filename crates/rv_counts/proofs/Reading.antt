@@ -1,18 +1,17 @@
 -- What is read is the one table of its text, and a line that is refused is the first that no table has there.
-use Rattle.std.proofs.Common.{◌≡◌, ◌∙◌, ◌==◌, ◌+◌, ◌-◌, ◌<◌, ◌≤◌, ◌^◌, ℕ, zero, suc, Bool, true, false, not, cond, List, [], ◌∷◌, ◌++◌, Option, Some, None, length, drop, take, get_or, refl, sym, ap, subst, append_assoc, append-nil, arith, inl, inr}
-use Rattle.std.proofs.lemmas.Bool.{and_parts, and_from, false≢true, cases_Bool, eqb-true}
+use Rattle.std.proofs.Common.{◌≡◌, ◌∙◌, ◌==◌, ◌+◌, ◌-◌, ℕ, zero, suc, Bool, true, false, not, cond, List, [], ◌∷◌, ◌++◌, length, drop, refl, sym, ap, append-nil, arith, inl, inr}
+use Rattle.std.proofs.lemmas.Bool.{and_parts, false≢true, cases_Bool}
 use Rattle.std.specs.List.{AllByRecursion, flat_map}
 use Rattle.rv_counts.specs.declared.table.ImageCounts.{ImageCounts}
 use Rattle.rv_counts.specs.declared.table.CountTable.{CountTable}
 use Rattle.rv_counts.specs.Lines.{lacks, count_of_line_feeds, first_lines}
-use Rattle.rv_counts.specs.Table.{digests_rise, IsImage, IsTable}
-use Rattle.rv_counts.specs.Text.{line, first_line, image_line, image_text, last_line, table_text}
+use Rattle.rv_counts.specs.Table.{IsImage, IsTable}
+use Rattle.rv_counts.specs.Text.{image_line, image_text, last_line, table_text}
 use Rattle.rv_counts.specs.ReadSteps.{Entry, IsEntry, entry_line, entries_of}
 use Rattle.rv_counts.proofs.Entries.{entries_fit, same_parts, AreSame}
-use Rattle.rv_counts.specs.Read.{BeginsTable, IsLeastRefusedLine}
-use Rattle.rv_counts.proofs.LineTexts.{entry_words, image_words, last_words, entry_is_line, image_is_line, last_is_line, lacks-entry, lacks-image, lacks-last, same_entry_line, same_digest, same_path, same_runs}
+use Rattle.rv_counts.proofs.LineTexts.{entry_words, image_words, entry_is_line, image_is_line, lacks-entry, lacks-image, same_entry_line, same_digest, same_path, same_runs}
 use Rattle.rv_counts.proofs.LineTexts.{entry_is_no_image, entry_is_not_last, image_is_not_last}
-use Rattle.rv_counts.proofs.Decode.{same_line, first_entry, first_image, IsRest, behind_images, rest_of_table, no_rest}
+use Rattle.rv_counts.proofs.Decode.{same_line, first_entry, first_image}
 
 -- ---- first lines
 

@@ -1,6 +1,6 @@
 -- Lines that are read, one behind the other.
-use Rattle.std.proofs.Common.{Fits, w8, ◌≡◌, ◌∙◌, ◌==◌, ◌+◌, ◌-◌, ◌<◌, ◌≤◌, ◌^◌, ℕ, zero, suc, Bool, true, false, not, List, [], ◌∷◌, ◌++◌, Option, Some, None, length, drop, get_or, refl, sym, ap, subst, append_assoc, append-nil, length-append, length-drop, arith, inl, inr}
-use Rattle.std.proofs.lemmas.Bool.{and_parts, and_from, false≢true, both_ways, eqb-true}
+use Rattle.std.proofs.Common.{Fits, w8, ◌≡◌, ◌∙◌, ◌==◌, ◌+◌, ◌-◌, ◌<◌, ◌≤◌, ℕ, suc, Bool, true, false, not, List, [], ◌∷◌, ◌++◌, Option, Some, None, length, drop, get_or, refl, sym, ap, subst, append_assoc, length-append, length-drop, arith, inl, inr}
+use Rattle.std.proofs.lemmas.Bool.{and_parts, and_from, both_ways}
 use Rattle.std.proofs.lemmas.Bool.Decides.{nat_tests}
 use Rattle.std.proofs.lemmas.List.{drop_at, drop-drop, flat_map_more, append_cancel_right}
 use Rattle.std.specs.Prelude.{◌&&◌, nat_le, codes}
@@ -17,12 +17,10 @@ use Rattle.rv_counts.specs.declared.read_stacks.SpotLines.{SpotLines}
 use Rattle.rv_counts.specs.declared.table.FunctionName.{FunctionName}
 use Rattle.rv_counts.specs.Lines.{lacks, whole_line}
 use Rattle.rv_counts.specs.Table.{is_before, is_behind, digests_rise, rise_from, IsCounted, IsImage}
-use Rattle.rv_counts.specs.Text.{line, address_line, image_line, image_text, last_line, line_of_spot}
+use Rattle.rv_counts.specs.Text.{line, address_line, image_line, image_text, line_of_spot}
 use Rattle.rv_counts.specs.ReadSteps.{lowest_behind, last_digest, nowhere, at_image, place_in, place_behind, entries_of, Place, IsNoAddress, IsNoEntry, IsNoImage, AreAddressLines, AreImageLines, AreSpotLines, IsOneImage}
 use Rattle.rv_spots.specs.declared.spot.Spot.{Spot}
-use Rattle.rv_counts.proofs.Pieces.{cases_line, line_at, no_line, same_cut}
-use Rattle.rv_counts.proofs.Told.{low, behind}
-use Rattle.rv_counts.proofs.Adding.{raised}
+use Rattle.rv_counts.proofs.Pieces.{cases_line, line_at, no_line}
 use Rattle.rv_counts.proofs.AddingImages.{image_low, images_behind, images_rise, no_images_rise}
 use Rattle.rv_counts.proofs.Entries.{all_entries, no_entry, nothing_nowhere}
 use Rattle.rv_counts.proofs.LineTexts.{address_is_line, image_is_line, address_words, image_words}

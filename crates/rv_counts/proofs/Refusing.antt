@@ -1,5 +1,5 @@
 -- A line that is refused is the first that no table has there.
-use Rattle.std.proofs.Common.{◌≡◌, ◌∙◌, ◌==◌, ◌+◌, ◌-◌, ◌<◌, ◌≤◌, ◌^◌, ℕ, zero, suc, Bool, true, false, not, cond, List, [], ◌∷◌, ◌++◌, Option, Some, None, length, drop, take, get_or, refl, sym, ap, subst, append_assoc, append-nil, arith, inl, inr, add-one}
+use Rattle.std.proofs.Common.{◌≡◌, ◌∙◌, ◌==◌, ◌+◌, ◌-◌, ◌<◌, ◌^◌, ℕ, suc, true, not, List, [], ◌∷◌, ◌++◌, None, length, drop, refl, sym, ap, subst, append_assoc, append-nil, arith, add-one}
 use Rattle.std.proofs.lemmas.Bool.{and_parts, false≢true}
 use Rattle.std.specs.Prelude.{codes}
 use Rattle.std.specs.List.{AllByRecursion, flat_map}
@@ -11,7 +11,7 @@ use Rattle.rv_counts.specs.Text.{line, first_line, image_line, image_text, last_
 use Rattle.rv_counts.specs.ReadSteps.{Entry, entry_line, entries_of, nowhere, place_in, last_digest, IsNoEntry, IsNoImage}
 use Rattle.rv_counts.proofs.Entries.{image_entries}
 use Rattle.rv_counts.specs.Read.{BeginsTable, IsLeastRefusedLine}
-use Rattle.rv_counts.proofs.LineTexts.{entry_words, image_words, last_words, entry_is_line, image_is_line, last_is_line, lacks-last, same_runs}
+use Rattle.rv_counts.proofs.LineTexts.{entry_words, image_words, last_words, entry_is_line, image_is_line, last_is_line, lacks-last}
 use Rattle.rv_counts.proofs.LineTexts.{entry_is_not_last, image_is_not_last}
 use Rattle.rv_counts.proofs.Decode.{same_line, first_entry, first_image, IsRest, behind_images, rest_of_table, no_rest}
 use Rattle.rv_counts.proofs.Reading.{no_lines, lines_up_to, lines_past, lines_begin, feeds-append, no_feeds}

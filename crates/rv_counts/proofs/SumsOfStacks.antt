@@ -1,14 +1,13 @@
 -- The functions of a sum of spots are those of both, and so are the names of a sum of names.
-use Rattle.std.proofs.Common.{◌≡◌, ◌∙◌, ◌==◌, ◌+◌, ◌<◌, ◌≤◌, ◌⊎◌, ℕ, zero, suc, Bool, true, false, cond, List, [], ◌∷◌, ◌++◌, Option, Some, None, refl, sym, ap, subst, arith, inl, inr, take}
+use Rattle.std.proofs.Common.{◌≡◌, ◌∙◌, ◌==◌, ◌+◌, ◌<◌, ◌⊎◌, ℕ, zero, suc, Bool, true, false, cond, List, [], ◌∷◌, ◌++◌, Option, Some, None, refl, sym, ap, arith, inl, inr, take}
 use Rattle.std.proofs.lemmas.Bool.{cases_Bool, false≢true}
 use Rattle.std.specs.Cmp.Lexicographic.{bytes_decides}
 use Rattle.std.specs.Prelude.{◌||◌}
-use Rattle.std.specs.List.{AllByRecursion}
 use Rattle.std.specs.Str.{bytes_eq}
 use Rattle.rv_counts.specs.declared.table.FunctionName.{FunctionName}
 use Rattle.rv_counts.specs.declared.table.ImageCounts.{ImageCounts}
 use Rattle.rv_counts.specs.Sum.{IsSumOfNames}
-use Rattle.rv_counts.specs.Table.{has_name, least_path_of, name_at, name_of, AreNames, AreNamesOf, IsImage}
+use Rattle.rv_counts.specs.Table.{has_name, least_path_of, name_at, AreNamesOf, IsImage}
 use Rattle.rv_counts.proofs.AddingImages.{all_come_to}
 use Rattle.rv_counts.proofs.NamesOfSpots.{first_is, further}
 use Rattle.rv_spots.specs.Profiles.{is_last_of_some}

@@ -1,19 +1,18 @@
 -- Tables are told apart by their numbers, their paths and their runs.
-use Rattle.std.proofs.Common.{◌≡◌, ◌∙◌, ◌==◌, ◌+◌, ◌<◌, ◌≤◌, ℕ, Bool, true, false, cond, List, [], ◌∷◌, Option, Some, None, refl, sym, ap, subst, arith, inl, inr}
+use Rattle.std.proofs.Common.{◌≡◌, ◌∙◌, ◌+◌, ℕ, Bool, true, false, cond, List, [], ◌∷◌, Option, Some, None, refl, sym, ap, arith, inl, inr}
 use Rattle.std.proofs.lemmas.Bool.{cases_Bool}
 use Rattle.std.specs.Cmp.Lexicographic.{bytes_decides}
 use Rattle.std.specs.List.{AllByRecursion}
 use Rattle.std.specs.Str.{bytes_eq}
-use Rattle.rv_counts.specs.declared.table.AddressCounts.{AddressCounts}
 use Rattle.rv_counts.specs.declared.table.ImageCounts.{ImageCounts}
 use Rattle.rv_counts.specs.declared.table.CountTable.{CountTable}
-use Rattle.rv_counts.specs.Table.{begun_at, taken_at, name_at, begun_in, taken_in, path_in, name_in, arrivals_in, steps_in, least_path_of, is_before, is_behind, digests_rise, IsImage, IsTable}
+use Rattle.rv_counts.specs.Table.{begun_at, taken_at, name_at, begun_in, taken_in, path_in, name_in, arrivals_in, steps_in, least_path_of, is_before, digests_rise, IsImage, IsTable}
 use Rattle.rv_spots.specs.Trees.{arrivals_at, steps_at}
 use Rattle.rv_spots.proofs.Public.{one_tree_of_counts}
 use Rattle.rv_counts.proofs.AddingNames.{one_list_of_names}
 use Rattle.rv_counts.specs.Sum.{IsSum}
 use Rattle.rv_counts.proofs.Told.{one_of, left_over, either_order, either_first}
-use Rattle.rv_counts.proofs.AddingImages.{all_come_to, head_differs, image_low, images_behind, images_raised, none_named, still_up}
+use Rattle.rv_counts.proofs.AddingImages.{all_come_to, head_differs, images_behind, images_raised, none_named, still_up}
 use Rattle.rv_counts.proofs.Paths.{none_before_itself, none_behind, same_place, either, any_first}
 
 -- ---- a digest that is not among those of a list

@@ -1,5 +1,5 @@
 -- Lines of a table, as far as they go, and what may stand behind them.
-use Rattle.std.specs.Prelude.{◌≡◌, ◌+◌, ◌≤◌, ◌<◌, ◌^◌, ℕ, Bool, true, false, nat_le, nat_lt, if◌then◌else◌, List, [], ◌∷◌, ◌++◌, Option, Some, None, length, map, drop}
+use Rattle.std.specs.Prelude.{◌≡◌, ◌+◌, ◌≤◌, ◌<◌, ℕ, Bool, true, false, nat_le, nat_lt, if◌then◌else◌, List, [], ◌∷◌, ◌++◌, Option, Some, None, length, map, drop}
 use Rattle.std.specs.List.{AllByRecursion, flat_map, insert, prefix_len}
 use Rattle.rv_counts.specs.declared.table.AddressCounts.{AddressCounts}
 use Rattle.rv_counts.specs.declared.table.FunctionName.{FunctionName}
@@ -11,7 +11,7 @@ use Rattle.rv_counts.specs.declared.read_lines.OneImage.{OneImage}
 use Rattle.rv_counts.specs.declared.read_stacks.SpotLines.{SpotLines}
 use Rattle.rv_counts.specs.Lines.{whole_line}
 use Rattle.rv_counts.specs.Table.{has_name, is_behind, name_of, digests_rise, IsCounted, IsImage, IsNamedSpot, AreCounts, AreNames, AreNamesOf, AreSpots}
-use Rattle.rv_counts.specs.Text.{address_line, image_line, image_text, last_line, line_of_spot, named, spot_line}
+use Rattle.rv_counts.specs.Text.{address_line, image_line, image_text, line_of_spot, named, spot_line}
 use Rattle.rv_spots.specs.declared.spot.Spot.{Spot}
 use Rattle.rv_spots.specs.Trees.{last_path, path_behind, StandsBehind}
 

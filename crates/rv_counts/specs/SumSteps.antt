@@ -1,5 +1,5 @@
 -- Sums from the front: the first of a sum, ahead of the sum of what both lists have behind it.
-use Rattle.std.specs.Prelude.{◌≡◌, ◌+◌, ◌≤◌, ◌<◌, ◌^◌, ◌⊎◌, ℕ, Bool, true, List, ◌∷◌, Option, length, drop}
+use Rattle.std.specs.Prelude.{◌≡◌, ◌+◌, ◌≤◌, ◌<◌, ◌^◌, ◌⊎◌, ℕ, true, List, ◌∷◌, Option, length, drop}
 use Rattle.std.specs.List.{AllByRecursion}
 use Rattle.rv_counts.specs.declared.table.AddressCounts.{AddressCounts}
 use Rattle.rv_counts.specs.declared.table.FunctionName.{FunctionName}

@@ -1,5 +1,5 @@
 -- The counts of an image that is found in a table rise.
-use Rattle.std.proofs.Common.{◌≡◌, ◌∙◌, ◌∷◌, [], Bool, true, false, List, Option, Some, ap, cond, find, refl, subst, sym}
+use Rattle.std.proofs.Common.{◌≡◌, ◌∙◌, ◌∷◌, [], Bool, true, false, List, Some, ap, cond, find, refl, subst, sym}
 use Rattle.std.specs.List.{AllByRecursion}
 use Rattle.rv_counts.specs.Table.{IsImage, rise_from}
 use Rattle.rv_counts.specs.declared.table.ImageCounts.{ImageCounts}

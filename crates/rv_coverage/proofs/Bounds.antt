@@ -1,5 +1,5 @@
 -- Tables that are added have a sum, and the last of them is that of all.
-use Rattle.std.proofs.Common.{◌≡◌, ◌∙◌, sym, ◌+◌, ◌*◌, ◌^◌, ◌<◌, ◌≤◌, ℕ, List, Result, length, take, subst, arith}
+use Rattle.std.proofs.Common.{◌∙◌, sym, ◌+◌, ◌*◌, ◌^◌, ◌<◌, ◌≤◌, ℕ, List, Result, length, subst, arith}
 use Rattle.std.proofs.lemmas.List.{take_all}
 use Rattle.std.specs.declared.alloc.AllocError.{AllocError}
 use Rattle.rv_base.specs.Limits.{most_jobs}

@@ -1,5 +1,5 @@
 -- Tables of jobs over answers that keep the same of their paths.
-use Rattle.std.proofs.Common.{◌≡◌, ◌∙◌, ◌+◌, ◌<◌, ℕ, cond, List, [], ◌∷◌, Option, Some, None, option_map, Result, refl, sym, ap, subst, arith}
+use Rattle.std.proofs.Common.{◌≡◌, ◌∙◌, ℕ, cond, List, [], ◌∷◌, Some, None, option_map, Result, refl, ap, arith}
 use Rattle.std.proofs.lemmas.List.Elements.{All-head, All-tail}
 use Rattle.std.proofs.lemmas.List.Sums.{sum_by-cons}
 use Rattle.std.specs.Prelude.{is_ok}
@@ -16,7 +16,7 @@ use Rattle.rv_rows.specs.Rows.{content_if_read, start_in}
 use Rattle.rv_rows.specs.Wholes.{KeepSame}
 use Rattle.rv_text.specs.Printable.{printable_text}
 use Rattle.rv_coverage.specs.Coverage.{once_if}
-use Rattle.rv_coverage.specs.JobTables.{has_digest, start_over, begun_from, taken_from, begun_by, taken_by, path_by, runs_by, first_path, IsTableOfJobs}
+use Rattle.rv_coverage.specs.JobTables.{has_digest, start_over, begun_from, taken_from, begun_by, taken_by, runs_by, first_path, IsTableOfJobs}
 
 same_sum : (f g : Job → ℕ) (P : Job → Type 0) (js : List Job) → ((j : Job) → P j → f j ≡ g j) → All P js
     → sum_by f js ≡ sum_by g js

@@ -1,10 +1,10 @@
 -- Tables of jobs: of one, of some more, and of the same in another order.
-use Rattle.std.proofs.Common.{Fits, w8, ◌≡◌, ◌∙◌, ◌==◌, ◌+◌, ◌*◌, ◌^◌, ◌<◌, ◌≤◌, inl, inr, ℕ, zero, suc, Bool, true, false, cond, List, [], ◌∷◌, ◌++◌, Option, Some, None, Result, Ok, Err, option_map, map, length, get_or, refl, sym, ap, subst, arith}
+use Rattle.std.proofs.Common.{Fits, w8, ◌≡◌, ◌∙◌, ◌==◌, ◌+◌, ◌^◌, ◌<◌, ◌≤◌, inl, inr, ℕ, suc, Bool, true, false, cond, List, [], ◌∷◌, ◌++◌, Option, Some, None, Result, Ok, Err, option_map, get_or, refl, sym, ap, subst, arith}
 use Rattle.std.proofs.lemmas.Bool.{false≢true}
 use Rattle.std.proofs.lemmas.List.Sums.{sum_by-append}
 use Rattle.std.specs.Prelude.{is_ok}
-use Rattle.std.specs.Prelude.{IfOk, IfSome}
-use Rattle.std.specs.List.{AllByRecursion, sum_by}
+use Rattle.std.specs.Prelude.{IfOk}
+use Rattle.std.specs.List.{AllByRecursion}
 use Rattle.std.specs.declared.alloc.AllocError.{AllocError}
 use Rattle.std.specs.Result.{result_ok}
 use Rattle.std.specs.Cmp.Lexicographic.{bytes_decides}
@@ -18,7 +18,7 @@ use Rattle.rv_counts.specs.declared.table.ImageCounts.{ImageCounts}
 use Rattle.rv_counts.specs.declared.sum.SumError.{SumError}
 use Rattle.rv_counts.specs.declared.sum.SumError.TheVariants.{Names}
 use Rattle.rv_counts.specs.Sum.{HasName, HasNameIn, HaveNoSum, IsSum, no_counts}
-use Rattle.rv_counts.specs.Table.{begun_at, taken_at, name_at, begun_in, taken_in, name_in, path_in, least_path, least_path_of, digests_rise, names_rise, AreCounts, AreNames, AreNamesOf, AreSpots, IsImage, IsTable}
+use Rattle.rv_counts.specs.Table.{begun_at, taken_at, name_at, begun_in, name_in, least_path, least_path_of, digests_rise, names_rise, AreNames, AreNamesOf, AreSpots, IsImage, IsTable}
 use Rattle.rv_jobs.specs.declared.answers.Answer.{Answer}
 use Rattle.rv_jobs.specs.declared_job.Job.{Job}
 use Rattle.rv_machine.specs.State.{State}

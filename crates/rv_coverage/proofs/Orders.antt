@@ -1,16 +1,13 @@
 -- Tables of the same jobs in another order, and of jobs in parts.
-use Rattle.std.proofs.Common.{◌≡◌, ◌∙◌, ◌+◌, ◌<◌, ◌≤◌, ℕ, zero, suc, Bool, true, false, cond, List, [], ◌∷◌, ◌++◌, Option, Some, None, Result, Ok, Err, option_map, map, length, append-nil, append_assoc, refl, sym, ap, subst, arith}
-use Rattle.std.proofs.lemmas.Bool.{cases_Bool}
-use Rattle.std.proofs.lemmas.List.Elements.{All-cons, All-contains, All-head, All-nil, All-tail, All-weaker}
+use Rattle.std.proofs.Common.{◌≡◌, ◌∙◌, ℕ, suc, Bool, true, false, cond, List, [], ◌∷◌, ◌++◌, Option, Some, None, map, append-nil, append_assoc, refl, sym, ap, subst, arith}
+use Rattle.std.proofs.lemmas.List.Elements.{All-cons, All-contains, All-nil, All-weaker}
 use Rattle.std.proofs.lemmas.List.Sorted.{All-permutation, Contains-permutation, IsPermutation-map, sum_by-IsPermutation}
-use Rattle.std.proofs.lemmas.List.Sums.{sum_by-cons}
-use Rattle.std.specs.List.{All, Contains, flat_map, sum_by}
+use Rattle.std.specs.List.{All, Contains, flat_map}
 use Rattle.std.specs.List.Sorted.{IsPermutation}
 use Rattle.rv_counts.proofs.Public.{none_before_itself, not_before_back, not_before_less, one_table_of, same_place}
 use Rattle.rv_counts.specs.declared.table.CountTable.{CountTable}
 use Rattle.rv_counts.specs.Sum.{no_counts}
-use Rattle.rv_counts.specs.Table.{is_before, least_path, least_path_of}
-use Rattle.rv_counts.specs.Text.{table_text}
+use Rattle.rv_counts.specs.Table.{is_before, least_path_of}
 use Rattle.rv_jobs.specs.declared.answers.Answer.{Answer}
 use Rattle.rv_jobs.specs.declared_job.Job.{Job}
 use Rattle.rv_coverage.specs.JobTables.{begun_by, taken_by, path_by, runs_by, first_path, AreTablesOfParts, IsTableOfJobs, SumsTo}

@@ -8,14 +8,14 @@ ghost use Rattle.rv_gdb.specs.Chunks.{IsByteAnswered, IsBytePut, IsChunkAnswered
 ghost use Rattle.rv_session.specs.Heard.{is_interrupted};
 ghost use Rattle.rv_session.specs.Sessions.{IsSameRun, MayAsk};
 
-use crate::ctrl_c::{Coming, Raised, Unraised};
+use crate::ctrl_c::{CTRL_C, Coming, Raised, Unraised};
+use crate::reads::{check_raised, read_ahead, read_chunk};
 use rv_base::{Sink, put_all};
 use rv_history::Interrupt;
 use rv_session::{EndText, Session};
 use std::alloc::{AllocError, Global};
 use std::io::{ErrorKind, Read};
 use std::sync::atomic::AtomicBool;
-use std::sync::atomic::Ordering::SeqCst;
 use std::thread::{Threads, join_mut};
 
 /// Why a session was broken off.
@@ -39,14 +39,8 @@ impl From<AllocError> for Broken {
     }
 }
 
-// A read asks for as many bytes at most: gdb's packets have up to 16,384.
-const CHUNK: usize = 16_384;
-
 // The answer to a move for which there is no memory.
 const NO_MEMORY: &str = "$E.out of memory#79";
-
-// What gdb sends for Ctrl-C.
-const CTRL_C: u8 = 0x03;
 
 /// The means of a conversation.
 #[derive(Drop)]
@@ -90,18 +84,6 @@ pub fn converse<R: Threads, E: EndText, I: Read + Send, O: Sink>(
     }
     // So many reads are never done.
     Err(Broken::Unread(ErrorKind::TimedOut))
-}
-
-// Reads once: no byte is the end.
-fn read_chunk<I: Read>(alloc: Global, input: &mut I) -> Result<Vec<u8>, Broken>
-    ensures read { IfOk result (λ chunk. IsChunkRead (I.remaining input.old) (I.remaining input.new) chunk.items) }
-    ensures failed { IfErr result (λ broken. broken ≢ Broken.Unput) }
-{
-    let mut buffer = [0u8; CHUNK];
-    match input.read(&mut buffer) {
-        Ok(count) => Ok(Vec::from_slice(alloc, &buffer[..count])?),
-        Err(error) => Err(Broken::Unread(error.kind())),
-    }
 }
 
 // Answers the bytes of a read, and reads once more unless the session is over then.
@@ -296,39 +278,4 @@ fn move_beside_reader<R: Threads, E: EndText, I: Read + Send, O: Sink>(
     let chunk = read?;
     check_raised(coming.was_seen, chunk.as_slice())?;
     Ok(chunk)
-}
-
-// The reading thread raises an interrupt for what it read alone. No clause says what another thread stored, so it is looked at.
-fn check_raised(was_seen: bool, chunk: &[u8]) -> Result<(), Broken>
-    ensures raised { OnOk result (was_seen ≡ true → is_interrupted chunk.now true ≡ true) }
-    ensures failed { IfErr result (λ broken. broken ≢ Broken.Unput) }
-{
-    if was_seen && !is_interrupted(chunk) {
-        return Err(Broken::Unread(ErrorKind::Interrupted));
-    }
-    Ok(())
-}
-
-// Reads once, and raises an interrupt where a move is to be broken off for it, or where the reader failed.
-fn read_ahead<I: Read>(alloc: Global, input: &mut I, raised: &AtomicBool) -> Result<Vec<u8>, Broken>
-    ensures read { IfOk result (λ chunk. IsChunkRead (I.remaining input.old) (I.remaining input.new) chunk.items) }
-    ensures failed { IfErr result (λ broken. broken ≢ Broken.Unput) }
-{
-    let read = read_chunk(alloc, input);
-    let is_raised = match &read {
-        Ok(chunk) => is_interrupted(chunk.as_slice()),
-        Err(_) => true,
-    };
-    raised.store(is_raised, SeqCst);
-    read
-}
-
-// Whether a move is broken off for bytes that come while it is under way: they begin with 0x03, or are the end.
-fn is_interrupted(bytes: &[u8]) -> bool
-    ensures { result ≡ is_interrupted bytes.now true }
-{
-    match bytes.first() {
-        Some(byte) => *byte == CTRL_C,
-        None => true,
-    }
 }

@@ -4,6 +4,9 @@ use rv_history::Interrupt;
 use std::sync::atomic::AtomicBool;
 use std::sync::atomic::Ordering::SeqCst;
 
+/// What gdb sends for Ctrl-C.
+pub(crate) const CTRL_C: u8 = 0x03;
+
 /// An interrupt that is raised.
 #[derive(Drop)]
 pub(crate) struct Raised;

@@ -7,6 +7,7 @@
 mod conversation;
 mod ctrl_c;
 mod job_session;
+mod reads;
 
 pub use conversation::{Broken, Means, converse};
 pub use job_session::session_at;

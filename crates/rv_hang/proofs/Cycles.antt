@@ -9,7 +9,7 @@ use Rattle.rv_machine.specs.declared.ending.Ending.TheVariants.{Budget}
 use Rattle.rv_machine.specs.Run.{go_on, run_of, step_of}
 use Rattle.rv_machine.specs.State.{State}
 use Rattle.rv_trace.specs.Trace.{state_after}
-use Rattle.rv_trace.proofs.Public.{after_more, after_none, completes, each_completes, steps_more}
+use Rattle.rv_trace.proofs.Public.{after_more, completes, each_completes, steps_more}
 use Rattle.rv_hang.specs.Quiet.{is_step_quiet}
 use Rattle.rv_hang.specs.Repetition.{AreQuiet, IsLastAgain, IsRepetition, again_behind, first_again, has_values}
 use Rattle.rv_hang.specs.declared.hart.HartValues.{HartValues}

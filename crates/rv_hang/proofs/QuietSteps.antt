@@ -1,5 +1,5 @@
 -- A quiet step leaves the bus as it was, and the set of instructions.
-use Rattle.std.proofs.Common.{◌≡◌, ◌∙◌, ◌==◌, ◌&&◌, ℕ, Bool, true, false, not, cond, eqb, List, [], ◌∷◌, Ok, Err, Result, Option, Some, None}
+use Rattle.std.proofs.Common.{◌≡◌, ◌∙◌, ◌==◌, ◌&&◌, ℕ, Bool, true, false, not, cond, List, [], ◌∷◌, Ok, Err, Result, Some}
 use Rattle.std.proofs.Common.{sym, ap, refl, arith, drop, length}
 use Rattle.std.proofs.lemmas.Bool.{both_ways, ne_eqb}
 use Rattle.rv_isa.specs.declared.instruction.Instr.{Instr}

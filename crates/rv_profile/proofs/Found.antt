@@ -1,5 +1,5 @@
 -- What holds of each element holds of the one that is found, and none that is found is none there.
-use Rattle.std.proofs.Common.{◌≡◌, ◌∙◌, ◌<◌, ◌∷◌, [], ℕ, zero, suc, Bool, true, false, List, Option, Some, None, ap, arith, cond, find, get_or, length, map, option_map, refl, subst, sym}
+use Rattle.std.proofs.Common.{◌≡◌, ◌∙◌, ◌<◌, ◌∷◌, [], ℕ, zero, suc, Bool, true, false, List, Option, Some, None, ap, arith, cond, find, get_or, length, option_map, refl, subst, sym}
 use Rattle.std.specs.List.{AllByRecursion}
 use Rattle.rv_cover.specs.JobImages.{FileImage, image_of_file, images_of_files}
 use Rattle.rv_cover.specs.declared.image_file.ImageFile.{ImageFile}

@@ -1,7 +1,6 @@
 -- Functions by address, sorted by their own steps: those with the most first, and of those with as many the one at the lower address.
-use Rattle.std.proofs.Common.{◌≡◌, ◌∙◌, ◌==◌, ◌&&◌, ◌||◌, ◌+◌, ◌-◌, ◌^◌, ◌<◌, ◌≤◌, ◌∷◌, [], ℕ, zero, suc, Bool, true, false, List, add-one, inl, inr, ap, arith, get_or, length, map, refl, subst, sym}
+use Rattle.std.proofs.Common.{◌≡◌, ◌∙◌, ◌==◌, ◌&&◌, ◌||◌, ◌+◌, ◌-◌, ◌^◌, ◌<◌, ◌≤◌, ◌∷◌, [], ℕ, zero, suc, true, false, List, add-one, inl, inr, ap, arith, get_or, length, map, subst, sym}
 use Rattle.std.specs.Prelude.{nat_le, nat_lt}
-use Rattle.std.specs.List.{All}
 use Rattle.std.specs.List.Sorted.{IsPermutation, IsSortedBy, IsSortedByKey, IsStableByKey}
 use Rattle.std.specs.Ordering.{is_lt, nat_cmp}
 use Rattle.std.proofs.lemmas.Bool.{and_left, and_parts, and_right, cases_Bool, eqb-true, le-ltb, leb-true, or_from}
@@ -13,7 +12,7 @@ use Rattle.rv_counts.specs.Table.{names_rise}
 use Rattle.rv_counts.specs.declared.table.FunctionName.{FunctionName}
 use Rattle.rv_spots.specs.Trees.{all_steps}
 use Rattle.rv_spots.specs.declared.spot.Spot.{Spot}
-use Rattle.rv_profile.specs.Profile.{AreWithin, IsProfileOf, IsWithin, Profiled, goes_before, profile_of, profiled, profiles_of}
+use Rattle.rv_profile.specs.Profile.{AreWithin, IsProfileOf, Profiled, goes_before, profile_of, profiled, profiles_of}
 use Rattle.rv_profile.specs.declared.function.FunctionProfile.{FunctionProfile}
 use Rattle.rv_profile.proofs.Parts.{profile_within}
 

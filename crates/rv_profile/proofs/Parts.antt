@@ -1,9 +1,8 @@
 -- What functions have of the steps of all spots is no more than that.
-use Rattle.std.proofs.Common.{◌≡◌, ◌==◌, ◌+◌, ◌≤◌, Bool, true, false, ℕ, List, [], ◌∷◌, arith}
+use Rattle.std.proofs.Common.{◌==◌, ◌≤◌, Bool, true, false, ℕ, List, [], ◌∷◌, arith}
 use Rattle.rv_spots.specs.Profiles.{has_function, inclusive_behind}
 use Rattle.rv_spots.specs.Trees.{all_steps, own_in, path_behind, steps_if}
 use Rattle.rv_spots.specs.declared.spot.Spot.{Spot}
-use Rattle.std.specs.List.{All}
 use Rattle.std.specs.List.Sorted.{IsPermutation}
 use Rattle.std.specs.Prelude.{map}
 use Rattle.std.proofs.lemmas.List.Elements.{All-cons, All-nil}

@@ -1,9 +1,9 @@
 -- The sums of the first spots: one more, and no more than all.
-use Rattle.std.proofs.Common.{◌≡◌, ◌∙◌, ◌+◌, ◌^◌, ◌<◌, ◌≤◌, ◌&&◌, ℕ, Bool, true, false, cond, List, [], ◌∷◌, ◌++◌, Option, Some, None, length, take, drop, get_or, refl, sym, ap, subst, arith, inl, inr}
+use Rattle.std.proofs.Common.{◌≡◌, ◌∙◌, ◌+◌, ◌^◌, ◌<◌, ◌≤◌, ◌&&◌, ℕ, Bool, true, false, cond, List, [], ◌∷◌, ◌++◌, Some, None, length, take, drop, get_or, refl, sym, ap, arith, inl, inr}
 use Rattle.std.specs.Prelude.{nat_lt}
 use Rattle.std.proofs.lemmas.Bool.{and_cases, and_left, and_right, le-ltb, ltb-false}
 use Rattle.std.proofs.lemmas.List.{take_all, take_more, take-append-drop}
-use Rattle.rv_spots.specs.Trees.{all_arrivals, all_steps, arrivals_of, counted_in_all, steps_of}
+use Rattle.rv_spots.specs.Trees.{arrivals_of, counted_in_all, steps_of}
 use Rattle.rv_spots.specs.declared.spot.Spot.{Spot}
 use Rattle.rv_profile.specs.ImageStacks.{are_few, fitting, sums_of, with_spot}
 use Rattle.rv_profile.specs.declared.sums.Sums.{Sums}

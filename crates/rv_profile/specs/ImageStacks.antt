@@ -4,7 +4,6 @@ use Rattle.std.specs.List.{list_any}
 use Rattle.std.specs.Option.{option_map_or}
 use Rattle.rv_counts.specs.declared.table.CountTable.{CountTable}
 use Rattle.rv_counts.specs.declared.table.FunctionName.{FunctionName}
-use Rattle.rv_counts.specs.declared.table.ImageCounts.{ImageCounts}
 use Rattle.rv_cover.specs.ImageCounts.{counted_image}
 use Rattle.rv_cover.specs.JobImages.{FileImage}
 use Rattle.rv_spots.specs.Trees.{all_arrivals, all_steps}

@@ -1,5 +1,5 @@
 -- Where the steps of an image went, by function, by its stacks.
-use Rattle.std.specs.Prelude.{◌≡◌, ◌==◌, ◌≤◌, ◌&&◌, ◌||◌, ℕ, Bool, nat_lt, List, [], map}
+use Rattle.std.specs.Prelude.{◌==◌, ◌≤◌, ◌&&◌, ◌||◌, ℕ, Bool, nat_lt, List, [], map}
 use Rattle.std.specs.List.{All, sum_by}
 use Rattle.std.specs.List.Sorted.{IsPermutation, IsSortedBy}
 use Rattle.rv_counts.specs.declared.table.FunctionName.{FunctionName}

@@ -1,5 +1,5 @@
 -- What is shown of images by the stacks of a table: a head for tools, and then where the steps of each went.
-use Rattle.std.specs.Prelude.{◌≡◌, ◌++◌, ℕ, Bool, if◌then◌else◌, List, [], ◌∷◌}
+use Rattle.std.specs.Prelude.{◌≡◌, ◌++◌, ℕ, if◌then◌else◌, List, [], ◌∷◌}
 use Rattle.rv_counts.specs.declared.table.CountTable.{CountTable}
 use Rattle.rv_cover.specs.JobImages.{FileImage}
 use Rattle.rv_profile.specs.Csv.{csv_head, csv_rows}

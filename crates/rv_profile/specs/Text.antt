@@ -1,5 +1,5 @@
 -- Where the steps of an image went, as it is shown: a line of the image, a head, and a line for each function in the same columns.
-use Rattle.std.specs.Prelude.{◌==◌, ◌+◌, ◌-◌, ◌*◌, ◌/◌, ◌%◌, ◌++◌, ℕ, max, if◌then◌else◌, List, [], ◌∷◌, codes, drop, length, replicate, take}
+use Rattle.std.specs.Prelude.{◌==◌, ◌+◌, ◌-◌, ◌*◌, ◌/◌, ◌%◌, ◌++◌, ℕ, max, if◌then◌else◌, List, [], ◌∷◌, codes, length, replicate, take}
 use Rattle.std.specs.Prelude.{Option, Some, None}
 use Rattle.std.specs.Fmt.{decimal}
 use Rattle.std.specs.List.{flat_map}

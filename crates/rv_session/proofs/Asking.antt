@@ -1,5 +1,5 @@
 -- A session is not over that a move is asked for in.
-use Rattle.std.proofs.Common.{◌≡◌, ◌∙◌, ◌⊎◌, ◌&&◌, ℕ, List, Bool, true, false, Some, None, ap, inl, inr, refl, subst, sym}
+use Rattle.std.proofs.Common.{◌≡◌, ◌∙◌, ◌&&◌, ℕ, List, Bool, true, false, Some, None, ap, inl, inr, refl}
 use Rattle.std.specs.Prelude.{Option, Result, Ok, Err, if◌then◌else◌, nat_le}
 use Rattle.rv_history.specs.Places.{last_place}
 use Rattle.rv_history.specs.declared.stops.Stops.{Stops}
@@ -7,7 +7,6 @@ use Rattle.rv_remote.specs.Frames.{frame_behind, heard_at}
 use Rattle.rv_remote.specs.Packets.{request_of}
 use Rattle.rv_remote.specs.declared.frame.Heard.{Heard}
 use Rattle.rv_remote.specs.declared.frame.Heard.TheVariants as heard
-use Rattle.rv_remote.specs.declared.request.Move.{Move}
 use Rattle.rv_remote.specs.declared.request.Refusal.{Refusal}
 use Rattle.rv_remote.specs.declared.request.Refusal.TheVariants as refusal
 use Rattle.rv_remote.specs.declared.request.Register.{Register}

@@ -12,7 +12,7 @@ use Rattle.rv_machine.specs.declared.ending.Ending.{Ending}
 use Rattle.rv_machine.specs.Run.{Ran, go_on, run_of, step_of}
 use Rattle.rv_machine.specs.State.{State}
 use Rattle.rv_spots.specs.declared.walk.Walk.{Walk}
-use Rattle.rv_spots.specs.Trees.{all_arrivals, all_steps, ends_with, own_in, steps_at}
+use Rattle.rv_spots.specs.Trees.{all_steps, ends_with, own_in, steps_at}
 use Rattle.rv_spots.specs.Walks.{Steps}
 use Rattle.rv_stacks.specs.Stacks.{arrivals_by, path_at}
 use Rattle.rv_stacks.specs.StackSteps.{CountsHere, Follows, IsAt, StacksStep}

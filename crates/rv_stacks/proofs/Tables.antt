@@ -1,10 +1,8 @@
 -- Tables of the stacks of jobs: of one, and of some more.
-use Rattle.std.proofs.Common.{Fits, ◌≡◌, ◌∙◌, ◌==◌, ◌+◌, ◌^◌, ◌<◌, ℕ, zero, suc, Bool, true, false, cond, List, [], ◌∷◌, ◌++◌, Option, Some, None, Result, Ok, Err, option_map, length, take, drop, get_or, refl, sym, ap, subst, append-nil, arith, inl, inr}
-use Rattle.std.proofs.lemmas.Bool.{cases_Bool, false≢true}
+use Rattle.std.proofs.Common.{◌≡◌, ◌∙◌, ◌+◌, ◌<◌, ℕ, Bool, true, false, cond, List, [], ◌∷◌, ◌++◌, Option, Some, None, Result, Ok, Err, option_map, length, take, drop, get_or, refl, sym, ap, subst, arith}
 use Rattle.std.proofs.lemmas.List.{take-append-drop, take_more}
 use Rattle.std.proofs.lemmas.List.Sums.{sum_by-append}
-use Rattle.std.specs.List.{AllByRecursion, sum_by}
-use Rattle.std.specs.Result.{result_ok}
+use Rattle.std.specs.List.{AllByRecursion}
 use Rattle.std.specs.Str.{bytes_eq, IsUtf8}
 use Rattle.sha2.specs.Sha256.{sha256}
 use Rattle.rv_counts.proofs.Public.{first_is}
@@ -15,9 +13,9 @@ use Rattle.rv_counts.specs.declared.table.FunctionName.{FunctionName}
 use Rattle.rv_counts.specs.declared.table.ImageCounts.{ImageCounts}
 use Rattle.rv_counts.specs.Lines.{lacks}
 use Rattle.rv_counts.specs.Sum.{Agree, HaveNoSum, IsSum, no_counts}
-use Rattle.rv_counts.specs.Table.{has_name, name_at, name_in, name_of, least_path_of, rise_from, AreCounts, AreSpots, IsImage, IsSpot, IsTable}
+use Rattle.rv_counts.specs.Table.{name_at, name_in, least_path_of, rise_from, AreCounts, IsImage, IsTable}
 use Rattle.rv_coverage.proofs.Public.{first_path-append, jobs_more, no_counts_is_table, none_either, none_if_no_ok, not_over, one_rises, over, picked_path}
-use Rattle.rv_coverage.specs.JobTables.{first_path, has_digest, image_bytes, jobs_at, path_by, start_over}
+use Rattle.rv_coverage.specs.JobTables.{image_bytes, jobs_at}
 use Rattle.rv_elf.specs.declared.image.Image.{Image}
 use Rattle.rv_jobs.specs.declared.answers.Answer.{Answer}
 use Rattle.rv_jobs.specs.declared_job.Job.{Job}
@@ -28,9 +26,9 @@ use Rattle.rv_report.specs.declared.row.Refusal.{Refusal}
 use Rattle.rv_rows.specs.Rows.{image_in, start_in}
 use Rattle.rv_spots.specs.declared.spot.Spot.{Spot}
 use Rattle.rv_spots.specs.Sums.{FitsSpot}
-use Rattle.rv_spots.specs.Trees.{arrivals_at, ends_with, steps_at, HasArrivals, IsTree}
+use Rattle.rv_spots.specs.Trees.{arrivals_at, steps_at, HasArrivals, IsTree}
 use Rattle.rv_stacks.specs.Stacks.{function_at, AreStacksOf, AreStacksOfJob}
-use Rattle.rv_stacks.specs.StackTables.{arrivals_by_job, arrivals_from, function_in, function_of_job, name_in_image, name_of_function, name_of_job, steps_by_job, steps_from, table_of_spots, AreNamesBy, AreStacksOfJobs, AreStacksOfPlaces, HaveNoStacks, HavePartsNoSum, IsNamedBy, IsTableOfSpots, RunsWithinABudget}
+use Rattle.rv_stacks.specs.StackTables.{arrivals_by_job, arrivals_from, function_in, function_of_job, name_in_image, name_of_function, name_of_job, steps_by_job, steps_from, table_of_spots, AreNamesBy, AreStacksOfJobs, AreStacksOfPlaces, HavePartsNoSum, IsNamedBy, IsTableOfSpots, RunsWithinABudget}
 use Rattle.rv_text.specs.Printable.{printable_text}
 use Rattle.rv_trace.specs.Trace.{job_at}
 use Rattle.rv_stacks.proofs.NamedSpots.{can_stand, last_if_come}

@@ -1,5 +1,5 @@
 -- What is told of accepted runs is so of the jobs of their list.
-use Rattle.std.proofs.Common.{None, ◌≡◌, ◌∙◌, [], ℕ, Bool, List, Option, IfSome, Result, Ok, ap, fold, length, map, refl}
+use Rattle.std.proofs.Common.{None, ◌≡◌, ◌∙◌, [], Bool, List, Option, IfSome, Result, Ok, ap, fold, length, map, refl}
 use Rattle.std.proofs.lemmas.List.{length-map}
 use Rattle.rv_accept.proofs.Public.{marks_count}
 use Rattle.rv_accept.specs.Claims.{claims_of_runs}

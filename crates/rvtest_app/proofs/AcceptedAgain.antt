@@ -1,6 +1,6 @@
 -- An accepted job passes in a run over the store with the new files, or nothing is expected of it.
-use Rattle.std.proofs.Common.{◌≡◌, ◌∙◌, ◌<◌, ◌∷◌, ◌||◌, [], ℕ, Bool, true, false, List, Option, Some, None, Ok, IfSome, ap, fold, get_or, Global, Vec, length, map, nat_eq, option_map, refl, subst, sym}
-use Rattle.std.specs.Prelude.{Result, if◌then◌else◌, slice_get, slice_index_or}
+use Rattle.std.proofs.Common.{◌≡◌, ◌∙◌, ◌∷◌, ◌||◌, [], ℕ, Bool, true, false, List, Option, Some, None, Ok, IfSome, ap, fold, get_or, Global, Vec, map, nat_eq, option_map, refl, subst, sym}
+use Rattle.std.specs.Prelude.{Result, slice_get, slice_index_or}
 use Rattle.std.specs.List.{All, list_any, starts_with}
 use Rattle.std.specs.Str.{bytes_eq}
 use Rattle.std.proofs.lemmas.Bool.{false≢true}
@@ -14,24 +14,21 @@ use Rattle.rv_accept.specs.Claims.{claims_of_runs}
 use Rattle.rv_accept.specs.Fates.{fate_of_file, names_file}
 use Rattle.rv_accept.specs.Meant.{meant_job, meant_jobs}
 use Rattle.rv_accept.specs.Passing.{FindsItsFiles, is_pass_or_unasked, outcome_of_row}
-use Rattle.rv_accept.specs.Runs.{accepted_row, is_accepted_run, judged_runs, why_chosen_is_left}
+use Rattle.rv_accept.specs.Runs.{accepted_row, is_accepted_run, judged_runs}
 use Rattle.rv_accept.specs.Sharing.{is_path, marks_to_run, names_golden_file}
 use Rattle.rv_accept.specs.Targets.{is_of_accepted, is_target, with_target}
 use Rattle.rv_accept.specs.declared.claims.Claim.{Claim}
-use Rattle.rv_accept.specs.declared.ends.Acceptance.{Acceptance}
 use Rattle.rv_accept.specs.declared.fates.Fate.{Fate}
 use Rattle.rv_accept.specs.declared.fates.Fate.TheVariants as fate
 use Rattle.rv_accept.specs.declared.runs.JobRun.{JobRun}
 use Rattle.rv_accept.specs.declared.targets.Target.{Target}
 use Rattle.rv_accept_text.proofs.Public.{accepted_from_the_first, list_is_no_image}
 use Rattle.rv_accept_text.specs.GoldenFiles.{elf_magic, is_kept, is_left, is_left_of}
-use Rattle.rv_accept_text.specs.NewLists.{AreLeftFrom}
 use Rattle.rv_accept_text.specs.declared.accepting.Accepting.{Accepting}
 use Rattle.rv_accept_text.specs.declared.golden_file.GoldenFile.{GoldenFile}
 use Rattle.rv_base.specs.Files.{FileContents}
 use Rattle.rv_cli.specs.declared.rvtest.accept.AcceptAsked.{AcceptAsked}
 use Rattle.rv_command.specs.Texts.{IsTextAt, optional_text}
-use Rattle.rv_files.specs.Placed.{PlacedFile}
 use Rattle.rv_files.specs.UnreadPaths.{contents_below, resolved_path}
 use Rattle.rv_jobs.specs.Jobs.{console_path, single_job, without_expectations}
 use Rattle.rv_jobs.specs.Kept.{IsKeptOf}
@@ -42,7 +39,6 @@ use Rattle.rv_jobs.specs.declared.kept.Kept.TheVariants as kept
 use Rattle.rv_lists.specs.JobList.{job_list_of}
 use Rattle.rv_lists.specs.declared.job.Job.{Job}
 use Rattle.rv_report.specs.declared.row.Row.{Row}
-use Rattle.rv_rows.specs.Outcome.{file_outcome_of, outcome_of}
 use Rattle.rv_rows.specs.Rows.{outcome_in, row_of}
 use Rattle.rv_rows.specs.Verdict.{did_run, lines_of_signature}
 use Rattle.rv_rows.specs.declared.outcome.Outcome.{Outcome}

@@ -1,5 +1,5 @@
 -- The counts of a run that went out, and what is left where one of its files did not.
-use Rattle.std.proofs.Common.{◌≡◌, ◌∙◌, ◌⊎◌, ◌++◌, ℕ, Bool, true, false, List, [], Option, Some, None, ap, inl, inr, refl, sym, ⊎_elim}
+use Rattle.std.proofs.Common.{◌≡◌, ◌⊎◌, ◌++◌, ℕ, Bool, true, false, List, [], Option, Some, None, inl, inr, refl, ⊎_elim}
 use Rattle.std.specs.Borrow.{Bor}
 use Rattle.std.specs.Prelude.{is_some, IsSomeAnd}
 use Rattle.rv_cli.specs.declared.rvtest.run.RunAsked.{RunAsked}
@@ -14,7 +14,7 @@ use Rattle.rvtest_app.proofs.PutStops.{unopened}
 use Rattle.rvtest_app.specs.Outlets.{AreFilesPlaced, AreFilesPlacedInPart, HasTaken, file_path_at}
 use Rattle.rvtest_app.specs.PutStops.{IsUnopenedStop}
 use Rattle.rvtest_app.specs.Puts.{IsShown}
-use Rattle.rvtest_app.specs.RunStops.{IsRowsPutStop, IsRunPutStop}
+use Rattle.rvtest_app.specs.RunStops.{IsRunPutStop}
 use Rattle.rvtest_app.specs.Runs.{AreCountsPut, AreRunFilesPlacedInPart, IsCountsText, IsRunPut, junit_file, report_file}
 use Rattle.rvtest_app.specs.Said.{Said, placed_behind, where_told}
 use Rattle.rvtest_app.specs.StackStops.{IsCountsPutStop}

@@ -1,5 +1,5 @@
 -- What stands in a store after `accept`: golden files with their texts, images and the list.
-use Rattle.std.proofs.Common.{◌≡◌, ◌∙◌, ◌<◌, ◌++◌, ◌∷◌, [], ℕ, Bool, true, false, ◌&&◌, ◌||◌, List, Option, Some, None, IfSome, ap, get_or, length, nat_eq, option_map, refl, subst, sym}
+use Rattle.std.proofs.Common.{◌≡◌, ◌∙◌, ◌<◌, ◌∷◌, [], ℕ, Bool, true, false, ◌||◌, List, Option, Some, None, ap, get_or, length, nat_eq, refl, subst, sym}
 use Rattle.std.specs.Prelude.{◌⊎◌, if◌then◌else◌}
 use Rattle.std.specs.List.{All, Any, flat_map, starts_with}
 use Rattle.std.specs.Str.{bytes_eq}
@@ -10,13 +10,12 @@ use Rattle.rv_accept.proofs.Public.{all_left, all_right}
 use Rattle.rv_accept.specs.declared.fates.Fate.{Fate}
 use Rattle.rv_accept.specs.declared.fates.Fate.TheVariants as fate
 use Rattle.rv_accept.specs.declared.targets.Target.{Target}
-use Rattle.rv_accept_text.specs.GoldenFiles.{another_text, elf_magic, is_image_path, is_kept, is_kept_text, is_left, is_left_of, new_text, new_text_of}
+use Rattle.rv_accept_text.specs.GoldenFiles.{another_text, elf_magic, is_image_path, is_kept, is_left, is_left_of, new_text, new_text_of}
 use Rattle.rv_accept_text.specs.declared.accepting.Accepting.{Accepting}
 use Rattle.rv_accept_text.specs.declared.golden_file.GoldenFile.{GoldenFile}
 use Rattle.rv_accept_text.specs.declared.golden_file.ListFile.{ListFile}
 use Rattle.rv_base.specs.Files.{FileContents}
 use Rattle.rv_files.specs.Placed.{PlacedFile, placed_file}
-use Rattle.rv_files.specs.UnreadPaths.{resolved_path}
 use Rattle.rvtest_app.specs.AcceptLaw.{HaveOneTextEach, IsStoreAfter}
 use Rattle.rvtest_app.specs.Accepts.{AreGoldenFiles, file_if, new_list_text, written_files}
 

@@ -1,9 +1,8 @@
 -- What stops the program for its words.
-use Rattle.std.proofs.Common.{◌≡◌, ◌⊎◌, ◌∙◌, ℕ, Bool, List, [], MatchOption, Option, Some, None, Result, Ok, Err, IfErr, inl, inr, refl, subst, ⊎_elim}
+use Rattle.std.proofs.Common.{◌≡◌, ◌⊎◌, ◌∙◌, ℕ, Bool, List, [], MatchOption, Option, Some, None, Result, Ok, Err, IfErr, inl, inr, subst, ⊎_elim}
 use Rattle.clap.specs.Kinds.{IsAmong}
 use Rattle.clap.specs.Words.{fault_of}
 use Rattle.clap.specs.declared.error.kind.ErrorKind.{ErrorKind}
-use Rattle.clap.specs.declared.error.kind.ErrorKind.TheVariants as kind
 use Rattle.rv_base.specs.Files.{FileContents}
 use Rattle.rv_cli.specs.RvtestCommand.{test_app}
 use Rattle.rv_cli.specs.RvtestWords.{IsMisuseTold, misuse_text, words_fault_kinds, words_misuse}

@@ -1,5 +1,5 @@
 -- Texts that were written.
-use Rattle.std.proofs.Common.{◌≡◌, ◌∙◌, ◌++◌, ◌∷◌, ℕ, List, [], Option, Some, None, false, ap, append-nil, codes, refl, subst, sym}
+use Rattle.std.proofs.Common.{◌≡◌, ◌∙◌, ◌∷◌, ℕ, List, [], Option, Some, None, false, ap, append-nil, codes, refl, subst, sym}
 use Rattle.std.specs.Prelude.{IfSome, OnOk, Result}
 use Rattle.std.specs.Io.KnownBytes.{Appends}
 use Rattle.rv_files.specs.Placed.{PlacedFile, placed_file}

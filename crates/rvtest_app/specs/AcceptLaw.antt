@@ -1,5 +1,5 @@
 -- What `run` says of a job that `accept` accepted, over the store with the new files.
-use Rattle.std.specs.Prelude.{◌≡◌, ◌⊎◌, ℕ, Bool, true, false, IfSome, IsFalse, IsTrue, List, Ok, Option, Some, None, slice_get}
+use Rattle.std.specs.Prelude.{◌≡◌, ◌⊎◌, ℕ, Bool, true, false, IfSome, IsFalse, IsTrue, List, Ok, Some, None, slice_get}
 use Rattle.std.specs.List.{All, Any}
 use Rattle.rv_accept.specs.Sharing.{names_golden_file}
 use Rattle.rv_accept.specs.Targets.{is_of_accepted}

@@ -2,7 +2,6 @@
 use Rattle.std.specs.Prelude.{◌≡◌, ◌≢◌, ◌⊎◌, ℕ, Bool, List, [], ◌∷◌, Option, Some, None, Ok, codes, false, is_ok, option_and_then, slice_get, slice_index_or, true, unwrap_or}
 use Rattle.std.specs.Io.KnownBytes.{Consumes, IsAtEnd}
 use Rattle.std.specs.Result.{result_ok}
-use Rattle.std.specs.declared.io.ErrorKind.{ErrorKind}
 use Rattle.rv_base.specs.Counts.{one_more}
 use Rattle.rv_base.specs.Files.{FileContents}
 use Rattle.rv_cli.specs.declared.rvtest.gdb.GdbAsked.{GdbAsked}

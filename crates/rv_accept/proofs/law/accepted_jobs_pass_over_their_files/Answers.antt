@@ -1,5 +1,3 @@
-use Rattle.rv_accept.proofs.AcceptedRuns.{meant_at}
-use Rattle.rv_accept.proofs.ClaimedFiles.{console_is_target}
 use Rattle.rv_accept.proofs.OverFiles.{passes_over_files}
 use Rattle.rv_accept.proofs.law.accepted_jobs_pass_over_their_files.Goals as goal
 

@@ -1,4 +1,4 @@
-use Rattle.std.proofs.Common.{◌≡◌, ◌∙◌, ◌&&◌, ap, get_or, length, ltb, sym}
+use Rattle.std.proofs.Common.{◌∙◌, ◌&&◌, ap, get_or, length, ltb, sym}
 use Rattle.std.proofs.lemmas.Bool.{lt-ltb, le-ltb}
 use Rattle.rv_counts.specs.declared.table.AddressCounts.{AddressCounts}
 use Rattle.rv_counts.proofs.Lookups.{IsPlaceOf, any_within}

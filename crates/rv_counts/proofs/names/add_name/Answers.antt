@@ -1,5 +1,5 @@
 -- The names of lower functions are within the list.
-use Rattle.std.proofs.Common.{◌≡◌, ◌≤◌, length, ap, arith, nat_lt}
+use Rattle.std.proofs.Common.{length, ap, arith, nat_lt}
 use Rattle.rv_counts.specs.declared.table.FunctionName.{FunctionName}
 use Rattle.rv_counts.proofs.NamesOfSpots.{prefix_within}
 use Rattle.rv_counts.proofs.names.add_name.Goals as goal

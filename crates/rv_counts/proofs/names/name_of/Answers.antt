@@ -1,5 +1,5 @@
 -- The first name that is found is the name.
-use Rattle.std.proofs.Common.{Bor, ◌≡◌, ◌∙◌, List, Option, Some, None, ℕ, option_map, ap, sym}
+use Rattle.std.proofs.Common.{Bor, ◌∙◌, Option, Some, option_map, ap, sym}
 use Rattle.rv_counts.specs.declared.table.FunctionName.{FunctionName}
 use Rattle.rv_counts.proofs.NamesOfSpots.{found}
 use Rattle.rv_counts.proofs.names.name_of.Goals as goal

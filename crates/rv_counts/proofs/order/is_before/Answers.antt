@@ -1,5 +1,5 @@
 -- Each byte decides, or leaves it to those behind.
-use Rattle.std.proofs.Common.{◌∙◌, ◌<◌, ◌≡◌, length, sym, arith, add-one, get_or}
+use Rattle.std.proofs.Common.{◌∙◌, sym, arith, add-one}
 use Rattle.rv_counts.proofs.ByteOrder.{behind_end, before_none, less, more, same}
 use Rattle.rv_counts.proofs.order.is_before.Goals.{then-at-a-via-then-at-a, then-at-a-via-else-at-a+then-a-at}
 use Rattle.rv_counts.proofs.order.is_before.Goals as goal

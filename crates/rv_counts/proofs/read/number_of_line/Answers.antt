@@ -1,6 +1,5 @@
 -- Each line feed is one more.
-use Rattle.std.proofs.Common.{◌≡◌, ◌+◌, ◌≤◌, ℕ, get_or, take, arith}
-use Rattle.rv_counts.specs.Lines.{count_of_line_feeds}
+use Rattle.std.proofs.Common.{get_or, arith}
 use Rattle.rv_counts.proofs.ReadTable.{feeds_more, one_feed, no_feed}
 use Rattle.rv_counts.proofs.read.number_of_line.Goals.{then-b-eq10, else-b-eq10}
 use Rattle.rv_counts.proofs.read.number_of_line.Goals as goal

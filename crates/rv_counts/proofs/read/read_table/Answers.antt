@@ -1,5 +1,5 @@
 -- What is read is the one table, or the line that is refused is the first.
-use Rattle.std.proofs.Common.{◌≡◌, ◌∙◌, ◌+◌, ◌<◌, ◌≤◌, ◌^◌, ℕ, List, length, drop, ap, sym, subst, refl, arith}
+use Rattle.std.proofs.Common.{◌≡◌, ◌∙◌, ◌+◌, ◌<◌, ◌^◌, ℕ, List, length, drop, ap, sym, subst, refl, arith}
 use Rattle.rv_counts.specs.declared.table.ImageCounts.{ImageCounts}
 use Rattle.rv_counts.specs.declared.read.ReadError.{ReadError}
 use Rattle.rv_counts.specs.Lines.{whole_line}

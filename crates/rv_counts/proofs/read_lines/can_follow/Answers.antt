@@ -1,7 +1,7 @@
 -- The last image before decides.
-use Rattle.std.proofs.Common.{◌≡◌, ◌∙◌, None, ap}
+use Rattle.std.proofs.Common.{◌∙◌, None, ap}
 use Rattle.rv_counts.specs.Table.{is_before}
-use Rattle.rv_counts.proofs.ReadingLines.{last_of, none_last, follows, all_fit}
+use Rattle.rv_counts.proofs.ReadingLines.{last_of, follows, all_fit}
 use Rattle.rv_counts.proofs.read_lines.can_follow.Goals as goal
 
 pub returns-in-Some-clause-value : goal.returns-in-Some-clause-value

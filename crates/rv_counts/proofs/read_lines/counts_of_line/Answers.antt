@@ -1,5 +1,5 @@
 -- Each part says its number.
-use Rattle.std.proofs.Common.{◌≡◌, ◌∙◌, ◌≤◌, ◌<◌, take, drop, ap, arith}
+use Rattle.std.proofs.Common.{◌∙◌, take, drop, ap, arith}
 use Rattle.rv_counts.specs.Lines.{text_before_byte, text_after_byte}
 use Rattle.rv_counts.proofs.Told.{same_entry}
 use Rattle.rv_counts.proofs.LineTexts.{address_digits, begun_digits, taken_digits}

@@ -1,5 +1,5 @@
 -- The digest and the path stand behind the word.
-use Rattle.std.proofs.Common.{◌≡◌, ◌∙◌, List, ℕ, drop, ap, sym, subst}
+use Rattle.std.proofs.Common.{◌∙◌, List, ℕ, drop, ap, sym, subst}
 use Rattle.std.proofs.lemmas.Str.{IsUtf8-string_bytes}
 use Rattle.std.specs.Str.{IsUtf8}
 use Rattle.rv_counts.specs.Lines.{text_before_byte, text_after_byte, hex_bytes}

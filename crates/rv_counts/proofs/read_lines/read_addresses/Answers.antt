@@ -1,8 +1,7 @@
 -- Each line that is read is one more.
-use Rattle.std.proofs.Common.{◌≡◌, ◌∙◌, ◌+◌, ◌-◌, ◌<◌, ◌≤◌, ◌++◌, [], ◌∷◌, ℕ, List, length, drop, ap, sym, subst, refl, arith}
+use Rattle.std.proofs.Common.{◌∙◌, ◌+◌, ◌<◌, ◌++◌, [], ◌∷◌, ℕ, List, length, ap, sym, subst, arith}
 use Rattle.rv_counts.specs.declared.table.AddressCounts.{AddressCounts}
 use Rattle.rv_counts.specs.Lines.{whole_line}
-use Rattle.rv_counts.specs.Text.{address_line}
 use Rattle.rv_counts.proofs.ReadingLines.{AreSoFar, none_so_far, one_so_far, further_within, address_is_long}
 use Rattle.rv_counts.proofs.read_lines.read_addresses.Goals as goal
 

@@ -1,5 +1,5 @@
 -- Each image that is read is one more.
-use Rattle.std.proofs.Common.{◌≡◌, ◌+◌, ◌++◌, [], ◌∷◌, ℕ, None, List, drop, sym, subst, refl}
+use Rattle.std.proofs.Common.{◌+◌, ℕ, None, List, drop, sym, subst, refl}
 use Rattle.rv_counts.specs.declared.table.ImageCounts.{ImageCounts}
 use Rattle.rv_counts.specs.ReadSteps.{IsOneImage, last_digest}
 use Rattle.rv_counts.proofs.ReadingLines.{ImagesSoFar, no_images_so_far, image_so_far}

@@ -1,8 +1,8 @@
 -- The line is compared with the one that is written of what it says.
-use Rattle.std.proofs.Common.{◌≡◌, ◌∙◌, ℕ, List, sym}
+use Rattle.std.proofs.Common.{◌≡◌, ◌∙◌, sym}
 use Rattle.std.specs.Cmp.Lexicographic.{bytes_decides}
 use Rattle.rv_counts.specs.Text.{spot_line}
-use Rattle.rv_counts.proofs.ReadingStacks.{no_spot_by_name, no_spot_here, no_spot_line, plain_name}
+use Rattle.rv_counts.proofs.ReadingStacks.{plain_name}
 use Rattle.rv_counts.proofs.read_stacks.next_spot.Goals as goal
 
 pub returns-then-branch-clause-spot : goal.returns-then-branch-clause-spot

@@ -1,10 +1,9 @@
 -- Each line that is read is one more.
-use Rattle.std.proofs.Common.{◌≡◌, ◌∙◌, ◌+◌, ◌-◌, ◌<◌, ◌≤◌, ◌++◌, [], ◌∷◌, ℕ, List, length, drop, take, ap, sym, subst, refl, arith}
+use Rattle.std.proofs.Common.{◌≡◌, ◌∙◌, ◌+◌, ◌<◌, ◌++◌, [], ◌∷◌, ℕ, List, length, drop, ap, sym, subst, arith}
 use Rattle.rv_counts.specs.declared.table.FunctionName.{FunctionName}
 use Rattle.rv_counts.specs.Lines.{whole_line}
 use Rattle.rv_counts.specs.ReadSteps.{function_name, with_name, AgreesWith}
 use Rattle.rv_counts.specs.Table.{name_of}
-use Rattle.rv_counts.specs.Text.{spot_line}
 use Rattle.rv_counts.proofs.ReadingLines.{further_within}
 use Rattle.rv_counts.proofs.ReadingStacks.{SpotsSoFar, no_spots_so_far, one_spot, spot_is_long}
 use Rattle.rv_counts.proofs.read_stacks.read_spots.Goals as goal

@@ -1,5 +1,5 @@
 -- The images add up, and so their tables do.
-use Rattle.std.proofs.Common.{rules, ◌≡◌, ◌+◌, ◌<◌, ◌≤◌, ◌^◌, List, None, length, subst}
+use Rattle.std.proofs.Common.{rules, List, None, subst}
 use Rattle.rv_counts.specs.declared.table.ImageCounts.{ImageCounts}
 use Rattle.rv_counts.specs.SumSteps.{ImagesAddUp}
 use Rattle.rv_counts.proofs.sum.sum_of_tables.Goals as goal

@@ -1,5 +1,5 @@
 -- Each case is a lemma.
-use Rattle.std.proofs.Common.{◌≡◌, ◌<◌, ◌≤◌, length, get_or, sym, subst, arith}
+use Rattle.std.proofs.Common.{◌≡◌, ◌<◌, length, sym, subst, arith}
 use Rattle.std.proofs.lemmas.Bool.Decides.{nat_tests}
 use Rattle.rv_counts.specs.declared.sum_of_counts.NextCount.{NextCount}
 use Rattle.rv_counts.specs.SumSteps.{IsNextCount}

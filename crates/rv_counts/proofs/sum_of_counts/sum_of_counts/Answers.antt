@@ -1,10 +1,9 @@
 -- What is refused of the rest is refused of both lists; at the end nothing is left.
-use Rattle.std.proofs.Common.{◌≡◌, ◌∙◌, ◌++◌, ◌≤◌, List, [], length, drop, sym, subst, ap, append-nil, arith}
-use Rattle.std.proofs.lemmas.List.{drop_all, take_rest}
+use Rattle.std.proofs.Common.{List, sym, subst, arith}
+use Rattle.std.proofs.lemmas.List.{take_rest}
 use Rattle.std.proofs.lemmas.Result.{err_from_is_err_and}
 use Rattle.rv_counts.specs.declared.table.AddressCounts.{AddressCounts}
-use Rattle.rv_counts.specs.Sum.{IsSumOfCounts, CountsHaveNoSum}
-use Rattle.rv_counts.specs.SumSteps.{AddsUp}
+use Rattle.rv_counts.specs.Sum.{IsSumOfCounts}
 use Rattle.rv_counts.proofs.Adding.{too_great_behind, summed}
 use Rattle.rv_counts.proofs.sum_of_counts.sum_of_counts.Goals as goal
 

@@ -1,9 +1,7 @@
 -- Each case is a lemma.
-use Rattle.std.proofs.Common.{◌≡◌, ◌<◌, ◌≤◌, ℕ, Bool, true, false, length, get_or, sym, subst, arith}
+use Rattle.std.proofs.Common.{◌≡◌, ◌<◌, length, sym, arith}
 use Rattle.std.proofs.lemmas.Bool.Decides.{nat_tests}
 use Rattle.std.proofs.lemmas.Result.{err_from_is_err_and, IfOk-weaker}
-use Rattle.rv_counts.specs.declared.sum_of_images.NextImage.{NextImage}
-use Rattle.rv_counts.specs.SumSteps.{IsNextImage, ImagesHaveNoSum}
 use Rattle.rv_counts.proofs.AddingImages.{image_of_first_alone, image_of_second_alone, image_of_first, image_of_second}
 use Rattle.rv_counts.proofs.AddingImages.{image_of_both, no_sum_of_first}
 use Rattle.rv_counts.proofs.sum_of_images.next_image.Goals as goal

@@ -1,9 +1,9 @@
 -- The spots are a tree, a run came to each, and their functions have names.
-use Rattle.std.proofs.Common.{◌≡◌, List, subst}
+use Rattle.std.proofs.Common.{List, subst}
 use Rattle.std.proofs.lemmas.Result.{err_from_is_err_and}
 use Rattle.rv_counts.specs.declared.table.FunctionName.{FunctionName}
 use Rattle.rv_counts.specs.Sum.{IsSumOfNames}
-use Rattle.rv_counts.proofs.AddingImages.{are_spots, no_sum_of_counts, no_sum_of_named, no_sum_of_spots}
+use Rattle.rv_counts.proofs.AddingImages.{are_spots, no_sum_of_named}
 use Rattle.rv_counts.proofs.SumsOfStacks.{names_of_sum}
 use Rattle.rv_counts.proofs.sum_of_images.sum_of_image.Goals as goal
 use Rattle.rv_spots.specs.declared.spot.Spot.{Spot}

@@ -1,10 +1,10 @@
 -- At the end nothing is left.
-use Rattle.std.proofs.Common.{◌≡◌, ◌≤◌, List, length, sym, subst, arith}
+use Rattle.std.proofs.Common.{List, sym, subst, arith}
 use Rattle.rv_counts.specs.declared.table.FunctionName.{FunctionName}
 use Rattle.rv_counts.specs.Sum.{IsSumOfNames}
 use Rattle.std.proofs.lemmas.List.{take_rest}
 use Rattle.std.proofs.lemmas.Result.{err_from_is_err_and}
-use Rattle.rv_counts.proofs.AddingNames.{all_behind, names_summed, no_sum_of_rest}
+use Rattle.rv_counts.proofs.AddingNames.{names_summed, no_sum_of_rest}
 use Rattle.rv_counts.proofs.sum_of_names.sum_of_names.Goals as goal
 
 pub returns-clause-value : goal.returns-clause-value

@@ -1,5 +1,5 @@
 -- Ahead of a sum of what is left of both lists, what stands there makes the sum of both.
-use Rattle.std.proofs.Common.{◌≡◌, ◌+◌, ◌-◌, ◌≤◌, ◌++◌, List, length, drop}
+use Rattle.std.proofs.Common.{◌+◌, ◌-◌, ◌≤◌, ◌++◌, List, length, drop}
 use Rattle.rv_counts.specs.declared.table.FunctionName.{FunctionName}
 use Rattle.rv_counts.specs.SumSteps.{NamesAddUp}
 use Rattle.rv_counts.proofs.sum_of_names.sum_of_names.Given as goal

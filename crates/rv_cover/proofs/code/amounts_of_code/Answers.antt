@@ -1,8 +1,7 @@
 -- One code more is counted, and the codes behind it are the rest.
-use Rattle.std.proofs.Common.{◌∙◌, ◌^◌, ◌<◌, ◌-◌, ap, arith, length, sym}
+use Rattle.std.proofs.Common.{◌∙◌, ◌^◌, ◌<◌, ap, arith, length, sym}
 use Rattle.std.proofs.lemmas.List.{length-drop}
 use Rattle.rv_trace.specs.Code.{size_of_code}
-use Rattle.rv_cover.specs.Codes.{front_code}
 use Rattle.rv_cover.specs.Cover.{amounts_of_codes}
 use Rattle.rv_cover.specs.Steps.{plus}
 use Rattle.rv_cover.proofs.Codes.{code_in_front, no_codes}

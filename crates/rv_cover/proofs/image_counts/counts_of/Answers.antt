@@ -1,4 +1,4 @@
-use Rattle.std.proofs.Common.{◌∙◌, ap, option_map, refl, sym}
+use Rattle.std.proofs.Common.{refl}
 use Rattle.sha2.specs.Sha256.{sha256}
 use Rattle.rv_counts.specs.Table.{rise_from}
 use Rattle.rv_cover.specs.ImageCounts.{is_of_digest}

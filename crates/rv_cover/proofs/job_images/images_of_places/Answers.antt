@@ -2,7 +2,7 @@ use Rattle.std.proofs.Common.{◌∙◌, [], ap, get_or, sym}
 use Rattle.std.proofs.lemmas.List.{get_or_default}
 use Rattle.rv_jobs.specs.Jobs.{single_job}
 use Rattle.rv_trace.specs.Trace.{job_at}
-use Rattle.rv_cover.specs.JobImages.{FileImage, with_image_of}
+use Rattle.rv_cover.specs.JobImages.{with_image_of}
 use Rattle.rv_cover.proofs.JobImages.{images_more}
 use Rattle.rv_cover.proofs.job_images.images_of_places.Goals as goal
 

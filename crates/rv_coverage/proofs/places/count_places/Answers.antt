@@ -1,5 +1,5 @@
 -- The sum of the tables of all shares is that of all places.
-use Rattle.std.proofs.Common.{◌≡◌, ◌∙◌, ◌<◌, ℕ, List, Result, Ok, get_or, length, sym, ap, subst, arith}
+use Rattle.std.proofs.Common.{◌∙◌, ℕ, List, Result, Ok, get_or, length, sym, ap, subst, arith}
 use Rattle.std.proofs.lemmas.Result.{IfOk-weaker}
 use Rattle.std.specs.Prelude.{IfOk}
 use Rattle.std.specs.declared.alloc.AllocError.{AllocError}

@@ -1,5 +1,5 @@
 -- One table more is added.
-use Rattle.std.proofs.Common.{◌≡◌, ◌∙◌, List, Result, Ok, get_or, sym, subst}
+use Rattle.std.proofs.Common.{◌∙◌, Result, Ok, sym, subst}
 use Rattle.std.proofs.lemmas.List.{get_or_read}
 use Rattle.std.specs.Prelude.{IfOk}
 use Rattle.std.specs.declared.alloc.AllocError.{AllocError}

@@ -1,11 +1,10 @@
 -- A refused job is no run; else the counts are those of its run.
-use Rattle.std.proofs.Common.{◌≡◌, ◌∙◌, ◌<◌, ◌^◌, ℕ, Some, None, Option, List, length, get_or, sym, ap, subst}
+use Rattle.std.proofs.Common.{◌≡◌, ◌∙◌, ◌<◌, ◌^◌, ℕ, Option, List, sym, ap, subst}
 use Rattle.std.proofs.lemmas.List.{get_or_read}
 use Rattle.std.specs.Prelude.{IfSome}
 use Rattle.std.specs.Result.{result_ok}
 use Rattle.rv_elf.specs.Image.{image_of}
 use Rattle.rv_counts.specs.declared.table.AddressCounts.{AddressCounts}
-use Rattle.rv_counts.specs.declared.table.CountTable.{CountTable}
 use Rattle.rv_counts.specs.Table.{IsTable, begun_at}
 use Rattle.rv_jobs.specs.declared_job.Job.{Job}
 use Rattle.rv_rows.specs.Rows.{start_in}

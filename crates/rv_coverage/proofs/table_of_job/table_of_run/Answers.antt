@@ -1,5 +1,5 @@
 -- The one image can stand in a table.
-use Rattle.std.proofs.Common.{◌≡◌, ◌∙◌, List, [], subst, sym}
+use Rattle.std.proofs.Common.{◌∙◌, List, [], subst, sym}
 use Rattle.rv_counts.specs.declared.table.FunctionName.{FunctionName}
 use Rattle.rv_counts.specs.Table.{AreNames, AreNamesOf, AreSpots}
 use Rattle.rv_coverage.proofs.OfJobs.{no_names, no_owners, no_spots, one_image_is_table}

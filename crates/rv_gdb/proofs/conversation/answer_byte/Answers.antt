@@ -1,4 +1,4 @@
-use Rattle.std.proofs.Common.{◌+◌, ◌<◌, arith, inr, length, rules}
+use Rattle.std.proofs.Common.{inr, rules}
 use Rattle.rv_gdb.proofs.conversation.answer_byte.Goals as goal
 
 pub returns-clause-answered : goal.returns-clause-answered

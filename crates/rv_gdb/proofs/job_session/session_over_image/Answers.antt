@@ -1,5 +1,5 @@
 -- The machine in which the job runs begins where the session does.
-use Rattle.std.proofs.Common.{◌∙◌, false, refl, sym, ap}
+use Rattle.std.proofs.Common.{refl, ap}
 use Rattle.std.proofs.lemmas.List.{get_or_read}
 use Rattle.std.specs.Prelude.{is_ok}
 use Rattle.rv_history.specs.declared.start.Start.{Start}

@@ -1,10 +1,9 @@
-use Rattle.std.proofs.Common.{◌≡◌, [], subst, sym, true}
+use Rattle.std.proofs.Common.{◌≡◌, [], subst, true}
 use Rattle.rv_jobs.specs.Jobs.{single_job}
 use Rattle.rv_machine.specs.Machine.{state_of}
 use Rattle.rv_machine.specs.Run.{run_of}
 use Rattle.rv_machine.specs.State.{State}
-use Rattle.rv_rows.specs.Rows.{start_in}
-use Rattle.rv_trace.specs.Trace.{job_at, state_after}
+use Rattle.rv_trace.specs.Trace.{state_after}
 use Rattle.rv_hang.specs.Repetition.{has_values}
 use Rattle.rv_hang.proofs.Starts.{no_start, one_start}
 use Rattle.rv_hang.proofs.budget_use.budget_use_of.Goals as goal

@@ -1,4 +1,4 @@
-use Rattle.std.proofs.Common.{◌∙◌, ap, subst, sym}
+use Rattle.std.proofs.Common.{◌∙◌, subst, sym}
 use Rattle.rv_profile.specs.ImageStacks.{sums_of}
 use Rattle.rv_profile.specs.Profile.{AreWithin, profiles_of}
 use Rattle.rv_profile.specs.declared.sums.Sums.{Sums}

@@ -1,4 +1,4 @@
-use Rattle.std.proofs.Common.{◌≡◌, ◌∙◌, ◌≤◌, ap, arith, length}
+use Rattle.std.proofs.Common.{◌∙◌, ◌≤◌, ap, arith, length}
 use Rattle.rv_expect.specs.Judgement.{fails, judging_of}
 use Rattle.rv_fleet.proofs.Public.{rows_count}
 use Rattle.rv_fleet.specs.Batches.{batch_rows}

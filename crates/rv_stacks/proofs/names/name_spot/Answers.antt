@@ -3,7 +3,6 @@ use Rattle.std.proofs.Common.{◌≡◌, ◌∙◌, ◌++◌, ◌∷◌, ◌^◌
 use Rattle.std.proofs.lemmas.Result.{IfOk-weaker}
 use Rattle.std.specs.Prelude.{is_some}
 use Rattle.rv_counts.specs.declared.table.FunctionName.{FunctionName}
-use Rattle.rv_counts.specs.ReadSteps.{with_name}
 use Rattle.rv_counts.specs.Table.{name_of}
 use Rattle.rv_stacks.specs.StackTables.{name_of_function, AreNamesBy}
 use Rattle.rv_stacks.proofs.NamedSpots.{one_named, unnamed}

@@ -1,5 +1,5 @@
 -- One table more is added.
-use Rattle.std.proofs.Common.{◌≡◌, ◌∙◌, ◌*◌, ℕ, List, Result, Ok, Err, get_or, length, sym, subst, take, inr, arith}
+use Rattle.std.proofs.Common.{◌≡◌, ◌∙◌, ◌*◌, ℕ, Result, Ok, Err, length, sym, subst, take, inr, arith}
 use Rattle.std.proofs.lemmas.List.{get_or_read}
 use Rattle.std.proofs.lemmas.Result.{err_from_is_err_and}
 use Rattle.std.specs.Fork.{slice_chunk}
@@ -8,7 +8,7 @@ use Rattle.rv_counts.specs.declared.sum.SumError.{SumError}
 use Rattle.rv_counts.specs.declared.table.CountTable.{CountTable}
 use Rattle.rv_counts.specs.Table.{IsTable}
 use Rattle.rv_coverage.proofs.Public.{no_counts_is_table}
-use Rattle.rv_stacks.specs.StackTables.{AreShares, AreStacksIfAny, AreStacksOfPlaces}
+use Rattle.rv_stacks.specs.StackTables.{AreStacksIfAny, AreStacksOfPlaces}
 use Rattle.rv_stacks.proofs.Parts.{no_share, no_next_share, no_shares, one_share}
 use Rattle.rv_stacks.proofs.places.sum_of_all.Goals as goal
 

@@ -1,4 +1,4 @@
-use Rattle.std.proofs.Common.{◌∙◌, inl, inr, refl, ⊎_elim}
+use Rattle.std.proofs.Common.{refl}
 use Rattle.std.proofs.lemmas.Result.{err_from_is_err_and}
 use Rattle.rvtest_app.specs.Said.{said}
 use Rattle.rvtest_app.proofs.AcceptStops.{files_unput, stop_of_unread}

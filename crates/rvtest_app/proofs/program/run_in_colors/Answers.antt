@@ -1,4 +1,4 @@
-use Rattle.std.proofs.Common.{◌≡◌, ◌⊎◌, ◌∙◌, ℕ, Bool, true, false, Result, Ok, Err, IfErr, IfOk, ap, refl, ⊎_elim}
+use Rattle.std.proofs.Common.{◌≡◌, ◌⊎◌, ◌∙◌, ℕ, true, false, Result, Ok, Err, IfErr, IfOk, ap, refl, ⊎_elim}
 use Rattle.std.specs.Prelude.{MatchResult, is_err}
 use Rattle.rv_colors.specs.ColorSinks.{first_course, is_cut_off}
 use Rattle.rv_colors.specs.declared.colors.Colors.{Colors}

@@ -2,7 +2,7 @@ use Rattle.std.proofs.Common.{rules, ◌≡◌, ◌∙◌, ◌++◌, [], ap, app
 use Rattle.rv_expect.specs.Judgement.{fails, judging_of}
 use Rattle.rv_rows.specs.Rows.{rows_at}
 use Rattle.rv_rounds.specs.Rounds.{failures_behind, rows_until}
-use Rattle.rv_rounds.proofs.Cuts.{all-told, empty, of_error, rows-of-rounds, told-in-part, told-on-behind, told_from_here}
+use Rattle.rv_rounds.proofs.Cuts.{all-told, empty, of_error, rows-of-rounds, told-in-part, told-on-behind}
 use Rattle.rv_rounds.proofs.Cuts.{until-none, until-nowhere}
 use Rattle.rv_rounds.proofs.rounds.Rounds.run_until.Goals as goal
 use Rattle.rv_rounds.proofs.rounds.Rounds.run_until.Goals.{then-loop-left-test+else-not-is_empty, else-loop-left-test}

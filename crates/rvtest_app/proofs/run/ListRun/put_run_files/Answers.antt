@@ -1,4 +1,4 @@
-use Rattle.std.proofs.Common.{◌∙◌, ◌++◌, ap, sym}
+use Rattle.std.proofs.Common.{◌∙◌, ◌++◌, ap}
 use Rattle.rv_expect.specs.Judgement.{judging_of}
 use Rattle.rv_job_text.specs.Telling.{row_lines_at, telling_of}
 use Rattle.rvtest_app.specs.IntoReports.{rows_ahead, run_report_rest, run_report_text}

@@ -1,0 +1,66 @@
+//! Reads of what gdb sends, of which some are made while a move is under way.
+
+ghost use Rattle.std.specs.Prelude.{◌≡◌, ◌≢◌, IfErr, IfOk, OnOk, true};
+ghost use Rattle.rv_gdb.specs.Conversing.{IsChunkRead};
+ghost use Rattle.rv_session.specs.Heard.{is_interrupted};
+
+use crate::conversation::Broken;
+use crate::ctrl_c::CTRL_C;
+use std::alloc::Global;
+use std::io::{ErrorKind, Read};
+use std::sync::atomic::AtomicBool;
+use std::sync::atomic::Ordering::SeqCst;
+
+// A read asks for as many bytes at most: gdb's packets have up to 16,384.
+const CHUNK: usize = 16_384;
+
+// Reads once: no byte is the end.
+pub(crate) fn read_chunk<I: Read>(alloc: Global, input: &mut I) -> Result<Vec<u8>, Broken>
+    ensures read { IfOk result (λ chunk. IsChunkRead (I.remaining input.old) (I.remaining input.new) chunk.items) }
+    ensures failed { IfErr result (λ broken. broken ≢ Broken.Unput) }
+{
+    let mut buffer = [0u8; CHUNK];
+    match input.read(&mut buffer) {
+        Ok(count) => Ok(Vec::from_slice(alloc, &buffer[..count])?),
+        Err(error) => Err(Broken::Unread(error.kind())),
+    }
+}
+
+// The reading thread raises an interrupt for what it read alone. No clause says what another thread stored, so it is looked at.
+pub(crate) fn check_raised(was_seen: bool, chunk: &[u8]) -> Result<(), Broken>
+    ensures raised { OnOk result (was_seen ≡ true → is_interrupted chunk.now true ≡ true) }
+    ensures failed { IfErr result (λ broken. broken ≢ Broken.Unput) }
+{
+    if was_seen && !is_interrupted(chunk) {
+        return Err(Broken::Unread(ErrorKind::Interrupted));
+    }
+    Ok(())
+}
+
+// Reads once, and raises an interrupt where a move is to be broken off for it, or where the reader failed.
+pub(crate) fn read_ahead<I: Read>(
+    alloc: Global,
+    input: &mut I,
+    raised: &AtomicBool,
+) -> Result<Vec<u8>, Broken>
+    ensures read { IfOk result (λ chunk. IsChunkRead (I.remaining input.old) (I.remaining input.new) chunk.items) }
+    ensures failed { IfErr result (λ broken. broken ≢ Broken.Unput) }
+{
+    let read = read_chunk(alloc, input);
+    let is_raised = match &read {
+        Ok(chunk) => is_interrupted(chunk.as_slice()),
+        Err(_) => true,
+    };
+    raised.store(is_raised, SeqCst);
+    read
+}
+
+// Whether a move is broken off for bytes that come while it is under way: they begin with 0x03, or are the end.
+fn is_interrupted(bytes: &[u8]) -> bool
+    ensures { result ≡ is_interrupted bytes.now true }
+{
+    match bytes.first() {
+        Some(byte) => *byte == CTRL_C,
+        None => true,
+    }
+}
