@@ -5,14 +5,14 @@ while true; do
     d=$(readlink /proc/$p/cwd 2>/dev/null) || continue
     case "$d" in /work/*) ;; *) q=$(awk '{print $4}' /proc/$p/stat 2>/dev/null); e=$(readlink /proc/$q/cwd 2>/dev/null); case "$e" in /work/*) d=$e;; esac;; esac
     case "$d" in
-      /work/w/gateb*) n=-1;;
-      /work/w/gate*|/work/w/land*) n=-4;;
+      /work/w/gateb*) n=-3;;
+      /work/w/gate*|/work/w/land*) n=-10;;
       /work/w/s/*|/work/w/h/*|*/w/g-stub/*|*/w/a-stub/*|*/w/j-stub/*|/work/w/ed-*) n=-5;;
       /work/w/sty*) n=0;;
       /work/*) n=0;;
       *) n=0;;
     esac
-    case "$(readlink /proc/$p/cwd)" in /tmp/rt-edit-*|/tmp/rattle-native*) n=-8;; esac
+    case "$(readlink /proc/$p/cwd)" in /tmp/rt-edit-*|/tmp/rattle-native*) n=-5;; esac
     grep -aq work/tk /proc/$p/cmdline 2>/dev/null && n=-6
     for t in /proc/$p/task/*; do
       t=${t##*/}
