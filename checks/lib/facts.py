@@ -102,7 +102,7 @@ class Facts:
         """The numbers that a page may state of the repository, by their names."""
         names = list(self.crates)
         tables = [path for path in self.files if re.fullmatch(r"checks/tables/\w+\.txt", path)]
-        commands = re.search(r"const COMMANDS: \[\w+[^;]*; (\d+)\]", self.sources.get("crates/rv_cli/src/rvtest/table.rt", ""))
+        commands = re.search(r"const COMMANDS: \[\w+[^;]*; (\d+)\]", self.sources.get("crates/rvtest_cli/src/table.rt", ""))
         return {
             "crates": len(names),
             "program-crates": names.index("samples"),

@@ -8,6 +8,7 @@ import lists
 import machines
 import placed
 import progress
+import promised
 import saved
 import told
 from rows import Row
@@ -24,6 +25,7 @@ FORMS = {
     **lists.FORMS,
     **placed.FORMS,
     **progress.FORMS,
+    **promised.FORMS,
 }
 
 

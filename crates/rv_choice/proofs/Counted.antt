@@ -8,7 +8,7 @@ use Rattle.rv_base.specs.Files.{FileContents}
 use Rattle.rv_choice.specs.Choice.{chosen_marks}
 use Rattle.rv_choice.specs.Choice.{left_marks}
 use Rattle.rv_choice.specs.Chosen.{AreChosenBeside, AreLeft, AreWanted, IsChoice}
-use Rattle.rv_cli.specs.declared.rvtest.run.RunAsked.{RunAsked}
+use Rattle.rvtest_cli.specs.declared.run.RunAsked.{RunAsked}
 use Rattle.rv_expect.specs.declared.passing.Rule.{Rule}
 use Rattle.rv_lists.specs.declared.job.Job.{Job}
 

@@ -5,8 +5,8 @@ use Rattle.std.proofs.lemmas.List.{get_or_default}
 use Rattle.std.specs.Borrow.{Bor}
 use Rattle.std.specs.declared.alloc.AllocError.{AllocError}
 use Rattle.rv_base.specs.Files.{FileContents}
-use Rattle.rv_cli.specs.RvtestWords.{borrowed_text}
-use Rattle.rv_cli.specs.declared.rvtest.run.RunAsked.{RunAsked}
+use Rattle.rvtest_cli.specs.RvtestWords.{borrowed_text}
+use Rattle.rvtest_cli.specs.declared.run.RunAsked.{RunAsked}
 use Rattle.rv_command.proofs.Public.{told_stop}
 use Rattle.rv_command.specs.Stops.{IsRequestedUnreadStop, stop_of_lines}
 use Rattle.rv_command.specs.declared.stop.Lines.TheVariants as lines

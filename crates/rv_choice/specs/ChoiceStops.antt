@@ -7,8 +7,8 @@ use Rattle.regex.specs.declared.error.Error as patterns
 use Rattle.regex.specs.declared.error.Error.TheVariants as refused
 use Rattle.regex.specs.declared.string.regex.Regex.{Regex}
 use Rattle.rv_base.specs.Files.{FileContents}
-use Rattle.rv_cli.specs.RvtestWords.{borrowed_text}
-use Rattle.rv_cli.specs.declared.rvtest.run.RunAsked.{RunAsked}
+use Rattle.rvtest_cli.specs.RvtestWords.{borrowed_text}
+use Rattle.rvtest_cli.specs.declared.run.RunAsked.{RunAsked}
 use Rattle.rv_choice.specs.BadValues.{IsBadPatternStop}
 use Rattle.rv_command.specs.Stops.{IsRequestedUnreadStop, IsStop}
 use Rattle.rv_command.specs.declared.stop.Stop.{Stop}

@@ -12,11 +12,11 @@ ghost use Rattle.rv_command.specs.Stops.{IsUsageStop};
 ghost use Rattle.rv_base.specs.Names.{is_name};
 
 use crate::bad_value::{bad_value_stop, bad_value_text};
-use rv_cli::rvtest::{ChoosingCommand, RunAsked};
 use rv_command::Stop;
 use rv_jobs::Text;
 use rv_jobs::limits::MOST_JOBS;
 use rv_report::{Shard, is_name};
+use rvtest_cli::{ChoosingCommand, RunAsked};
 use sha2::{Digest, Sha256};
 use std::alloc::{AllocError, Global};
 

@@ -1,4 +1,3 @@
-mod RvtestReading
 pub mod Asking
 pub mod Commands
 pub mod Matching

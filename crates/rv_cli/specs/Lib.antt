@@ -1,7 +1,4 @@
-pub mod RvtestCommand
-pub mod RvtestWords
 pub mod CommandBuilder
 pub mod RvfleetCommand
 pub mod RvfleetRequests
 pub mod Values
-pub mod WordsErrors

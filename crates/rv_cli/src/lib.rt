@@ -1,11 +1,10 @@
-//! The words of both programs: what a person asks for, read by `clap`.
+//! The command line of `rvfleet`, read by `clap`, and what the command lines of both programs share.
 //!
-//! [`rvfleet::read_words`] and [`rvtest::read_words`] read the words of a process. Their error is `clap`'s own, or has the
-//! form of those; help and the version are errors, too.
+//! [`rvfleet::read_words`] parses the words of a process. Its error is `clap`'s own; help is an error, too. [`arguments`],
+//! [`command_builder`] and [`values`] build a command and read what `clap` matched: the command line of `rvtest` stands on them.
 #![tactic(auto)]
 
-mod arguments;
-mod command_builder;
+pub mod arguments;
+pub mod command_builder;
 pub mod rvfleet;
-pub mod rvtest;
-mod values;
+pub mod values;

@@ -5,9 +5,9 @@ use Rattle.std.specs.declared.alloc.Global.{Global}
 use Rattle.std.specs.declared.io.ErrorKind.{ErrorKind}
 use Rattle.rv_base.specs.Files.{FileContents}
 use Rattle.rv_base.specs.Limits.{most_bytes}
-use Rattle.rv_cli.specs.WordsErrors.{IsUsageText}
-use Rattle.rv_cli.specs.declared.rvtest.words_error.WordsError.{WordsError}
-use Rattle.rv_cli.specs.declared.rvtest.words_error.WordsError.TheVariants as error
+use Rattle.rvtest_cli.specs.WordsErrors.{IsUsageText}
+use Rattle.rvtest_cli.specs.declared.words_error.WordsError.{WordsError}
+use Rattle.rvtest_cli.specs.declared.words_error.WordsError.TheVariants as error
 use Rattle.rv_files.specs.IoErrors.{io_error_text}
 use Rattle.rv_files.specs.declared.file_error.FileError.{FileError}
 use Rattle.rv_files.specs.declared.file_error.FileError.TheVariants as file

@@ -3,7 +3,7 @@
 ghost use Rattle.std.specs.Prelude.{◌≡◌};
 ghost use Rattle.rv_command.specs.Stops.{IsWordsRefusal, stop_of_lines};
 
-use rv_cli::rvtest::WordsError;
+use rvtest_cli::WordsError;
 use std::alloc::AllocError;
 
 /// Why a command ends before its work is done.

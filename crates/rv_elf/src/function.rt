@@ -122,7 +122,7 @@ impl Symbol {
         ensures { result ≡ is_code_segment_of self.now segment.now }
     {
         let end = u64::from(self.value) + u64::from(self.size);
-        segment.flags % 2 == 1
+        segment.is_executable()
             && segment.vaddr <= self.value
             && end <= u64::from(segment.vaddr) + u64::from(segment.filesz)
     }

@@ -2,6 +2,7 @@
 ghost use Rattle.std.specs.Prelude.{◌≡◌, ◌≢◌, ◌≤◌, IfOk, MatchResult, Ok, Err, false, length, ◌%◌};
 ghost use Rattle.rv_isa.specs.Extensions.{has, RV32C};
 ghost use Rattle.rv_elf.specs.Image.{image_of, segments, HasTable, IsImageOf};
+ghost use Rattle.rv_elf.specs.Functions.{is_executable};
 ghost use Rattle.rv_elf.specs.ImageParts.{image_behind_header, segments_and_entry_check};
 ghost use Rattle.rv_elf.specs.declared.error.ImageError.TheVariants.{OutOfMemory};
 
@@ -26,8 +27,17 @@ pub struct Segment {
     pub filesz: u32,
     /// How many bytes it has in memory; those past the file's are zero.
     pub memsz: u32,
-    /// What its bytes are for: bit 0 (PF_X) is set where they are code.
-    pub flags: u32,
+    // p_flags: only bit 0 (PF_X) is read, by [`Segment::is_executable`].
+    pub(crate) flags: u32,
+}
+
+impl Segment {
+    /// Whether its bytes are code: p_flags has PF_X.
+    pub(crate) fn is_executable(&self) -> bool
+        ensures { result ≡ is_executable self.now }
+    {
+        self.flags % 2 == 1
+    }
 }
 
 /// Segments in the order of the file's table.

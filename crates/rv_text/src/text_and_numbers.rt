@@ -4,7 +4,6 @@ ghost use Rattle.std.specs.Prelude.{◌≡◌, ◌++◌, OnOk};
 ghost use Rattle.std.specs.Fmt.{decimal};
 ghost use Rattle.rv_text.specs.Words.{word_digits};
 
-use itoa::Buffer;
 use std::alloc::AllocError;
 
 /// Appends a text as it stands.
@@ -18,8 +17,8 @@ pub fn push_text(bytes: &mut Vec<u8>, text: &str) -> Result<(), AllocError>
 pub fn push_number(bytes: &mut Vec<u8>, number: u64) -> Result<(), AllocError>
     ensures { OnOk result (bytes.new.items ≡ bytes.old.items ++ decimal number) }
 {
-    let mut buffer = Buffer::new();
-    push_text(bytes, buffer.format(number))
+    let digits = number.to_string(*bytes.allocator())?;
+    push_text(bytes, digits.as_str())
 }
 
 /// Appends a word's eight lower-case hexadecimal digits.

@@ -21,7 +21,7 @@ const MOST_READ: usize = 1_048_577;
 
 /// Runs the reader's bytes as a flat image, and appends its report to the sink. No more than
 /// 1,048,577 bytes are taken from the reader.
-pub fn run_flat_image<R: Read, O: Sink>(
+pub fn run_raw<R: Read, O: Sink>(
     alloc: Global,
     input: &mut R,
     out: &mut O,

@@ -1,7 +1,7 @@
 //! The program `rvfleet` as a library: the answer to words, over any store of files, reader and sinks.
 //!
 //! [`run_words`] is the whole: it reads the words by `clap`, and sends the report of a flat image
-//! ([`run_flat_image`]), of one image ([`run_image`]) or of a job list ([`read_list`], [`run_jobs`]) to a
+//! ([`run_raw`]), of one image ([`run_image`]) or of a job list ([`read_list`], [`run_jobs`]) to a
 //! sink, a line that says what failed to another, and answers the status. The program's `main` hands
 //! it the process's own words, files and streams.
 #![tactic(auto)]
@@ -16,7 +16,7 @@ mod status;
 
 pub use elf_image::{ImageRun, ScriptError, is_bad_path, read_script, run_image};
 pub use error::{Failure, ListError, RunError};
-pub use flat_image::run_flat_image;
+pub use flat_image::run_raw;
 pub use list::{read_list, run_jobs};
 pub use program::run_words;
 pub use report_output::send_report;

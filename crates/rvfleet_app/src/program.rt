@@ -17,7 +17,7 @@ ghost use Rattle.rv_cli.specs.RvfleetRequests.{IsRequestInRange, request};
 
 use crate::elf_image::{ImageRun, ScriptError, is_bad_path, read_script, run_image};
 use crate::error::{Failure, ListError};
-use crate::flat_image::run_flat_image;
+use crate::flat_image::run_raw;
 use crate::list::{read_list, run_jobs};
 use crate::status::{BAD_WORDS, DONE, FAILED, put_failure, refuse_list, refuse_words};
 use clap::Error;
@@ -217,7 +217,7 @@ fn answer_raw<I: Read, O: Sink, E: Sink>(
         (E.taken errors.old) (E.taken errors.new) (E.failed errors.old) (E.failed errors.new) }
     ensures range { result ≡ DONE ⊎ result ≡ FAILED }
 {
-    match run_flat_image(alloc, input, out, budget) {
+    match run_raw(alloc, input, out, budget) {
         Ok(()) => DONE,
         Err(error) => put_failure(errors, Failure::from(error)),
     }

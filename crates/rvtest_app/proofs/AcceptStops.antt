@@ -11,7 +11,7 @@ use Rattle.rv_accept.specs.declared.runs.JobRun.{JobRun}
 use Rattle.rv_accept.specs.declared.targets.Target.{Target}
 use Rattle.rv_accept_text.specs.declared.golden_file.GoldenFile.{GoldenFile}
 use Rattle.rv_base.specs.Files.{FileContents}
-use Rattle.rv_cli.specs.declared.rvtest.accept.AcceptAsked.{AcceptAsked}
+use Rattle.rvtest_cli.specs.declared.accept.AcceptAsked.{AcceptAsked}
 use Rattle.rv_command.specs.Texts.{optional_text}
 use Rattle.rv_command.specs.declared.stop.Stop.{Stop}
 use Rattle.rv_files.specs.UnreadPaths.{resolved_path}

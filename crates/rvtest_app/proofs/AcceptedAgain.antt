@@ -27,7 +27,7 @@ use Rattle.rv_accept_text.specs.GoldenFiles.{elf_magic, is_kept, is_left, is_lef
 use Rattle.rv_accept_text.specs.declared.accepting.Accepting.{Accepting}
 use Rattle.rv_accept_text.specs.declared.golden_file.GoldenFile.{GoldenFile}
 use Rattle.rv_base.specs.Files.{FileContents}
-use Rattle.rv_cli.specs.declared.rvtest.accept.AcceptAsked.{AcceptAsked}
+use Rattle.rvtest_cli.specs.declared.accept.AcceptAsked.{AcceptAsked}
 use Rattle.rv_command.specs.Texts.{IsTextAt, optional_text}
 use Rattle.rv_files.specs.UnreadPaths.{contents_below, resolved_path}
 use Rattle.rv_jobs.specs.Jobs.{console_path, single_job, without_expectations}

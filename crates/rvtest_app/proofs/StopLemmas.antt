@@ -2,14 +2,14 @@
 use Rattle.std.proofs.Common.{◌≡◌, ◌⊎◌, ℕ, Bool, true, List, Option, Result, Ok, Err, Vec, Global, IfOk, IfErr, inl, inr, refl, subst, sym, ⊎_elim}
 use Rattle.std.specs.Prelude.{MatchResult, ⊤}
 use Rattle.rv_base.specs.Files.{FileContents}
-use Rattle.rv_cli.specs.declared.rvtest.accept.AcceptAsked.{AcceptAsked}
-use Rattle.rv_cli.specs.declared.rvtest.counts.CountsAsked.{CountsAsked}
-use Rattle.rv_cli.specs.declared.rvtest.diff.DiffAsked.{DiffAsked}
-use Rattle.rv_cli.specs.declared.rvtest.gdb.GdbAsked.{GdbAsked}
-use Rattle.rv_cli.specs.declared.rvtest.merge.MergeAsked.{MergeAsked}
-use Rattle.rv_cli.specs.declared.rvtest.requests.Asked.TheVariants as asked
-use Rattle.rv_cli.specs.declared.rvtest.run.RunAsked.{RunAsked}
-use Rattle.rv_cli.specs.declared.rvtest.show.ShowAsked.{ShowAsked}
+use Rattle.rvtest_cli.specs.declared.accept.AcceptAsked.{AcceptAsked}
+use Rattle.rvtest_cli.specs.declared.counts.CountsAsked.{CountsAsked}
+use Rattle.rvtest_cli.specs.declared.diff.DiffAsked.{DiffAsked}
+use Rattle.rvtest_cli.specs.declared.gdb.GdbAsked.{GdbAsked}
+use Rattle.rvtest_cli.specs.declared.merge.MergeAsked.{MergeAsked}
+use Rattle.rvtest_cli.specs.declared.requests.Asked.TheVariants as asked
+use Rattle.rvtest_cli.specs.declared.run.RunAsked.{RunAsked}
+use Rattle.rvtest_cli.specs.declared.show.ShowAsked.{ShowAsked}
 use Rattle.rv_command.specs.Stops.{IsUnreadStop}
 use Rattle.rv_command.specs.Texts.{IsTextAt, optional_text}
 use Rattle.rv_command.specs.declared.stop.Stop.{Stop}

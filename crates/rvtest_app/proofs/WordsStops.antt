@@ -4,11 +4,11 @@ use Rattle.clap.specs.Kinds.{IsAmong}
 use Rattle.clap.specs.Words.{fault_of}
 use Rattle.clap.specs.declared.error.kind.ErrorKind.{ErrorKind}
 use Rattle.rv_base.specs.Files.{FileContents}
-use Rattle.rv_cli.specs.RvtestCommand.{test_app}
-use Rattle.rv_cli.specs.RvtestWords.{IsMisuseTold, misuse_text, words_fault_kinds, words_misuse}
-use Rattle.rv_cli.specs.WordsErrors.{IsToldOf}
-use Rattle.rv_cli.specs.declared.rvtest.words_error.WordsError.{WordsError}
-use Rattle.rv_cli.specs.declared.rvtest.words_error.WordsError.TheVariants as error
+use Rattle.rvtest_cli.specs.RvtestCommand.{test_app}
+use Rattle.rvtest_cli.specs.RvtestWords.{IsMisuseTold, misuse_text, words_fault_kinds, words_misuse}
+use Rattle.rvtest_cli.specs.WordsErrors.{IsToldOf}
+use Rattle.rvtest_cli.specs.declared.words_error.WordsError.{WordsError}
+use Rattle.rvtest_cli.specs.declared.words_error.WordsError.TheVariants as error
 use Rattle.rv_command.specs.Stops.{IsUsageStop}
 use Rattle.rv_command.specs.declared.stop.Stop.{Stop}
 use Rattle.rv_command.specs.declared.stop.Stop.TheVariants as stop

@@ -7,7 +7,7 @@ use Rattle.rv_accept_text.specs.GoldenFiles.{is_left}
 use Rattle.rv_accept_text.specs.declared.accepting.Accepting.{Accepting}
 use Rattle.rv_accept_text.specs.declared.golden_file.GoldenFile.{GoldenFile}
 use Rattle.rv_base.specs.Files.{FileContents}
-use Rattle.rv_cli.specs.declared.rvtest.run.RunAsked.{RunAsked}
+use Rattle.rvtest_cli.specs.declared.run.RunAsked.{RunAsked}
 use Rattle.rv_command.specs.Texts.{IsTextAt, optional_text}
 use Rattle.rv_files.specs.Placed.{PlacedFile}
 use Rattle.rv_files.specs.UnreadPaths.{contents_below}

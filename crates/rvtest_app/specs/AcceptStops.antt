@@ -5,7 +5,7 @@ use Rattle.rv_accept.specs.Sharing.{names_golden_file}
 use Rattle.rv_accept.specs.declared.targets.Target.{Target}
 use Rattle.rv_accept_text.specs.declared.golden_file.GoldenFile.{GoldenFile}
 use Rattle.rv_base.specs.Files.{FileContents}
-use Rattle.rv_cli.specs.declared.rvtest.accept.AcceptAsked.{AcceptAsked}
+use Rattle.rvtest_cli.specs.declared.accept.AcceptAsked.{AcceptAsked}
 use Rattle.rv_command.specs.Messages.{path_message}
 use Rattle.rv_command.specs.Stops.{IsListUnreadStop, IsStop}
 use Rattle.rv_command.specs.Texts.{IsTextAt, optional_text}

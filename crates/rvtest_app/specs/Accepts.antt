@@ -24,7 +24,7 @@ use Rattle.rv_accept_text.specs.declared.golden_file.ListFile.{ListFile}
 use Rattle.rv_accept_text.specs.declared.new_list.NewList.{NewList}
 use Rattle.rv_base.specs.Files.{FileContents}
 use Rattle.rv_choice.specs.Chosen.{IsChoice}
-use Rattle.rv_cli.specs.declared.rvtest.accept.AcceptAsked.{AcceptAsked}
+use Rattle.rvtest_cli.specs.declared.accept.AcceptAsked.{AcceptAsked}
 use Rattle.rv_command.specs.Texts.{IsTextAt, optional_text}
 use Rattle.rv_files.specs.Placed.{PlacedFile, placed_file}
 use Rattle.rv_files.specs.UnreadPaths.{contents_below, resolved_path}

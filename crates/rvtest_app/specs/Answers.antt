@@ -3,9 +3,9 @@ use Rattle.std.specs.Prelude.{◌≡◌, ◌⊎◌, ℕ, Bool, List, Option, Som
 use Rattle.clap.specs.Kinds.{IsAmong}
 use Rattle.clap.specs.declared.error.kind.ErrorKind.TheVariants.{DisplayHelp, DisplayVersion}
 use Rattle.rv_base.specs.Files.{FileContents}
-use Rattle.rv_cli.specs.RvtestWords.{asked_words, words_fault_kinds, words_request}
-use Rattle.rv_cli.specs.declared.rvtest.requests.Asked.{Asked}
-use Rattle.rv_cli.specs.declared.rvtest.requests.Asked.TheVariants as asked
+use Rattle.rvtest_cli.specs.RvtestWords.{asked_words, words_fault_kinds, words_request}
+use Rattle.rvtest_cli.specs.declared.requests.Asked.{Asked}
+use Rattle.rvtest_cli.specs.declared.requests.Asked.TheVariants as asked
 use Rattle.rvtest_app.specs.Accepts.{IsAcceptedAt}
 use Rattle.rvtest_app.specs.Colors.{IsSaidInColors, asked_colors}
 use Rattle.rvtest_app.specs.Consoles.{IsConsolePut}

@@ -1,8 +1,8 @@
 -- Whether results have colours, and what is said where they have.
 use Rattle.std.specs.Prelude.{◌≡◌, ℕ, Bool, List, Option, Some, None, codes, if◌then◌else◌}
 use Rattle.std.specs.Str.{bytes_eq}
-use Rattle.rv_cli.specs.declared.rvtest.requests.Asked.{Asked}
-use Rattle.rv_cli.specs.declared.rvtest.requests.Asked.TheVariants as asked
+use Rattle.rvtest_cli.specs.declared.requests.Asked.{Asked}
+use Rattle.rvtest_cli.specs.declared.requests.Asked.TheVariants as asked
 use Rattle.rv_colors.specs.ColorSinks.{IsOut}
 use Rattle.rv_colors.specs.declared.colors.Colors.{Colors}
 use Rattle.rv_colors.specs.declared.colors.Colors.TheVariants as colors

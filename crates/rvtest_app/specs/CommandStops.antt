@@ -6,18 +6,18 @@ use Rattle.clap.specs.declared.error.kind.ErrorKind.{ErrorKind as WordsFault}
 use Rattle.rv_base.specs.Files.{FileContents}
 use Rattle.rv_choice.specs.ChoiceStops.{IsChoiceStop}
 use Rattle.rv_choice.specs.UnknownName.{IsUnknownNameStop}
-use Rattle.rv_cli.specs.RvtestCommand.{test_app}
-use Rattle.rv_cli.specs.RvtestWords.{asked_words, misuse_text, words_fault_kinds, words_misuse, words_request}
-use Rattle.rv_cli.specs.declared.rvtest.accept.AcceptAsked.{AcceptAsked}
-use Rattle.rv_cli.specs.declared.rvtest.check.CheckAsked.{CheckAsked}
-use Rattle.rv_cli.specs.declared.rvtest.console.ConsoleAsked.{ConsoleAsked}
-use Rattle.rv_cli.specs.declared.rvtest.diff.DiffAsked.{DiffAsked}
-use Rattle.rv_cli.specs.declared.rvtest.explain.ExplainAsked.{ExplainAsked}
-use Rattle.rv_cli.specs.declared.rvtest.gdb.GdbAsked.{GdbAsked}
-use Rattle.rv_cli.specs.declared.rvtest.run.RunAsked.{RunAsked}
-use Rattle.rv_cli.specs.declared.rvtest.show.ShowAsked.{ShowAsked}
-use Rattle.rv_cli.specs.declared.rvtest.requests.Asked.{Asked}
-use Rattle.rv_cli.specs.declared.rvtest.requests.Asked.TheVariants as asked
+use Rattle.rvtest_cli.specs.RvtestCommand.{test_app}
+use Rattle.rvtest_cli.specs.RvtestWords.{asked_words, misuse_text, words_fault_kinds, words_misuse, words_request}
+use Rattle.rvtest_cli.specs.declared.accept.AcceptAsked.{AcceptAsked}
+use Rattle.rvtest_cli.specs.declared.check.CheckAsked.{CheckAsked}
+use Rattle.rvtest_cli.specs.declared.console.ConsoleAsked.{ConsoleAsked}
+use Rattle.rvtest_cli.specs.declared.diff.DiffAsked.{DiffAsked}
+use Rattle.rvtest_cli.specs.declared.explain.ExplainAsked.{ExplainAsked}
+use Rattle.rvtest_cli.specs.declared.gdb.GdbAsked.{GdbAsked}
+use Rattle.rvtest_cli.specs.declared.run.RunAsked.{RunAsked}
+use Rattle.rvtest_cli.specs.declared.show.ShowAsked.{ShowAsked}
+use Rattle.rvtest_cli.specs.declared.requests.Asked.{Asked}
+use Rattle.rvtest_cli.specs.declared.requests.Asked.TheVariants as asked
 use Rattle.rv_command.specs.Stops.{IsListFaultStop, IsListUnreadStop, IsRefusal, IsRequestedUnreadStop, IsUsageStop}
 use Rattle.rv_command.specs.Texts.{IsReportReadAt, IsTextAt, optional_text}
 use Rattle.rv_command.specs.declared.stop.Stop.{Stop}

@@ -2,7 +2,7 @@
 use Rattle.std.specs.Prelude.{◌≡◌, ◌⊎◌, ◌++◌, ◌∷◌, ℕ, List, Option, codes}
 use Rattle.std.specs.Borrow.{Bor}
 use Rattle.rv_base.specs.Files.{FileContents}
-use Rattle.rv_cli.specs.declared.rvtest.counts.CountsAsked.{CountsAsked}
+use Rattle.rvtest_cli.specs.declared.counts.CountsAsked.{CountsAsked}
 use Rattle.rv_command.specs.Messages.{path_message, path_number_message}
 use Rattle.rv_command.specs.Stops.{IsStop, IsUnreadStop}
 use Rattle.rv_command.specs.Texts.{IsTextAt, optional_text}

@@ -3,7 +3,7 @@ use Rattle.std.specs.Prelude.{◌≡◌, ◌++◌, ◌==◌, ◌+◌, ◌-◌, �
 use Rattle.std.specs.Borrow.{Bor}
 use Rattle.std.specs.Fmt.{decimal}
 use Rattle.rv_base.specs.Files.{FileContents}
-use Rattle.rv_cli.specs.declared.rvtest.counts.CountsAsked.{CountsAsked}
+use Rattle.rvtest_cli.specs.declared.counts.CountsAsked.{CountsAsked}
 use Rattle.rv_command.specs.Texts.{IsTextAt, optional_text}
 use Rattle.rv_counts.specs.Sum.{IsSum, no_counts}
 use Rattle.rv_counts.specs.Table.{IsTable}

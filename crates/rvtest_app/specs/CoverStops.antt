@@ -1,7 +1,7 @@
 -- Why `cover` ended before its work was done.
 use Rattle.std.specs.Prelude.{Option}
 use Rattle.rv_base.specs.Files.{FileContents}
-use Rattle.rv_cli.specs.declared.rvtest.cover.CoverAsked.{CoverAsked}
+use Rattle.rvtest_cli.specs.declared.cover.CoverAsked.{CoverAsked}
 use Rattle.rv_command.specs.declared.stop.Stop.{Stop}
 use Rattle.rvtest_app.specs.ViewStops.{IsViewStop}
 use Rattle.rvtest_app.specs.declared.view.View.TheVariants as view

@@ -1,7 +1,7 @@
 -- What `cover` puts: what of the images of jobs ran that words ask for.
 use Rattle.std.specs.Prelude.{ℕ, Option}
 use Rattle.rv_base.specs.Files.{FileContents}
-use Rattle.rv_cli.specs.declared.rvtest.cover.CoverAsked.{CoverAsked}
+use Rattle.rvtest_cli.specs.declared.cover.CoverAsked.{CoverAsked}
 use Rattle.rvtest_app.specs.Said.{Said}
 use Rattle.rvtest_app.specs.Views.{IsViewPut}
 use Rattle.rvtest_app.specs.declared.view.View.TheVariants as view

@@ -4,7 +4,7 @@ use Rattle.std.specs.Io.KnownBytes.{Consumes, IsAtEnd}
 use Rattle.std.specs.Result.{result_ok}
 use Rattle.rv_base.specs.Counts.{one_more}
 use Rattle.rv_base.specs.Files.{FileContents}
-use Rattle.rv_cli.specs.declared.rvtest.gdb.GdbAsked.{GdbAsked}
+use Rattle.rvtest_cli.specs.declared.gdb.GdbAsked.{GdbAsked}
 use Rattle.rv_command.specs.Messages.{path_message}
 use Rattle.rv_command.specs.Stops.{IsStop, IsSystemStop}
 use Rattle.rv_command.specs.Texts.{IsTextAt, optional_text}

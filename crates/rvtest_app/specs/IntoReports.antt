@@ -2,7 +2,7 @@
 use Rattle.std.specs.Prelude.{◌≡◌, ◌||◌, ℕ, Bool, List, [], ◌∷◌, IsSomeAnd, MatchOption, Option, Some, None, map, slice_set}
 use Rattle.std.specs.Option.{option_or}
 use Rattle.rv_base.specs.Files.{FileContents}
-use Rattle.rv_cli.specs.declared.rvtest.run.RunAsked.{RunAsked}
+use Rattle.rvtest_cli.specs.declared.run.RunAsked.{RunAsked}
 use Rattle.rv_command.specs.Texts.{IsReportAt, optional_text}
 use Rattle.rv_lists.specs.declared.job.Job.{Job}
 use Rattle.rv_report.specs.Report.{report_text, row_text}

@@ -3,7 +3,7 @@ use Rattle.std.specs.Prelude.{◌≡◌, ◌⊎◌, ◌==◌, ◌++◌, ◌+◌,
 use Rattle.std.specs.Fmt.{decimal}
 use Rattle.std.specs.Str.{bytes_eq}
 use Rattle.rv_base.specs.Files.{FileContents}
-use Rattle.rv_cli.specs.declared.rvtest.run.RunAsked.{RunAsked}
+use Rattle.rvtest_cli.specs.declared.run.RunAsked.{RunAsked}
 use Rattle.rv_command.specs.Stops.{IsReportUnreadStop, IsStop}
 use Rattle.rv_command.specs.Texts.{IsReportAt}
 use Rattle.rv_command.specs.declared.stop.Stop.{Stop}

@@ -1,7 +1,7 @@
 -- Why the jobs that are known to fail were not had.
 use Rattle.std.specs.Prelude.{◌≡◌, ◌⊎◌, ℕ, List, IsSomeAnd, Option, Err}
 use Rattle.rv_base.specs.Files.{FileContents}
-use Rattle.rv_cli.specs.declared.rvtest.run.RunAsked.{RunAsked}
+use Rattle.rvtest_cli.specs.declared.run.RunAsked.{RunAsked}
 use Rattle.rv_command.specs.Stops.{IsStop, IsUnreadStop}
 use Rattle.rv_command.specs.Texts.{IsTextAt}
 use Rattle.rv_command.specs.declared.stop.Stop.{Stop}

@@ -2,7 +2,7 @@
 use Rattle.std.specs.Prelude.{◌≡◌, ◌⊎◌, ℕ, List, [], ◌∷◌, Option, Some, None, codes, if◌then◌else◌, unwrap_or, ⊤}
 use Rattle.std.specs.Borrow.{Bor}
 use Rattle.rv_base.specs.Files.{FileContents}
-use Rattle.rv_cli.specs.declared.rvtest.merge.MergeAsked.{MergeAsked}
+use Rattle.rvtest_cli.specs.declared.merge.MergeAsked.{MergeAsked}
 use Rattle.rv_command.specs.Texts.{IsTextAt, optional_text}
 use Rattle.rv_job_text.specs.TotalsLine.{totals_line}
 use Rattle.rv_merge.specs.Parts.{AreParts}

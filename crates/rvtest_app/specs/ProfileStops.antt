@@ -1,7 +1,7 @@
 -- Why `profile` ended before its work was done.
 use Rattle.std.specs.Prelude.{Option}
 use Rattle.rv_base.specs.Files.{FileContents}
-use Rattle.rv_cli.specs.declared.rvtest.profile.ProfileAsked.{ProfileAsked}
+use Rattle.rvtest_cli.specs.declared.profile.ProfileAsked.{ProfileAsked}
 use Rattle.rv_command.specs.declared.stop.Stop.{Stop}
 use Rattle.rvtest_app.specs.Profiles.{profile_format}
 use Rattle.rvtest_app.specs.ViewStops.{IsViewStop}

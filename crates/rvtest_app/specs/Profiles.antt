@@ -1,7 +1,7 @@
 -- What `profile` puts: where the steps of the jobs that words ask for were in their images.
 use Rattle.std.specs.Prelude.{ℕ, Option}
 use Rattle.rv_base.specs.Files.{FileContents}
-use Rattle.rv_cli.specs.declared.rvtest.profile.ProfileAsked.{ProfileAsked}
+use Rattle.rvtest_cli.specs.declared.profile.ProfileAsked.{ProfileAsked}
 use Rattle.rv_profile.specs.declared.format.ProfileFormat.{ProfileFormat}
 use Rattle.rvtest_app.specs.Said.{Said}
 use Rattle.rvtest_app.specs.Views.{IsViewPut}

@@ -1,7 +1,7 @@
 -- What is told of jobs that are refused, where it is shown what came of the images of jobs.
 use Rattle.std.specs.Prelude.{◌++◌, ℕ, if◌then◌else◌, List, [], length}
 use Rattle.std.specs.List.{flat_map}
-use Rattle.rv_cli.specs.declared.rvtest.run.RunAsked.{RunAsked}
+use Rattle.rvtest_cli.specs.declared.run.RunAsked.{RunAsked}
 use Rattle.rv_command.specs.Texts.{optional_text}
 use Rattle.rv_coverage.specs.JobTables.{jobs_at}
 use Rattle.rv_expect.specs.Judgement.{Judging}

@@ -3,9 +3,9 @@ use Rattle.std.specs.Prelude.{◌≡◌, ◌+◌, ◌++◌, ◌-◌, if◌then�
 use Rattle.std.specs.Prelude.{slice_index_or}
 use Rattle.std.specs.Str.{bytes_eq}
 use Rattle.rv_base.specs.Files.{FileContents}
-use Rattle.rv_cli.specs.declared.rvtest.check.CheckAsked.{CheckAsked}
-use Rattle.rv_cli.specs.declared.rvtest.diff.DiffAsked.{DiffAsked}
-use Rattle.rv_cli.specs.declared.rvtest.explain.ExplainAsked.{ExplainAsked}
+use Rattle.rvtest_cli.specs.declared.check.CheckAsked.{CheckAsked}
+use Rattle.rvtest_cli.specs.declared.diff.DiffAsked.{DiffAsked}
+use Rattle.rvtest_cli.specs.declared.explain.ExplainAsked.{ExplainAsked}
 use Rattle.rv_command.specs.Messages.{cut_off_note}
 use Rattle.rv_command.specs.Texts.{IsReportRead, IsTextAt, optional_text}
 use Rattle.rv_diff.specs.Diff.{counts_of_differing, diff_text, rows_beside}

@@ -3,7 +3,7 @@ use Rattle.std.specs.Prelude.{◌≡◌, ◌⊎◌, ◌++◌, ℕ, Bool, true, f
 use Rattle.rv_base.specs.Files.{FileContents}
 use Rattle.rv_choice.specs.Chosen.{IsChoice}
 use Rattle.rv_choice.specs.Shard.{IsShardOf, stamp_for}
-use Rattle.rv_cli.specs.declared.rvtest.run.RunAsked.{RunAsked}
+use Rattle.rvtest_cli.specs.declared.run.RunAsked.{RunAsked}
 use Rattle.rv_command.specs.Texts.{IsTextAt, optional_text}
 use Rattle.rv_files.specs.Placed.{PlacedFile}
 use Rattle.rv_files.specs.UnreadPaths.{contents_below}

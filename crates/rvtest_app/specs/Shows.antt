@@ -1,7 +1,7 @@
 -- What `show` shows of a report.
 use Rattle.std.specs.Prelude.{◌≡◌, ◌⊎◌, ℕ, List, Option, None, Some}
 use Rattle.rv_base.specs.Files.{FileContents}
-use Rattle.rv_cli.specs.declared.rvtest.show.ShowAsked.{ShowAsked}
+use Rattle.rvtest_cli.specs.declared.show.ShowAsked.{ShowAsked}
 use Rattle.rv_command.specs.Messages.{cut_off_note}
 use Rattle.rv_command.specs.Texts.{IsReportReadAt, optional_text}
 use Rattle.rv_files.specs.Placed.{PlacedFile}

@@ -1,6 +1,6 @@
 -- Why the counts of a run did not go out.
 use Rattle.std.specs.Prelude.{◌≡◌, ◌⊎◌, ℕ, List, Option, true}
-use Rattle.rv_cli.specs.declared.rvtest.run.RunAsked.{RunAsked}
+use Rattle.rvtest_cli.specs.declared.run.RunAsked.{RunAsked}
 use Rattle.rv_command.specs.Texts.{optional_text}
 use Rattle.rv_command.specs.declared.stop.Stop.{Stop}
 use Rattle.rv_command.specs.declared.stop.Stop.TheVariants as stop

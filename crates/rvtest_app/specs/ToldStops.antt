@@ -7,10 +7,10 @@ use Rattle.std.specs.declared.io.ErrorKind.TheVariants as io
 use Rattle.clap.specs.declared.error.kind.ErrorKind.{ErrorKind as WordsFault}
 use Rattle.clap.specs.declared.error.kind.ErrorKind.TheVariants as words
 use Rattle.rv_base.specs.Counts.{one_more}
-use Rattle.rv_cli.specs.declared.rvtest.diff.DiffAsked.{DiffAsked}
+use Rattle.rvtest_cli.specs.declared.diff.DiffAsked.{DiffAsked}
 use Rattle.rv_command.specs.Messages.{end_message}
-use Rattle.rv_cli.specs.declared.rvtest.words_error.WordsError.{WordsError}
-use Rattle.rv_cli.specs.declared.rvtest.words_error.WordsError.TheVariants as error
+use Rattle.rvtest_cli.specs.declared.words_error.WordsError.{WordsError}
+use Rattle.rvtest_cli.specs.declared.words_error.WordsError.TheVariants as error
 use Rattle.rv_command.specs.Stops.{IsRefusedAs, IsRequestedFaultStop, end_status}
 use Rattle.rv_command.specs.Texts.{IsReportRead}
 use Rattle.rv_command.specs.declared.stop.Stop.{Stop}

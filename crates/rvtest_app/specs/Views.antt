@@ -1,7 +1,7 @@
 -- What `cover` and `profile` put: what is shown of the images of the jobs that words ask for, by a run of these jobs or by a table of counts.
 use Rattle.std.specs.Prelude.{◌≡◌, ℕ, Bool, true, List, None, Option, Some}
 use Rattle.rv_base.specs.Files.{FileContents}
-use Rattle.rv_cli.specs.declared.rvtest.run.RunAsked.{RunAsked}
+use Rattle.rvtest_cli.specs.declared.run.RunAsked.{RunAsked}
 use Rattle.rv_command.specs.Texts.{optional_text}
 use Rattle.rv_counts.specs.declared.table.CountTable.{CountTable}
 use Rattle.rv_cover.specs.ImageCounts.{other_image}

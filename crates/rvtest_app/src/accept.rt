@@ -34,12 +34,12 @@ use rv_accept::{
 };
 use rv_accept_text::{Accepting, GoldenFile, ListFile, NewList, Writing, accept_values};
 use rv_choice::{Choice, Chooser};
-use rv_cli::rvtest::{AcceptAsked, ChoosingCommand};
 use rv_command::{DONE, SOME_FAIL, Stop, parse_list, put_message, put_results, read_list_text};
 use rv_files::{Inputs, NotingStore, Outputs};
 use rv_fleet::{Batch, FreeGate, PlacesError, Row, run_places};
 use rv_jobs::{JobList, marked_places};
 use rv_rows::Sink;
+use rvtest_cli::{AcceptAsked, ChoosingCommand};
 use std::alloc::Global;
 use std::sync::Wait;
 use std::thread::Threads;

@@ -3,7 +3,7 @@
 ghost use Rattle.std.specs.Prelude.{◌≡◌, ℕ, Bool, IsTrue, List, Ok, Some};
 ghost use Rattle.rv_accept.specs.Passing.{is_pass_or_unasked};
 ghost use Rattle.rv_base.specs.Files.{FileContents};
-ghost use Rattle.rv_cli.specs.declared.rvtest.accept.AcceptAsked.{AcceptAsked as Words};
+ghost use Rattle.rvtest_cli.specs.declared.accept.AcceptAsked.{AcceptAsked as Words};
 ghost use Rattle.rv_command.specs.Texts.{IsTextAt};
 ghost use Rattle.rv_lists.specs.JobList.{job_list_of};
 ghost use Rattle.rv_lists.specs.declared.job.Job.{Job};

@@ -13,12 +13,12 @@ ghost use Rattle.rvtest_app.specs.CommandStops.{IsCheckStop};
 use crate::check_text::{CheckedList, push_job_counts_line};
 use crate::findings::Found;
 use crate::missing_images::push_missing_images_line;
-use rv_cli::rvtest::CheckAsked;
 use rv_command::{DONE, REFUSED, Stop, all_faults_text, parse_list, read_list_text};
 use rv_files::{Inputs, NotingStore, Unread};
 use rv_jobs::{Plan, gather};
 use rv_list_errors::job_line_numbers;
 use rv_lists::read_faults;
+use rvtest_cli::CheckAsked;
 use std::alloc::{AllocError, Global};
 
 /// All that is wrong with a list, or with the files of its jobs; nothing is run. The status is 2 where anything is.

@@ -17,13 +17,13 @@ ghost use Rattle.rvtest_app.specs.Said.{said};
 use crate::destinations::Destinations;
 use crate::named_job::{NamedJob, find_named_job};
 use crate::rules::passing_status;
-use rv_cli::rvtest::ConsoleAsked;
 use rv_command::{Stop, put_message, put_results, read_list_text};
 use rv_expect::{Judge, Rule, has_passed};
 use rv_files::{Inputs, NotingStore, Outputs, Unread};
 use rv_job_text::{RowTelling, Verbosity};
 use rv_jobs::{JobList, Plan, gather_places};
 use rv_rows::{Row, Sink, row_at};
+use rvtest_cli::ConsoleAsked;
 use std::alloc::Global;
 
 // The row of a job, its line, and the status.

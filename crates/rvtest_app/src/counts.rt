@@ -14,12 +14,12 @@ ghost use Rattle.rvtest_app.specs.WrittenTexts.{written_path};
 use crate::counts_note::sum_note;
 use crate::destinations::Destinations;
 use crate::written_text::write_text;
-use rv_cli::rvtest::CountsAsked;
 use rv_command::{DONE, Stop, path_message, path_number_message, put_message, read_file};
 use rv_counts::{CountTable, Images, ReadError, SumError, read_table, sum_of_tables, table_text};
 use rv_files::{Inputs, Outputs};
 use rv_rows::Sink;
 use rv_text::{Span, text_of_spans};
+use rvtest_cli::CountsAsked;
 use std::alloc::{AllocError, Global};
 
 /// Adds up the tables of counts at some paths, and writes the sum. The status is 0.

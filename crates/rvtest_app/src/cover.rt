@@ -8,10 +8,10 @@ ghost use Rattle.rvtest_app.specs.Said.{said};
 use crate::destinations::Destinations;
 use crate::host::Host;
 use crate::view::{JobsView, View};
-use rv_cli::rvtest::{ChoosingCommand, CoverAsked};
 use rv_command::Stop;
 use rv_files::{Inputs, Outputs};
 use rv_rows::Sink;
+use rvtest_cli::{ChoosingCommand, CoverAsked};
 use std::thread::Threads;
 
 /// Shows what ran of the images of the jobs that are asked for: by a run of them, or by a table of counts. The status is 0.

@@ -3,9 +3,9 @@
 ghost use Rattle.std.specs.Prelude.{◌≡◌};
 ghost use Rattle.rvtest_app.specs.Crews.{AreRequestedWorkers, requested_group};
 
-use rv_cli::rvtest::RunAsked;
 use rv_fleet::Crew;
 use rv_jobs::limits::{MOST_GROUP, MOST_WORKERS};
+use rvtest_cli::RunAsked;
 use std::alloc::Global;
 use std::thread::{self, Threads};
 

@@ -13,7 +13,6 @@ ghost use Rattle.rv_diff.specs.Diff.{diff_text, counts_of_differing};
 
 use crate::destinations::Destinations;
 use crate::findings::Found;
-use rv_cli::rvtest::DiffAsked;
 use rv_command::{
     DONE, RequestedReport, SOME_FAIL, Stop, cut_off_note, parse_requested_report, put_message,
     put_results, read_file,
@@ -22,6 +21,7 @@ use rv_diff::{Compare, Compared, Differing, push_diff, rows_beside};
 use rv_files::{Inputs, Outputs};
 use rv_report::{Extent, PartialReport, SavedReport};
 use rv_rows::{Row, Sink};
+use rvtest_cli::DiffAsked;
 use std::alloc::{AllocError, Global};
 
 // In which jobs two reports differ, the status of that, and what is said of reports that are cut off.

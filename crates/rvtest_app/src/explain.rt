@@ -15,13 +15,13 @@ ghost use Rattle.rvtest_app.specs.CommandStops.{IsExplainStop, IsNoJobStop};
 use crate::findings::Found;
 use crate::named_job::{NamedJob, find_named_job};
 use crate::rules::passing_status;
-use rv_cli::rvtest::ExplainAsked;
 use rv_command::{Stop, read_list_text};
 use rv_expect::{Judge, Rule, has_passed};
 use rv_files::{Inputs, NotingStore, Unread};
 use rv_job_text::{RowTelling, Verbosity, WayToEnd, budget_use_at};
 use rv_jobs::{JobList, Plan, gather_places};
 use rv_rows::row_at;
+use rvtest_cli::ExplainAsked;
 use std::alloc::Global;
 
 /// How the job of a name ends and comes there, which is run for that. The status is 1 where it failed.

@@ -6,9 +6,9 @@ ghost use Rattle.rv_base.specs.Sinks.{AppendsBeginning};
 ghost use Rattle.rvtest_app.specs.ToldStops.{IsHelpPut, IsHelpStop, IsWordsErrorStop};
 
 use clap::error::ErrorKind;
-use rv_cli::rvtest::WordsError;
 use rv_command::{DONE, Stop, put_results};
 use rv_rows::Sink;
+use rvtest_cli::WordsError;
 
 /// Help and the version are errors of words, and go to standard output. Any other error refuses the words.
 pub(crate) fn answer_words_error<O: Sink>(out: &mut O, error: WordsError) -> Result<u8, Stop>

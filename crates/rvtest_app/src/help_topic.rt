@@ -6,9 +6,9 @@ ghost use Rattle.rvtest_app.specs.HelpTopics.{IsNoTopicStop, IsTopicTold, no_top
 
 use crate::findings::Found;
 use crate::list_keys::LIST_KEYS;
-use rv_cli::rvtest::HelpAsked;
 use rv_command::{DONE, Stop};
 use rv_text::{Span, push_text, text_of_spans};
+use rvtest_cli::HelpAsked;
 use std::alloc::{AllocError, Global};
 
 /// Tells the keys of a list, which are the only topic.

@@ -7,10 +7,10 @@ ghost use Rattle.rvtest_app.specs.IntoReports.{rows_put, run_report_path, uses_r
 
 use crate::chosen_rows::ChosenRows;
 use crate::outlets::is_stdout_at;
-use rv_cli::rvtest::RunAsked;
 use rv_fleet::Rows;
 use rv_report::Shard;
 use rv_rows::Row;
+use rvtest_cli::RunAsked;
 
 /// What a run's report has beside the run's rows.
 #[derive(Drop)]

@@ -7,12 +7,12 @@ ghost use Rattle.rv_lists.specs.JobList.{names_of_jobs};
 ghost use Rattle.rvtest_app.specs.KnownFiles.{IsKnownAt, IsKnownFile, known_fault_message, known_fault_text};
 ghost use Rattle.rvtest_app.specs.KnownStops.{IsKnownStop, IsNoKnownFileStop};
 
-use rv_cli::rvtest::RunAsked;
 use rv_command::{Stop, read_file};
 use rv_files::Inputs;
 use rv_jobs::{Job, Text};
 use rv_known::{KnownFault, KnownFaultKind, KnownJobs, read_known_jobs};
 use rv_text::{Span, push_spans, push_text};
+use rvtest_cli::RunAsked;
 use std::alloc::{AllocError, Global};
 
 /// The known failures among the jobs of a list, where words name a file.

@@ -11,12 +11,12 @@ ghost use Rattle.rvtest_app.specs.Said.{said};
 use crate::destinations::Destinations;
 use crate::rules::failure_rule;
 use rv_choice::{Choice, Chooser};
-use rv_cli::rvtest::{ChoosingCommand, RunAsked};
 use rv_command::{DONE, Stop, parse_list, put_message, put_results, read_list_text};
 use rv_files::{Inputs, Outputs};
 use rv_jobs::{Job, marked_places};
 use rv_rows::Sink;
 use rv_text::push_text;
+use rvtest_cli::{ChoosingCommand, RunAsked};
 use std::alloc::{AllocError, Global};
 
 // The names of chosen jobs, one a line, and what is said of the choice.

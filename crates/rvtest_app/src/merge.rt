@@ -23,7 +23,6 @@ use crate::outlets::{abandon_outlets, open_outlets};
 use crate::puts::put_shown;
 use crate::rules::{report_judge, rows_status};
 use crate::whole_files::put_whole_files;
-use rv_cli::rvtest::MergeAsked;
 use rv_command::{Stop, path_message, path_number_message, read_file, refused_line_message};
 use rv_files::{Inputs, Outputs};
 use rv_fleet::Rows;
@@ -32,6 +31,7 @@ use rv_junit::Suite;
 use rv_merge::{Flaw, MergeError, merge_parts};
 use rv_rows::Sink;
 use rv_text::{Span, text_of_spans};
+use rvtest_cli::MergeAsked;
 use std::alloc::{AllocError, Global};
 
 // The rows of a whole list, with the line that counts them and their status.

@@ -8,11 +8,11 @@ ghost use Rattle.rvtest_app.specs.Said.{said};
 use crate::destinations::Destinations;
 use crate::host::Host;
 use crate::view::{JobsView, View};
-use rv_cli::rvtest::{ChoosingCommand, ProfileAsked};
 use rv_command::Stop;
 use rv_files::{Inputs, Outputs};
 use rv_profile::ProfileFormat;
 use rv_rows::Sink;
+use rvtest_cli::{ChoosingCommand, ProfileAsked};
 use std::thread::Threads;
 
 /// Shows in which functions the steps of the jobs that are asked for were: by a run of them, or by a table of counts. The status is 0.

@@ -8,12 +8,12 @@ ghost use Rattle.rvtest_app.specs.RefusedNotes.{refused_line, refused_lines, ref
 
 use crate::missing_images::missing_images_note;
 use crate::rules::failure_rule;
-use rv_cli::rvtest::RunAsked;
 use rv_expect::Judge;
 use rv_files::Unread;
 use rv_job_text::{RowTelling, Verbosity};
 use rv_jobs::Plan;
 use rv_rows::{refusal_at, row_at};
+use rvtest_cli::RunAsked;
 use std::alloc::{AllocError, Global};
 
 /// Where paths are taken from, if every image is missing, and the lines of the jobs at some places that are refused.

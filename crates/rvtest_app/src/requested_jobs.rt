@@ -17,13 +17,13 @@ use crate::rules::failure_rule;
 use crate::run::ListRun;
 use crate::whole_report::read_whole_report;
 use rv_choice::{Choice, Chooser, requested_shard};
-use rv_cli::rvtest::ChoosingCommand;
 use rv_command::{Stop, parse_list, read_list_text};
 use rv_files::Inputs;
 use rv_fleet::Rows;
 use rv_jobs::{Job, JobList};
 use rv_merge::shard_marks;
 use rv_report::Shard;
+use rvtest_cli::ChoosingCommand;
 
 impl<'x, R, D: Inputs> ListRun<'x, R, D> {
     /// The jobs of the list, with marks for those that are to run. A refusal of words shows the usage of the command.

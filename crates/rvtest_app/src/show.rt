@@ -21,13 +21,13 @@ use crate::puts::put_shown;
 use crate::report_summary::push_summary;
 use crate::rules::{report_judge, rows_status};
 use crate::whole_files::put_whole_files;
-use rv_cli::rvtest::ShowAsked;
 use rv_command::{RequestedReport, Stop, cut_off_note, put_message, read_requested_report};
 use rv_expect::Judge;
 use rv_files::{Inputs, Outputs};
 use rv_junit::Suite;
 use rv_report::SavedReport;
 use rv_rows::{Row, Sink};
+use rvtest_cli::ShowAsked;
 use std::alloc::{AllocError, Global};
 
 // A report that was read, with its summary and its status.

@@ -17,7 +17,6 @@ use crate::profile_text::text_of_profile;
 use crate::refused_note::refused_note;
 use crate::rules::failure_rule;
 use crate::run::{ListRun, gather_jobs_at};
-use rv_cli::rvtest::{ChoosingCommand, RunAsked};
 use rv_command::{DONE, Stop, put_message, put_results};
 use rv_counts::CountTable;
 use rv_cover::{ImageFile, cover_text, images_of_places};
@@ -25,6 +24,7 @@ use rv_files::{Inputs, NotingStore, Outputs};
 use rv_jobs::{JobList, Plan, marked_places};
 use rv_profile::ProfileFormat;
 use rv_rows::Sink;
+use rvtest_cli::{ChoosingCommand, RunAsked};
 use std::thread::Threads;
 
 /// What is shown of images by a table of counts.

@@ -16,7 +16,6 @@ use crate::counts::{sum_error_stop, table_of_text};
 use crate::crew::requested_crew;
 use crate::host::Host;
 use crate::view::{JobsView, View};
-use rv_cli::rvtest::RunAsked;
 use rv_command::{Stop, path_message, read_file};
 use rv_counts::CountTable;
 use rv_cover::{ImageFile, other_image};
@@ -27,6 +26,7 @@ use rv_jobs::Plan;
 use rv_profile::has_stacks;
 use rv_stacks::stacks_of_places;
 use rv_text::{Span, text_of_spans};
+use rvtest_cli::RunAsked;
 use std::alloc::{AllocError, Global};
 use std::thread::Threads;
 

@@ -1,4 +1,0 @@
-use Rattle.rv_cli.proofs.rvtest.command.merge_command.Goals as goal
-
-pub returns : goal.returns
-returns c = c.subcommand_of_table.ensures

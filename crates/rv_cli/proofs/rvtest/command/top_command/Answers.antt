@@ -1,5 +1,0 @@
-use Rattle.std.proofs.Common.{rules}
-use Rattle.rv_cli.proofs.rvtest.command.top_command.Goals as goal
-
-pub returns-clause-app : goal.returns-clause-app
-returns-clause-app c = search rules

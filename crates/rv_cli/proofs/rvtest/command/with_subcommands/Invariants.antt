@@ -1,9 +1,0 @@
-use Rattle.std.proofs.Common.{take}
-use Rattle.clap.specs.Words.{App}
-use Rattle.rv_cli.specs.CommandBuilder.{HasApp}
-use Rattle.rv_cli.specs.RvtestCommand.{with_subcommands}
-use Rattle.rv_cli.proofs.rvtest.command.with_subcommands.Given as goal
-
-abbrev pub invariant-loop-below : goal.invariant-loop-below
-invariant-loop-below l = (app : App) → HasApp app l.initial.command
-    → HasApp (with_subcommands app (take l.below-index l.stated)) l.command

@@ -1,0 +1,4 @@
+use Rattle.rvtest_cli.proofs.command.accept_command.Goals as goal
+
+pub returns : goal.returns
+returns c = c.subcommand_of_table.ensures

@@ -1,0 +1,3 @@
+pub mod RvtestCommand
+pub mod RvtestWords
+pub mod WordsErrors

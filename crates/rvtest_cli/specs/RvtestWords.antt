@@ -1,0 +1,668 @@
+-- What words ask rvtest for, and of which kinds their faults are.
+use Rattle.std.specs.Prelude.{◌≡◌, ◌≤◌, ◌&&◌, ◌||◌, ℕ, Bool, not, List, [], ◌∷◌, Option}
+use Rattle.std.specs.Prelude.{Some, None, IfOk, IfSome, MatchResult, Result, map, false, string_bytes}
+use Rattle.std.specs.Prelude.{codes, option_map, option_and_then}
+use Rattle.std.specs.Prelude.{if◌then◌else◌}
+use Rattle.std.specs.Option.{option_map_or}
+use Rattle.std.specs.Str.{bytes_eq}
+use Rattle.clap.specs.Kinds.{or_else}
+use Rattle.clap.specs.Words.{Kinds, Row, Text, fault_of, first_of, subcommand_of}
+use Rattle.clap.specs.declared.error.kind.ErrorKind.TheVariants as kind
+use Rattle.rv_base.specs.Limits.{most_budget, most_group, most_jobs, most_workers}
+use Rattle.rvtest_cli.specs.RvtestCommand.{most_functions, most_last_instructions, most_slower, test_app}
+use Rattle.rvtest_cli.specs.declared.refusals.Misuse.{Misuse}
+use Rattle.rvtest_cli.specs.declared.refusals.Misuse.TheVariants as misuse
+use Rattle.rvtest_cli.specs.WordsErrors.{IsUsageText}
+use Rattle.rvtest_cli.specs.declared.words_error.WordsError.{WordsError}
+use Rattle.rvtest_cli.specs.declared.words_error.WordsError.TheVariants as error
+use Rattle.rv_cli.specs.Values.{argument_values, is_flag_set, is_option_given, number_value}
+use Rattle.rvtest_cli.specs.declared.requests.Asked.{Asked}
+use Rattle.rvtest_cli.specs.declared.requests.Asked.TheVariants as asked
+use Rattle.rvtest_cli.specs.declared.run.RunAsked.{RunAsked}
+use Rattle.rvtest_cli.specs.declared.accept.AcceptAsked.{AcceptAsked}
+use Rattle.rvtest_cli.specs.declared.counts.CountsAsked.{CountsAsked}
+use Rattle.rvtest_cli.specs.declared.cover.CoverAsked.{CoverAsked}
+use Rattle.rvtest_cli.specs.declared.explain.ExplainAsked.{ExplainAsked}
+use Rattle.rvtest_cli.specs.declared.merge.MergeAsked.{MergeAsked}
+use Rattle.rvtest_cli.specs.declared.profile.ProfileAsked.{ProfileAsked}
+use Rattle.rvtest_cli.specs.declared.show.ShowAsked.{ShowAsked}
+use Rattle.rvtest_cli.specs.declared.diff.DiffAsked.{DiffAsked}
+use Rattle.std.specs.Borrow.{Bor}
+
+-- ---- what words ask for
+
+-- the jobs of a list that are to run, and how
+pub record RunWords : Type 0 where
+  pub list : Text
+  pub only : List Text
+  pub pattern : Option Text
+  pub exclude : Option Text
+  pub failed : Option Text
+  pub partial : Bool
+  pub shard : Option Text
+  pub stamp : Option Text
+  pub workers : Option ℕ
+  pub group : ℕ
+  pub budget : Option ℕ
+  pub root : Option Text
+  pub into : Option Text
+  pub report : Option Text
+  pub junit : Option Text
+  pub suite : Option Text
+  pub lenient : Bool
+  pub counts : Option Text
+  pub stacks : Bool
+  pub known : Option Text
+  pub stop_after : Option ℕ
+  pub verbose : Bool
+  pub quiet : Bool
+  pub last : Option ℕ
+  pub color : Option Text
+
+-- the job of a list whose end is to be explained
+pub record ExplainWords : Type 0 where
+  pub list : Text
+  pub name : Text
+  pub last : ℕ
+  pub budget : Option ℕ
+  pub root : Option Text
+  pub color : Option Text
+
+-- the parts whose whole report is to be made
+pub record MergeWords : Type 0 where
+  pub parts : List Text
+  pub report : Option Text
+  pub junit : Option Text
+  pub suite : Option Text
+  pub lenient : Bool
+
+-- a report that is to be shown, with the path of a JUnit file, by the lenient rule or the strict one
+pub record ShowWords : Type 0 where
+  pub report : Text
+  pub partial : Bool
+  pub junit : Option Text
+  pub suite : Option Text
+  pub lenient : Bool
+  pub color : Option Text
+
+-- two reports that are to be compared
+pub record DiffWords : Type 0 where
+  pub old : Text
+  pub new : Text
+  pub partial : Bool
+  pub steps : Bool
+  pub slower : Option ℕ
+  pub color : Option Text
+
+-- jobs of a list whose runs are accepted: those of which another exit code is accepted too, or another kind of fault, where words ask
+-- for that; what changes is told alone where words ask for that
+pub record AcceptWords : Type 0 where
+  pub run : RunWords
+  pub ends : Bool
+  pub check : Bool
+
+-- tables of counts that are to be added up, with the path of the sum
+pub record CountsWords : Type 0 where
+  pub tables : List Text
+  pub out : Option Text
+
+-- jobs of a list of whose images it is shown what ran, for tools where words ask for that; the counts of a run are the path of a table
+-- that is read in place of one
+pub record CoverWords : Type 0 where
+  pub run : RunWords
+  pub csv : Bool
+
+-- jobs of a list in whose images it is shown where their steps were, in so many functions, for tools where words ask for that; the counts
+-- of a run are the path of a table that is read in place of one
+pub record ProfileWords : Type 0 where
+  pub run : RunWords
+  pub top : Option ℕ
+  pub csv : Bool
+
+-- to run jobs; to say which jobs a run of these words would run; to explain one; to write the console of one, or to show its run to
+-- gdb within some megabytes, whose paths are taken from a folder; to say all that is wrong with a list, whose paths are taken from a
+-- folder; to accept what runs came to; to merge parts; to compare two reports, with their steps or without, or by which jobs are slower; to show one; to add up tables of counts; to
+-- show what of images ran; to show where in images steps were; to tell of something that is no command
+pub data Words : Type 0 where
+  run : RunWords → Words
+  names : RunWords → Words
+  explain : ExplainWords → Words
+  console : Text → Text → Option Text → Words
+  gdb : Text → Text → Option Text → Option ℕ → Words
+  check : Text → Option Text → Words
+  accept : AcceptWords → Words
+  merge : MergeWords → Words
+  diff : DiffWords → Words
+  show : ShowWords → Words
+  counts : CountsWords → Words
+  cover : CoverWords → Words
+  profile : ProfileWords → Words
+  help : Text → Words
+
+-- the budget that each job takes in place of its own
+abbrev pub requested_budget : List Row → Option ℕ
+requested_budget rows = number_value (codes "budget") 1 most_budget rows
+
+-- what the values of `run` ask for, of a list, in pieces of so many jobs; those of `list`, `accept`, `cover` and
+-- `profile` are without the values that it has no option for
+unfoldable pub run_words : Text → ℕ → List Row → RunWords
+run_words list group rows = record {
+  list = list;
+  only = argument_values (codes "only") rows;
+  pattern = first_of (codes "match") rows;
+  exclude = first_of (codes "exclude") rows;
+  failed = first_of (codes "failed") rows;
+  partial = is_flag_set (codes "partial") rows;
+  shard = first_of (codes "shard") rows;
+  stamp = first_of (codes "stamp") rows;
+  workers = number_value (codes "workers") 1 most_workers rows;
+  group = group;
+  budget = requested_budget rows;
+  root = first_of (codes "root") rows;
+  into = first_of (codes "into") rows;
+  report = first_of (codes "report") rows;
+  junit = first_of (codes "junit") rows;
+  suite = first_of (codes "suite") rows;
+  lenient = is_flag_set (codes "lenient") rows;
+  counts = first_of (codes "counts") rows;
+  stacks = is_flag_set (codes "stacks") rows;
+  known = first_of (codes "known") rows;
+  stop_after = number_value (codes "stop-after") 1 most_jobs rows;
+  verbose = is_flag_set (codes "verbose") rows;
+  quiet = is_flag_set (codes "quiet") rows;
+  last = number_value (codes "last") 0 most_last_instructions rows;
+  color = first_of (codes "color") rows;
+}
+
+abbrev pub test_run_request : List Row → Option Words
+test_run_request rows = option_and_then (λ list. option_map (λ group. run (run_words list group rows))
+    (number_value (codes "group") 1 most_group rows)) (first_of (codes "list") rows)
+
+abbrev pub list_request : List Row → Option Words
+list_request rows = option_map (λ list. names (run_words list 1 rows)) (first_of (codes "list") rows)
+
+abbrev pub explain_words : Text → Text → List Row → ℕ → Words
+explain_words list name rows last = explain (record {
+  list = list;
+  name = name;
+  last = last;
+  budget = requested_budget rows;
+  root = first_of (codes "root") rows;
+  color = first_of (codes "color") rows;
+})
+
+abbrev pub explain_request : List Row → Option Words
+explain_request rows = option_and_then (λ list. option_and_then (λ name.
+    option_map (explain_words list name rows) (number_value (codes "last") 0 most_last_instructions rows))
+    (first_of (codes "name") rows)) (first_of (codes "list") rows)
+
+abbrev pub console_request : List Row → Option Words
+console_request rows = option_and_then (λ list. option_map (λ name. console list name (first_of (codes "root") rows))
+    (first_of (codes "name") rows)) (first_of (codes "list") rows)
+
+abbrev pub gdb_request : List Row → Option Words
+gdb_request rows = option_and_then (λ list. option_map (λ name.
+    gdb list name (first_of (codes "root") rows) (number_value (codes "memory") 64 4096 rows))
+    (first_of (codes "name") rows)) (first_of (codes "list") rows)
+
+abbrev pub check_request : List Row → Option Words
+check_request rows = option_map (λ list. check list (first_of (codes "root") rows))
+    (first_of (codes "list") rows)
+
+abbrev pub accept_words : Text → List Row → ℕ → Words
+accept_words list rows group = accept (record {
+  run = run_words list group rows;
+  ends = is_flag_set (codes "ends") rows;
+  check = is_flag_set (codes "check") rows;
+})
+
+abbrev pub accept_request : List Row → Option Words
+accept_request rows = option_and_then (λ list. option_map (accept_words list rows)
+    (number_value (codes "group") 1 most_group rows)) (first_of (codes "list") rows)
+
+abbrev pub merge_request : List Row → Words
+merge_request rows = merge (record {
+  parts = argument_values (codes "part") rows;
+  report = first_of (codes "report") rows;
+  junit = first_of (codes "junit") rows;
+  suite = first_of (codes "suite") rows;
+  lenient = is_flag_set (codes "lenient") rows;
+})
+
+abbrev pub diff_words : List Row → Text → Text → Words
+diff_words rows old new = diff (record {
+  old = old;
+  new = new;
+  partial = is_flag_set (codes "partial") rows;
+  steps = is_flag_set (codes "steps") rows;
+  slower = number_value (codes "slower") 0 most_slower rows;
+  color = first_of (codes "color") rows;
+})
+
+abbrev pub diff_request : List Row → Option Words
+diff_request rows = option_and_then (λ old. option_map (diff_words rows old)
+    (first_of (codes "new") rows)) (first_of (codes "old") rows)
+
+abbrev pub show_words : List Row → Text → Words
+show_words rows report = show (record {
+  report = report;
+  partial = is_flag_set (codes "partial") rows;
+  junit = first_of (codes "junit") rows;
+  suite = first_of (codes "suite") rows;
+  lenient = is_flag_set (codes "lenient") rows;
+  color = first_of (codes "color") rows;
+})
+
+abbrev pub show_request : List Row → Option Words
+show_request rows = option_map (show_words rows) (first_of (codes "report") rows)
+
+abbrev pub counts_request : List Row → Words
+counts_request rows = counts (record {
+  tables = argument_values (codes "table") rows;
+  out = first_of (codes "out") rows;
+})
+
+abbrev pub cover_words : Text → List Row → ℕ → Words
+cover_words list rows group = cover (record { run = run_words list group rows; csv = is_flag_set (codes "csv") rows })
+
+abbrev pub cover_request : List Row → Option Words
+cover_request rows = option_and_then (λ list. option_map (cover_words list rows)
+    (number_value (codes "group") 1 most_group rows)) (first_of (codes "list") rows)
+
+-- the job that is named, or those that are chosen by their exact names
+abbrev pub named_or_only : List Row → List Text
+named_or_only rows = if is_option_given (codes "name") rows then argument_values (codes "name") rows else argument_values (codes "only") rows
+
+abbrev pub named_run_words : Text → ℕ → List Row → RunWords
+named_run_words list group rows = record (run_words list group rows) { only = named_or_only rows }
+
+abbrev pub profile_words : Text → List Row → ℕ → Words
+profile_words list rows group = profile (record {
+  run = named_run_words list group rows;
+  top = number_value (codes "top") 1 most_functions rows;
+  csv = is_flag_set (codes "csv") rows;
+})
+
+abbrev pub profile_request : List Row → Option Words
+profile_request rows = option_and_then (λ list. option_map (profile_words list rows)
+    (number_value (codes "group") 1 most_group rows)) (first_of (codes "list") rows)
+
+abbrev pub help_request : List Row → Option Words
+help_request rows = option_map help (first_of (codes "topic") rows)
+
+-- what a subcommand with these values asks for
+abbrev pub subcommand_words : Text → List Row → Option Words
+subcommand_words name rows = if bytes_eq name (codes "run") then test_run_request rows
+    else if bytes_eq name (codes "list") then list_request rows
+    else if bytes_eq name (codes "explain") then explain_request rows
+    else if bytes_eq name (codes "console") then console_request rows
+    else if bytes_eq name (codes "gdb") then gdb_request rows
+    else if bytes_eq name (codes "check") then check_request rows
+    else if bytes_eq name (codes "accept") then accept_request rows
+    else if bytes_eq name (codes "merge") then Some (merge_request rows)
+    else if bytes_eq name (codes "diff") then diff_request rows
+    else if bytes_eq name (codes "show") then show_request rows
+    else if bytes_eq name (codes "counts") then Some (counts_request rows)
+    else if bytes_eq name (codes "cover") then cover_request rows
+    else if bytes_eq name (codes "profile") then profile_request rows
+    else if bytes_eq name (codes "help") then help_request rows
+    else None
+
+-- what a subcommand that was met asks for, with its values
+abbrev pub matched_words : Option (Text × List Row) → Option Words
+matched_words = option_and_then (λ found. subcommand_words found.0 found.1)
+
+-- what words ask for: the subcommand and the values are the matches that `clap` defines for them
+abbrev pub words_request : List Text → Option Words
+words_request words = matched_words (subcommand_of test_app words)
+
+-- ---- what is wrong with words
+
+-- colours are always shown, never, or where standard output is a terminal
+abbrev pub is_color_word : Text → Bool
+is_color_word word = bytes_eq word (codes "always") || (bytes_eq word (codes "never") || bytes_eq word (codes "auto"))
+
+abbrev pub is_color_unknown : List Row → Bool
+is_color_unknown rows = option_map_or (λ word. not (is_color_word word)) (first_of (codes "color") rows) false
+
+abbrev pub color_misuse : List Row → Option Misuse
+color_misuse rows = if is_color_unknown rows then Some misuse.UnknownColor else None
+
+-- the report goes to a path
+abbrev pub is_report_path : Text → List Row → Bool
+is_report_path path rows = option_map_or (bytes_eq path) (first_of (codes "report") rows) false
+
+-- the rows go into the report at the path
+abbrev pub is_into_path : Text → List Row → Bool
+is_into_path path rows = option_map_or (bytes_eq path) (first_of (codes "into") rows) false
+
+-- JUnit's XML goes to a path
+abbrev pub is_junit_path : Text → List Row → Bool
+is_junit_path path rows = option_map_or (bytes_eq path) (first_of (codes "junit") rows) false
+
+-- the report that chooses the jobs stands at a path
+abbrev pub is_failed_path : Text → List Row → Bool
+is_failed_path path rows = option_map_or (bytes_eq path) (first_of (codes "failed") rows) false
+
+-- the table of counts goes where a report or JUnit's XML goes, be that a file or standard output, or where the report stands that
+-- chooses the jobs
+abbrev pub are_counts_put_over : List Row → Bool
+are_counts_put_over rows = option_map_or (λ path. is_report_path path rows || (is_into_path path rows
+    || (is_junit_path path rows || is_failed_path path rows))) (first_of (codes "counts") rows) false
+
+-- stacks are to stand in a table that is not asked for
+abbrev pub are_stacks_alone : List Row → Bool
+are_stacks_alone rows = is_flag_set (codes "stacks") rows && not (is_option_given (codes "counts") rows)
+
+-- jobs are chosen by their names or by a report, or left out
+abbrev pub is_choice_given : List Row → Bool
+is_choice_given rows = is_option_given (codes "only") rows
+    || (is_option_given (codes "match") rows
+    || (is_option_given (codes "exclude") rows || is_option_given (codes "failed") rows))
+
+-- a report that may be cut off is none that chooses jobs
+abbrev pub is_partial_alone : List Row → Bool
+is_partial_alone rows = is_flag_set (codes "partial") rows && not (is_option_given (codes "failed") rows)
+
+-- a report goes out: of the rows of the run alone, or of a whole list, into which they are put
+abbrev pub is_report_given : List Row → Bool
+is_report_given rows = is_option_given (codes "report") rows || is_option_given (codes "into") rows
+
+-- rows go out that others take as the list's: in a report, in JUnit's XML, or as a shard's
+abbrev pub are_rows_kept : List Row → Bool
+are_rows_kept rows = is_report_given rows
+    || (is_option_given (codes "junit") rows || is_option_given (codes "shard") rows)
+
+-- rows are put into a report, and go out beside it, as a report of their own or as a shard's
+abbrev pub are_rows_put_twice : List Row → Bool
+are_rows_put_twice rows = is_option_given (codes "into") rows
+    && (is_option_given (codes "report") rows || is_option_given (codes "shard") rows)
+
+-- rows are put into standard output, from which no report is read
+abbrev pub is_stdout_put_into : List Row → Bool
+is_stdout_put_into rows = is_into_path (codes "-") rows
+
+-- the report that chooses the jobs would be written over by theirs alone
+abbrev pub is_choice_overwritten : List Row → Bool
+is_choice_overwritten rows = option_map_or (λ path. is_report_path path rows) (first_of (codes "failed") rows) false
+
+-- the suite of JUnit's XML has no name
+abbrev pub is_suite_nameless : List Row → Bool
+is_suite_nameless rows = option_map_or (λ name. bytes_eq name []) (first_of (codes "suite") rows) false
+
+-- a suite is of JUnit's XML, and has a name
+abbrev pub suite_misuse : List Row → Option Misuse
+suite_misuse rows = if is_option_given (codes "suite") rows && not (is_option_given (codes "junit") rows)
+    then Some misuse.SuiteAlone
+    else if is_suite_nameless rows then Some misuse.NamelessSuite
+    else None
+
+-- JUnit's XML goes where a report goes, be that a file or standard output; or its suite is not as it may be
+abbrev pub files_misuse : List Row → Option Misuse
+files_misuse rows =
+    if option_map_or (λ path. is_report_path path rows) (first_of (codes "junit") rows) false then Some misuse.OneFile
+    else if option_map_or (λ path. is_into_path path rows) (first_of (codes "junit") rows) false
+    then Some misuse.IntoOneFile else suite_misuse rows
+
+-- what is wrong with words that choose jobs
+abbrev pub choice_misuse : List Row → Option Misuse
+choice_misuse rows = if is_partial_alone rows then Some misuse.PartialAlone else None
+
+-- the first of the rules that options of `run` break: --verbose and --quiet do not stand beside
+-- one another, nor a shard beside a choice, nor a budget beside what makes rows that a list is known by, nor an end behind a failure
+-- beside a shard, nor a report of the rows beside one that they are put into, which is a file; a stamp is a shard's; a report that
+-- chooses jobs keeps its other rows, and may be cut off; stacks stand in a table of counts; the files are not one, and a suite is JUnit's
+abbrev pub run_misuse : List Row → Option Misuse
+run_misuse rows = if is_flag_set (codes "verbose") rows && is_flag_set (codes "quiet") rows
+    then Some misuse.VerboseAndQuiet
+    else if is_option_given (codes "shard") rows && is_choice_given rows then Some misuse.ShardAndChoice
+    else if is_option_given (codes "stamp") rows && not (is_option_given (codes "shard") rows)
+    then Some misuse.StampAlone
+    else if is_option_given (codes "budget") rows && are_rows_kept rows then Some misuse.BudgetAndRows
+    else if is_option_given (codes "stop-after") rows && is_option_given (codes "shard") rows
+    then Some misuse.StopAfterAndShard
+    else if are_rows_put_twice rows then Some misuse.IntoAndReport
+    else if is_stdout_put_into rows then Some misuse.IntoStdout
+    else if is_choice_overwritten rows then Some misuse.FailedIsReport
+    else if is_partial_alone rows then Some misuse.PartialAlone
+    else if is_color_unknown rows then Some misuse.UnknownColor
+    else if are_stacks_alone rows then Some misuse.StacksAlone
+    else if are_counts_put_over rows then Some misuse.CountsOneFile
+    else files_misuse rows
+
+-- of `cover`: a shard does not stand beside a choice, and a report that may be cut off chooses jobs
+abbrev pub cover_misuse : List Row → Option Misuse
+cover_misuse rows = if is_option_given (codes "shard") rows && is_choice_given rows then Some misuse.ShardAndChoice
+    else choice_misuse rows
+
+-- one job is named, and jobs are chosen in another way
+abbrev pub is_name_beside_choice : List Row → Bool
+is_name_beside_choice rows = is_option_given (codes "name") rows && (is_choice_given rows || is_option_given (codes "shard") rows)
+
+-- of `profile`: a name does not stand beside a choice, and else as of `cover`
+abbrev pub profile_misuse : List Row → Option Misuse
+profile_misuse rows = if is_name_beside_choice rows then Some misuse.NameAndChoice else cover_misuse rows
+
+-- steps are compared exactly, or by which jobs are slower
+abbrev pub diff_misuse : List Row → Option Misuse
+diff_misuse rows = if is_flag_set (codes "steps") rows && is_option_given (codes "slower") rows
+    then Some misuse.StepsAndSlower else color_misuse rows
+
+-- a suite of JUnit's XML that is not as it may be, or colours
+abbrev pub show_misuse : List Row → Option Misuse
+show_misuse rows = if is_color_unknown rows then Some misuse.UnknownColor else suite_misuse rows
+
+abbrev pub misuse_kinds : Option Misuse → Kinds
+misuse_kinds None = []
+misuse_kinds (Some misuse.StampAlone) = kind.MissingRequiredArgument ∷ []
+misuse_kinds (Some misuse.PartialAlone) = kind.MissingRequiredArgument ∷ []
+misuse_kinds (Some misuse.StacksAlone) = kind.MissingRequiredArgument ∷ []
+misuse_kinds (Some misuse.SuiteAlone) = kind.MissingRequiredArgument ∷ []
+misuse_kinds (Some misuse.NamelessSuite) = kind.InvalidValue ∷ []
+misuse_kinds (Some misuse.UnknownColor) = kind.InvalidValue ∷ []
+misuse_kinds (Some misuse.IntoStdout) = kind.InvalidValue ∷ []
+misuse_kinds (Some _) = kind.ArgumentConflict ∷ []
+
+-- what is said of options that do not go together: which two, as the help writes them
+abbrev pub misuse_text : Misuse → Text
+misuse_text misuse.VerboseAndQuiet = codes "the argument '--verbose' cannot be used with '--quiet'"
+misuse_text misuse.ShardAndChoice =
+    codes "the argument '--shard <K/N>' cannot be used with '--only <NAME>', '--match <REGEX>', '--exclude <REGEX>' or '--failed <REPORT>'"
+misuse_text misuse.NameAndChoice =
+    codes "the argument '[NAME]' cannot be used with '--only <NAME>', '--match <REGEX>', '--exclude <REGEX>', '--failed <REPORT>' or '--shard <K/N>': it is one job"
+misuse_text misuse.StampAlone = codes "the argument '--stamp <TEXT>' cannot be used without '--shard <K/N>'"
+misuse_text misuse.BudgetAndRows =
+    codes "the argument '--budget <N>' cannot be used with '--into <FILE>', '--report <FILE>', '--junit <FILE>' or '--shard <K/N>': such rows are not the list's"
+misuse_text misuse.StopAfterAndShard =
+    codes "the argument '--stop-after <N>' cannot be used with '--shard <K/N>': a part has a row of each of its jobs"
+misuse_text misuse.IntoAndReport =
+    codes "the argument '--into <FILE>' cannot be used with '--report <FILE>' or '--shard <K/N>': it is the report that is written"
+misuse_text misuse.IntoStdout =
+    codes "the value of '--into <FILE>' is a file, and not '-': the report is read there before it is written"
+misuse_text misuse.FailedIsReport =
+    codes "the argument '--report <FILE>' cannot be used with '--failed <REPORT>' of the same name: the rows of the other jobs would be lost; '--into <FILE>' keeps them"
+misuse_text misuse.PartialAlone = codes "the argument '--partial' cannot be used without '--failed <REPORT>'"
+misuse_text misuse.StepsAndSlower = codes "the argument '--steps' cannot be used with '--slower <N>'"
+misuse_text misuse.StacksAlone = codes "the argument '--stacks' cannot be used without '--counts <FILE>'"
+misuse_text misuse.SuiteAlone = codes "the argument '--suite <NAME>' cannot be used without '--junit <FILE>'"
+misuse_text misuse.NamelessSuite = codes "a value is required for '--suite <NAME>' but none was supplied"
+misuse_text misuse.UnknownColor = codes "the value of '--color <WHEN>' is always, never or auto"
+misuse_text misuse.OneFile =
+    codes "the argument '--report <FILE>' cannot be used with '--junit <FILE>' of the same name: it is one file"
+misuse_text misuse.IntoOneFile =
+    codes "the argument '--into <FILE>' cannot be used with '--junit <FILE>' of the same name: it is one file"
+misuse_text misuse.CountsOneFile =
+    codes "the argument '--counts <FILE>' cannot be used with '--report <FILE>', '--into <FILE>', '--junit <FILE>' or '--failed <REPORT>' of the same name: it is one file"
+
+-- which options of a subcommand with these values do not go together, if any
+abbrev pub subcommand_misuse : Text → List Row → Option Misuse
+subcommand_misuse name rows = if bytes_eq name (codes "run") then run_misuse rows
+    else if bytes_eq name (codes "list") then choice_misuse rows
+    else if bytes_eq name (codes "accept") then choice_misuse rows
+    else if bytes_eq name (codes "cover") then cover_misuse rows
+    else if bytes_eq name (codes "profile") then profile_misuse rows
+    else if bytes_eq name (codes "merge") then files_misuse rows
+    else if bytes_eq name (codes "diff") then diff_misuse rows
+    else if bytes_eq name (codes "show") then show_misuse rows
+    else if bytes_eq name (codes "explain") then color_misuse rows
+    else None
+
+-- of the subcommand that was met
+abbrev pub matched_misuse : Option (Text × List Row) → Option Misuse
+matched_misuse = option_and_then (λ met. subcommand_misuse met.0 met.1)
+
+-- of words in which `clap` finds no fault
+abbrev pub words_misuse : List Text → Option Misuse
+words_misuse words = matched_misuse (subcommand_of test_app words)
+
+-- the faults of words: those that `clap` finds, else options that do not go together
+abbrev pub words_fault_kinds : List Text → Kinds
+words_fault_kinds words = or_else (fault_of test_app words) (misuse_kinds (words_misuse words))
+
+-- memory was wanting, or it is told which options do not go together
+abbrev pub IsMisuseTold : Option Misuse → WordsError → Type 0
+IsMisuseTold misuse error.OutOfMemory = Unit {0}
+IsMisuseTold None (error.Told fault text) = ⊥
+IsMisuseTold (Some misuse) (error.Told fault text) =
+    (misuse_kinds (Some misuse) ≡ fault ∷ []) × IsUsageText (misuse_text misuse) (string_bytes text)
+
+-- words fail by that, or for want of memory, and else there is nothing of the kind
+abbrev pub FailsByMisuse : {T : Type 0} → Option Misuse → Result T WordsError → Type 0
+FailsByMisuse misuse result = MatchResult result (λ _. misuse ≡ None) (IsMisuseTold misuse)
+
+-- ---- the program's own value of what is asked for
+
+-- the text behind a reference, where there is one
+abbrev pub borrowed_text : Option (Bor Text) → Option Text
+borrowed_text text = option_map (λ t. t.now) text
+
+abbrev pub run_asked_words : RunAsked → RunWords
+run_asked_words value = record {
+  list = value.list.now;
+  only = map (λ name. name.now) value.only.items;
+  pattern = borrowed_text value.pattern;
+  exclude = borrowed_text value.exclude;
+  failed = borrowed_text value.failed;
+  partial = value.partial;
+  shard = borrowed_text value.shard;
+  stamp = borrowed_text value.stamp;
+  workers = value.workers;
+  group = value.group;
+  budget = value.budget;
+  root = borrowed_text value.root;
+  into = borrowed_text value.into;
+  report = borrowed_text value.report;
+  junit = borrowed_text value.junit;
+  suite = borrowed_text value.suite;
+  lenient = value.lenient;
+  counts = borrowed_text value.counts;
+  stacks = value.stacks;
+  known = borrowed_text value.known;
+  stop_after = value.stop_after;
+  verbose = value.verbose;
+  quiet = value.quiet;
+  last = value.last;
+  color = borrowed_text value.color;
+}
+
+abbrev pub explain_asked_words : ExplainAsked → ExplainWords
+explain_asked_words value = record {
+  list = value.list.now;
+  name = value.name.now;
+  last = value.last;
+  budget = value.budget;
+  root = borrowed_text value.root;
+  color = borrowed_text value.color;
+}
+
+abbrev pub merge_asked_words : MergeAsked → MergeWords
+merge_asked_words value = record {
+  parts = map (λ path. path.now) value.parts.items;
+  report = borrowed_text value.report;
+  junit = borrowed_text value.junit;
+  suite = borrowed_text value.suite;
+  lenient = value.lenient;
+}
+
+abbrev pub show_asked_words : ShowAsked → ShowWords
+show_asked_words value = record {
+  report = value.report.now;
+  partial = value.partial;
+  junit = borrowed_text value.junit;
+  suite = borrowed_text value.suite;
+  lenient = value.lenient;
+  color = borrowed_text value.color;
+}
+
+abbrev pub diff_asked_words : DiffAsked → DiffWords
+diff_asked_words value = record {
+  old = value.old.now;
+  new = value.new.now;
+  partial = value.partial;
+  steps = value.steps;
+  slower = value.slower;
+  color = borrowed_text value.color;
+}
+
+abbrev pub counts_asked_words : CountsAsked → CountsWords
+counts_asked_words value = record {
+  tables = map (λ path. path.now) value.tables.items;
+  out = borrowed_text value.out;
+}
+
+abbrev pub accept_asked_words : AcceptAsked → AcceptWords
+accept_asked_words value = record {
+  run = run_asked_words value.run;
+  ends = value.ends;
+  check = value.check;
+}
+
+abbrev pub cover_asked_words : CoverAsked → CoverWords
+cover_asked_words value = record { run = run_asked_words value.run; csv = value.csv }
+
+abbrev pub profile_asked_words : ProfileAsked → ProfileWords
+profile_asked_words value = record { run = run_asked_words value.run; top = value.top; csv = value.csv }
+
+abbrev pub asked_words : Asked → Words
+asked_words (asked.Run value) = run (run_asked_words value)
+asked_words (asked.List value) = names (run_asked_words value)
+asked_words (asked.Explain value) = explain (explain_asked_words value)
+asked_words (asked.Console value) = console value.list.now value.name.now (borrowed_text value.root)
+asked_words (asked.Gdb value) = gdb value.list.now value.name.now (borrowed_text value.root) value.memory
+asked_words (asked.Check value) = check value.list.now (borrowed_text value.root)
+asked_words (asked.Accept value) = accept (accept_asked_words value)
+asked_words (asked.Merge value) = merge (merge_asked_words value)
+asked_words (asked.Diff value) = diff (diff_asked_words value)
+asked_words (asked.Show value) = show (show_asked_words value)
+asked_words (asked.Counts value) = counts (counts_asked_words value)
+asked_words (asked.Cover value) = cover (cover_asked_words value)
+asked_words (asked.Profile value) = profile (profile_asked_words value)
+asked_words (asked.Help value) = help value.topic.now
+
+-- a job of a list may have this budget
+abbrev pub IsBudgetInRange : Option ℕ → Type 0
+IsBudgetInRange budget = IfSome budget (λ steps. (1 ≤ steps) × (steps ≤ most_budget))
+
+-- each number is within the range of its argument
+abbrev pub IsRunAskedInRange : RunAsked → Type 0
+IsRunAskedInRange value = IfSome value.workers (λ number. (1 ≤ number) × (number ≤ most_workers))
+    × (1 ≤ value.group) × (value.group ≤ most_group) × IfSome value.last (λ number. number ≤ most_last_instructions)
+    × IsBudgetInRange value.budget × IfSome value.stop_after (λ number. (1 ≤ number) × (number ≤ most_jobs))
+
+abbrev pub IsAskedInRange : Asked → Type 0
+IsAskedInRange (asked.Run value) = IsRunAskedInRange value
+IsAskedInRange (asked.List value) = IsRunAskedInRange value
+IsAskedInRange (asked.Accept value) = IsRunAskedInRange value.run
+IsAskedInRange (asked.Cover value) = IsRunAskedInRange value.run
+IsAskedInRange (asked.Profile value) = IsRunAskedInRange value.run × IfSome value.top (λ number. (1 ≤ number) × (number ≤ most_functions))
+IsAskedInRange (asked.Explain value) = (value.last ≤ most_last_instructions) × IsBudgetInRange value.budget
+IsAskedInRange (asked.Diff value) = IfSome value.slower (λ percent. percent ≤ most_slower)
+IsAskedInRange _ = Unit {0}
+
+-- what is asked for is what these words are, with numbers in their ranges
+abbrev pub AsksFor : Option Words → Option Asked → Type 0
+AsksFor words asked = (option_map asked_words asked ≡ words) × IfSome asked IsAskedInRange
+
+-- and else it is told which options do not go together, or memory was wanting
+abbrev pub ReadsRequest : Option Words → Option Misuse → Result (Option Asked) WordsError → Type 0
+ReadsRequest words misuse result = IfOk result (AsksFor words) × FailsByMisuse misuse result

@@ -1,0 +1,60 @@
+//! The words of `accept`.
+
+ghost use Rattle.std.specs.Prelude.{None};
+ghost use Rattle.clap.specs.Words.{found_of, rows_of};
+ghost use Rattle.rvtest_cli.specs.RvtestWords.{ReadsRequest, accept_request, choice_misuse};
+
+use crate::command::accept_command;
+use crate::refusals::choice_misuse;
+use crate::requests::Asked;
+use crate::run::{RunAsked, run_asked};
+use crate::words_error::WordsError;
+use clap::ArgMatches;
+use rv_base::limits::MOST_GROUP;
+use rv_cli::values::{is_flag_set, number_value, text_value};
+use std::alloc::Global;
+
+/// The jobs of a list whose runs are accepted, and how.
+#[derive(Drop)]
+pub struct AcceptAsked<'a> {
+    /// The jobs, and how they run. What `accept` has no option for is as in a run without options.
+    pub run: RunAsked<'a>,
+    /// Whether another exit code, or another kind of fault, is accepted too.
+    pub ends: bool,
+    /// Whether changes are told alone, and nothing is written.
+    pub check: bool,
+}
+
+/// What the values of `accept` ask for, or which rule its options break.
+pub(crate) fn accept_request<'a>(
+    alloc: Global,
+    values: &ArgMatches<'a>,
+) -> Result<Option<Asked<'a>>, WordsError>
+    ensures { ReadsRequest (accept_request (rows_of (found_of values.now)))
+        (choice_misuse (rows_of (found_of values.now))) result }
+{
+    match choice_misuse(values) {
+        Some(misuse) => Err(misuse.misuse_error(alloc, accept_command(alloc))),
+        None => valid_accept_request(alloc, values),
+    }
+}
+
+fn valid_accept_request<'a>(
+    alloc: Global,
+    values: &ArgMatches<'a>,
+) -> Result<Option<Asked<'a>>, WordsError>
+    ensures { ReadsRequest (accept_request (rows_of (found_of values.now))) None result }
+{
+    let Some(list) = text_value(values, "list") else {
+        return Ok(None);
+    };
+    let Some(group) = number_value(values, "group", 1, MOST_GROUP) else {
+        return Ok(None);
+    };
+    let run = run_asked(alloc, values, list, group)?;
+    Ok(Some(Asked::Accept(AcceptAsked {
+        run,
+        ends: is_flag_set(values, "ends"),
+        check: is_flag_set(values, "check"),
+    })))
+}

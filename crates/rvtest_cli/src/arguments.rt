@@ -1,0 +1,140 @@
+//! The arguments of a command, each with its rule.
+
+ghost use Rattle.std.specs.Prelude.{◌≡◌, false};
+ghost use Rattle.clap.specs.Words.{App, rule_of};
+ghost use Rattle.rv_cli.specs.CommandBuilder.{IsBuilt};
+ghost use Rattle.rvtest_cli.specs.RvtestCommand.{file_rule, flag_rule, number_rule, optional_word_rule, argument_rule};
+ghost use Rattle.rvtest_cli.specs.RvtestCommand.{with_arguments, with_letter};
+
+use clap::builder::ValueParser;
+use clap::{Arg, ArgAction};
+use rv_cli::arguments::{group_argument, option_argument, word_argument};
+use rv_cli::command_builder::{Built, with_argument};
+use std::alloc::Global;
+
+/// The least and the greatest number that an option takes.
+#[derive(Clone, Copy)]
+pub(crate) struct Bounds {
+    pub(crate) least: i64,
+    pub(crate) most: i64,
+}
+
+/// An argument of a command: its name, what a value is called in the usage where it is any text, and its help.
+#[derive(Clone, Copy)]
+pub(crate) enum Argument<'a> {
+    /// A word that stands for itself.
+    Word(&'a str, &'a str, &'a str),
+    /// Such a word, which may be absent.
+    OptionalWord(&'a str, &'a str, &'a str),
+    /// One such word or more.
+    Words(&'a str, &'a str, &'a str),
+    /// An option with a value.
+    Option(&'a str, &'a str, &'a str),
+    /// An option with the path of a file, which is not empty.
+    File(&'a str, &'a str),
+    /// An option with a value, that may come again for more.
+    Again(&'a str, &'a str, &'a str),
+    /// An option without a value, and the letter that is short for it, if one is.
+    Flag(&'a str, Option<char>, &'a str),
+    /// An option with a number, the letter that is short for it, if one is, and the number that it has where it is not given, if it
+    /// has one.
+    Number(&'a str, Option<char>, &'a str, Bounds, &'a [&'a str]),
+    /// How many jobs a thread takes at once.
+    Group,
+}
+
+impl<'a> Argument<'a> {
+    fn clap_argument(&self, alloc: Global) -> Arg<'a>
+        ensures { (rule_of result ≡ argument_rule self.now) × (result.global ≡ false) }
+    {
+        match *self {
+            Argument::Word(name, value, help) => word_argument(alloc, name, value, help),
+            Argument::OptionalWord(name, value, help) => {
+                optional_word_argument(alloc, name, value, help)
+            }
+            Argument::Words(name, value, help) => {
+                word_argument(alloc, name, value, help).action(ArgAction::Append)
+            }
+            Argument::Option(name, value, help) => option_argument(alloc, name, value, help),
+            Argument::File(name, help) => file_argument(alloc, name, help),
+            Argument::Again(name, value, help) => {
+                option_argument(alloc, name, value, help).action(ArgAction::Append)
+            }
+            Argument::Flag(name, letter, help) => {
+                with_letter(flag_argument(alloc, name, help), letter)
+            }
+            Argument::Number(name, letter, help, bounds, usual) => {
+                with_letter(number_argument(alloc, name, help, bounds, usual), letter)
+            }
+            Argument::Group => group_argument(alloc),
+        }
+    }
+}
+
+/// A command with these arguments more, in their order.
+pub(crate) fn with_arguments<'a>(
+    alloc: Global,
+    command: Built<'a>,
+    arguments: &[Argument<'a>],
+) -> Built<'a>
+    ensures { (app : App) → IsBuilt app command.entry
+        → IsBuilt (with_arguments app arguments.now) result }
+{
+    let mut command = command;
+    for argument in arguments {
+        command = with_argument(command, argument.clap_argument(alloc));
+    }
+    command
+}
+
+// The same argument, which a letter is short for, if one is.
+fn with_letter<'a>(argument: Arg<'a>, letter: Option<char>) -> Arg<'a>
+    ensures rule { rule_of result ≡ with_letter (rule_of argument.entry) letter }
+    ensures local { result.global ≡ argument.entry.global }
+{
+    match letter {
+        Some(letter) => argument.short(letter),
+        None => argument,
+    }
+}
+
+fn optional_word_argument<'a>(
+    alloc: Global,
+    name: &'a str,
+    value: &'a str,
+    help: &'a str,
+) -> Arg<'a>
+    ensures { (rule_of result ≡ optional_word_rule name.entry.now) × (result.global ≡ false) }
+{
+    Arg::new(alloc, name).value_name(value).help(help)
+}
+
+fn file_argument<'a>(alloc: Global, name: &'a str, help: &'a str) -> Arg<'a>
+    ensures { (rule_of result ≡ file_rule name.entry.now) × (result.global ≡ false) }
+{
+    option_argument(alloc, name, "FILE", help).value_parser(ValueParser::NonEmptyString)
+}
+
+fn flag_argument<'a>(alloc: Global, name: &'a str, help: &'a str) -> Arg<'a>
+    ensures { (rule_of result ≡ flag_rule name.entry.now) × (result.global ≡ false) }
+{
+    Arg::new(alloc, name)
+        .long(name)
+        .action(ArgAction::SetTrue)
+        .help(help)
+}
+
+fn number_argument<'a>(
+    alloc: Global,
+    name: &'a str,
+    help: &'a str,
+    bounds: Bounds,
+    usual: &'a [&'a str],
+) -> Arg<'a>
+    ensures { (rule_of result ≡ number_rule name.entry.now bounds.least bounds.most usual.entry.now)
+        × (result.global ≡ false) }
+{
+    option_argument(alloc, name, "N", help)
+        .value_parser(ValueParser::Signed(bounds.least, bounds.most))
+        .default_values(usual)
+}

@@ -1,0 +1,183 @@
+//! The command line of `rvtest`, for `clap`.
+
+ghost use Rattle.std.specs.Prelude.{◌≡◌, ◌++◌, IfOk, codes, false, string_bytes};
+ghost use Rattle.clap.specs.Words.{App, app_of, new_app};
+ghost use Rattle.clap.specs.declared.builder.command.Command.TheViews.{out-Command};
+ghost use Rattle.rv_cli.specs.CommandBuilder.{HasApp, HasHelpEnd, HasUsageOf, HasVersion, IsBuilt};
+ghost use Rattle.rvtest_cli.specs.RvtestCommand.{accept_app, choosing_app, cover_app, diff_app, explain_app, list_app, subcommand_app, merge_app, profile_app, show_app, test_run_app, test_app};
+ghost use Rattle.rvtest_cli.specs.RvtestCommand.{test_top_app, with_subcommands};
+
+use crate::arguments::{Argument, with_arguments};
+use crate::table::{ACCEPT, COMMANDS, COVER, DIFF, EXPLAIN, LIST, MERGE, PROFILE, RUN, SHOW};
+use clap::Command;
+use rv_cli::command_builder::{Built, with_subcommand};
+use std::alloc::{AllocError, Global};
+
+/// A command of `rvtest`, as the table states it.
+#[derive(Clone, Copy)]
+pub(crate) struct Subcommand<'a> {
+    pub(crate) name: &'a str,
+    pub(crate) about: &'a str,
+    /// What its help ends with: examples and statuses.
+    pub(crate) after: &'a str,
+    pub(crate) arguments: &'a [Argument<'a>],
+}
+
+/// The whole command.
+pub(crate) fn test_command<'a>(alloc: Global) -> Result<Command<'a>, AllocError>
+    ensures { IfOk result (λ command. app_of command ≡ test_app) }
+{
+    with_subcommands(alloc, top_command(alloc), &COMMANDS)
+}
+
+fn top_command<'a>(alloc: Global) -> Built<'a>
+    ensures app { IsBuilt test_top_app result }
+    ensures version { HasVersion (codes "1.0.0") result }
+{
+    Command::new(alloc, "rvtest")
+        .subcommand_required(true)
+        .disable_help_subcommand(true)
+        .about("Runs lists of firmware tests, and says what failed and why")
+        .version("1.0.0")
+        .bin_name("rvtest")
+}
+
+// A command with these below it more, in their order.
+fn with_subcommands<'a>(alloc: Global, command: Built<'a>, stated: &[Subcommand<'a>]) -> Built<'a>
+    ensures { (app : App) → HasApp app command.entry
+        → HasApp (with_subcommands app stated.now) result }
+{
+    let mut command = command;
+    for below in stated {
+        command = with_subcommand(command, subcommand_of_table(alloc, below));
+    }
+    command
+}
+
+fn subcommand_of_table<'a>(alloc: Global, stated: &Subcommand<'a>) -> Built<'a>
+    ensures { IsBuilt (subcommand_app stated.now) result }
+{
+    let command = bare_command(alloc, stated);
+    with_arguments(alloc, command, stated.arguments)
+}
+
+// Its usage begins with the program's name and its own.
+fn bare_command<'a>(alloc: Global, stated: &Subcommand<'a>) -> Built<'a>
+    ensures app { IsBuilt (new_app stated.now.name.now) result }
+    ensures usage { HasUsageOf (codes "rvtest " ++ stated.now.name.now) result }
+    ensures after { HasHelpEnd stated.now.after.now result }
+{
+    match usage_text(alloc, stated.name) {
+        Ok(usage) => Command::new(alloc, stated.name)
+            .about(stated.about)
+            .after_help(stated.after)
+            .bin_name(usage.as_str()),
+        Err(error) => Err(error),
+    }
+}
+
+fn usage_text(alloc: Global, name: &str) -> Result<String, AllocError>
+    ensures { IfOk result (λ usage. string_bytes usage ≡ codes "rvtest " ++ name.now) }
+{
+    let mut usage = String::from_str(alloc, "rvtest ")?;
+    usage.push_str(name)?;
+    Ok(usage)
+}
+
+/// A command whose words choose jobs of a list.
+#[derive(Clone, Copy)]
+pub enum ChoosingCommand {
+    Run,
+    List,
+    Accept,
+    Cover,
+    Profile,
+}
+
+impl ChoosingCommand {
+    /// The command, whose usage a refusal of its words shows.
+    pub fn command<'a>(self, alloc: Global) -> Result<Command<'a>, AllocError>
+        ensures { IfOk result (λ command.
+            (app_of command ≡ choosing_app self) × ((out-Command command).has_globals ≡ false)) }
+    {
+        match self {
+            ChoosingCommand::Run => run_command(alloc),
+            ChoosingCommand::List => list_command(alloc),
+            ChoosingCommand::Accept => accept_command(alloc),
+            ChoosingCommand::Cover => cover_command(alloc),
+            ChoosingCommand::Profile => profile_command(alloc),
+        }
+    }
+}
+
+/// The command `rvtest list`, whose usage a refusal of its words shows.
+pub(crate) fn list_command<'a>(alloc: Global) -> Result<Command<'a>, AllocError>
+    ensures { IfOk result (λ command.
+        (app_of command ≡ list_app) × ((out-Command command).has_globals ≡ false)) }
+{
+    subcommand_of_table(alloc, &LIST)
+}
+
+/// The command `rvtest accept`, whose usage a refusal of its words shows.
+pub(crate) fn accept_command<'a>(alloc: Global) -> Result<Command<'a>, AllocError>
+    ensures { IfOk result (λ command.
+        (app_of command ≡ accept_app) × ((out-Command command).has_globals ≡ false)) }
+{
+    subcommand_of_table(alloc, &ACCEPT)
+}
+
+/// The command `rvtest cover`, whose usage a refusal of its words shows.
+pub(crate) fn cover_command<'a>(alloc: Global) -> Result<Command<'a>, AllocError>
+    ensures { IfOk result (λ command.
+        (app_of command ≡ cover_app) × ((out-Command command).has_globals ≡ false)) }
+{
+    subcommand_of_table(alloc, &COVER)
+}
+
+/// The command `rvtest profile`, whose usage a refusal of its words shows.
+pub(crate) fn profile_command<'a>(alloc: Global) -> Result<Command<'a>, AllocError>
+    ensures { IfOk result (λ command.
+        (app_of command ≡ profile_app) × ((out-Command command).has_globals ≡ false)) }
+{
+    subcommand_of_table(alloc, &PROFILE)
+}
+
+/// The command `rvtest run`, whose usage a refusal of its words shows.
+pub(crate) fn run_command<'a>(alloc: Global) -> Result<Command<'a>, AllocError>
+    ensures { IfOk result (λ command.
+        (app_of command ≡ test_run_app) × ((out-Command command).has_globals ≡ false)) }
+{
+    subcommand_of_table(alloc, &RUN)
+}
+
+/// The command `rvtest diff`, whose usage a refusal of its words shows.
+pub(crate) fn diff_command<'a>(alloc: Global) -> Result<Command<'a>, AllocError>
+    ensures { IfOk result (λ command.
+        (app_of command ≡ diff_app) × ((out-Command command).has_globals ≡ false)) }
+{
+    subcommand_of_table(alloc, &DIFF)
+}
+
+/// The command `rvtest merge`, whose usage a refusal of its words shows.
+pub fn merge_command<'a>(alloc: Global) -> Result<Command<'a>, AllocError>
+    ensures { IfOk result (λ command.
+        (app_of command ≡ merge_app) × ((out-Command command).has_globals ≡ false)) }
+{
+    subcommand_of_table(alloc, &MERGE)
+}
+
+/// The command `rvtest show`, whose usage a refusal of its words shows.
+pub(crate) fn show_command<'a>(alloc: Global) -> Result<Command<'a>, AllocError>
+    ensures { IfOk result (λ command.
+        (app_of command ≡ show_app) × ((out-Command command).has_globals ≡ false)) }
+{
+    subcommand_of_table(alloc, &SHOW)
+}
+
+/// The command `rvtest explain`, whose usage a refusal of its words shows.
+pub(crate) fn explain_command<'a>(alloc: Global) -> Result<Command<'a>, AllocError>
+    ensures { IfOk result (λ command.
+        (app_of command ≡ explain_app) × ((out-Command command).has_globals ≡ false)) }
+{
+    subcommand_of_table(alloc, &EXPLAIN)
+}

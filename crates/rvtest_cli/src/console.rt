@@ -1,0 +1,29 @@
+//! The words of `console`.
+
+ghost use Rattle.clap.specs.Words.{found_of, rows_of};
+ghost use Rattle.rvtest_cli.specs.RvtestWords.{AsksFor, console_request};
+
+use crate::requests::Asked;
+use clap::ArgMatches;
+use rv_cli::values::text_value;
+
+/// The job whose console is asked for.
+#[derive(Clone, Copy)]
+pub struct ConsoleAsked<'a> {
+    /// Path of the job list.
+    pub list: &'a str,
+    /// The job's name.
+    pub name: &'a str,
+    /// The folder from which the paths in the list are taken.
+    pub root: Option<&'a str>,
+}
+
+/// What the values of `console` ask for.
+pub(crate) fn console_request<'a>(values: &ArgMatches<'a>) -> Option<Asked<'a>>
+    ensures { AsksFor (console_request (rows_of (found_of values.now))) result }
+{
+    let list = text_value(values, "list")?;
+    let name = text_value(values, "name")?;
+    let root = text_value(values, "root");
+    Some(Asked::Console(ConsoleAsked { list, name, root }))
+}

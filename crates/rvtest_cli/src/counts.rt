@@ -1,0 +1,32 @@
+//! The words of `counts`.
+
+ghost use Rattle.std.specs.Prelude.{None, Some};
+ghost use Rattle.clap.specs.Words.{found_of, rows_of};
+ghost use Rattle.rvtest_cli.specs.RvtestWords.{ReadsRequest, counts_request};
+
+use crate::requests::Asked;
+use crate::words_error::WordsError;
+use clap::ArgMatches;
+use rv_cli::values::{argument_values, text_value};
+use std::alloc::Global;
+
+/// The tables of counts that are to be added up.
+#[derive(Drop)]
+pub struct CountsAsked<'a> {
+    /// Paths of the tables.
+    pub tables: Vec<&'a str>,
+    /// Path of the sum that is written; absent, or `-`: standard output.
+    pub out: Option<&'a str>,
+}
+
+/// What the values of `counts` ask for.
+pub(crate) fn counts_request<'a>(
+    alloc: Global,
+    values: &ArgMatches<'a>,
+) -> Result<Option<Asked<'a>>, WordsError>
+    ensures { ReadsRequest (Some (counts_request (rows_of (found_of values.now)))) None result }
+{
+    let out = text_value(values, "out");
+    let tables = argument_values(alloc, values, "table")?;
+    Ok(Some(Asked::Counts(CountsAsked { tables, out })))
+}

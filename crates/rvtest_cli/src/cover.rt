@@ -1,0 +1,67 @@
+//! The words of `cover`.
+
+ghost use Rattle.std.specs.Prelude.{◌≡◌, None};
+ghost use Rattle.clap.specs.Words.{found_of, rows_of};
+ghost use Rattle.rvtest_cli.specs.RvtestWords.{ReadsRequest, cover_misuse, cover_request};
+
+use crate::command::cover_command;
+use crate::refusals::{Misuse, choice_misuse};
+use crate::requests::Asked;
+use crate::run::{RunAsked, is_choice_given, run_asked};
+use crate::words_error::WordsError;
+use clap::ArgMatches;
+use rv_base::limits::MOST_GROUP;
+use rv_cli::values::{is_flag_set, is_option_given, number_value, text_value};
+use std::alloc::Global;
+
+/// The jobs of a list of whose images it is shown what ran, and how.
+#[derive(Drop)]
+pub struct CoverAsked<'a> {
+    /// The jobs, and how they run; where there are counts, they are the path of a table that is read in place of a run. What `cover`
+    /// has no option for is as in a run without options.
+    pub run: RunAsked<'a>,
+    /// Whether it is written for tools.
+    pub csv: bool,
+}
+
+/// What the values of `cover` ask for, or which rule its options break.
+pub(crate) fn cover_request<'a>(
+    alloc: Global,
+    values: &ArgMatches<'a>,
+) -> Result<Option<Asked<'a>>, WordsError>
+    ensures { ReadsRequest (cover_request (rows_of (found_of values.now)))
+        (cover_misuse (rows_of (found_of values.now))) result }
+{
+    match cover_misuse(values) {
+        Some(misuse) => Err(misuse.misuse_error(alloc, cover_command(alloc))),
+        None => valid_cover_request(alloc, values),
+    }
+}
+
+fn valid_cover_request<'a>(
+    alloc: Global,
+    values: &ArgMatches<'a>,
+) -> Result<Option<Asked<'a>>, WordsError>
+    ensures { ReadsRequest (cover_request (rows_of (found_of values.now))) None result }
+{
+    let Some(list) = text_value(values, "list") else {
+        return Ok(None);
+    };
+    let Some(group) = number_value(values, "group", 1, MOST_GROUP) else {
+        return Ok(None);
+    };
+    let run = run_asked(alloc, values, list, group)?;
+    let csv = is_flag_set(values, "csv");
+    Ok(Some(Asked::Cover(CoverAsked { run, csv })))
+}
+
+/// The first rule that the options of `cover` break.
+pub(crate) fn cover_misuse(values: &ArgMatches<'_>) -> Option<Misuse>
+    ensures { result ≡ cover_misuse (rows_of (found_of values.now)) }
+{
+    if is_option_given(values, "shard") && is_choice_given(values) {
+        Some(Misuse::ShardAndChoice)
+    } else {
+        choice_misuse(values)
+    }
+}

@@ -1,0 +1,74 @@
+//! The words of `diff`.
+
+ghost use Rattle.std.specs.Prelude.{◌≡◌};
+ghost use Rattle.clap.specs.Words.{found_of, rows_of};
+ghost use Rattle.rvtest_cli.specs.RvtestWords.{AsksFor, ReadsRequest, diff_misuse, diff_request};
+
+use crate::command::diff_command;
+use crate::refusals::{Misuse, color_misuse};
+use crate::requests::Asked;
+use crate::words_error::WordsError;
+use clap::ArgMatches;
+use rv_cli::values::{is_flag_set, is_option_given, number_value, text_value};
+use std::alloc::Global;
+
+/// Two reports that are to be compared.
+#[derive(Clone, Copy)]
+pub struct DiffAsked<'a> {
+    /// Path of the report that is compared with.
+    pub old: &'a str,
+    /// Path of the report that is compared.
+    pub new: &'a str,
+    /// Whether a report may be cut off.
+    pub partial: bool,
+    /// Whether steps count too, and the places and values of faults.
+    pub steps: bool,
+    /// Whether a job counts too that takes over so many percent more steps, up to 1,000.
+    pub slower: Option<u32>,
+    /// Whether results have colours: `always`, `never` or `auto`; absent: `auto`.
+    pub color: Option<&'a str>,
+}
+
+/// What the values of `diff` ask for, or which rule its options break.
+pub(crate) fn diff_request<'a>(
+    alloc: Global,
+    values: &ArgMatches<'a>,
+) -> Result<Option<Asked<'a>>, WordsError>
+    ensures { ReadsRequest (diff_request (rows_of (found_of values.now)))
+        (diff_misuse (rows_of (found_of values.now))) result }
+{
+    match diff_misuse(values) {
+        Some(misuse) => Err(misuse.misuse_error(alloc, diff_command(alloc))),
+        None => Ok(valid_diff_request(values)),
+    }
+}
+
+fn valid_diff_request<'a>(values: &ArgMatches<'a>) -> Option<Asked<'a>>
+    ensures { AsksFor (diff_request (rows_of (found_of values.now))) result }
+{
+    let old = text_value(values, "old")?;
+    let new = text_value(values, "new")?;
+    let partial = is_flag_set(values, "partial");
+    let steps = is_flag_set(values, "steps");
+    let slower = number_value(values, "slower", 0, 1_000);
+    let color = text_value(values, "color");
+    Some(Asked::Diff(DiffAsked {
+        old,
+        new,
+        partial,
+        steps,
+        slower,
+        color,
+    }))
+}
+
+// Steps are compared exactly, or by which jobs are slower.
+fn diff_misuse(values: &ArgMatches<'_>) -> Option<Misuse>
+    ensures { result ≡ diff_misuse (rows_of (found_of values.now)) }
+{
+    if is_flag_set(values, "steps") && is_option_given(values, "slower") {
+        Some(Misuse::StepsAndSlower)
+    } else {
+        color_misuse(values)
+    }
+}

@@ -1,0 +1,63 @@
+//! The words of `explain`.
+
+ghost use Rattle.clap.specs.Words.{found_of, rows_of};
+ghost use Rattle.rvtest_cli.specs.RvtestWords.{AsksFor, ReadsRequest, color_misuse, explain_request};
+
+use crate::command::explain_command;
+use crate::refusals::color_misuse;
+use crate::requests::Asked;
+use crate::words_error::WordsError;
+use clap::ArgMatches;
+use rv_base::limits::MOST_BUDGET;
+use rv_cli::values::{number_value, text_value};
+use std::alloc::Global;
+
+/// The job whose end is to be explained.
+#[derive(Clone, Copy)]
+pub struct ExplainAsked<'a> {
+    /// Path of the job list.
+    pub list: &'a str,
+    /// The job's name.
+    pub name: &'a str,
+    /// How many of its last instructions are shown, up to 100,000.
+    pub last: u32,
+    /// The steps that each job of the list has at most, in place of its own: from 1 to 1,000,000,000.
+    pub budget: Option<u32>,
+    /// The folder from which the paths in the list are taken.
+    pub root: Option<&'a str>,
+    /// Whether results have colours: `always`, `never` or `auto`; absent: `auto`.
+    pub color: Option<&'a str>,
+}
+
+/// What the values of `explain` ask for, or which rule its options break.
+pub(crate) fn explain_request<'a>(
+    alloc: Global,
+    values: &ArgMatches<'a>,
+) -> Result<Option<Asked<'a>>, WordsError>
+    ensures { ReadsRequest (explain_request (rows_of (found_of values.now)))
+        (color_misuse (rows_of (found_of values.now))) result }
+{
+    match color_misuse(values) {
+        Some(misuse) => Err(misuse.misuse_error(alloc, explain_command(alloc))),
+        None => Ok(valid_explain_request(values)),
+    }
+}
+
+fn valid_explain_request<'a>(values: &ArgMatches<'a>) -> Option<Asked<'a>>
+    ensures { AsksFor (explain_request (rows_of (found_of values.now))) result }
+{
+    let list = text_value(values, "list")?;
+    let name = text_value(values, "name")?;
+    let last = number_value(values, "last", 0, 100_000)?;
+    let budget = number_value(values, "budget", 1, MOST_BUDGET);
+    let root = text_value(values, "root");
+    let color = text_value(values, "color");
+    Some(Asked::Explain(ExplainAsked {
+        list,
+        name,
+        last,
+        budget,
+        root,
+        color,
+    }))
+}

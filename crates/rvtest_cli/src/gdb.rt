@@ -1,0 +1,37 @@
+//! The words of `gdb`.
+
+ghost use Rattle.clap.specs.Words.{found_of, rows_of};
+ghost use Rattle.rvtest_cli.specs.RvtestWords.{AsksFor, gdb_request};
+
+use crate::requests::Asked;
+use clap::ArgMatches;
+use rv_cli::values::{number_value, text_value};
+
+/// The job whose run is to be shown to gdb.
+#[derive(Clone, Copy)]
+pub struct GdbAsked<'a> {
+    /// Path of the job list.
+    pub list: &'a str,
+    /// The job's name.
+    pub name: &'a str,
+    /// The folder from which the paths in the list are taken.
+    pub root: Option<&'a str>,
+    /// How many megabytes the session takes at most, from 64 to 4,096.
+    pub memory: Option<u32>,
+}
+
+/// What the values of `gdb` ask for.
+pub(crate) fn gdb_request<'a>(values: &ArgMatches<'a>) -> Option<Asked<'a>>
+    ensures { AsksFor (gdb_request (rows_of (found_of values.now))) result }
+{
+    let list = text_value(values, "list")?;
+    let name = text_value(values, "name")?;
+    let root = text_value(values, "root");
+    let memory = number_value(values, "memory", 64, 4_096);
+    Some(Asked::Gdb(GdbAsked {
+        list,
+        name,
+        root,
+        memory,
+    }))
+}

@@ -1,0 +1,45 @@
+//! The command line of `rvtest`: what a person asks for, read by `clap`.
+//!
+//! [`read_words`] parses the words of a process. Its error has the form of `clap`'s own; help and the version are errors, too.
+//! [`usage_error`] makes such an error for a fault that `clap` does not find, as a bad regular expression.
+#![tactic(auto)]
+
+mod accept;
+mod arguments;
+mod check;
+mod command;
+mod console;
+mod counts;
+mod cover;
+mod diff;
+mod examples;
+mod explain;
+mod gdb;
+mod help;
+mod list;
+mod merge;
+mod profile;
+mod refusals;
+mod requests;
+mod run;
+mod show;
+mod table;
+mod tips;
+mod words_error;
+
+pub use accept::AcceptAsked;
+pub use check::CheckAsked;
+pub use command::{ChoosingCommand, merge_command};
+pub use console::ConsoleAsked;
+pub use counts::CountsAsked;
+pub use cover::CoverAsked;
+pub use diff::DiffAsked;
+pub use explain::ExplainAsked;
+pub use gdb::GdbAsked;
+pub use help::HelpAsked;
+pub use merge::MergeAsked;
+pub use profile::ProfileAsked;
+pub use requests::{Asked, read_words};
+pub use run::RunAsked;
+pub use show::ShowAsked;
+pub use words_error::{WordsError, usage_error};

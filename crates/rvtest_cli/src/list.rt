@@ -1,0 +1,40 @@
+//! The words of `list`.
+
+ghost use Rattle.std.specs.Prelude.{None};
+ghost use Rattle.clap.specs.Words.{found_of, rows_of};
+ghost use Rattle.rvtest_cli.specs.RvtestWords.{ReadsRequest, choice_misuse, list_request};
+
+use crate::command::list_command;
+use crate::refusals::choice_misuse;
+use crate::requests::Asked;
+use crate::run::run_asked;
+use crate::words_error::WordsError;
+use clap::ArgMatches;
+use rv_cli::values::text_value;
+use std::alloc::Global;
+
+/// What the values of `list` ask for, or which rule its options break.
+pub(crate) fn list_request<'a>(
+    alloc: Global,
+    values: &ArgMatches<'a>,
+) -> Result<Option<Asked<'a>>, WordsError>
+    ensures { ReadsRequest (list_request (rows_of (found_of values.now)))
+        (choice_misuse (rows_of (found_of values.now))) result }
+{
+    match choice_misuse(values) {
+        Some(misuse) => Err(misuse.misuse_error(alloc, list_command(alloc))),
+        None => valid_list_request(alloc, values),
+    }
+}
+
+fn valid_list_request<'a>(
+    alloc: Global,
+    values: &ArgMatches<'a>,
+) -> Result<Option<Asked<'a>>, WordsError>
+    ensures { ReadsRequest (list_request (rows_of (found_of values.now))) None result }
+{
+    let Some(list) = text_value(values, "list") else {
+        return Ok(None);
+    };
+    Ok(Some(Asked::List(run_asked(alloc, values, list, 1)?)))
+}

@@ -1,0 +1,62 @@
+//! The words of `merge`.
+
+ghost use Rattle.std.specs.Prelude.{None, Some};
+ghost use Rattle.clap.specs.Words.{found_of, rows_of};
+ghost use Rattle.rvtest_cli.specs.RvtestWords.{ReadsRequest, merge_request, files_misuse};
+
+use crate::command::merge_command;
+use crate::refusals::files_misuse;
+use crate::requests::Asked;
+use crate::words_error::WordsError;
+use clap::ArgMatches;
+use rv_cli::values::{argument_values, is_flag_set, text_value};
+use std::alloc::Global;
+
+/// The parts of one run whose whole report is to be made.
+#[derive(Drop)]
+pub struct MergeAsked<'a> {
+    /// Paths of the parts.
+    pub parts: Vec<&'a str>,
+    /// Path of the report that is written; `-` is standard output.
+    pub report: Option<&'a str>,
+    /// Path of the JUnit file that is written; `-` is standard output.
+    pub junit: Option<&'a str>,
+    /// The name of JUnit's suite; absent: by the report's path.
+    pub suite: Option<&'a str>,
+    /// Whether a failed verdict alone is a failure.
+    pub lenient: bool,
+}
+
+/// What the values of `merge` ask for, or which rule its options break.
+pub(crate) fn merge_request<'a>(
+    alloc: Global,
+    values: &ArgMatches<'a>,
+) -> Result<Option<Asked<'a>>, WordsError>
+    ensures { ReadsRequest (Some (merge_request (rows_of (found_of values.now))))
+        (files_misuse (rows_of (found_of values.now))) result }
+{
+    match files_misuse(values) {
+        Some(misuse) => Err(misuse.misuse_error(alloc, merge_command(alloc))),
+        None => valid_merge_request(alloc, values),
+    }
+}
+
+fn valid_merge_request<'a>(
+    alloc: Global,
+    values: &ArgMatches<'a>,
+) -> Result<Option<Asked<'a>>, WordsError>
+    ensures { ReadsRequest (Some (merge_request (rows_of (found_of values.now)))) None result }
+{
+    let report = text_value(values, "report");
+    let junit = text_value(values, "junit");
+    let suite = text_value(values, "suite");
+    let lenient = is_flag_set(values, "lenient");
+    let parts = argument_values(alloc, values, "part")?;
+    Ok(Some(Asked::Merge(MergeAsked {
+        parts,
+        report,
+        junit,
+        suite,
+        lenient,
+    })))
+}

@@ -1,0 +1,112 @@
+//! The words of `profile`.
+
+ghost use Rattle.std.specs.Prelude.{◌≡◌, ◌≤◌, IfOk, None, map};
+ghost use Rattle.clap.specs.Words.{found_of, rows_of};
+ghost use Rattle.rv_base.specs.Limits.{most_group};
+ghost use Rattle.rvtest_cli.specs.RvtestWords.{IsRunAskedInRange, ReadsRequest, is_name_beside_choice, named_or_only, named_run_words};
+ghost use Rattle.rvtest_cli.specs.RvtestWords.{profile_misuse, profile_request, run_asked_words};
+
+use crate::command::profile_command;
+use crate::cover::cover_misuse;
+use crate::refusals::Misuse;
+use crate::requests::Asked;
+use crate::run::{RunAsked, is_choice_given, run_asked};
+use crate::words_error::WordsError;
+use clap::ArgMatches;
+use rv_base::limits::MOST_GROUP;
+use rv_cli::values::{argument_values, is_flag_set, is_option_given, number_value, text_value};
+use std::alloc::{AllocError, Global};
+
+/// How many functions of an image can be asked for at most.
+pub(crate) const MOST_FUNCTIONS: u32 = 1_000_000;
+
+/// The jobs of a list in whose images it is shown where their steps were, and how.
+#[derive(Drop)]
+pub struct ProfileAsked<'a> {
+    /// The jobs, of which a name may be one, and how they run; where there are counts, they are the path of a table that is read in place
+    /// of a run. What `profile` has no option for is as in a run without options.
+    pub run: RunAsked<'a>,
+    /// How many functions of each image are shown, from 1 to 1,000,000; absent: all.
+    pub top: Option<u32>,
+    /// Whether it is written for tools.
+    pub csv: bool,
+}
+
+/// What the values of `profile` ask for, or which rule its options break.
+pub(crate) fn profile_request<'a>(
+    alloc: Global,
+    values: &ArgMatches<'a>,
+) -> Result<Option<Asked<'a>>, WordsError>
+    ensures { ReadsRequest (profile_request (rows_of (found_of values.now)))
+        (profile_misuse (rows_of (found_of values.now))) result }
+{
+    match profile_misuse(values) {
+        Some(misuse) => Err(misuse.misuse_error(alloc, profile_command(alloc))),
+        None => valid_profile_request(alloc, values),
+    }
+}
+
+fn valid_profile_request<'a>(
+    alloc: Global,
+    values: &ArgMatches<'a>,
+) -> Result<Option<Asked<'a>>, WordsError>
+    ensures { ReadsRequest (profile_request (rows_of (found_of values.now))) None result }
+{
+    let Some(list) = text_value(values, "list") else {
+        return Ok(None);
+    };
+    let Some(group) = number_value(values, "group", 1, MOST_GROUP) else {
+        return Ok(None);
+    };
+    let run = named_run(alloc, values, list, group)?;
+    let top = number_value(values, "top", 1, MOST_FUNCTIONS);
+    let csv = is_flag_set(values, "csv");
+    Ok(Some(Asked::Profile(ProfileAsked { run, top, csv })))
+}
+
+// What is asked of a list as of `run`, with the job that is named.
+fn named_run<'a>(
+    alloc: Global,
+    values: &ArgMatches<'a>,
+    list: &'a str,
+    group: u32,
+) -> Result<RunAsked<'a>, AllocError>
+    requires { (1 ≤ group) × (group ≤ most_group) }
+    ensures { IfOk result (λ asked. (run_asked_words asked ≡ named_run_words list.entry.now group (rows_of (found_of values.now)))
+        × IsRunAskedInRange asked) }
+{
+    let mut run = run_asked(alloc, values, list, group)?;
+    let only = named_or_only(alloc, values)?;
+    run.only = only;
+    Ok(run)
+}
+
+// The job that is named, or those that `--only` chooses.
+fn named_or_only<'a>(alloc: Global, values: &ArgMatches<'a>) -> Result<Vec<&'a str>, AllocError>
+    ensures { IfOk result (λ names. map (λ name. name.now) names.items
+        ≡ named_or_only (rows_of (found_of values.now))) }
+{
+    if is_option_given(values, "name") {
+        argument_values(alloc, values, "name")
+    } else {
+        argument_values(alloc, values, "only")
+    }
+}
+
+// The first rule that the options of `profile` break.
+fn profile_misuse(values: &ArgMatches<'_>) -> Option<Misuse>
+    ensures { result ≡ profile_misuse (rows_of (found_of values.now)) }
+{
+    if is_name_beside_choice(values) {
+        Some(Misuse::NameAndChoice)
+    } else {
+        cover_misuse(values)
+    }
+}
+
+// Whether one job is named, and jobs are chosen in another way.
+fn is_name_beside_choice(values: &ArgMatches<'_>) -> bool
+    ensures { result ≡ is_name_beside_choice (rows_of (found_of values.now)) }
+{
+    is_option_given(values, "name") && (is_choice_given(values) || is_option_given(values, "shard"))
+}

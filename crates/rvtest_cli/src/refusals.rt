@@ -1,0 +1,275 @@
+//! Refusals of words in which `clap` finds no fault.
+
+ghost use Rattle.std.specs.Prelude.{◌≡◌, [], ◌∷◌, Some};
+ghost use Rattle.clap.specs.Words.{found_of, rows_of};
+ghost use Rattle.rvtest_cli.specs.RvtestWords.{IsMisuseTold, choice_misuse, color_misuse, files_misuse, is_color_unknown, is_color_word, is_into_path, is_partial_alone};
+ghost use Rattle.rvtest_cli.specs.RvtestWords.{is_failed_path, is_junit_path, is_report_path, is_suite_nameless};
+ghost use Rattle.rvtest_cli.specs.RvtestWords.{misuse_kinds, misuse_text, show_misuse, suite_misuse};
+
+use crate::words_error::{WordsError, usage_error};
+use clap::error::ErrorKind;
+use clap::{ArgMatches, Command};
+use rv_cli::values::{is_flag_set, is_option_given, text_value};
+use std::alloc::{AllocError, Global};
+
+/// Options that do not go together.
+#[derive(Clone, Copy)]
+pub(crate) enum Misuse {
+    /// `--verbose` beside `--quiet`.
+    VerboseAndQuiet,
+    /// A shard beside a choice of jobs.
+    ShardAndChoice,
+    /// One job beside a choice of jobs or a shard.
+    NameAndChoice,
+    /// A stamp without a shard.
+    StampAlone,
+    /// Another budget than the list's beside a report, JUnit's XML or a shard.
+    BudgetAndRows,
+    /// An end behind a failure beside a shard, whose part has all its rows.
+    StopAfterAndShard,
+    /// Rows that are put into a report, beside a report of their own or a shard's.
+    IntoAndReport,
+    /// Rows that are put into standard output.
+    IntoStdout,
+    /// A report of the rows at the path of the one that chooses them.
+    FailedIsReport,
+    /// A report that may be cut off, of which no job is chosen.
+    PartialAlone,
+    /// Steps compared exactly, and by which jobs are slower.
+    StepsAndSlower,
+    /// Stacks without a table of counts.
+    StacksAlone,
+    /// A suite without JUnit's XML.
+    SuiteAlone,
+    /// A suite whose name is empty.
+    NamelessSuite,
+    /// A word for colours that is none.
+    UnknownColor,
+    /// A report and JUnit's XML that go to one file.
+    OneFile,
+    /// Rows that are put into a report, and JUnit's XML, that go to one file.
+    IntoOneFile,
+    /// Counts that go to the file of a report, of JUnit's XML, or of the report that chooses the jobs.
+    CountsOneFile,
+}
+
+impl Misuse {
+    /// The error that says so, with the usage of the command.
+    pub(crate) fn misuse_error(
+        self,
+        alloc: Global,
+        command: Result<Command<'_>, AllocError>,
+    ) -> WordsError
+        ensures { IsMisuseTold (Some self) result }
+    {
+        usage_error(alloc, command, self.misuse_error_kind(), self.misuse_text())
+    }
+
+    fn misuse_error_kind(self) -> ErrorKind
+        ensures { misuse_kinds (Some self) ≡ result ∷ [] }
+    {
+        match self {
+            Misuse::StampAlone | Misuse::PartialAlone | Misuse::StacksAlone | Misuse::SuiteAlone =>
+                ErrorKind::MissingRequiredArgument,
+            Misuse::NamelessSuite | Misuse::UnknownColor | Misuse::IntoStdout => {
+                ErrorKind::InvalidValue
+            }
+            Misuse::VerboseAndQuiet
+            | Misuse::ShardAndChoice
+            | Misuse::NameAndChoice
+            | Misuse::BudgetAndRows
+            | Misuse::StopAfterAndShard
+            | Misuse::IntoAndReport
+            | Misuse::FailedIsReport
+            | Misuse::StepsAndSlower
+            | Misuse::OneFile
+            | Misuse::IntoOneFile
+            | Misuse::CountsOneFile => ErrorKind::ArgumentConflict,
+        }
+    }
+
+    fn misuse_text(self) -> &'static str
+        ensures { result.now ≡ misuse_text self }
+    {
+        match self {
+            Misuse::VerboseAndQuiet => "the argument '--verbose' cannot be used with '--quiet'",
+            Misuse::ShardAndChoice => {
+                "the argument '--shard <K/N>' cannot be used with '--only <NAME>', '--match <REGEX>', '--exclude <REGEX>' or '--failed <REPORT>'"
+            }
+            Misuse::NameAndChoice => {
+                "the argument '[NAME]' cannot be used with '--only <NAME>', '--match <REGEX>', '--exclude <REGEX>', '--failed <REPORT>' or '--shard <K/N>': it is one job"
+            }
+            Misuse::StampAlone => {
+                "the argument '--stamp <TEXT>' cannot be used without '--shard <K/N>'"
+            }
+            Misuse::BudgetAndRows => {
+                "the argument '--budget <N>' cannot be used with '--into <FILE>', '--report <FILE>', '--junit <FILE>' or '--shard <K/N>': such rows are not the list's"
+            }
+            Misuse::StopAfterAndShard => {
+                "the argument '--stop-after <N>' cannot be used with '--shard <K/N>': a part has a row of each of its jobs"
+            }
+            Misuse::IntoAndReport => {
+                "the argument '--into <FILE>' cannot be used with '--report <FILE>' or '--shard <K/N>': it is the report that is written"
+            }
+            Misuse::IntoStdout => {
+                "the value of '--into <FILE>' is a file, and not '-': the report is read there before it is written"
+            }
+            Misuse::FailedIsReport => {
+                "the argument '--report <FILE>' cannot be used with '--failed <REPORT>' of the same name: the rows of the other jobs would be lost; '--into <FILE>' keeps them"
+            }
+            Misuse::PartialAlone => {
+                "the argument '--partial' cannot be used without '--failed <REPORT>'"
+            }
+            Misuse::StepsAndSlower => {
+                "the argument '--steps' cannot be used with '--slower <N>'"
+            }
+            Misuse::StacksAlone => {
+                "the argument '--stacks' cannot be used without '--counts <FILE>'"
+            }
+            Misuse::SuiteAlone => {
+                "the argument '--suite <NAME>' cannot be used without '--junit <FILE>'"
+            }
+            Misuse::NamelessSuite => {
+                "a value is required for '--suite <NAME>' but none was supplied"
+            }
+            Misuse::UnknownColor => "the value of '--color <WHEN>' is always, never or auto",
+            Misuse::OneFile => {
+                "the argument '--report <FILE>' cannot be used with '--junit <FILE>' of the same name: it is one file"
+            }
+            Misuse::IntoOneFile => {
+                "the argument '--into <FILE>' cannot be used with '--junit <FILE>' of the same name: it is one file"
+            }
+            Misuse::CountsOneFile => {
+                "the argument '--counts <FILE>' cannot be used with '--report <FILE>', '--into <FILE>', '--junit <FILE>' or '--failed <REPORT>' of the same name: it is one file"
+            }
+        }
+    }
+}
+
+/// What is wrong with words that choose jobs.
+pub(crate) fn choice_misuse(values: &ArgMatches<'_>) -> Option<Misuse>
+    ensures { result ≡ choice_misuse (rows_of (found_of values.now)) }
+{
+    if is_partial_alone(values) {
+        Some(Misuse::PartialAlone)
+    } else {
+        None
+    }
+}
+
+/// Whether a report may be cut off that is none.
+pub(crate) fn is_partial_alone(values: &ArgMatches<'_>) -> bool
+    ensures { result ≡ is_partial_alone (rows_of (found_of values.now)) }
+{
+    is_flag_set(values, "partial") && !is_option_given(values, "failed")
+}
+
+/// A report and JUnit's XML may not go to one file, and a suite is of JUnit's XML.
+pub(crate) fn files_misuse(values: &ArgMatches<'_>) -> Option<Misuse>
+    ensures { result ≡ files_misuse (rows_of (found_of values.now)) }
+{
+    match text_value(values, "junit") {
+        Some(path) if is_report_path(values, path) => Some(Misuse::OneFile),
+        Some(path) if is_into_path(values, path) => Some(Misuse::IntoOneFile),
+        _ => suite_misuse(values),
+    }
+}
+
+/// What is wrong with the words of `show`.
+pub(crate) fn show_misuse(values: &ArgMatches<'_>) -> Option<Misuse>
+    ensures { result ≡ show_misuse (rows_of (found_of values.now)) }
+{
+    if is_color_unknown(values) {
+        Some(Misuse::UnknownColor)
+    } else {
+        suite_misuse(values)
+    }
+}
+
+/// A word for colours is one of three.
+pub(crate) fn color_misuse(values: &ArgMatches<'_>) -> Option<Misuse>
+    ensures { result ≡ color_misuse (rows_of (found_of values.now)) }
+{
+    if is_color_unknown(values) {
+        Some(Misuse::UnknownColor)
+    } else {
+        None
+    }
+}
+
+pub(crate) fn is_color_unknown(values: &ArgMatches<'_>) -> bool
+    ensures { result ≡ is_color_unknown (rows_of (found_of values.now)) }
+{
+    match text_value(values, "color") {
+        Some(word) => !is_color_word(word),
+        None => false,
+    }
+}
+
+fn is_color_word(word: &str) -> bool
+    ensures { result ≡ is_color_word word.now }
+{
+    word == "always" || word == "never" || word == "auto"
+}
+
+/// A suite is of JUnit's XML, and has a name.
+pub(crate) fn suite_misuse(values: &ArgMatches<'_>) -> Option<Misuse>
+    ensures { result ≡ suite_misuse (rows_of (found_of values.now)) }
+{
+    if is_option_given(values, "suite") && !is_option_given(values, "junit") {
+        Some(Misuse::SuiteAlone)
+    } else if is_suite_nameless(values) {
+        Some(Misuse::NamelessSuite)
+    } else {
+        None
+    }
+}
+
+fn is_suite_nameless(values: &ArgMatches<'_>) -> bool
+    ensures { result ≡ is_suite_nameless (rows_of (found_of values.now)) }
+{
+    match text_value(values, "suite") {
+        Some(name) => name == "",
+        None => false,
+    }
+}
+
+/// Whether the report goes to a path.
+pub(crate) fn is_report_path(values: &ArgMatches<'_>, path: &str) -> bool
+    ensures { result ≡ is_report_path path.now (rows_of (found_of values.now)) }
+{
+    match text_value(values, "report") {
+        Some(report) => path == report,
+        None => false,
+    }
+}
+
+/// Whether the rows go into the report at a path.
+pub(crate) fn is_into_path(values: &ArgMatches<'_>, path: &str) -> bool
+    ensures { result ≡ is_into_path path.now (rows_of (found_of values.now)) }
+{
+    match text_value(values, "into") {
+        Some(report) => path == report,
+        None => false,
+    }
+}
+
+/// Whether the report that chooses the jobs stands at a path.
+pub(crate) fn is_failed_path(values: &ArgMatches<'_>, path: &str) -> bool
+    ensures { result ≡ is_failed_path path.now (rows_of (found_of values.now)) }
+{
+    match text_value(values, "failed") {
+        Some(report) => path == report,
+        None => false,
+    }
+}
+
+/// Whether JUnit's XML goes to a path.
+pub(crate) fn is_junit_path(values: &ArgMatches<'_>, path: &str) -> bool
+    ensures { result ≡ is_junit_path path.now (rows_of (found_of values.now)) }
+{
+    match text_value(values, "junit") {
+        Some(junit) => path == junit,
+        None => false,
+    }
+}

@@ -1,0 +1,125 @@
+//! What words ask `rvtest` for: a command with its values.
+
+ghost use Rattle.std.specs.Prelude.{◌≡◌, [], IfErr, IfOk, IfSome, map, option_map};
+ghost use Rattle.clap.specs.Words.{fault_of, found_of, rows_of, subcommand_rows_of};
+ghost use Rattle.rvtest_cli.specs.RvtestCommand.{test_app};
+ghost use Rattle.rvtest_cli.specs.RvtestWords.{IsAskedInRange, IsMisuseTold, ReadsRequest, matched_misuse, subcommand_misuse};
+ghost use Rattle.rvtest_cli.specs.RvtestWords.{asked_words, matched_words, subcommand_words, words_fault_kinds, words_misuse, words_request};
+ghost use Rattle.rvtest_cli.specs.WordsErrors.{FailsByKinds};
+
+use crate::accept::{AcceptAsked, accept_request};
+use crate::check::{CheckAsked, check_request};
+use crate::command::test_command;
+use crate::console::{ConsoleAsked, console_request};
+use crate::counts::{CountsAsked, counts_request};
+use crate::cover::{CoverAsked, cover_request};
+use crate::diff::{DiffAsked, diff_request};
+use crate::explain::{ExplainAsked, explain_request};
+use crate::gdb::{GdbAsked, gdb_request};
+use crate::help::{HelpAsked, help_request};
+use crate::list::list_request;
+use crate::merge::{MergeAsked, merge_request};
+use crate::profile::{ProfileAsked, profile_request};
+use crate::run::{RunAsked, test_run_request};
+use crate::show::{ShowAsked, show_request};
+use crate::words_error::WordsError;
+use clap::ArgMatches;
+use std::alloc::Global;
+use std::convert::AsStr;
+
+/// What words ask for.
+#[derive(Drop)]
+pub enum Asked<'a> {
+    /// To run jobs of a list.
+    Run(RunAsked<'a>),
+    /// To say which jobs a run of these words would run. What `list` has no option for is as in a run without options.
+    List(RunAsked<'a>),
+    /// To run one job, and to show how it ended and came there.
+    Explain(ExplainAsked<'a>),
+    /// To run one job, and to write its console.
+    Console(ConsoleAsked<'a>),
+    /// To show the run of one job to gdb.
+    Gdb(GdbAsked<'a>),
+    /// To say all that is wrong with a list, and to run nothing.
+    Check(CheckAsked<'a>),
+    /// To make what runs came to what is expected of them.
+    Accept(AcceptAsked<'a>),
+    /// To make the whole report of the parts of one run.
+    Merge(MergeAsked<'a>),
+    /// To say in which jobs two reports differ.
+    Diff(DiffAsked<'a>),
+    /// To show what failed in a report.
+    Show(ShowAsked<'a>),
+    /// To add up tables of counts.
+    Counts(CountsAsked<'a>),
+    /// To show what of the images of jobs ran.
+    Cover(CoverAsked<'a>),
+    /// To show in which functions the steps of jobs were.
+    Profile(ProfileAsked<'a>),
+    /// To tell of something that is no command.
+    Help(HelpAsked<'a>),
+}
+
+/// Reads words, the first of which is the program's name. `None` stands where words ask for nothing. An error is `clap`'s
+/// own, but for options that do not go together. Help and the version are errors, too: of the kinds DisplayHelp and DisplayVersion.
+pub fn read_words<'a, T: AsStr>(
+    alloc: Global,
+    words: &'a [T],
+) -> Result<Option<Asked<'a>>, WordsError>
+    // What is read is what the words ask for.
+    ensures value { IfOk result
+        (λ asked. option_map asked_words asked ≡ words_request (map T.text words.entry.now)) }
+    // Each number is within the range of its argument.
+    ensures within { IfOk result (λ asked. IfSome asked IsAskedInRange) }
+    // Any words fail by a fault that is found in them, or for want of memory, and else have none.
+    ensures kinds { FailsByKinds (words_fault_kinds (map T.text words.entry.now)) result }
+    // Where `clap` finds none, it is told which options do not go together.
+    ensures misused { fault_of test_app (map T.text words.entry.now) ≡ []
+        → IfErr result (IsMisuseTold (words_misuse (map T.text words.entry.now))) }
+{
+    let command = test_command(alloc)?;
+    match command.try_get_matches_from(words) {
+        Ok(matches) => matched_request(alloc, &matches),
+        Err(error) => Err(WordsError::of_clap(alloc, &error)),
+    }
+}
+
+fn matched_request<'a>(
+    alloc: Global,
+    matches: &ArgMatches<'a>,
+) -> Result<Option<Asked<'a>>, WordsError>
+    ensures { ReadsRequest (matched_words (subcommand_rows_of matches.now))
+        (matched_misuse (subcommand_rows_of matches.now)) result }
+{
+    match matches.subcommand() {
+        Some((name, values)) => subcommand_request(alloc, name, values),
+        None => Ok(None),
+    }
+}
+
+fn subcommand_request<'a>(
+    alloc: Global,
+    name: &str,
+    values: &ArgMatches<'a>,
+) -> Result<Option<Asked<'a>>, WordsError>
+    ensures { ReadsRequest (subcommand_words name.now (rows_of (found_of values.now)))
+        (subcommand_misuse name.now (rows_of (found_of values.now))) result }
+{
+    match name {
+        "run" => test_run_request(alloc, values),
+        "list" => list_request(alloc, values),
+        "explain" => explain_request(alloc, values),
+        "console" => Ok(console_request(values)),
+        "gdb" => Ok(gdb_request(values)),
+        "check" => Ok(check_request(values)),
+        "accept" => accept_request(alloc, values),
+        "merge" => merge_request(alloc, values),
+        "diff" => diff_request(alloc, values),
+        "show" => show_request(alloc, values),
+        "counts" => counts_request(alloc, values),
+        "cover" => cover_request(alloc, values),
+        "profile" => profile_request(alloc, values),
+        "help" => Ok(help_request(values)),
+        _ => Ok(None),
+    }
+}

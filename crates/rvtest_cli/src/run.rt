@@ -1,0 +1,248 @@
+//! The words of `run`.
+
+ghost use Rattle.std.specs.Prelude.{◌≡◌, ◌≤◌, IfOk, None};
+ghost use Rattle.clap.specs.Words.{found_of, rows_of};
+ghost use Rattle.rv_base.specs.Limits.{most_group};
+ghost use Rattle.rvtest_cli.specs.RvtestWords.{IsRunAskedInRange, ReadsRequest, are_counts_put_over, are_rows_kept, are_rows_put_twice, are_stacks_alone, is_choice_given, is_choice_overwritten, is_report_given, is_stdout_put_into, run_asked_words};
+ghost use Rattle.rvtest_cli.specs.RvtestWords.{run_misuse, test_run_request, run_words};
+
+use crate::command::run_command;
+use crate::refusals::{
+    Misuse, files_misuse, is_color_unknown, is_failed_path, is_into_path, is_junit_path,
+    is_partial_alone, is_report_path,
+};
+use crate::requests::Asked;
+use crate::words_error::WordsError;
+use clap::ArgMatches;
+use rv_base::limits::{MOST_BUDGET, MOST_GROUP, MOST_JOBS, MOST_WORKERS};
+use rv_cli::values::{argument_values, is_flag_set, is_option_given, number_value, text_value};
+use std::alloc::{AllocError, Global};
+
+/// The jobs of a list that are to run, and how.
+#[derive(Drop)]
+pub struct RunAsked<'a> {
+    /// Path of the job list.
+    pub list: &'a str,
+    /// The exact names of jobs that are chosen.
+    pub only: Vec<&'a str>,
+    /// A regular expression: jobs in whose names it is found are chosen.
+    pub pattern: Option<&'a str>,
+    /// A regular expression: jobs in whose names it is found are left out.
+    pub exclude: Option<&'a str>,
+    /// Path of a report: jobs that failed in it are chosen.
+    pub failed: Option<&'a str>,
+    /// Whether that report may be cut off.
+    pub partial: bool,
+    /// Which part of the list is to run, as `K/N`.
+    pub shard: Option<&'a str>,
+    /// Which run the part is of.
+    pub stamp: Option<&'a str>,
+    /// Threads, from 1 to 64; absent: as many as there are processors.
+    pub workers: Option<u32>,
+    /// Jobs that a thread takes at once, from 1 to 4,096.
+    pub group: u32,
+    /// The steps that each job of the list has at most, in place of its own: from 1 to 1,000,000,000.
+    pub budget: Option<u32>,
+    /// The folder from which the paths in the list are taken.
+    pub root: Option<&'a str>,
+    /// Path of a whole report into which the rows are put.
+    pub into: Option<&'a str>,
+    /// Path of the report that is written; `-` is standard output.
+    pub report: Option<&'a str>,
+    /// Path of the JUnit file that is written; `-` is standard output.
+    pub junit: Option<&'a str>,
+    /// The name of JUnit's suite; absent: by the list's file.
+    pub suite: Option<&'a str>,
+    /// Whether a failed verdict alone is a failure.
+    pub lenient: bool,
+    /// Path of the table of counts that is written; `-` is standard output.
+    pub counts: Option<&'a str>,
+    /// Whether that table has stacks, too.
+    pub stacks: bool,
+    /// Path of a file with the names of jobs that are known to fail.
+    pub known: Option<&'a str>,
+    /// The number of the failure that ends the run, from 1 to 4,096.
+    pub stop_after: Option<u32>,
+    /// Whether jobs that pass have a line too.
+    pub verbose: bool,
+    /// Whether the last line alone is shown.
+    pub quiet: bool,
+    /// How many of the last instructions of a failed job are shown, up to 100,000.
+    pub last: Option<u32>,
+    /// Whether results have colours: `always`, `never` or `auto`; absent: `auto`.
+    pub color: Option<&'a str>,
+}
+
+/// What the values of `run` ask for, or which rule its options break.
+pub(crate) fn test_run_request<'a>(
+    alloc: Global,
+    values: &ArgMatches<'a>,
+) -> Result<Option<Asked<'a>>, WordsError>
+    ensures { ReadsRequest (test_run_request (rows_of (found_of values.now)))
+        (run_misuse (rows_of (found_of values.now))) result }
+{
+    match run_misuse(values) {
+        Some(misuse) => Err(misuse.misuse_error(alloc, run_command(alloc))),
+        None => valid_run_request(alloc, values),
+    }
+}
+
+fn valid_run_request<'a>(
+    alloc: Global,
+    values: &ArgMatches<'a>,
+) -> Result<Option<Asked<'a>>, WordsError>
+    ensures { ReadsRequest (test_run_request (rows_of (found_of values.now))) None result }
+{
+    let Some(list) = text_value(values, "list") else {
+        return Ok(None);
+    };
+    let Some(group) = number_value(values, "group", 1, MOST_GROUP) else {
+        return Ok(None);
+    };
+    Ok(Some(Asked::Run(run_asked(alloc, values, list, group)?)))
+}
+
+/// What values ask for, of a list, in pieces of so many jobs.
+#[tactic(auto, unfolding(crate::specs::RvtestWords::run_words))]
+pub(crate) fn run_asked<'a>(
+    alloc: Global,
+    values: &ArgMatches<'a>,
+    list: &'a str,
+    group: u32,
+) -> Result<RunAsked<'a>, AllocError>
+    requires { (1 ≤ group) × (group ≤ most_group) }
+    ensures { IfOk result (λ asked. (run_asked_words asked ≡ run_words list.entry.now group (rows_of (found_of values.now)))
+        × IsRunAskedInRange asked) }
+{
+    Ok(RunAsked {
+        list,
+        pattern: text_value(values, "match"),
+        exclude: text_value(values, "exclude"),
+        failed: text_value(values, "failed"),
+        partial: is_flag_set(values, "partial"),
+        shard: text_value(values, "shard"),
+        stamp: text_value(values, "stamp"),
+        workers: number_value(values, "workers", 1, MOST_WORKERS),
+        group,
+        budget: number_value(values, "budget", 1, MOST_BUDGET),
+        root: text_value(values, "root"),
+        into: text_value(values, "into"),
+        report: text_value(values, "report"),
+        junit: text_value(values, "junit"),
+        suite: text_value(values, "suite"),
+        lenient: is_flag_set(values, "lenient"),
+        counts: text_value(values, "counts"),
+        stacks: is_flag_set(values, "stacks"),
+        known: text_value(values, "known"),
+        stop_after: number_value(values, "stop-after", 1, MOST_JOBS as u32),
+        verbose: is_flag_set(values, "verbose"),
+        quiet: is_flag_set(values, "quiet"),
+        last: number_value(values, "last", 0, 100_000),
+        color: text_value(values, "color"),
+        only: argument_values(alloc, values, "only")?,
+    })
+}
+
+// The first rule that the options of `run` break.
+fn run_misuse(values: &ArgMatches<'_>) -> Option<Misuse>
+    ensures { result ≡ run_misuse (rows_of (found_of values.now)) }
+{
+    if is_flag_set(values, "verbose") && is_flag_set(values, "quiet") {
+        Some(Misuse::VerboseAndQuiet)
+    } else if is_option_given(values, "shard") && is_choice_given(values) {
+        Some(Misuse::ShardAndChoice)
+    } else if is_option_given(values, "stamp") && !is_option_given(values, "shard") {
+        Some(Misuse::StampAlone)
+    } else if is_option_given(values, "budget") && are_rows_kept(values) {
+        Some(Misuse::BudgetAndRows)
+    } else if is_option_given(values, "stop-after") && is_option_given(values, "shard") {
+        Some(Misuse::StopAfterAndShard)
+    } else if are_rows_put_twice(values) {
+        Some(Misuse::IntoAndReport)
+    } else if is_stdout_put_into(values) {
+        Some(Misuse::IntoStdout)
+    } else if is_choice_overwritten(values) {
+        Some(Misuse::FailedIsReport)
+    } else if is_partial_alone(values) {
+        Some(Misuse::PartialAlone)
+    } else if is_color_unknown(values) {
+        Some(Misuse::UnknownColor)
+    } else if are_stacks_alone(values) {
+        Some(Misuse::StacksAlone)
+    } else if are_counts_put_over(values) {
+        Some(Misuse::CountsOneFile)
+    } else {
+        files_misuse(values)
+    }
+}
+
+// Whether rows go out that others take as the list's.
+fn are_rows_kept(values: &ArgMatches<'_>) -> bool
+    ensures { result ≡ are_rows_kept (rows_of (found_of values.now)) }
+{
+    is_report_given(values) || is_option_given(values, "junit") || is_option_given(values, "shard")
+}
+
+// Whether a report goes out, of the rows alone or of a whole list.
+fn is_report_given(values: &ArgMatches<'_>) -> bool
+    ensures { result ≡ is_report_given (rows_of (found_of values.now)) }
+{
+    is_option_given(values, "report") || is_option_given(values, "into")
+}
+
+// Whether rows that are put into a report would go out beside it.
+fn are_rows_put_twice(values: &ArgMatches<'_>) -> bool
+    ensures { result ≡ are_rows_put_twice (rows_of (found_of values.now)) }
+{
+    is_option_given(values, "into")
+        && (is_option_given(values, "report") || is_option_given(values, "shard"))
+}
+
+// Whether rows are put into standard output, from which no report is read.
+fn is_stdout_put_into(values: &ArgMatches<'_>) -> bool
+    ensures { result ≡ is_stdout_put_into (rows_of (found_of values.now)) }
+{
+    is_into_path(values, "-")
+}
+
+// Whether the report that chooses the jobs would be written over by theirs alone.
+fn is_choice_overwritten(values: &ArgMatches<'_>) -> bool
+    ensures { result ≡ is_choice_overwritten (rows_of (found_of values.now)) }
+{
+    match text_value(values, "failed") {
+        Some(path) => is_report_path(values, path),
+        None => false,
+    }
+}
+
+// Whether stacks are to stand in a table that is not asked for.
+fn are_stacks_alone(values: &ArgMatches<'_>) -> bool
+    ensures { result ≡ are_stacks_alone (rows_of (found_of values.now)) }
+{
+    is_flag_set(values, "stacks") && !is_option_given(values, "counts")
+}
+
+// Whether the table of counts goes where a report or JUnit's XML goes, or the report stands that chooses the jobs.
+fn are_counts_put_over(values: &ArgMatches<'_>) -> bool
+    ensures { result ≡ are_counts_put_over (rows_of (found_of values.now)) }
+{
+    match text_value(values, "counts") {
+        Some(path) => {
+            is_report_path(values, path)
+                || is_into_path(values, path)
+                || is_junit_path(values, path)
+                || is_failed_path(values, path)
+        }
+        None => false,
+    }
+}
+
+/// Whether jobs are chosen by their names or by a report, or left out.
+pub(crate) fn is_choice_given(values: &ArgMatches<'_>) -> bool
+    ensures { result ≡ is_choice_given (rows_of (found_of values.now)) }
+{
+    is_option_given(values, "only")
+        || is_option_given(values, "match")
+        || is_option_given(values, "exclude")
+        || is_option_given(values, "failed")
+}

@@ -1,0 +1,62 @@
+//! The words of `show`.
+
+ghost use Rattle.clap.specs.Words.{found_of, rows_of};
+ghost use Rattle.rvtest_cli.specs.RvtestWords.{AsksFor, ReadsRequest, show_misuse, show_request};
+
+use crate::command::show_command;
+use crate::refusals::show_misuse;
+use crate::requests::Asked;
+use crate::words_error::WordsError;
+use clap::ArgMatches;
+use rv_cli::values::{is_flag_set, text_value};
+use std::alloc::Global;
+
+/// A report that is to be shown.
+#[derive(Clone, Copy)]
+pub struct ShowAsked<'a> {
+    /// Path of the report.
+    pub report: &'a str,
+    /// Whether the report may be cut off.
+    pub partial: bool,
+    /// Path of the JUnit file that is written; `-` is standard output.
+    pub junit: Option<&'a str>,
+    /// The name of JUnit's suite; absent: by the report's path.
+    pub suite: Option<&'a str>,
+    /// Whether a failed verdict alone is a failure.
+    pub lenient: bool,
+    /// Whether results have colours: `always`, `never` or `auto`; absent: `auto`.
+    pub color: Option<&'a str>,
+}
+
+/// What the values of `show` ask for, or which rule its options break.
+pub(crate) fn show_request<'a>(
+    alloc: Global,
+    values: &ArgMatches<'a>,
+) -> Result<Option<Asked<'a>>, WordsError>
+    ensures { ReadsRequest (show_request (rows_of (found_of values.now)))
+        (show_misuse (rows_of (found_of values.now))) result }
+{
+    match show_misuse(values) {
+        Some(misuse) => Err(misuse.misuse_error(alloc, show_command(alloc))),
+        None => Ok(valid_show_request(values)),
+    }
+}
+
+fn valid_show_request<'a>(values: &ArgMatches<'a>) -> Option<Asked<'a>>
+    ensures { AsksFor (show_request (rows_of (found_of values.now))) result }
+{
+    let report = text_value(values, "report")?;
+    let partial = is_flag_set(values, "partial");
+    let junit = text_value(values, "junit");
+    let suite = text_value(values, "suite");
+    let lenient = is_flag_set(values, "lenient");
+    let color = text_value(values, "color");
+    Some(Asked::Show(ShowAsked {
+        report,
+        partial,
+        junit,
+        suite,
+        lenient,
+        color,
+    }))
+}

@@ -1,0 +1,95 @@
+//! Why words ask for nothing.
+
+ghost use Rattle.std.specs.Prelude.{◌≡◌, IfOk, string_bytes};
+ghost use Rattle.clap.specs.Words.{kind_of};
+ghost use Rattle.rvtest_cli.specs.WordsErrors.{IsToldOfKind, IsUsageError, IsUsageText, usage_error_text};
+
+use crate::tips::error_text;
+use clap::error::ErrorKind;
+use clap::{Command, Error};
+use std::alloc::{AllocError, Global};
+
+/// Why words ask for nothing: what is wrong with them, or that they ask for help or the version.
+#[derive(Drop)]
+pub enum WordsError {
+    /// Memory ran out.
+    OutOfMemory,
+    /// A fault of this kind, or help or the version, with the text that is shown.
+    Told(ErrorKind, String),
+}
+
+impl WordsError {
+    /// What an error of `clap` comes to: its own text, without tips that lead astray. No contract of `clap` knows its texts.
+    pub(crate) fn of_clap(alloc: Global, error: &Error) -> WordsError
+        ensures { IsToldOfKind (kind_of error.now) result }
+    {
+        match error.kind() {
+            ErrorKind::OutOfMemory => WordsError::OutOfMemory,
+            kind => match error_text(alloc, error) {
+                Ok(text) => WordsError::Told(kind, text),
+                Err(error) => WordsError::from(error),
+            },
+        }
+    }
+}
+
+impl From<AllocError> for WordsError {
+    ghost use Rattle.rvtest_cli.specs.declared.words_error.WordsError.TheVariants.{OutOfMemory};
+
+    ghost from_gives = { λ _ error. error ≡ OutOfMemory };
+
+    fn from(_: AllocError) -> WordsError {
+        WordsError::OutOfMemory
+    }
+}
+
+/// A fault that `clap` does not find, told in the form of its own: `error: ` and what is wrong, the usage of the command, and where
+/// help is. What is wrong has no line feed at its end.
+pub fn usage_error(
+    alloc: Global,
+    command: Result<Command<'_>, AllocError>,
+    kind: ErrorKind,
+    what: &str,
+) -> WordsError
+    ensures { IsUsageError kind what.now result }
+{
+    match text_with_usage(alloc, command, what) {
+        Ok(text) => WordsError::Told(kind, text),
+        Err(error) => WordsError::from(error),
+    }
+}
+
+fn text_with_usage(
+    alloc: Global,
+    command: Result<Command<'_>, AllocError>,
+    what: &str,
+) -> Result<String, AllocError>
+    ensures { IfOk result (λ text. IsUsageText what.now (string_bytes text)) }
+{
+    let usage = usage_of(command)?;
+    usage_error_text(alloc, what, usage.as_str())
+}
+
+fn usage_error_text(alloc: Global, what: &str, usage: &str) -> Result<String, AllocError>
+    ensures { IfOk result (λ text. string_bytes text ≡ usage_error_text what.now usage.now) }
+{
+    let mut text = String::from_str(alloc, "error: ")?;
+    text.push_str(what)?;
+    text.push_str("\n\n")?;
+    text.push_str(usage)?;
+    text.push_str("\n\nFor more information, try '--help'.\n")?;
+    Ok(text)
+}
+
+// How the command is used, as `clap` writes it.
+fn usage_of(command: Result<Command<'_>, AllocError>) -> Result<String, AllocError> {
+    match command {
+        Ok(mut command) => {
+            let usage = command.render_usage();
+            // At the end of the block each of its fields would be dropped, which is proved in twice the time.
+            drop(command);
+            usage
+        }
+        Err(error) => Err(error),
+    }
+}
