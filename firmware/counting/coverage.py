@@ -2,7 +2,8 @@
 
 - A line counts, for each instance of it, the most that an address of it was begun, and then the sum of its instances. An instance is
   the function that the code stands in, with the calls that were inlined on the way there.
-- A line that begins at an address where another one begins, too, counts as that address does.
+- A line without code of its own counts, for each function, the most of the addresses at which it begins: another line's code stands
+  there. A line with code of its own counts that alone.
 - The Nth conditional branch of a line in an instance is the Nth of each, summed over instances and images.
 """
 import collections
@@ -57,9 +58,10 @@ class Coverage:
             if address not in code:
                 self.lost[image.path, "run, and no code of the file"] += begun
         self.add_code(image, file, code, chains, most)
+        own = set(most)
         for row in (row for rows in file.lines.sequences for row in rows):
-            if row.begins and not row.ends and row.line and row.address in code:
-                count_most(most[row.file, row.line], instance_of(chains[row.address]), begun_at(image, row.address))
+            if row.begins and not row.ends and row.line and row.address in code and (row.file, row.line) not in own:
+                count_most(most[row.file, row.line], chains[row.address][-1][0], begun_at(image, row.address))
         for (path, line), instances in most.items():
             self.sources[path].lines[line] += sum(instances.values())
         for address, name, line in file.functions():
