@@ -1,7 +1,8 @@
 """The jobs of tests: which keys each has, of the files beside it."""
 import os
 
-from .files import WORD, Refused, bytes_of, content_of, number_of, text_of, word_of
+from .files import WORD, Refused, bytes_of, content_of, number_of, shown, text_of, word_of
+from .flags import flags_of
 from .found import DEFAULTS, NAME, cases_of, not_a_name
 from .keys import keys_in, put
 
@@ -19,9 +20,10 @@ REGION = """region = [
 ]"""
 
 
-def jobs_of(test, top, image, region, passed):
+def jobs_of(test, top, image, region, ignored):
     """The jobs of a test, each a name and its lines: one, or one for each of its cases."""
-    cases = cases_of(test, passed)
+    flags_of(f"{test.stem}.flags")
+    cases = cases_of(test, ignored)
     keys = {"budget": f"budget = {BUDGET}", "expect_exit": "expect_exit = 0", "region": region}
     for folder in folders_down_to(test, top):
         put(keys, keys_in(os.path.join(folder, f"{DEFAULTS}.keys")))
@@ -38,13 +40,13 @@ def jobs_of(test, top, image, region, passed):
 
 
 def folders_down_to(test, top):
-    """The folders whose defaults hold for a test, the farthest first."""
+    """The folders whose defaults apply to a test, the farthest first."""
     parts = os.path.dirname(test.place).split(os.sep)
     return [os.path.join(top, *parts[:count]) for count in range(len(parts) + 1) if count == 0 or parts[0]]
 
 
 def put_all(keys, stem):
-    """Puts what lies beside a test or a case in the place of what holds for all; a file of its own wins over a line of its keys."""
+    """Replaces keys of all tests by the files beside a test or a case; a file of its own wins over a line of its keys."""
     put(keys, keys_in(f"{stem}.keys"))
     budget = number_of(f"{stem}.budget", 1, MOST_STEPS)
     if budget is not None:
@@ -61,25 +63,32 @@ def put_all(keys, stem):
 
 
 def ending_of(stem):
-    """How the job must end, where a file says it."""
+    """How the job must end, where a file says it. An exit code may be written as a signed number, as a C program returns it."""
     end = word_of(f"{stem}.end")
-    code = number_of(f"{stem}.exit", 0, WORD - 1)
+    code = number_of(f"{stem}.exit", -WORD // 2, WORD - 1)
     if end is None:
-        return {} if code is None else {"expect_exit": f"expect_exit = {code}"}
+        return {} if code is None else {"expect_exit": f"expect_exit = {code % WORD}"}
     if code is not None:
-        raise Refused(f"{stem}.end: lies beside {stem}.exit, and a run ends in one way")
+        raise Refused(f"{shown(stem)}.end: error: cannot be used with {shown(stem)}.exit: a run ends in one way")
     if end not in ENDS:
-        raise Refused(f"{stem}.end: {end!r} is none of {', '.join(ENDS)}")
+        raise Refused(f'{shown(stem)}.end:1: error: unknown end "{shown(end)}": expected {", ".join(ENDS[:-1])} or {ENDS[-1]}')
     return {"expect_end": f"expect_end = {text_of(end)}"}
 
 
 def lines_of_job(name, image, keys):
-    """The lines of a job: what each job has in a fixed order, and then what files of keys added."""
+    """The lines of a job: what each job has in a fixed order, and then what files of keys add."""
     yield "[[job]]"
     yield f"name = {text_of(name)}"
     yield f"image = {text_of(image)}"
     yield from (keys[key] for key in ORDER if key in keys)
     yield from (text for key, text in keys.items() if key not in ORDER)
+
+
+def refused_job(name, image, why):
+    """The lines of a job that fails, for a test whose files are wrong: there is no image of this path."""
+    for line in why.splitlines():
+        yield f"# {line}"
+    yield from ("[[job]]", f"name = {text_of(name)}", f"image = {text_of(f'{image}.refused')}", f"budget = {BUDGET}")
 
 
 def arch_job(image, name, references):
@@ -88,7 +97,7 @@ def arch_job(image, name, references):
     if not NAME.fullmatch(name):
         raise Refused(not_a_name(name, image))
     if content_of(reference) is None:
-        raise Refused(f"{reference}: missing, the reference of {image}")
+        raise Refused(f"{shown(reference)}: error: missing reference signature of {shown(image)}")
     keys = {"budget": f"budget = {BUDGET}", "expect_exit": "expect_exit = 0", "signature": SIGNATURE}
     keys["expect_signature"] = f"expect_signature = {text_of(reference)}"
     return lines_of_job(name, image, keys)

@@ -167,7 +167,7 @@ case_one_does_not_compile() {
     check 'eight at a time' 2 'FAIL b: refused image-unreadable' -j8
     shows '3 jobs: 2 passed, 1 failed'
     check 'another is chosen' 2 '1 job: 1 passed, 0 failed' RUN='--only a'
-    ends 'the list alone' 2 't/b.c: was not built' made list TESTS=t
+    ends 'the list alone' 2 't/b.c: error: not built' made list TESTS=t
 }
 
 case_short_lines() {

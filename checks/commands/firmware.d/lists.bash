@@ -46,10 +46,10 @@ int main(void) { int sum = 0; for (unsigned it = CONSOLE; it != SCRIPT_END; it =
     echo 1 >t/echo.cases/none.exit
     check 'one is turned' 2 'FAIL echo.none: exit 0'
     rm t/echo.cases/*
-    check 'no case' 2 't/echo.cases: has no case'
+    check 'no case' 2 't/echo.cases: error: no cases found'
     : >t/echo.cases/a.in
     : >t/echo.in
-    check 'a script beside cases' 2 't/echo.in: lies beside t/echo.cases'
+    check 'a script beside cases' 2 't/echo.in: error: cannot be used with t/echo.cases'
 }
 
 case_passed_over() {
@@ -63,69 +63,80 @@ int main(void) { return 0; }'
     exits t/build/old.c 1
     exits t/.hidden/old.c 1
     check 'two are tests' 0 '2 jobs: 2 passed, 0 failed'
-    shows 'mklist: passed over: t/notes.txt: '
-    shows 'mklist: passed over: t/late.s: '
-    [ "$(grep -c 'passed over' err)" = 2 ] || fail "more is passed over: $(<err)"
+    shows 't/notes.txt: note: ignored: '
+    shows 't/late.s: warning: ignored: '
+    [ "$(grep -c 'ignored' err)" = 2 ] || fail "more is ignored: $(<err)"
 }
 
 case_names_with_a_blank() {
     exits 't/my test.c' 0
-    check 'a blank' 2 "t/my test.c: 'my test' is no job's name, which is 1 to 64 ASCII letters"
+    check 'a blank' 2 't/my test.c: error: invalid job name "my test": expected 1 to 64 ASCII letters'
     rm t/*.c
     exits 't/my folder/a.c' 0
-    check 'a blank in a folder' 2 "t/my folder/a.c: 'my folder.a' is no job's name"
+    check 'a blank in a folder' 2 't/my folder/a.c: error: invalid job name "my folder.a"'
 }
 
-# Makes a folder with one test and the file given, and expects mklist to name the file.
+# Makes a folder with one test and the file given, and expects mklist to name the file and to write nothing.
 refused() {
-    local file=$1 content=$2 text=$3
     rm -rf bad
     mkdir bad
     : >bad/good.c
-    printf '%s' "$content" | put "bad/$file"
-    ends "refused: $file" 2 "bad/$file: $text" mklist bad
+    printf '%s' "$2" | put "bad/$1"
+    ends "refused: $1" 2 "bad/$1: $3" mklist bad
+    [ ! -s out ] || fail "a list is written: $(<out)"
+}
+
+# The same of a file that is wrong for its test alone: the list has a job of that test, which fails.
+broken() {
+    rm -rf bad
+    mkdir bad
+    : >bad/good.c
+    printf '%s' "$2" | put "bad/$1"
+    ends "broken: $1" 1 "bad/$1:${3/#error/ error}" mklist bad
+    grep -q '^image = "bad/build/good.elf.refused"$' out || fail "the test has another job: $(<out)"
 }
 
 case_refused_files() {
-    refused 'two words.c' '' "'two words' is no job's name"
-    refused good.exit five "'five' is no number from 0 to 4,294,967,295"
-    refused good.exit '' 'has 0 words, expected one'
-    refused good.end spin "'spin' is none of budget, fetch-access"
-    refused good.budget 0 "'0' is no number from 1 to 1,000,000,000"
-    refused god.out x 'there is no'
+    refused 'two words.c' '' 'error: invalid job name "two words"'
+    broken good.exit five '1: error: expected an integer from -2147483648 to 4294967295, found "five"'
+    broken good.exit '' '1: error: expected one word, found 0'
+    broken good.end spin '1: error: unknown end "spin": expected budget, fetch-access'
+    broken good.budget 0 '1: error: expected an integer from 1 to 1000000000, found "0"'
+    refused god.out x 'error: belongs to a missing test: expected bad/god.c, .cpp, .cc or .S'
+    rm bad/god.out
     echo 1 >bad/good.exit
     echo budget >bad/good.end
-    ends 'refused: two ways to end' 2 'bad/good.end: lies beside bad/good.exit' mklist bad
+    ends 'refused: two ways to end' 1 'bad/good.end: error: cannot be used with bad/good.exit' mklist bad
     head -c 65537 /dev/zero >bad/good.in
     rm bad/good.end
-    ends 'refused: a script that is too long' 2 'good.in: has 65,537 bytes, at most 65,536 are taken' mklist bad
-    ends 'refused: no folder' 2 'no/where: No such file or directory' mklist no/where
-    ends 'refused: no words' 2 'words refused: none' mklist
+    ends 'refused: a script that is too long' 1 'good.in: error: too long: expected at most 65536 bytes, found 65537' mklist bad
+    ends 'refused: no folder' 2 'no/where: error: No such file or directory' mklist no/where
+    ends 'refused: no words' 2 'mklist: error: invalid arguments: none' mklist
     ends 'refused: TESTS is wanting' 2 'TESTS must be one folder' made check
 }
 
 case_refused_keys_and_folders() {
-    refused good.keys 'isa = ' 'is no TOML: Invalid value (at end of document)'
-    refused good.keys '[region]' "'[region]' begins a table, expected lines \`key = value\`"
-    refused good.keys 'name = "x"' "gives 'name', which is that of the test"
-    refused defaults.keys 'a = 1 a' 'is no TOML: Expected newline or end of document'
-    refused defaults.c '' 'a test has another name'
-    refused good.cpp '' 'lies beside bad/good.c, and both would be the test good'
-    refused good.flags '"' 'No closing quotation'
-    refused good.flags '-O2 # faster' "has '#'; options of the compiler and the linker are taken, and files"
-    refused good.flags '-O2; ls' "has ';'"
-    refused good.flags bad/good.c 'belongs to bad/good.c, which is no test of its own, since a file of flags names it'
-    refused good.cases/a.flags '' 'all cases have one image'
-    refused uart/good.out x 'there is no'
+    broken good.keys 'isa = ' '1: error: invalid TOML: invalid value'
+    broken good.keys '[region]' '1: error: "[region]" begins a table: expected lines "key = value"'
+    broken good.keys 'name = "x"' '1: error: "name" cannot be set: it is the name of the test'
+    broken defaults.keys 'a = 1 a' '1:7: error: invalid TOML: expected newline or end of document'
+    refused defaults.c '' 'error: invalid test name "defaults"'
+    refused good.cpp '' 'error: duplicate test "good": bad/good.c has the same name'
+    broken good.flags '"' '1: error: no closing quotation'
+    broken good.flags '-O2 # faster' '1: error: "#" is not expanded or run here: expected options and files, without comments'
+    broken good.flags '-O2; ls' '1: error: ";"'
+    refused good.flags bad/good.c 'error: belongs to bad/good.c, which is not a test: a .flags file names it'
+    broken good.cases/a.flags '' 'error: all cases share one image'
+    refused uart/good.out x 'error: belongs to a missing test'
     rm -rf bad
     exits bad/good.c 0
     : | put bad/god.cases/a.in
-    ends 'refused: cases of no test' 2 'bad/god.cases: there is no test bad/god that it belongs to' mklist bad
+    ends 'refused: cases of no test' 2 'bad/god.cases: error: belongs to a missing test' mklist bad
     rm -rf bad
     exits bad/uart.rx.c 0
     exits bad/uart/rx.c 0
-    ends 'refused: two jobs of a name' 2 'bad/uart/rx.c: has the job uart.rx, and so has bad/uart.rx.c' mklist bad
-    ends 'refused: a region' 2 '--region: is no TOML' mklist bad --region '[{'
+    ends 'refused: two jobs of a name' 2 'bad/uart/rx.c: error: duplicate job name "uart.rx": bad/uart.rx.c has the same' mklist bad
+    ends 'refused: a region' 2 '--region:1: error: invalid TOML' mklist bad --region '[{'
     mkdir empty
-    ends 'refused: no test' 2 'empty: has no test' mklist empty
+    ends 'refused: no test' 2 'empty: error: no tests found' mklist empty
 }

@@ -17,6 +17,11 @@ def made(target, last, status, *words):
     return done.stdout, done.stderr, shows
 
 
+def clean():
+    """Removes what was built."""
+    subprocess.run(["make", "-f", KIT / "Makefile", "clean", "TESTS=t"], check=True, stdout=subprocess.DEVNULL)
+
+
 def covered(status, *words):
     return made("cover", f"HTML {PAGES}", status, *words)
 
@@ -30,15 +35,16 @@ def targets():
         expect("what cover calls", "rvtest run t/build/cover/t.toml --counts t/build/cover/counts\n" in out, True)
         expect("whether cover shows pages", shows, status < 2)
         expect("whether they are there", PAGES.exists(), status < 2)
-    expect("whether images are built by -Og", " -Og -g " in pathlib.Path("t/build/cover/.words").read_text(encoding="utf-8"), True)
     sources = [line for line in pathlib.Path("t/build/cover/cover.info").read_text(encoding="utf-8").splitlines() if line[:3] in ("SF:", "DA:")]
     # All three lines have the first address of main: its li is of line 4, and 2 and 3 begin there.
     expect("the sources", sources, [f"SF:{pathlib.Path('t/a.c').resolve()}", "DA:2,1", "DA:3,1", "DA:4,1"])
     for word, said in (("--stack", "rvtest: error: unrecognized arguments: --stack"), ("--failed r", "counts2lcov: t/build/cover/counts: missing")):
         _, err, shows = covered(0, f"RUN={word}")
         expect(f"whether {word} is refused, by {err!r}", (shows, said in err), (False, True))
-    subprocess.run(["make", "-f", KIT / "Makefile", "clean", "TESTS=t"], check=True, stdout=subprocess.DEVNULL)
+    clean()
     expect("what is left", [it.name for it in pathlib.Path("t").iterdir()], ["a.c"])
+    expect("whether images are built by -Og", " -Og -g " in covered(0, "V=1")[0], True)
+    clean()
     return "make cover, over a stand-in of rvtest"
 
 

@@ -1,0 +1,157 @@
+"""Asks the compiler what it is, and where it searches: its programs, its files of specs, and its directories, in order.
+
+GCC is asked anew whenever one of these changes, or another one could now be found in its place.
+"""
+import os
+import re
+import shlex
+import shutil
+import subprocess
+import threading
+from typing import NamedTuple
+
+from listing.files import Refused, shown
+
+from .digests import digest_of
+from .records import Record, paths_in_words
+
+# The variables that GCC, binutils, their loader and the usual wrappers read. TMPDIR and colours change no output.
+VARIABLES = re.compile(r"""(?:GCC_(?!COLORS$|URLS$)|COLLECT_|COMPILER_|AS_|BINUTILS_|CCACHE_|DISTCC_|LC_|LD_|MALLOC_|TARGET_).* | .*_INCLUDE_PATH
+    | (?:CPATH | LIBRARY_PATH | LPATH | SOURCE_DATE_EPOCH | LANG | LANGUAGE | DEPENDENCIES_OUTPUT | SUNPRO_DEPENDENCIES | LDEMULATION
+    | GNUTARGET | POSIXLY_CORRECT | GLIBC_TUNABLES | QEMU_LD_PREFIX | TZ)""", re.X)
+PROGRAMS = """cc1 cc1plus lto1 lto-wrapper collect2 collect-ld liblto_plugin.so as ld ld.bfd ld.gold real-ld nm strip g++-mapper-server
+specs""".split()
+
+
+def variables():
+    """The environment as far as it can change what a compiler makes. PWD is where debug information says that it ran."""
+    found = {name: value for name, value in os.environ.items() if VARIABLES.fullmatch(name)}
+    here = os.environ.get("PWD")
+    try:
+        found["PWD"] = here if here and os.path.samefile(here, ".") else os.getcwd()
+    except OSError:
+        found["PWD"] = os.getcwd()
+    return found
+
+
+class Answer(NamedTuple):
+    """What the compiler says for some options: a digest of all that it consists of, and where it searches for headers and libraries."""
+
+    digest: str
+    headers: list
+    libraries: list
+
+
+class Compiler:
+    """The compiler of this build, which is asked once for each choice of options."""
+
+    def __init__(self, words, digests, records):
+        self.words, self.digests, self.records = words, digests, records
+        self.environment = variables()
+        self.answers, self.locks = {}, {}
+        self.path = shutil.which(words[0]) if words else None
+        if self.path is None:
+            name = words[0] if words else ""
+            raise Refused(f'error: compiler "{shown(name)}" not found\nhelp: as root, apt-get install gcc-riscv64-unknown-elf')
+
+    def about(self, options, language=None):
+        """What it says for these options: of a language, or of the linker."""
+        key = digest_of([self.words, self.path, options, language, self.environment, os.environ.get("PATH"), os.getcwd()])
+        with self.locks.setdefault(key, threading.Lock()):
+            if key not in self.answers:
+                record = self.records.load("compilers", key)
+                if record is None or not record.holds(key):
+                    record = self.ask(key, options, language)
+                    self.records.save("compilers", key, record)
+                made = digest_of([record.files, record.present, self.path])
+                self.answers[key] = Answer(made, record.told["headers"], record.told["libraries"])
+            return self.answers[key]
+
+    def ask(self, key, options, language):
+        """Asks it, and records each program and file of specs that it names, and each directory in which it looked for them."""
+        if language:
+            told = self.run([*without_inclusions(options), "-v", "-E", "-x", probed(language), os.devnull])
+        else:
+            told = self.run([*options, "-v", "-###", os.devnull, "-o", "image"])
+        searched = self.run([*(it for it in options if it.startswith(("-B", "-m", "--sysroot"))), "-print-search-dirs"])
+        folders = folders_of(told, searched)
+        specs = re.findall(r"^Reading specs from (.*)$", told, re.M)
+        files = [shutil.which(it) or it for it in self.words if not it.startswith("-")]
+        files += specs + paths_in_words(options) + programs_in(told)
+        record = Record(self.digests, key)
+        record.told = {"headers": headers_of(told), "libraries": folders["libraries"] + linked_from(told)}
+        names = PROGRAMS + [os.path.basename(it) for it in specs] + [name for it in specs for name in self.digests.names_in(it)]
+        record.add_candidates(folders["programs"] + folders["libraries"] + ["", *searched_by_shell()], sorted(set(names)))
+        record.add_files(files)
+        record.close()
+        return record
+
+    def run(self, words):
+        """What the compiler prints; when it fails, so does whatever the words belong to."""
+        done = subprocess.run(
+            [*self.words, *words], stdin=subprocess.DEVNULL, capture_output=True, check=False, env={**os.environ, "LC_ALL": "C"}
+        )
+        if done.returncode:
+            text = "\n".join(it for it in done.stderr.decode("utf-8", "surrogateescape").splitlines() if re.search("error|warning", it))
+            raise Refused(f"{text}\n{help_for(text)}".rstrip())
+        return (done.stdout + done.stderr).decode("utf-8", "surrogateescape")
+
+
+def help_for(text):
+    """What to do about a failure that has a usual cause."""
+    if "picolibc.specs" in text:
+        return "help: as root, apt-get install picolibc-riscv64-unknown-elf, or choose LIBC=none"
+    return ""
+
+
+def without_inclusions(options):
+    """The options that choose where headers are searched, without those that include one."""
+    left = iter(options)
+    return [it for it in left if it not in ("-include", "-imacros") or next(left, None) is None]
+
+
+def probed(language):
+    """The language that is preprocessed like the given one, which may not be preprocessed at all."""
+    return {"assembler": "assembler-with-cpp", "cpp-output": "c", "c++-cpp-output": "c++"}.get(language, language)
+
+
+def folders_of(told, searched):
+    """The directories of programs and libraries: those that are there, and those that are looked for in vain."""
+    found = {"programs": [], "libraries": []}
+    for name, variable in (("programs", "COMPILER_PATH"), ("libraries", "LIBRARY_PATH")):
+        for line in re.findall(rf"^{variable}=(.*)$", told, re.M) + re.findall(rf"^{name}: =?(.*)$", searched, re.M):
+            found[name] += [it for it in line.split(":") if it]
+    return {name: list(dict.fromkeys(folders)) for name, folders in found.items()}
+
+
+def headers_of(told):
+    """The directories that are searched for headers, in order, and those that would be if they were there."""
+    ignored = re.findall(r'^ignoring (?:nonexistent|duplicate) directory "(.*)"$', told, re.M)
+    start = told.find('#include "..." search starts here:')
+    listed = told[start:told.find("End of search list.", start)].splitlines() if start >= 0 else []
+    return list(dict.fromkeys([it[1:] for it in listed if it.startswith(" ")] + ignored))
+
+
+def programs_in(told):
+    """The programs that it would run, and the plugins that these load."""
+    found = []
+    for line in re.findall(r"^ (\S.*)$", told, re.M):
+        words = line.split()
+        found += [word.strip('"') for word in words[:1] + words if os.path.isabs(word.strip('"')) and os.path.isfile(word.strip('"'))]
+    return found
+
+
+def linked_from(told):
+    """The directories that the linker is told to search."""
+    found = []
+    for line in re.findall(r"^ (\S*(?:collect2|ld)\S* .*)$", told, re.M):
+        try:
+            found += [word[2:] for word in shlex.split(line) if word.startswith("-L") and len(word) > 2]
+        except ValueError:
+            continue
+    return found
+
+
+def searched_by_shell():
+    """The directories of PATH, where GCC looks for a program that is nowhere else."""
+    return [it for it in os.environ.get("PATH", "").split(os.pathsep) if it]

@@ -1,0 +1,177 @@
+"""Digests of files, and listings of directories, as of the start of a build.
+
+Digests are remembered between builds for files whose status has not changed since. The status includes the time of the last change of
+the inode, which no program can set. A status is remembered only once it is older than the resolution of the clock of any file system.
+"""
+import hashlib
+import json
+import os
+import stat
+import threading
+import time
+
+from .names import ANY_NAME, CLOCKS, names_in_text
+
+FORMAT = 1
+# A file that changed less than this before it was read may change again without a new time.
+SETTLED_NS = 2_000_000_000
+DIRECTORY, SPECIAL = "directory", "special"
+
+
+def digest_of_text(text):
+    """The digest of a text, as every record writes it."""
+    return hashlib.sha256(text.encode(errors="surrogateescape")).hexdigest()
+
+
+def digest_of(value):
+    """The digest of a value that JSON can write."""
+    return digest_of_text(json.dumps(value, sort_keys=True))
+
+
+def write_whole(path, text):
+    """Replaces a file in one step, so that a reader sees the old contents or the new ones, however this process ends."""
+    new = f"{path}.{os.getpid()}.{threading.get_ident()}.new"
+    with open(new, "w", encoding="utf-8", errors="surrogateescape") as file:
+        file.write(text)
+    os.replace(new, path)
+
+
+class Digests:
+    """What is known about files: digests of their contents, names of headers in them, and which names a directory has."""
+
+    def __init__(self, path):
+        self.path = path
+        self.files, self.names = self.load()
+        self.seen, self.listings, self.searched, self.changed = {}, {}, {}, False
+
+    def load(self):
+        """What an earlier build remembered. A damaged file is worth nothing, and costs nothing but time."""
+        try:
+            with open(self.path, encoding="utf-8", errors="surrogateescape") as file:
+                found = json.load(file)
+            if found["format"] == FORMAT:
+                return found["files"], found["names"]
+        except (OSError, ValueError, KeyError, TypeError):
+            pass
+        return {}, {}
+
+    def save(self):
+        """Remembers what this build used, for the next one."""
+        if self.changed or self.files.keys() - self.seen.keys():
+            kept = {path: entry for path, entry in self.files.items() if path in self.seen}
+            digests = set(self.seen.values())
+            names = {digest: names for digest, names in self.names.items() if digest in digests}
+            write_whole(self.path, json.dumps({"format": FORMAT, "files": kept, "names": names}))
+
+    def of(self, path):
+        """The digest of a file's contents; DIRECTORY, SPECIAL or None for what has no contents."""
+        if path not in self.seen:
+            self.seen[path] = self.look_up(path)
+        return self.seen[path]
+
+    def anew(self, path):
+        """The digest of a file that this build has written or has not looked at before it ran a compiler."""
+        self.seen.pop(path, None)
+        return self.of(path)
+
+    def look_up(self, path):
+        """The remembered digest of a file whose status is the same, or else the digest of what it holds now."""
+        try:
+            status = os.stat(path)
+            if not stat.S_ISREG(status.st_mode):
+                return DIRECTORY if stat.S_ISDIR(status.st_mode) else SPECIAL
+            facts = [status.st_dev, status.st_ino, status.st_size, status.st_mtime_ns, status.st_ctime_ns]
+            entry = self.files.get(path)
+            if entry and entry[:-1] == facts:
+                return entry[-1]
+            return self.read(path, facts)
+        except (OSError, ValueError):
+            return None
+
+    def read(self, path, facts):
+        """Reads a file, and remembers it if it has not changed for a while."""
+        began = time.time_ns()
+        with open(path, "rb") as file:
+            digest = hashlib.file_digest(file, "sha256").hexdigest()
+        self.files.pop(path, None)
+        if facts[-1] < began - SETTLED_NS:
+            self.files[path] = [*facts, digest]
+        self.changed = True
+        return digest
+
+    def names_in(self, path):
+        """The names in a file that may be those of headers or of other files that it includes."""
+        digest = self.of(path)
+        if digest is None or digest in (DIRECTORY, SPECIAL):
+            return []
+        if digest not in self.names:
+            with open(path, "rb") as file:
+                self.names[digest] = names_in_text(file.read())
+            self.changed = True
+        return self.names[digest]
+
+    def listing(self, folder):
+        """The names in a directory; none if there is no such directory."""
+        if folder not in self.listings:
+            try:
+                self.listings[folder] = frozenset(os.listdir(folder or "."))
+            except (OSError, ValueError):
+                self.listings[folder] = frozenset()
+        return self.listings[folder]
+
+    def has(self, path):
+        """Whether there is something of this path, as of when its directory was first looked at."""
+        folder, name = os.path.split(path)
+        return name in self.listing(folder)
+
+    def present(self, folders, names, sources):
+        """What there is now of these names, and of those that these sources mention, in each of the directories."""
+        found = [self.existing(folders, names)]
+        for source in sources:
+            if (folders, source) not in self.searched:
+                self.searched[folders, source] = self.existing(folders, [*self.names_in(source), *names_below(source, folders)])
+            found.append(self.searched[folders, source])
+        clocks = {clock for source in sources for clock in CLOCKS if clock in self.names_in(source)}
+        return found + [reading(clock, sources) for clock in sorted(clocks)]
+
+    def existing(self, folders, names):
+        """The candidates that there are, with their digests: paths of these names in these directories."""
+        found = {}
+        for name in sorted(set(names) - CLOCKS.keys()):
+            if name == ANY_NAME:
+                found[name] = [everything_in(folder) for folder in folders if folder and not self.is_of_system(folder)]
+                continue
+            for path in (os.path.join(folder, name) for folder in folders):
+                if self.has(path):
+                    found[path] = self.of(path)
+        return digest_of(found)
+
+    @staticmethod
+    def is_of_system(folder):
+        """Whether a directory belongs to installed packages rather than to a project."""
+        return os.path.abspath(folder).startswith("/usr/")
+
+
+def names_below(path, folders):
+    """The names by which a path can be found in these directories, and the name of its precompiled header."""
+    names = {path[len(folder):].lstrip("/") for folder in folders if folder and path.startswith(folder.rstrip("/") + "/")}
+    names.add(os.path.basename(path))
+    return sorted(names | {f"{name}.gch" for name in names})
+
+
+def everything_in(folder):
+    """The paths of all files below a directory, but for hidden ones and what is built."""
+    found = []
+    for inner, folders, files in os.walk(folder):
+        folders[:] = sorted(it for it in folders if not it.startswith(".") and it != "build")
+        found += [os.path.join(inner, it) for it in sorted(files)]
+    return found
+
+
+def reading(clock, sources):
+    """What a clock of the preprocessor would say; __TIME__ is never what it was."""
+    if clock == "__TIMESTAMP__":
+        return [os.stat(source).st_mtime_ns for source in sources if os.path.exists(source)]
+    if "SOURCE_DATE_EPOCH" in os.environ:
+        return os.environ["SOURCE_DATE_EPOCH"]
+    return time.strftime("%F") if clock == "__DATE__" else time.time_ns()

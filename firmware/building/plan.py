@@ -1,0 +1,105 @@
+"""What each test is built of: its sources, each with its options, and the words that link their objects."""
+import os
+from typing import NamedTuple
+
+from listing.files import Refused, shown
+from listing.flags import LANGUAGES, flags_of, inputs_of, words_in
+
+from .steps import Source
+
+# picolibc's start-up code must be the hosted one: picolibc.c says why.
+LIBRARIES = {
+    "picolibc": (["--specs=picolibc.specs", "--crt0=hosted"], "picolibc.c"),
+    "none": (["-ffreestanding", "-nostdlib", "-nostartfiles"], "start.S"),
+}
+LINKING = ["-Wl,--build-id=none", "-Wl,-z,max-page-size=4", "-Wl,--no-warn-rwx-segments"]
+# Options of the linker alone, and those whose value is the next word: a source that tests share is compiled once whatever they are.
+LINKED = ("-Wl,", "-l", "-L", "-T", "-z", "-u", "-nostartfiles", "-nodefaultlibs")
+LINKED_WITH_VALUE = ("-Xlinker", "-T", "-L", "-l", "-z", "-u", "-e")
+
+
+class Plan(NamedTuple):
+    """A test: the sources that it is made of, the words that link it, in which a source stands for its object, and its image."""
+
+    name: str
+    place: str
+    sources: list
+    words: list
+    image: str
+
+
+class Kit:
+    """The options that hold for all tests, of make's variables."""
+
+    def __init__(self, folder, variables, image_folder):
+        self.folder, self.images = folder or ".", image_folder
+        self.library = variables["LIBC"]
+        if self.library not in LIBRARIES:
+            raise Refused(f'error: invalid LIBC="{shown(self.library)}": expected "picolibc" or "none"')
+        self.compiler = words_in(variables["CC"], "CC")
+        self.arch = words_in(variables["ARCH"], "ARCH")
+        self.machine = self.arch + words_in(variables["CFLAGS"], "CFLAGS")
+        self.linking = [f"-L{self.folder}/", *LINKING]
+        self.link = words_in(variables["LINK"], "LINK")
+        self.arch_include = words_in(variables["ARCH_INCLUDE"], "ARCH_INCLUDE")
+
+    def path(self, name):
+        """The path of a file of the kit."""
+        return os.path.join(self.folder, name)
+
+    def plan(self, test):
+        """What a test is built of."""
+        own = flags_of(f"{test.stem}.flags")[0]
+        library, support = LIBRARIES[self.library]
+        common = [*self.machine, f"-I{self.folder}/", *library, f"--specs={self.path('cplusplus.specs')}"]
+        inputs = list(inputs_of(own))
+        options = compiled_by([*common, *(word for word, part in inputs if part is None)])
+        ending = os.path.splitext(test.source)[1]
+        sources = [source_of(test.source, LANGUAGES[ending], options, test.name)]
+        if LANGUAGES[ending] == "c++":
+            sources.append(source_of(self.path("cplusplus.cc"), "c++", options))
+        machine = compiled_by([*common, *(it for it in own if it.startswith("-m"))])
+        sources.append(source_of(self.path(support), LANGUAGES[os.path.splitext(support)[1]], machine))
+        words = [*common, *sources, *self.linking, *self.link, "-lgcc"]
+        for word, part in inputs:
+            source = source_of(word, part, options) if part else None
+            sources += [source] if source else []
+            words.append(source or word)
+        return Plan(test.name, test.place, sources, without_languages(words), os.path.join(self.images, f"{test.place}.elf"))
+
+    def arch_plan(self, test):
+        """What an architecture test is built of."""
+        options = [*self.arch, "-DXLEN=32", f"-I{self.path('arch-test')}", *self.arch_include, "-nostdlib", "-nostartfiles"]
+        source = source_of(test.source, "assembler-with-cpp", compiled_by(options), test.name)
+        words = [*options, source, *self.linking, "-T", self.path("arch-test/link.ld")]
+        return Plan(test.name, test.place, [source], words, os.path.join(self.images, f"{test.place}.elf"))
+
+
+def source_of(path, language, options, label=None):
+    """A source; one in assembler may use every instruction of the simulator, so FENCE.I as well."""
+    if language.startswith("assembler"):
+        options = [*options, *with_fence_i(options)]
+    return Source(path, language, tuple(options), label or path)
+
+
+def with_fence_i(options):
+    """The option that lets the assembler take FENCE.I: compilers and C libraries have no directory for an -march with zifencei."""
+    chosen = [it for it in options if it.startswith("-march=rv")]
+    return [f"-Wa,{chosen[-1]}_zifencei"] if chosen and "zifencei" not in chosen[-1] else []
+
+
+def compiled_by(options):
+    """The options that matter to a compilation: neither the linker's nor languages, which each source has of its own."""
+    kept, left = [], iter(options)
+    for word in left:
+        if word in LINKED_WITH_VALUE or word == "-x":
+            next(left, None)
+        elif not word.startswith(LINKED) and not word.startswith("-x"):
+            kept.append(word)
+    return kept
+
+
+def without_languages(words):
+    """The words of the linker: objects have no language."""
+    left = iter(words)
+    return [it for it in left if not isinstance(it, str) or it != "-x" or next(left, None) is None]

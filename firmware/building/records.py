@@ -1,0 +1,117 @@
+"""Records of what was made, and of all that went into it: a record holds as long as making it again would give the same.
+
+A record has the digest of each file that was read; the names that were searched for, the directories that were searched, and what
+there was of these names; and the digest of the output. It is complete when it appears, as the output is.
+"""
+import json
+import os
+import re
+
+from listing.files import Refused
+from listing.flags import expanded, is_file
+
+from .digests import digest_of, write_whole
+
+# Another number makes every image of an earlier kit be built again.
+FORMAT = 1
+
+
+def paths_in_words(words):
+    """The files that words name in any way: whole, after `=` or `,` or an option's letter, and within response files of the linker."""
+    found, left = [], [piece for word in words for piece in pieces_of(word)]
+    while left:
+        piece = left.pop()
+        response = piece.startswith("@")
+        path = piece[1:] if response else piece
+        if path in found or not is_file(path):
+            continue
+        found.append(path)
+        if response:
+            left.extend(inner for word in words_of_response(path) for inner in pieces_of(word))
+    return sorted(found)
+
+
+def words_of_response(path):
+    """The words of a response file; none if it is not text."""
+    try:
+        return expanded([f"@{path}"])[0]
+    except Refused:
+        return []
+
+
+def pieces_of(word):
+    """The parts of a word that may be paths."""
+    pieces = [word, *word.split(",")]
+    pieces += [it.partition("=")[2] for it in pieces if "=" in it]
+    return [it for it in pieces + [re.sub("^-{1,2}[A-Za-z]", "", it) for it in pieces if it.startswith("-")] if it]
+
+
+class Record:
+    """What went into an output, and the output's digest."""
+
+    def __init__(self, digests, key):
+        self.digests, self.key = digests, key
+        self.files, self.searches, self.present, self.output, self.told = {}, [], None, None, {}
+
+    def add_files(self, paths):
+        """Adds the files that were read."""
+        for path in paths:
+            self.files[path] = self.digests.of(path)
+
+    def add_candidates(self, folders, names):
+        """Adds a search: these names in each of these directories. Directories of a search are compared as they are spelt."""
+        self.searches.append([list(dict.fromkeys(folders)), names, []])
+
+    def add_sources(self, folders, sources):
+        """Adds a search for the names that sources mention, which are read from these again."""
+        self.searches.append([list(dict.fromkeys(folders)), [], sources])
+
+    def close(self, output=None):
+        """Completes the record, with its output, which was just written."""
+        self.output = self.digests.anew(output) if output else None
+        self.present = self.found()
+
+    def found(self):
+        """A digest of what there is of all that was searched for."""
+        return digest_of([self.digests.present(tuple(folders), names, sources) for folders, names, sources in self.searches])
+
+    def holds(self, key, output=None):
+        """Whether all is as it was. The output must be the very bytes, whatever its date."""
+        return (self.key == key and all(self.digests.of(path) == digest for path, digest in self.files.items())
+                and self.present == self.found() and (output is None or self.digests.of(output) == self.output))
+
+    def value(self):
+        """The record as JSON has it."""
+        return {"format": FORMAT, "key": self.key, "files": self.files, "searches": self.searches, "present": self.present,
+                "output": self.output, "told": self.told}
+
+
+class Records:
+    """The records in a build folder."""
+
+    def __init__(self, folder, digests):
+        self.folder, self.digests = folder, digests
+
+    def path(self, kind, name):
+        """Where a record is kept."""
+        return os.path.join(self.folder, kind, f"{name}.json")
+
+    def load(self, kind, name):
+        """The record of this name; none if it is missing, damaged, or of another kit."""
+        try:
+            with open(self.path(kind, name), encoding="utf-8", errors="surrogateescape") as file:
+                value = json.load(file)
+            if value["format"] != FORMAT:
+                return None
+            record = Record(self.digests, value["key"])
+            record.files, record.searches, record.present = value["files"], value["searches"], value["present"]
+            record.output, record.told = value["output"], value["told"]
+            return record
+        except (OSError, ValueError, KeyError, TypeError):
+            return None
+
+    def save(self, kind, name, record):
+        """Writes a record in one step."""
+        path = self.path(kind, name)
+        os.makedirs(os.path.dirname(path), exist_ok=True)
+        write_whole(path, json.dumps(record.value()))

@@ -1,0 +1,175 @@
+"""The steps of a build: a source is compiled to an object, and objects are linked to an image. Each is done only if it must be."""
+import os
+import re
+import shlex
+import subprocess
+import time
+from typing import NamedTuple
+
+from listing.files import Refused, shown
+
+from .digests import digest_of
+from .records import Record, paths_in_words
+from .rules import files_in_linked, files_in_rules
+
+# The resolution of the clock of file systems: what changed less than this before a compiler began may have changed after it.
+TICK_NS = 20_000_000
+MOST_TRIES = 3
+# Sources of these languages are not preprocessed, so that there is no list of headers.
+WITHOUT_HEADERS = ("assembler", "cpp-output", "c++-cpp-output")
+
+
+class Failed(Exception):
+    """A step failed; the compiler said why."""
+
+
+class Source(NamedTuple):
+    """A source with the options that it is compiled by."""
+
+    path: str
+    language: str
+    options: tuple
+    label: str
+
+
+class Tools(NamedTuple):
+    """What all steps need."""
+
+    compiler: object
+    digests: object
+    records: object
+    folder: str
+    report: object
+
+
+def key_of(tools, words, answer):
+    """What a step is known by, apart from the files that it reads."""
+    return digest_of([tools.compiler.words, words, answer.digest, tools.compiler.environment, os.getcwd()])
+
+
+def compile_step(tools, source):
+    """Makes the object of a source unless it is up to date, and returns its path, and whether it was made now."""
+    answer = tools.compiler.about(list(source.options), source.language)
+    words = [*source.options, "-x", source.language, "-c", source.path]
+    key = key_of(tools, words, answer)
+    stem = re.sub(r"[^A-Za-z0-9._-]", "_", os.path.splitext(os.path.basename(source.path))[0])
+    output = os.path.join(tools.folder, "objects", key, f"{stem}.o")
+    record = tools.records.load("objects", os.path.join(key, "record"))
+    if record and record.holds(key, output):
+        return output, False
+    os.makedirs(os.path.dirname(output), exist_ok=True)
+    headers, assembled = f"{output}.headers", f"{output}.assembled"
+    command = [*words, "-MD", "-MF", headers, "-MT", "x", f"-Wa,--MD,{assembled}"]
+
+    def read():
+        files = [source.path]
+        if source.language not in WITHOUT_HEADERS:
+            files += read_list(headers, files_in_rules)
+        return files, read_list(assembled, files_in_rules)
+
+    def complete(record, files, others):
+        files = list(dict.fromkeys([*files, *filter(os.path.exists, others)]))
+        record.add_files([*files, *paths_in_words(source.options)])
+        folders = ["", *answer.headers, *(os.path.dirname(it) for it in files)]
+        record.add_sources(folders, files)
+        record.add_candidates(folders, sorted({it for word in source.options if '"' in word or "<" in word for it in quoted_in(word)}))
+
+    record = run_recorded(tools, command, output, key, f"CC {source.label}", read, complete)
+    for path in (headers, assembled):
+        if os.path.exists(path):
+            os.remove(path)
+    if record:
+        tools.records.save("objects", os.path.join(key, "record"), record)
+    os.replace(f"{output}.new", output)
+    tools.digests.anew(output)
+    return output, True
+
+
+def link_step(tools, words, image, place, label):
+    """Makes an image of objects unless it is up to date, and returns whether it was made now."""
+    answer = tools.compiler.about([it for it in words if not it.endswith(".o")])
+    key = key_of(tools, words, answer)
+    record = tools.records.load("images", place)
+    if record and record.holds(key, image):
+        return False
+    os.makedirs(os.path.dirname(image), exist_ok=True)
+    listed = f"{image}.linked"
+    command = [*words, f"-Wl,--dependency-file={listed}"]
+
+    def complete(record, files, others):
+        files = list(dict.fromkeys([*filter(os.path.exists, files), *others]))
+        record.add_files(files)
+        folders = ["", *answer.libraries]
+        record.add_sources(folders, [it for it in files if it.endswith((".ld", ".x", ".lds"))])
+        record.add_candidates(folders, sorted({os.path.basename(it) for it in files} | {it for word in words for it in library_names(word)}))
+
+    def read():
+        return read_list(listed, files_in_linked), paths_in_words(words)
+
+    record = run_recorded(tools, command, image, key, label, read, complete)
+    os.remove(listed)
+    if record:
+        tools.records.save("images", place, record)
+    os.replace(f"{image}.new", image)
+    return True
+
+
+def run_recorded(tools, words, output, key, label, read, complete):
+    """Runs the compiler until no file changed meanwhile, and returns the record of the output; none if files changed each time."""
+    new = f"{output}.new"
+    for _ in range(MOST_TRIES):
+        began = time.time_ns()
+        run(tools, [*words, "-o", new], label)
+        label = None
+        if not os.path.isfile(new):
+            raise Failed(f"{shown(output)}: error: the compiler ended with status 0 but wrote no output")
+        files, others = read()
+        inputs = [it for it in [*files, *others] if not it.startswith(tools.folder)]
+        if not any(changed_since(path, began - TICK_NS) for path in inputs):
+            record = Record(tools.digests, key)
+            complete(record, files, others)
+            record.close(new)
+            return record
+        time.sleep(TICK_NS / 1e9)
+        for path in inputs:
+            tools.digests.seen.pop(path, None)
+    return None
+
+
+def changed_since(path, instant):
+    """Whether a file was changed, or put in its place, at this instant or later."""
+    try:
+        return os.stat(path).st_ctime_ns >= instant
+    except OSError:
+        return False
+
+
+def run(tools, words, label):
+    """Runs the compiler, and reports its command and what it prints in one piece."""
+    words = [*tools.compiler.words, *words]
+    done = subprocess.run(words, stdin=subprocess.DEVNULL, stdout=subprocess.PIPE, stderr=subprocess.STDOUT, check=False)
+    said = done.stdout.decode("utf-8", "surrogateescape")
+    tools.report.step(label, shlex.join(words), said)
+    if done.returncode:
+        raise Failed("" if said.strip() else f"{words[0]}: error: ended with status {done.returncode}")
+
+
+def read_list(path, parse):
+    """The files in a list that the compiler wrote."""
+    try:
+        with open(path, encoding="utf-8", errors="surrogateescape") as file:
+            return parse(file.read())
+    except (OSError, ValueError) as error:
+        raise Refused(f"{shown(path)}: error: cannot tell which files were read: {error}") from None
+
+
+def quoted_in(word):
+    """The names in quotes or angle brackets in an option, as in -DHEADER='"a.h"'."""
+    return [it for pair in re.findall(r'"([^"]+)"|<([^>]+)>', word) for it in pair if it]
+
+
+def library_names(word):
+    """The names of the files that an option such as -lcode looks for."""
+    if word.startswith("-l:"):
+        return [word[3:]]
+    return [f"lib{word[2:]}.a", f"lib{word[2:]}.so"] if word.startswith("-l") and len(word) > 2 else []
