@@ -1,6 +1,31 @@
-/* What firmware in C and C++ asks of the simulator: a console with a script, the exit call, and FENCE.I. */
+/* What firmware in C, C++ and assembler asks of the simulator: a console with a script, the exit call, and FENCE.I. */
 #ifndef RVFLEET_H
 #define RVFLEET_H
+
+#ifdef __ASSEMBLER__
+
+/* The addresses of the console: a word load takes the next byte of the script, or all ones at the script's end; a word store
+ * prints the low byte. CONSOLE_LEFT is how many bytes of the script are left. */
+#define CONSOLE 0x10000000
+#define CONSOLE_LEFT 0x10000004
+#define SCRIPT_END 0xffffffff
+#define EXIT_CALL 93
+
+/* Ends the run with the code in a0, or with the code that is given. */
+    .macro finish code
+    .ifnb \code
+    li a0, \code
+    .endif
+    li a7, EXIT_CALL
+    ecall
+    .endm
+
+/* FENCE.I, whatever -march says. */
+    .macro fence_i
+    .insn i 0x0f, 1, x0, x0, 0
+    .endm
+
+#else
 
 #ifdef __cplusplus
 extern "C" {
@@ -37,6 +62,8 @@ static inline void fence_i(void)
 
 #ifdef __cplusplus
 }
+#endif
+
 #endif
 
 #endif

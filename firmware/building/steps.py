@@ -97,11 +97,14 @@ def link_step(tools, words, image, place, label):
     command = [*words, f"-Wl,--dependency-file={listed}"]
 
     def complete(record, files, others):
-        files = list(dict.fromkeys([*filter(os.path.exists, files), *others]))
-        record.add_files(files)
+        there = list(dict.fromkeys([*filter(os.path.exists, files), *others]))
+        record.add_files(there)
+        # Scripts are listed as they are named, and found in any of these directories, where each file of the name counts by its contents.
         folders = ["", *answer.libraries]
-        record.add_sources(folders, [it for it in files if it.endswith((".ld", ".x", ".lds"))])
-        record.add_candidates(folders, sorted({os.path.basename(it) for it in files} | {it for word in words for it in library_names(word)}))
+        names = {*files, *map(os.path.basename, [*files, *others]), *(it for word in words for it in library_names(word))}
+        scripts = [os.path.join(folder, it) for it in files if not it.endswith((".o", ".a", ".so")) for folder in folders]
+        folders += [it for script in filter(os.path.isfile, scripts) for it in searched_by_script(script)]
+        record.add_candidates(folders, sorted(names))
 
     def read():
         return read_list(listed, files_in_linked), paths_in_words(words)
@@ -161,6 +164,12 @@ def read_list(path, parse):
             return parse(file.read())
     except (OSError, ValueError) as error:
         raise Refused(f"{shown(path)}: error: cannot tell which files were read: {error}") from None
+
+
+def searched_by_script(path):
+    """The directories that a linker script adds to those that are searched."""
+    with open(path, encoding="utf-8", errors="surrogateescape") as file:
+        return re.findall(r'\bSEARCH_DIR\s*\(\s*"?=?([^")]*?)"?\s*\)', file.read())
 
 
 def quoted_in(word):
