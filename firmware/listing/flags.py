@@ -36,7 +36,7 @@ def words_in(text, path):
             quote = sign
         if sign in (SPECIAL if quote is None else "$`" if quote == '"' else ""):
             raise Refused(f'{shown(path)}:{line}: error: "{sign}" is not expanded or run here: expected options and files, without comments\n'
-                          f"help: put the word into single quotes if {sign!r} is part of it")
+                          f"help: put the word into single quotes if \"{sign}\" is part of it")
     try:
         return shlex.split(text)
     except ValueError as error:

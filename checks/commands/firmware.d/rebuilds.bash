@@ -30,11 +30,14 @@ case_stale_system_header() {
 
 # The C library's own headers, in a copy of it, since the installed ones are everyone's.
 case_stale_library_header() {
-    cp -rL /usr/lib/picolibc/riscv64-unknown-elf/include library
+    local installed=/usr/lib/picolibc/riscv64-unknown-elf/include
+    cp -rL "$installed" library
+    mkdir specs
+    sed "s|$installed|$PWD/library|g" "$(riscv64-unknown-elf-gcc -print-file-name=picolibc.specs)" >specs/picolibc.specs
     put t/a.c <<<'#include <stdlib.h>
 int main(void) { return EXIT_SUCCESS; }'
     change() { sed -i 's/define EXIT_SUCCESS.*/define EXIT_SUCCESS 1/' library/stdlib.h; }
-    stale 'a header of the C library' CFLAGS='-Os -Ilibrary'
+    stale 'a header of the C library' CFLAGS='-Os -Bspecs/'
 }
 
 # A folder of headers with older dates in the place of another.

@@ -1,0 +1,140 @@
+# shellcheck shell=bash disable=SC2154 # checks/commands/firmware gives kit and top
+# Which tests are built and run, what is ignored, which fail alone, and what names and options mean to the shell.
+
+case_one_test_alone() {
+    put t/broken.c <<<'int main(void) { return nothing; }'
+    exits t/ring.c 0
+    exits t/uart/rx.c 3
+    check 'all' 2 '3 jobs: 1 passed, 2 failed'
+    rm -r t/build
+    check 'one' 0 '1 job: 1 passed, 0 failed' ONLY=ring
+    shows 'CC ring'
+    hides 'CC broken'
+    hides 'CC uart.rx'
+    check 'another one' 2 'FAIL uart.rx: exit 3' ONLY=uart.rx
+    hides 'broken'
+    check 'two' 2 '2 jobs: 1 passed, 1 failed' 'ONLY=ring uart.rx'
+    check 'an unknown one' 2 'error: no test "rnig"' ONLY=rnig
+    shows 'help: did you mean "ring"?'
+    ends 'to be debugged' 0 'rvtest gdb' made debug TESTS=t TEST=ring GDB="true"
+    hides 'CC broken'
+    [ -e t/build/debug/ring.elf ] && [ ! -e t/build/debug/uart/rx.elf ] || fail 'another test is built to be debugged'
+    put t/ring.cases/one.out </dev/null
+    put t/ring.cases/two.exit <<<0
+    check 'all of its cases' 0 '2 jobs: 2 passed, 0 failed' ONLY=ring
+    check 'one of its cases' 0 '1 job: 1 passed, 0 failed' ONLY=ring.two
+}
+
+case_strict() {
+    exits t/a.c 0
+    echo x >t/notes.txt
+    check 'what is not like a test' 0 '1 job: 1 passed, 0 failed' STRICT=1
+    shows 't/notes.txt: note: ignored'
+    echo x >t/a.OUT
+    check 'not strict' 0 't/a.OUT: warning: ignored'
+    check 'strict' 2 't/a.OUT: error: ignored' STRICT=1
+    shows '1 job: 1 passed, 0 failed'
+    CI=true check 'strict in CI' 2 't/a.OUT: error: ignored'
+    CI=true check 'not strict in CI' 0 't/a.OUT: warning: ignored' STRICT=0
+    rm t/a.OUT
+    exits t/README.c 5
+    check 'README.c is a test' 2 'FAIL README: exit 5'
+}
+
+# Faults that rvtest finds, in the files that they come from.
+case_broken_keys() {
+    exits t/a.c 0
+    exits t/b.c 0
+    put t/b.keys <<<'# what may be misaligned
+misaligned = "allow"
+misalinged = "allow"'
+    check 'an unknown key' 2 't/b.keys:3: error: unknown key "misalinged"'
+    shows '2 jobs: 1 passed, 1 failed'
+    put t/b.keys <<<'isa = "rv64i"'
+    check 'a wrong value' 2 't/b.keys:1: error: '
+    shows '2 jobs: 1 passed, 1 failed'
+    put t/b.keys <<<'isa = '
+    check 'not TOML' 2 't/b.keys:1:7: error: invalid TOML'
+    shows '2 jobs: 1 passed, 1 failed'
+    rm t/b.keys
+    exits t/uart/c.c 0
+    exits t/uart/d.c 0
+    put t/uart/defaults.keys <<<'expct_exit = 0'
+    check 'a key of a folder' 2 't/uart/defaults.keys:1: error: unknown key "expct_exit"'
+    shows '4 jobs: 2 passed, 2 failed'
+    [ "$(grep -c 'expct_exit' err)" = 1 ] || fail "it is told more than once: $(<err)"
+    echo '-DX=$(touch injected)' >t/uart/c.flags
+    rm t/uart/defaults.keys
+    check 'wrong flags' 2 't/uart/c.flags:1: error: "$" is not expanded'
+    shows '4 jobs: 3 passed, 1 failed'
+    [ ! -e injected ] || fail 'a command of a .flags file was run'
+}
+
+case_signed_exit() {
+    exits t/a.c -1
+    echo -1 >t/a.exit
+    check 'a signed exit code' 0 '1 job: 1 passed, 0 failed'
+    echo 4294967295 >t/a.exit
+    check 'an unsigned one' 0 '1 job: 1 passed, 0 failed'
+    echo -2147483649 >t/a.exit
+    check 'one that is too small' 2 't/a.exit:1: error: expected an integer from -2147483648 to 4294967295, found "-2147483649"'
+}
+
+# Names mean nothing to make or to the shell.
+case_names_are_words() {
+    local name
+    # shellcheck disable=SC2016 # they are names
+    for name in 't;touch${IFS}injected' 't$(touch${IFS}injected)' 't`touch${IFS}injected`' "t'q" 't$(shell touch injected)x'; do
+        exits "$name/a.c" 0
+        case $name in
+            *' '*)
+                ends "TESTS=$name" 2 'TESTS must be one folder without blanks' made check "TESTS=$name"
+                ;;
+            *)
+                ends "TESTS=$name" 0 '1 job: 1 passed, 0 failed' made check "TESTS=$name"
+                ends "TESTS=$name, listed" 0 'LIST ' made list "TESTS=$name"
+                ends "TESTS=$name, cleaned" 0 'rm -rf' made clean "TESTS=$name"
+                ;;
+        esac
+    done
+    exits t/a.c 0
+    # shellcheck disable=SC2016
+    check 'ONLY' 2 'error: no test' 'ONLY=a;touch${IFS}injected'
+    # shellcheck disable=SC2016
+    check 'ARCH' 2 'ARCH:1: error: "$" is not expanded' 'ARCH=$$(touch injected)'
+    [ ! -e injected ] || fail 'a name was run as a command'
+}
+
+case_header_in_assembler() {
+    put t/a.S <<<'#include "rvfleet.h"
+    .globl main
+main:
+    li t0, CONSOLE
+    li t1, 0x41
+    sw t1, 0(t0)
+    fence_i
+    fence.i
+    lw t1, CONSOLE_LEFT - CONSOLE(t0)
+    finish 7'
+    echo 7 >t/a.exit
+    printf A >t/a.out
+    put t/plain.S <<<'    .globl main
+main:
+    fence.i
+    li a0, 0
+    ret'
+    check 'rvfleet.h, and FENCE.I without a directive' 0 '2 jobs: 2 passed, 0 failed'
+    echo '-march=rv32i -mabi=ilp32' | tee t/a.flags >t/plain.flags
+    check 'for another core' 0 '2 jobs: 2 passed, 0 failed'
+    check 'no C library' 0 '2 jobs: 2 passed, 0 failed' LIBC=none
+}
+
+# Options that would hide from the build what was read.
+case_refused_options() {
+    local option
+    for option in -MMD '-MF x' '-Wp,-MD,x' '-o x' -c -E '-Wl,--dependency-file=x'; do
+        exits t/a.c 0
+        printf '%s\n' "$option" >t/a.flags
+        check "$option" 2 "t/a.flags: error: \"${option%% *}\" cannot be used"
+    done
+}
