@@ -7,8 +7,8 @@ import json
 import os
 import re
 
-from listing.files import Refused
-from listing.flags import expanded, is_file
+from listing.files import Refused, text_at
+from listing.flags import is_file, response_words
 
 from .digests import digest_of, write_whole
 
@@ -34,7 +34,7 @@ def paths_in_words(words):
 def words_of_response(path):
     """The words of a response file; none if it is not text."""
     try:
-        return expanded([f"@{path}"])[0]
+        return response_words(text_at(path))
     except Refused:
         return []
 

@@ -15,8 +15,8 @@ WITH_VALUE = frozenset("""-I -D -U -A -L -l -T -u -z -e -B -G -x -o -include -im
 -iwithprefixbefore -isysroot -imultilib -Xlinker -Xassembler -Xpreprocessor -aux-info -dumpbase -dumpbase-ext -dumpdir -wrapper --param
 -specs --specs -R -h -soname -MF -MT -MQ""".split())
 # The build itself says what is compiled and where it is written, and asks what was read.
-OURS = re.compile(r"-(?:c|S|E|o.*|M[A-Z]*|###|fsyntax-only|print-.*|dumpspecs|dumpversion|dumpmachine|-help.*|-version)")
-OURS_WITHIN = re.compile(r"-Wp,.*-M|-Wa,.*--?MD|-W[al],.*(?:--dependency-file|,-o,|^-Wl,-o,)")
+OURS = re.compile(r"-(?:c|S|E|o.*|M[A-Z]*|###|fsyntax-only|print-.*|dumpspecs|dumpversion|dumpmachine|-help.*|-version)", re.S)
+OURS_WITHIN = re.compile(r"-Wp,.*-M|-Wa,.*--?MD|-W[al],.*(?:--dependency-file|,-o,|^-Wl,-o,)", re.S)
 LANGUAGES = {
     ".c": "c", ".i": "cpp-output", ".cc": "c++", ".cpp": "c++", ".cxx": "c++", ".c++": "c++", ".cp": "c++", ".C": "c++", ".CPP": "c++",
     ".ii": "c++-cpp-output", ".S": "assembler-with-cpp", ".sx": "assembler-with-cpp", ".s": "assembler",

@@ -18,7 +18,7 @@ case_one_test_alone() {
     shows 'help: did you mean "ring"?'
     ends 'to be debugged' 0 'rvtest gdb' made debug TESTS=t TEST=ring GDB="true"
     hides 'CC broken'
-    [ -e t/build/debug/ring.elf ] && [ ! -e t/build/debug/uart/rx.elf ] || fail 'another test is built to be debugged'
+    [ "$(find t/build/debug -name '*.elf')" = t/build/debug/ring.elf ] || fail 'another test is built to be debugged'
     put t/ring.cases/one.out </dev/null
     put t/ring.cases/two.exit <<<0
     check 'all of its cases' 0 '2 jobs: 2 passed, 0 failed' ONLY=ring
@@ -63,6 +63,7 @@ misalinged = "allow"'
     check 'a key of a folder' 2 't/uart/defaults.keys:1: error: unknown key "expct_exit"'
     shows '4 jobs: 2 passed, 2 failed'
     [ "$(grep -c 'expct_exit' err)" = 1 ] || fail "it is told more than once: $(<err)"
+    # shellcheck disable=SC2016 # it is not to be expanded
     echo '-DX=$(touch injected)' >t/uart/c.flags
     rm t/uart/defaults.keys
     check 'wrong flags' 2 't/uart/c.flags:1: error: "$" is not expanded'

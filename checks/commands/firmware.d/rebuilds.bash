@@ -277,6 +277,7 @@ int main(void) { return CODE; }'
 
 case_header_names() {
     local name
+    # shellcheck disable=SC2016 # they are names
     for name in 'a$b.h' 'a#b.h' 'a b.h' 'a:b.h'; do
         put t/a.c <<<"#include \"$name\"
 int main(void) { return CODE; }"
