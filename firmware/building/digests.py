@@ -36,13 +36,18 @@ def write_whole(path, text):
     os.replace(new, path)
 
 
+def facts_of(status):
+    """What is different for a file that was changed or replaced."""
+    return [status.st_dev, status.st_ino, status.st_size, status.st_mtime_ns, status.st_ctime_ns]
+
+
 class Digests:
     """What is known about files: digests of their contents, names of headers in them, and which names a directory has."""
 
     def __init__(self, path):
         self.path = path
         self.files, self.names = self.load()
-        self.seen, self.listings, self.searched, self.changed = {}, {}, {}, False
+        self.seen, self.facts, self.listings, self.searched, self.changed = {}, {}, {}, {}, False
 
     def load(self):
         """What an earlier build remembered. A damaged file is worth nothing, and costs nothing but time."""
@@ -80,13 +85,28 @@ class Digests:
             status = os.stat(path)
             if not stat.S_ISREG(status.st_mode):
                 return DIRECTORY if stat.S_ISDIR(status.st_mode) else SPECIAL
-            facts = [status.st_dev, status.st_ino, status.st_size, status.st_mtime_ns, status.st_ctime_ns]
+            facts = self.facts[path] = facts_of(status)
             entry = self.files.get(path)
             if entry and entry[:-1] == facts:
                 return entry[-1]
             return self.read(path, facts)
         except (OSError, ValueError):
             return None
+
+    def is_outdated(self, path):
+        """Whether a file is not the one any more whose digest this build has."""
+        try:
+            return path in self.facts and self.facts[path] != facts_of(os.stat(path))
+        except OSError:
+            return True
+
+    def forget(self, paths, folders):
+        """Makes files and directories be looked at again."""
+        for path in paths:
+            self.seen.pop(path, None)
+        for folder in folders:
+            self.listings.pop(folder, None)
+        self.searched.clear()
 
     def read(self, path, facts):
         """Reads a file, and remembers it if it has not changed for a while."""

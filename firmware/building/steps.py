@@ -70,7 +70,7 @@ def compile_step(tools, source):
     def complete(record, files, others):
         files = list(dict.fromkeys([*files, *filter(os.path.exists, others)]))
         record.add_files([*files, *paths_in_words(source.options)])
-        folders = ["", *answer.headers, *(os.path.dirname(it) for it in files)]
+        folders = ["", *answer.headers, *assembler_folders(source.options), *(os.path.dirname(it) for it in files)]
         record.add_sources(folders, files)
         record.add_candidates(folders, sorted({it for word in source.options if '"' in word or "<" in word for it in quoted_in(word)}))
 
@@ -97,8 +97,8 @@ def link_step(tools, words, image, place, label):
     command = [*words, f"-Wl,--dependency-file={listed}"]
 
     def complete(record, files, others):
-        there = list(dict.fromkeys([*filter(os.path.exists, files), *others]))
-        record.add_files(there)
+        members = [it for archive in filter(os.path.isfile, files) for it in members_of_thin(archive)]
+        record.add_files([*filter(os.path.exists, files), *members, *others])
         # Scripts are listed as they are named, and found in any of these directories, where each file of the name counts by its contents.
         folders = ["", *answer.libraries]
         names = {*files, *map(os.path.basename, [*files, *others]), *(it for word in words for it in library_names(word))}
@@ -118,24 +118,29 @@ def link_step(tools, words, image, place, label):
 
 
 def run_recorded(tools, words, output, key, label, read, complete):
-    """Runs the compiler until no file changed meanwhile, and returns the record of the output; none if files changed each time."""
+    """Runs the compiler until nothing that it read changed meanwhile, and returns the record of the output; none if something always did.
+
+    A file whose digest was taken before the compiler began must be the same after it. One that was not looked at before must not have
+    changed since the compiler began, nor may a directory.
+    """
     new = f"{output}.new"
     for _ in range(MOST_TRIES):
-        began = time.time_ns()
+        began, listed = time.time_ns() - TICK_NS, set(tools.digests.listings)
         run(tools, [*words, "-o", new], label)
         label = None
         if not os.path.isfile(new):
-            raise Failed(f"{shown(output)}: error: the compiler ended with status 0 but wrote no output")
-        files, others = read()
-        inputs = [it for it in [*files, *others] if not it.startswith(tools.folder)]
-        if not any(changed_since(path, began - TICK_NS) for path in inputs):
-            record = Record(tools.digests, key)
-            complete(record, files, others)
-            record.close(new)
+            raise Failed(f"{shown(output)}: error: the compiler exited with status 0 but wrote no output")
+        record = Record(tools.digests, key)
+        complete(record, *read())
+        record.close(new)
+        files = [it for it in record.files if not it.startswith(tools.folder)]
+        folders = {folder for search in record.searches for folder in search[0]} - listed
+        changed = [it for it in files if changed_since(it, began) or tools.digests.is_outdated(it)]
+        changed_folders = [it for it in folders if changed_since(it or ".", began)]
+        if not changed and not changed_folders:
             return record
         time.sleep(TICK_NS / 1e9)
-        for path in inputs:
-            tools.digests.seen.pop(path, None)
+        tools.digests.forget(changed, changed_folders)
     return None
 
 
@@ -164,6 +169,27 @@ def read_list(path, parse):
             return parse(file.read())
     except (OSError, ValueError) as error:
         raise Refused(f"{shown(path)}: error: cannot tell which files were read: {error}") from None
+
+
+def assembler_folders(options):
+    """The directories that options of the assembler make it search, as -Wa,-Idir or -Wa,-I,dir does."""
+    pieces = [it for word in options for it in (word[4:].split(",") if word.startswith("-Wa,") else [])]
+    pieces += [after for word, after in zip(options, options[1:]) if word == "-Xassembler"]
+    return [it[2:] or after for it, after in zip(pieces, [*pieces[1:], ""]) if it.startswith("-I")]
+
+
+def members_of_thin(path):
+    """The files that a thin archive refers to."""
+    with open(path, "rb") as file:
+        if file.read(8) != b"!<thin>\n":
+            return []
+        names = b""
+        while head := file.read(60):
+            if head[:16].strip() not in (b"/", b"//", b"/SYM64/"):
+                continue
+            data = file.read((int(head[48:58]) + 1) // 2 * 2)
+            names = data if head.startswith(b"//") else names
+    return [os.path.join(os.path.dirname(path), it) for it in names.decode(errors="surrogateescape").split("/\n") if it.strip()]
 
 
 def searched_by_script(path):

@@ -171,6 +171,14 @@ code: .incbin "inc/code.bin"'
     printf '\0\0\0\0' >inc/code.bin
     change() { sed -i 's/^main: .*/main: li a0, 1/' inc/inner.inc; }
     stale '.include by a macro'
+    echo '-Wa,-Ifirst,-I,inc' >t/a.flags
+    mkdir first
+    change() {
+        sed 's/^main: .*/main: li a0, 2/' inc/inner.inc >inner.inc
+        mv inner.inc first/
+    }
+    sed -i 's/^main: .*/main: li a0, 0/' inc/inner.inc
+    stale 'a file that hides another one from the assembler'
     rm t/a.*
     put t/a.c <<<'#define READ(name) asm(".balign 4\n.globl code\ncode: .incbin \"inc/" name ".bin\"");
 READ("code")
@@ -210,6 +218,12 @@ int main(void) { return code(); }'
     echo '-Lfirst -Lsecond -lcode' >t/a.flags
     change() { library 1 && mv libcode.a first/; }
     stale 'a library that comes before another one'
+    library 0
+    rm -r first second
+    riscv64-unknown-elf-ar rcT libthin.a code.o
+    echo '-L. -lthin' >t/a.flags
+    change() { library 1; }
+    stale 'a member of a thin archive'
     exits t/a.c 0
     rm t/a.flags
     change() { echo 'ENTRY(main)' >default.ld; }
