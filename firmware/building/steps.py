@@ -101,7 +101,8 @@ def link_step(tools, words, image, place, label):
         record.add_files([*filter(os.path.exists, files), *members, *others])
         # Scripts are listed as they are named, and found in any of these directories, where each file of the name counts by its contents.
         folders = ["", *answer.libraries]
-        names = {*files, *map(os.path.basename, [*files, *others]), *(it for word in words for it in library_names(word))}
+        named = [it for it in [*files, *others] if not it.startswith(tools.folder)]
+        names = {*named, *map(os.path.basename, named), *(it for word in words for it in library_names(word))}
         scripts = [os.path.join(folder, it) for it in files if not it.endswith((".o", ".a", ".so")) for folder in folders]
         folders += [it for script in filter(os.path.isfile, scripts) for it in searched_by_script(script)]
         record.add_candidates(folders, sorted(names))
