@@ -39,7 +39,8 @@ def error_of(rvtest, path):
     except OSError:
         return ""
     said = done.stderr.decode("utf-8", "surrogateescape")
-    return said[len(path) + 1:] if done.returncode == 2 and said.startswith(f"{path}:") else ""
+    start = re.search(rf"^{re.escape(path)}:", said, re.M)
+    return said[start.end():] if done.returncode == 2 and start else ""
 
 
 def place_of(text, jobs):

@@ -238,6 +238,48 @@ int main(void) { return code(); }'
     stale 'a file that a linker script includes' LINK='-T mine.ld'
 }
 
+# What people who knew nothing of the build thought of.
+case_stale_by_fresh_eyes() {
+    exits_by_header code.h
+    put second/code.h <<<'#define CODE 0'
+    mkdir first
+    echo '-Isecond -include code.h' >t/a.flags
+    change() { put code.h <<<'#define CODE 1
+#define code_h'; }
+    put t/a.c <<<'int main(void) { return CODE; }'
+    stale 'a file of -include appears in the current directory'
+    rm code.h t/a.flags
+    put sources/zero.c <<<'int main(void) { return 0; }'
+    put sources/one.c <<<'int main(void) { return 1; }'
+    touch -d '1 hour ago' sources/*
+    ln -sf ../sources/zero.c t/a.c
+    change() { ln -sfn ../sources/one.c t/a.c; }
+    stale 'the test is a link to another file'
+    rm t/a.c
+    exits t/a.c 0
+    mkdir programs
+    change() {
+        printf '#!/bin/sh\nexit 1\n' >programs/cc1
+        chmod +x programs/cc1
+    }
+    stale 'a compiler proper appears under -B' CFLAGS='-Os -Bprograms/'
+    rm programs/cc1
+    change() { printf '*cc1:\n+ -Dmain=other\n\n' >programs/specs; }
+    stale 'a file named specs appears under -B' CFLAGS='-Os -Bprograms/'
+    put t/a.c <<<'int main(void) { return __TIMESTAMP__[0] != 87; }'
+    touch -d 2020-01-01 t/a.c
+    change() { touch -d 2020-01-02 t/a.c; }
+    stale '__TIMESTAMP__ of another day'
+    put t/a.c <<<'#include "a.h"
+int main(void) { return CODE; }'
+    put t/a.h <<<'#define CODE 0'
+    change() {
+        put a.h <<<'#define CODE 1'
+        riscv64-unknown-elf-gcc -march=rv32imc -mabi=ilp32 -Os -g --specs=picolibc.specs -x c-header a.h -o t/a.h.gch
+    }
+    stale 'a precompiled header appears'
+}
+
 # An image with a date in the future, or with other contents.
 case_stale_image() {
     exits t/a.c 0
