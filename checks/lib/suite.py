@@ -41,6 +41,7 @@ SCRIPTS = {
     "memory": ([], False),
     "doors": ([], False),
     "kit_counts": ([], False),
+    "kit_lists": ([], True),
     "samples": ([], False),
     "version": ([], False),
     "pages": ([], True),
