@@ -6,10 +6,72 @@
 #   3. programs/NAME, where programs/BUILT says the same, and this machine can run it;
 #   4. one that is built now: each crate is proved once for its sources.
 # Contents count, not times, so a program that a pipeline's cache kept is used in a fresh checkout of the same sources.
+# The program's own name for itself is NAME, wherever it lies: a path that is not UTF-8 would be an argument that it rejects.
 # The status is 3 for every way in which a program cannot be had.
-root=$(dirname "$(readlink -f "${BASH_SOURCE[0]}")")
 programs=(rvfleet rvtest)
+
+# Finds the clone by this file's own path, without a tool where that is no symbolic link. `$(..)` cuts newlines off the end of what it
+# reads, so the directory is read with a slash behind it. A path that begins with `/` or `./` keeps `cd` from looking into CDPATH.
+find_root() {
+    root=$1
+    if [ -L "$root" ] && ! root=$(readlink -f -- "$root" 2>/dev/null); then
+        echo 'launch.bash: error: cannot follow the symbolic link to this file: "readlink" failed' >&2
+        exit 3
+    fi
+    [[ $root = /* ]] || root=./$root
+    root=$(cd -P -- "${root%/*}/" && printf '%s/' "$PWD") || exit 3
+    root=${root%/}
+}
+
+find_root "${BASH_SOURCE[0]}"
 log=$root/crates/rvfleet/out/build.log
+
+# ---- messages
+
+# A character, or printable ASCII, at the start of a text in UTF-8; and a control or format character there, which a terminal acts on or
+# a reader does not see: C1, Cf, and the separators of lines and paragraphs.
+character=$'^([\x20-\x7e]+|[\xc2-\xdf][\x80-\xbf]|\xe0[\xa0-\xbf][\x80-\xbf]|[\xe1-\xec\xee\xef][\x80-\xbf]{2}|\xed[\x80-\x9f][\x80-\xbf]'
+character+=$'|\xf0[\x90-\xbf][\x80-\xbf]{2}|[\xf1-\xf3][\x80-\xbf]{3}|\xf4[\x80-\x8f][\x80-\xbf]{2})'
+hidden=$'^(\xc2[\x80-\x9f\xad]|\xd8[\x80-\x85\x9c]|\xdb\x9d|\xdc\x8f|\xe0\xa2[\x90\x91]|\xe0\xa3\xa2|\xe1\xa0\x8e|\xe2\x80[\x8b-\x8f\xa8-\xae]'
+hidden+=$'|\xe2\x81[\xa0-\xaf]|\xef\xbb\xbf|\xef\xbf[\xb9-\xbb]|\xf0\x91\x82\xbd|\xf0\x91\x83\x8d|\xf0\x93\x90[\xb0-\xbf]|\xf0\x9b\xb2[\xa0-\xa3]'
+hidden+=$'|\xf0\x9d\x85[\xb3-\xba]|\xf3\xa0[\x80\x81][\x80-\xbf])'
+
+# Prints a text as the programs show one: each byte of a hidden character, and each that is not UTF-8, as \xNN. Runs in a shell of its own,
+# in which a character is a byte.
+printable() (
+    LC_ALL=C
+    rest=$1
+    while [ -n "$rest" ]; do
+        if [[ ! $rest =~ $hidden && $rest =~ $character ]]; then
+            printf '%s' "${BASH_REMATCH[0]}"
+            rest=${rest:${#BASH_REMATCH[0]}}
+        else
+            printf '\\x%02x' "'$rest"
+            rest=${rest:1}
+        fi
+    done
+)
+
+# Writes a message to standard error.
+say() {
+    printf '%s: %s\n' "$asked" "$(printable "$1")" >&2
+}
+
+# Says why there is no program, with a likely fix, and ends with status 3.
+#   not_had REASON [HELP]
+not_had() {
+    say "error: $1"
+    [ $# = 1 ] || printf '    help: %s\n' "$(printable "$2")" >&2
+    exit 3
+}
+
+# Ends where one of these tools is not there: what it should have printed would be empty, and taken for an answer.
+need() {
+    local tool
+    for tool in "$@"; do
+        type -P "$tool" >/dev/null || not_had "\"$tool\" not found on PATH"
+    done
+}
 
 # ---- the sources that a program is of
 
@@ -71,17 +133,27 @@ is_built() {
 is_stored() {
     local file=$root/programs/$1 built=$root/programs/BUILT
     [ -x "$file" ] && grep -qsx "sources $2" "$built" && grep -qsx "sha256 $(digest "$file") $1" "$built" || return 1
-    "$file" --help >/dev/null 2>&1
+    starts "$1" "$file"
 }
 
-# The path of a program that is there: rvfleet or rvtest. Fails where there is none.
+# Whether a program starts on this machine: it ends with a status of its own, if only to say that memory is short. One that the system or
+# the loader rejects ends with another.
+starts() {
+    local status=0
+    (exec -a "$1" -- "$2" --help) >/dev/null 2>&1 </dev/null || status=$?
+    [[ $status = [023] ]]
+}
+
+# The path of a program that is there: rvfleet or rvtest. Fails where there is none. Whoever has the line of the sources gives it, since it
+# takes a fifth of a second.
+#   program NAME [SOURCES]
 program() {
-    local sources_now
+    local sources_now=${2:-}
     if [ -n "${RVFLEET_BIN:-}" ]; then
         echo "$RVFLEET_BIN/$1"
         return
     fi
-    sources_now=$(sources) || return 1
+    [ -n "$sources_now" ] || sources_now=$(sources) || return 1
     if is_built "$1" "$sources_now"; then
         echo "$root/crates/$1/out/$1"
     elif is_stored "$1" "$sources_now"; then
@@ -94,14 +166,16 @@ program() {
 # Why programs/NAME is not taken, for a person.
 why_not_stored() {
     local built=$root/programs/BUILT
-    if ! [ -x "$root/programs/$1" ] || ! [ -r "$built" ]; then
-        echo "programs/ has no $1"
+    if ! [ -x "$root/programs/$1" ]; then
+        echo "programs/$1 not found, or not executable"
+    elif ! [ -r "$built" ]; then
+        echo 'programs/BUILT not found'
     elif ! grep -qx "sources $2" "$built"; then
-        echo 'programs/ is of other sources than these'
+        echo 'programs/ was built from other sources'
     elif ! grep -qx "sha256 $(digest "$root/programs/$1") $1" "$built"; then
-        echo "programs/$1 was changed"
+        echo "programs/$1 differs from the one that programs/BUILT describes"
     else
-        echo "programs/$1 does not run here: it is for x86-64 Linux with glibc $(sed -n 's/^glibc //p' "$built") or later"
+        echo "programs/$1 does not run on this machine: it needs x86-64 Linux with glibc $(sed -n 's/^glibc //p' "$built") or later"
     fi
 }
 
@@ -114,12 +188,6 @@ lanes() {
         if (processors < lanes) lanes = processors
         print lanes < 1 ? 1 : lanes
     }' /proc/meminfo
-}
-
-# Says why there is no program, and ends with status 3.
-not_had() {
-    echo "$asked: $*" >&2
-    exit 3
 }
 
 # Copies what the programs are made of into a folder, without tests and must-fail edits: `rt ci` proves and builds all that it finds.
@@ -146,7 +214,7 @@ prove() {
         ticks=$((ticks + 1))
         [ $((ticks % 50)) = 0 ] || continue
         proved=$(grep -cE '^rt: [a-z_]+ (proved|is kept)' "$log" || true)
-        [ "$proved" = "$seen" ] || echo "$asked: $proved of $(crate_lines | wc -l) crates proved, $((SECONDS - began)) s" >&2
+        [ "$proved" = "$seen" ] || say "$proved of $(crate_lines | wc -l) crates proved, $((SECONDS - began)) s"
         seen=$proved
     done
     wait "$building"
@@ -163,13 +231,15 @@ end_build() {
 
 build() {
     local began=$SECONDS building='' copy signal name
-    command -v rt >/dev/null ||
-        not_had "$(why_not_stored "$asked" "$1"), and there is no rt to build one: install the Rattle kit, or set RVFLEET_BIN to a folder with the programs"
-    if ! mkdir -p "$root"/crates/{rvfleet,rvtest}/out || ! : >"$log"; then
+    type -P rt >/dev/null ||
+        not_had "no program to run: $(why_not_stored "$asked" "$1"), and \"rt\" not found on PATH to build one" \
+            'install the Rattle kit, which has rt, or set RVFLEET_BIN to a directory with the programs'
+    need cp mkdir mktemp rm sleep tail wc
+    if ! mkdir -p "$root"/crates/{rvfleet,rvtest}/out 2>/dev/null || ! : 2>/dev/null >"$log"; then
         not_had "$log cannot be written"
     fi
-    copy=$(mktemp -d)
-    echo "$asked: builds and proves the $(crate_lines | wc -l) crates of both programs, once for these sources; $log has what the build says" >&2
+    copy=$(mktemp -d) || not_had 'no temporary directory for the build'
+    say "proving and building the $(crate_lines | wc -l) crates of both programs, once for these sources; log: $log"
     for signal in INT TERM HUP PIPE; do
         # shellcheck disable=SC2064 # the signal's name now
         trap "end_build $signal" "$signal"
@@ -178,7 +248,7 @@ build() {
     if ! prove "$copy"; then
         tail -n 20 "$log" >&2
         rm -rf "$copy"
-        not_had "the programs were not built; see $log"
+        not_had "the build failed; log: $log"
     fi
     for name in "${programs[@]}"; do
         cp "$copy/crates/$name/out/$name" "$root/crates/$name/out/$name" || not_had "$root/crates/$name/out cannot be written"
@@ -190,18 +260,39 @@ build() {
 
 # ---- the program that is asked for
 
+# Rejects what RVFLEET_BIN names where it has no program. A launcher there, this one or another clone's, would start itself for ever.
+check_given() {
+    local file=$RVFLEET_BIN/$asked
+    if [ ! -f "$file" ] || [ ! -x "$file" ]; then
+        not_had "RVFLEET_BIN=$RVFLEET_BIN: no executable file \"$asked\" in this directory"
+    elif [ "$file" -ef "$root/$asked" ]; then
+        not_a_program "$root"
+    elif [ -e "$RVFLEET_BIN/launch.bash" ]; then
+        not_a_program "$RVFLEET_BIN"
+    fi
+}
+
+not_a_program() {
+    not_had "RVFLEET_BIN=$RVFLEET_BIN: \"$asked\" in this directory is a launcher, not a program" \
+        "the programs of a clone are in its directory programs: RVFLEET_BIN=$1/programs"
+}
+
 launch() {
-    local path
+    local path sources_now
     asked=$1
     shift
     if [ -n "${RVFLEET_BIN:-}" ]; then
-        if [ ! -f "$RVFLEET_BIN/$asked" ] || [ ! -x "$RVFLEET_BIN/$asked" ]; then
-            not_had "RVFLEET_BIN=$RVFLEET_BIN has no program $asked"
-        fi
-    elif ! path=$(program "$asked"); then
-        local sources_now
+        check_given
+        path=$RVFLEET_BIN/$asked
+    else
+        need cat cut find grep sed sha256sum sort xargs
         sources_now=$(sources) || not_had "the sources below $root cannot be read"
-        build "$sources_now"
+        if ! path=$(program "$asked" "$sources_now"); then
+            build "$sources_now"
+            path=$(program "$asked") || not_had "the sources below $root changed during the build"
+        fi
     fi
-    exec "${path:-$(program "$asked")}" "$@"
+    # A script in its folder that runs this launcher gets the clone's program, and not itself once more.
+    unset RVFLEET_BIN
+    exec -a "$asked" -- "$path" "$@"
 }
