@@ -5,6 +5,8 @@ ghost use Rattle.std.specs.Fs.{IsFile, file_type};
 ghost use Rattle.std.specs.Path.{path_buf_bytes};
 
 use crate::file_error::FileError;
+use crate::file_identity::file_identity;
+use rv_base::Text;
 use std::alloc::{AllocError, Global};
 use std::fs::Metadata;
 use std::io::{self, ErrorKind};
@@ -16,6 +18,21 @@ use std::rt::Files;
 pub(crate) struct Places {
     pub(crate) new: PathBuf,
     pub(crate) whole: PathBuf,
+}
+
+impl Places {
+    /// Which files are there.
+    pub(crate) fn identities<R: Files>(
+        &self,
+        files: &R,
+        alloc: Global,
+    ) -> Result<Vec<Text>, AllocError> {
+        let mut identities = Vec::with_capacity(alloc, 2)?;
+        for path in [&self.whole, &self.new] {
+            identities.push(file_identity(files, alloc, path.as_str())?)?;
+        }
+        Ok(identities)
+    }
 }
 
 /// The places of a file that is to stand at a path. None where something is there that is no regular file.

@@ -65,7 +65,7 @@ gdb_stop known is_terminal words before after x y why =
 pub unshown_run : (known : Option FileContents) (is_terminal : Bool) (words : RunAsked) (Untouched : Type 0)
     → AreJobsToRun known words ⊎ Untouched → IsCommandStop known is_terminal (asked.Run words) stop.WriteFailed ⊎ Untouched
 unshown_run known is_terminal words Untouched =
-    ⊎_elim (λ found. inl (inr (inr (found, inl (inr (inr (inl refl))))))) inr
+    ⊎_elim (λ found. inl (inr (inr (inr (found, inl (inr (inr (inl refl)))))))) inr
 
 -- so may an acceptance, a merge and what is shown of a report
 pub unshown_accept : (known : Option FileContents) (is_terminal : Bool) (words : AcceptAsked) (status : ℕ) (before after : Said)
@@ -76,11 +76,11 @@ unshown_accept known is_terminal words status before after done =
 pub unshown_merge : (known : Option FileContents) (is_terminal : Bool) (words : MergeAsked) (status : ℕ) (before after : Said)
     → IsMergedAt known words status before after → IsCommandStop known is_terminal (asked.Merge words) stop.WriteFailed
 unshown_merge known is_terminal words status before after done =
-    inr (done.texts, (done.read, inr (done.rows, (done.parts, inr (inl refl)))))
+    inr (inr (done.texts, (done.read, inr (done.rows, (done.parts, inr (inl refl))))))
 
 pub unshown_report : (known : Option FileContents) (is_terminal : Bool) (words : ShowAsked) (status : ℕ) (before after : Said)
     → IsShownAt known words status before after → IsCommandStop known is_terminal (asked.Show words) stop.WriteFailed
-unshown_report known is_terminal words status before after done = inr (done.found, (done.read, inr (inl refl)))
+unshown_report known is_terminal words status before after done = inr (inr (done.found, (done.read, inr (inl refl))))
 
 -- a sum of tables that goes to standard output may be stopped there, and one that goes to a file put nothing there
 pub unshown_sum : (known : Option FileContents) (is_terminal : Bool) (words : CountsAsked) (status : ℕ) (before after : Said) (Untouched : Type 0)
@@ -88,10 +88,10 @@ pub unshown_sum : (known : Option FileContents) (is_terminal : Bool) (words : Co
     → (is_stdout (written_path (optional_text words.out)) ≡ true) ⊎ Untouched
     → IsCommandStop known is_terminal (asked.Counts words) stop.WriteFailed ⊎ Untouched
 unshown_sum known is_terminal words status before after Untouched put =
-    ⊎_elim (λ out. inl (inr (inr (
+    ⊎_elim (λ out. inl (inr (inr (inr (
       put.sum,
       (
         put.added,
         subst (λ (b : Bool). IsUnwrittenBy b (written_path (optional_text words.out)) stop.WriteFailed) (sym out) refl,
       ),
-    )))) inr
+    ))))) inr

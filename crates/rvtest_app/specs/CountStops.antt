@@ -20,6 +20,7 @@ use Rattle.rv_counts.specs.declared.table.CountTable.{CountTable}
 use Rattle.rv_text.specs.Printable.{printable_text}
 use Rattle.rv_text.specs.Words.{word_digits}
 use Rattle.rvtest_app.specs.CountSums.{AreAdded, IsTableAt}
+use Rattle.rvtest_app.specs.Overwrites.{IsSumOverwriteStop}
 use Rattle.rvtest_app.specs.WrittenTexts.{IsUnwrittenAtStop, written_path}
 
 -- a text at a path is refused as a table of counts
@@ -75,8 +76,9 @@ pub record IsSumStop (known : Option FileContents) (paths : List (Bor (List ℕ)
   pub added : AreAdded known before no_counts sum
   pub stopped : IsUnaddedStop known path.now sum why
 
--- `counts`: memory was wanting, or one of the tables was not added, or all were, and their sum was not written
+-- `counts`: the sum would replace a table; or memory was wanting, or one of the tables was not added, or all were, and their sum was
+-- not written
 abbrev pub IsCountsStop : Option FileContents → CountsAsked → Stop → Type 0
-IsCountsStop known words why = (why ≡ stop.OutOfMemory) ⊎ (IsSumStop known words.tables.items why
+IsCountsStop known words why = IsSumOverwriteStop words why ⊎ ((why ≡ stop.OutOfMemory) ⊎ (IsSumStop known words.tables.items why
     ⊎ ((sum : CountTable) × (AreAdded known words.tables.items no_counts sum
-    × IsUnwrittenAtStop (written_path (optional_text words.out)) why)))
+    × IsUnwrittenAtStop (written_path (optional_text words.out)) why))))

@@ -11,6 +11,7 @@ use Rattle.rv_merge.specs.Parts.{AreParts}
 use Rattle.rv_report.specs.declared.row.Row.{Row}
 use Rattle.rvtest_app.specs.MergeRefusals.{ArePartsRefused}
 use Rattle.rvtest_app.specs.Merges.{AreTextsAt, merged_report_path}
+use Rattle.rvtest_app.specs.Overwrites.{IsMergeOverwriteStop}
 use Rattle.rvtest_app.specs.PutStops.{IsOutputStop}
 
 -- one of the paths was not read, and those before it were
@@ -37,7 +38,7 @@ abbrev pub IsMergeOfStop : MergeAsked → List (List ℕ) → Stop → Type 0
 IsMergeOfStop words texts why = ArePartsRefused words.parts.items texts why
     ⊎ ((rows : List Row) × (AreParts rows texts × IsMergedPutStop words why))
 
--- `merge`: a part was not read, or all were, and that happened
+-- `merge`: a file would replace a part; or a part was not read, or all were, and that happened
 abbrev pub IsMergeStop : Option FileContents → MergeAsked → Stop → Type 0
-IsMergeStop known words why = ArePartsUnread known words.parts.items why
-    ⊎ ((texts : List (List ℕ)) × (AreTextsAt known words.parts.items texts × IsMergeOfStop words texts why))
+IsMergeStop known words why = IsMergeOverwriteStop words why ⊎ (ArePartsUnread known words.parts.items why
+    ⊎ ((texts : List (List ℕ)) × (AreTextsAt known words.parts.items texts × IsMergeOfStop words texts why)))
