@@ -3,13 +3,13 @@
 ghost use Rattle.std.specs.Prelude.{◌≡◌, ◌<◌, ◌≤◌, ◌++◌, IfOk, OnOk, length};
 ghost use Rattle.std.specs.Str.{is_utf8};
 ghost use Rattle.rv_text.specs.Printable.{behind_printable_front, escape, front_width, front_character_bytes, printable_front, begins_with_control};
-ghost use Rattle.rv_text.specs.Printable.{plain_front_len, printable_text, printable_value};
+ghost use Rattle.rv_text.specs.Printable.{begins_with_format, is_format, is_format_if_any, plain_front_len, printable_text, printable_value};
 
 use crate::slices::{byte_at, char_len, tail_from};
 use std::alloc::AllocError;
 
-/// Appends a text as it is shown: characters as they are, and each byte of a control character and of what is no
-/// character as `\xNN`.
+/// Appends a text as it is shown: characters as they are, and each byte of a control character, of a format character and of
+/// what is no character as `\xNN`.
 pub fn push_printable_text(bytes: &mut Vec<u8>, text: &[u8]) -> Result<(), AllocError>
     ensures { OnOk result (bytes.new.items ≡ bytes.old.items ++ printable_text text.now) }
 {
@@ -64,14 +64,14 @@ fn push_printable_front<'a>(bytes: &mut Vec<u8>, text: &'a [u8]) -> Result<&'a [
     Ok(tail_from(text, plain))
 }
 
-// How many bytes in front are shown as they are: those of one character, if it is no control character.
+// How many bytes in front are shown as they are: those of one character, if it is no control character and no format character.
 #[tactic(auto, unfolding(crate::specs::Printable::plain_front_len))]
 fn plain_front_len(text: &[u8]) -> usize
     ensures value { result ≡ plain_front_len text.now }
     ensures within { result ≤ length text.now }
 {
     let front = front_character_bytes(text);
-    if is_utf8(front) && !begins_with_control(text) {
+    if is_utf8(front) && !(begins_with_control(text) || begins_with_format(text)) {
         front.len()
     } else {
         0
@@ -105,6 +105,38 @@ fn begins_with_control(text: &[u8]) -> bool
 {
     let first = byte_at(text, 0);
     first < 0x20 || first == 0x7F || (first == 0xC2 && byte_at(text, 1) < 0xA0)
+}
+
+fn begins_with_format(text: &[u8]) -> bool
+    ensures { result ≡ begins_with_format text.now }
+{
+    match str::from_utf8(front_character_bytes(text)) {
+        Ok(front) => is_format_if_any(front.chars().next()),
+        Err(_) => false,
+    }
+}
+
+fn is_format_if_any(character: Option<char>) -> bool
+    ensures { result ≡ is_format_if_any character }
+{
+    match character {
+        Some(character) => is_format(character),
+        None => false,
+    }
+}
+
+// Whether a reader does not see a character, or it turns the text around it.
+fn is_format(character: char) -> bool
+    ensures { result ≡ is_format character }
+{
+    matches!(
+        character,
+        '\u{AD}' | '\u{600}'..='\u{605}' | '\u{61C}' | '\u{6DD}' | '\u{70F}' |
+            '\u{890}'..='\u{891}' | '\u{8E2}' | '\u{180E}' | '\u{200B}'..='\u{200F}' |
+            '\u{2028}'..='\u{202E}' | '\u{2060}'..='\u{206F}' | '\u{FEFF}' | '\u{FFF9}'..='\u{FFFB}'
+            | '\u{110BD}' | '\u{110CD}' | '\u{13430}'..='\u{1343F}' | '\u{1BCA0}'..='\u{1BCA3}' |
+            '\u{1D173}'..='\u{1D17A}' | '\u{E0000}'..='\u{E007F}'
+    )
 }
 
 fn push_escape(bytes: &mut Vec<u8>, byte: u8) -> Result<(), AllocError>

@@ -89,9 +89,13 @@ abbrev pub inputs_of_run : RunAsked → List Job → List (List ℕ)
 inputs_of_run words jobs = words.list.now ∷ option_to_list (optional_text words.known)
     ++ flat_map (paths_of_job (optional_text words.root)) jobs
 
+-- the report whose failed jobs it runs again
+abbrev pub failed_of_run : RunAsked → List (List ℕ)
+failed_of_run words = option_to_list (optional_text words.failed)
+
 -- the reports that it reads, of which --into replaces its own
 abbrev pub reports_of_run : RunAsked → List (List ℕ)
-reports_of_run words = option_to_list (optional_text words.failed) ++ option_to_list (optional_text words.into)
+reports_of_run words = failed_of_run words ++ option_to_list (optional_text words.into)
 
 -- no file of a run is one that it reads
 pub record AreRunFilesApart (words : RunAsked) (jobs : List Job) : Type 0 where
@@ -99,6 +103,7 @@ pub record AreRunFilesApart (words : RunAsked) (jobs : List Job) : Type 0 where
   pub junit : IsApart (inputs_of_run words jobs) (optional_text words.junit)
   pub counts : IsApart (inputs_of_run words jobs) (optional_text words.counts)
   pub into : IsApart (inputs_of_run words jobs) (optional_text words.into)
+  pub report_beside : IsApart (failed_of_run words) (optional_text words.report)
   pub junit_beside : IsApart (reports_of_run words) (optional_text words.junit)
   pub counts_beside : IsApart (reports_of_run words) (optional_text words.counts)
 

@@ -3,7 +3,7 @@
 ghost use Rattle.std.specs.Prelude.{◌≡◌, ◌++◌, IfErr, IfOk, IfSome, OnOk};
 ghost use Rattle.rv_command.specs.Texts.{optional_text};
 ghost use Rattle.rv_lists.specs.Jobs.{console_path};
-ghost use Rattle.rvtest_app.specs.Overwrites.{AreRunFilesApart, IsRunOverwriteStop, inputs_of_run, paths_of_job, read_paths, reports_of_run};
+ghost use Rattle.rvtest_app.specs.Overwrites.{AreRunFilesApart, IsRunOverwriteStop, failed_of_run, inputs_of_run, paths_of_job, read_paths, reports_of_run};
 
 use crate::overwrites::{look_up_files, push_read, refuse_overwrite};
 use crate::read_files::{ReadPath, ReadRole};
@@ -29,6 +29,8 @@ pub(crate) fn refuse_run_overwrites<F: Outputs>(
     refuse_overwrite(files, alloc, "--junit", asked.junit, &inputs)?;
     refuse_overwrite(files, alloc, "--counts", asked.counts, &inputs)?;
     refuse_overwrite(files, alloc, "--into", asked.into, &inputs)?;
+    let failed = look_up_files(files, alloc, failed_of_run(alloc, asked)?)?;
+    refuse_overwrite(files, alloc, "--report", asked.report, &failed)?;
     let reports = look_up_files(files, alloc, reports_of_run(alloc, asked)?)?;
     refuse_overwrite(files, alloc, "--junit", asked.junit, &reports)?;
     refuse_overwrite(files, alloc, "--counts", asked.counts, &reports)
@@ -92,13 +94,20 @@ fn console_file(job: &Job) -> Option<&str>
     }
 }
 
-fn reports_of_run<'a>(alloc: Global, asked: &RunAsked<'_>) -> Result<Vec<ReadPath<'a>>, AllocError>
-    ensures { IfOk result (λ read. read_paths read.items ≡ reports_of_run asked.now) }
+fn failed_of_run<'a>(alloc: Global, asked: &RunAsked<'_>) -> Result<Vec<ReadPath<'a>>, AllocError>
+    ensures { IfOk result (λ read. read_paths read.items ≡ failed_of_run asked.now) }
 {
     let mut read = Vec::new(alloc);
     if let Some(failed) = asked.failed {
         push_read(alloc, &mut read, None, failed, ReadRole::Word("--failed"))?;
     }
+    Ok(read)
+}
+
+fn reports_of_run<'a>(alloc: Global, asked: &RunAsked<'_>) -> Result<Vec<ReadPath<'a>>, AllocError>
+    ensures { IfOk result (λ read. read_paths read.items ≡ reports_of_run asked.now) }
+{
+    let mut read = failed_of_run(alloc, asked)?;
     if let Some(into) = asked.into {
         push_read(alloc, &mut read, None, into, ReadRole::Word("--into"))?;
     }
