@@ -1,5 +1,6 @@
 //! Which file a path leads to, however it is spelled.
 
+use crate::sink_paths::directory_of;
 use rv_base::Text;
 use std::alloc::{AllocError, Global};
 use std::os::unix::fs::MetadataExt;
@@ -27,18 +28,17 @@ pub(crate) fn file_identity<R: Files>(
     }
 }
 
-// The path in the directory as the system resolves it; as it is where the system resolves none.
-fn resolved_path<R: Files>(files: &R, alloc: Global, path: &str) -> Result<PathBuf, AllocError> {
+/// The path with its directory as the system resolves it; as it is where the system resolves none.
+pub(crate) fn resolved_path<R: Files>(
+    files: &R,
+    alloc: Global,
+    path: &str,
+) -> Result<PathBuf, AllocError> {
     let path = Path::new(path);
-    let (Some(parent), Some(name)) = (path.parent(), path.file_name()) else {
+    let Some(name) = path.file_name() else {
         return path.to_path_buf(alloc);
     };
-    let parent = if parent.as_str().is_empty() {
-        Path::new(".")
-    } else {
-        parent
-    };
-    match files.canonicalize(alloc, parent.as_str()) {
+    match files.canonicalize(alloc, directory_of(path.as_str()).as_str()) {
         Ok(folder) => folder.join(alloc, name),
         Err(_) => path.to_path_buf(alloc),
     }

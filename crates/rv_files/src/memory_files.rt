@@ -145,6 +145,10 @@ impl Outputs for MemoryOutputs {
         Text::copy(alloc, path)
     }
 
+    fn is_below(&self, _alloc: Global, _directory: &str, _path: &str) -> Result<bool, AllocError> {
+        Ok(true)
+    }
+
     fn replaced_files(&self, alloc: Global, path: &str) -> Result<Vec<Text>, FileError> {
         let mut replaced = Vec::with_capacity(alloc, 1)?;
         add_text(&mut replaced, Text::copy(alloc, path)?)?;

@@ -1,11 +1,10 @@
 //! The file that takes the bytes until it is placed.
 
 use crate::file_lock::FileLock;
-use crate::sink_paths::Places;
+use crate::sink_paths::{Places, directory_of};
 use std::fs::{self, Metadata, OpenFile, OpenOptions};
 use std::io::{self, ErrorKind};
 use std::os::unix::fs::MetadataExt;
-use std::path::Path;
 use std::rt::Files;
 
 /// A new file at the first of two places, locked, with the mode of the file at the second: one that an earlier run left there
@@ -95,11 +94,14 @@ fn keep_attributes<R: Files>(
 
 /// Hands the entry of a file in its directory to the disk, where the system can.
 pub(crate) fn sync_directory<R: Files>(files: &R, path: &str) {
-    let parent = match Path::new(path).parent() {
-        Some(parent) if !parent.as_str().is_empty() => parent,
-        _ => Path::new("."),
-    };
-    if let Ok(directory) = fs::open(files, parent.as_str()) {
+    if let Ok(directory) = fs::open(files, directory_of(path).as_str()) {
         let _ = directory.sync_all();
     }
+}
+
+/// Whether a file can be placed, as far as that is known before it is created: its directory is there, and no read-only file is.
+pub(crate) fn check_places<R: Files>(files: &R, places: &Places) -> io::Result<()> {
+    replaceable_file(files, places.whole.as_str())?;
+    files.metadata(directory_of(places.whole.as_str()).as_str())?;
+    Ok(())
 }

@@ -1,6 +1,6 @@
 //! Where a command writes its files, each of which stands there whole in the end, or not at all.
 
-ghost use Rattle.std.specs.Prelude.{◌≡◌, ◌≢◌, ◌∷◌, [], List, ℕ, Option, Some, IfErr, IfOk, IfSome, OnErr, OnOk};
+ghost use Rattle.std.specs.Prelude.{◌≡◌, ◌≢◌, ◌∷◌, [], List, ℕ, Option, Some, IfErr, IfOk, IfSome, IsTrue, OnErr, OnOk};
 ghost use Rattle.rv_files.specs.Placed.{PlacedFile, IsOneMorePlaced};
 
 use crate::file_error::FileError;
@@ -32,7 +32,13 @@ pub trait Outputs {
         // Where it is told which files are placed, a file has one path.
         ensures { IfOk result (λ identity. IfSome (placed self.now) (λ _. identity ≡ path.now)) };
 
-    /// The identities of the files that writing one for a path replaces or removes.
+    /// Whether the file at a path is in a directory or below it, however both are spelled.
+    fn is_below(&self, alloc: Global, directory: &str, path: &str) -> Result<bool, AllocError>
+        // Where it is told which files are placed, there are no directories.
+        ensures { IfOk result (λ below. IfSome (placed self.now) (λ _. IsTrue below)) };
+
+    /// The identities of the files that writing one for a path replaces or removes. An error where none can be written: its
+    /// directory is missing, or a read-only file is there.
     fn replaced_files(&self, alloc: Global, path: &str) -> Result<Vec<Text>, FileError>
         ensures { IfOk result (λ replaced. IfSome (placed self.now) (λ _. replaced.items ≡ path.now ∷ [])) };
 

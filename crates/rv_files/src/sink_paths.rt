@@ -70,8 +70,8 @@ fn gives_way(met: &Metadata) -> bool
 // Links that are followed, one behind the other: as many as Linux follows.
 const MOST_LINKS: u32 = 40;
 
-// The place that a path leads to.
-fn follow_links<R: Files>(files: &R, alloc: Global, path: &str) -> Result<PathBuf, FileError>
+/// The place that a path leads to.
+pub(crate) fn follow_links<R: Files>(files: &R, alloc: Global, path: &str) -> Result<PathBuf, FileError>
     ensures { IfErr result (λ error. error ≢ FileError.SamePlace) }
 {
     let mut place = PathBuf::from_str(alloc, path)?;
@@ -89,6 +89,14 @@ fn is_link<R: Files>(files: &R, path: &str) -> bool {
     match files.symlink_metadata(path) {
         Ok(met) => met.is_symlink(),
         Err(_) => false,
+    }
+}
+
+/// The directory of a path's file.
+pub(crate) fn directory_of(path: &str) -> Path<'_> {
+    match Path::new(path).parent() {
+        Some(parent) if !parent.as_str().is_empty() => parent,
+        _ => Path::new("."),
     }
 }
 

@@ -3,12 +3,14 @@
 ghost use Rattle.std.specs.Prelude.{◌≡◌, ◌<◌, [], None, IfErr, IfOk, vec_len};
 
 use crate::file_error::FileError;
-use crate::file_identity::file_identity;
+use crate::file_identity::{file_identity, resolved_path};
 use crate::file_lock::FileLock;
 use crate::file_sink::FileSink;
-use crate::new_file::{create_new_file, sync_directory};
+use crate::new_file::{check_places, create_new_file, sync_directory};
 use crate::outputs::Outputs;
-use crate::sink_paths::{Places, is_same_place, temporary_and_final_path, with_new_suffix};
+use crate::sink_paths::{
+    Places, follow_links, is_same_place, temporary_and_final_path, with_new_suffix,
+};
 use crate::streams::StreamSink;
 use rv_base::Text;
 use std::alloc::{AllocError, Global};
@@ -121,6 +123,19 @@ where
     }
 }
 
+// Where a file is made for a path at which nothing is, or a link that leads to nothing.
+fn place_of_missing_file<R: Files>(
+    files: &R,
+    alloc: Global,
+    path: &str,
+) -> Result<PathBuf, AllocError> {
+    match follow_links(files, alloc, path) {
+        Ok(place) => resolved_path(files, alloc, place.as_str()),
+        Err(FileError::OutOfMemory) => Err(AllocError),
+        Err(_) => PathBuf::from_str(alloc, path),
+    }
+}
+
 // A file that is open. Three of them take the places of standard streams that are closed, so that the file which is
 // opened behind them takes none, and what goes to the streams is not written to it.
 fn open_null_device<R: Files>(files: &R) -> io::Result<R::File> {
@@ -148,10 +163,25 @@ where
         file_identity(self.files, alloc, path)
     }
 
+    // As the system resolves both: of a link the place that it leads to counts.
+    fn is_below(&self, alloc: Global, directory: &str, path: &str) -> Result<bool, AllocError> {
+        let Ok(directory) = self.files.canonicalize(alloc, directory) else {
+            return Ok(false);
+        };
+        let path = match self.files.canonicalize(alloc, path) {
+            Ok(path) => path,
+            Err(_) => place_of_missing_file(self.files, alloc, path)?,
+        };
+        Ok(path.starts_with(directory.as_str()))
+    }
+
     // What is at the path, and at the one of the file that takes the bytes. What is there and no regular file stays.
     fn replaced_files(&self, alloc: Global, path: &str) -> Result<Vec<Text>, FileError> {
         match temporary_and_final_path(self.files, alloc, path)? {
-            Some(places) => Ok(places.identities(self.files, alloc)?),
+            Some(places) => {
+                check_places(self.files, &places)?;
+                Ok(places.identities(self.files, alloc)?)
+            }
             None => Ok(Vec::new(alloc)),
         }
     }

@@ -137,6 +137,73 @@ fn written_paths_are_compared_with_read_ones(rt: HostRuntime) -> Result<(), Fail
     Ok(())
 }
 
+// A directory | a path | whether its file is in the directory or below it.
+const BELOW: &str = "\
+.|file|yes
+inner|inner/file|yes
+inner|inner/deeper/file|yes
+inner|file|no
+inner|inner/../file|no
+inner|./inner/file|yes
+inner|inner/out|no
+inner|inner/absent|yes
+inner|absent|no
+inner|to_inner/file|yes
+to_inner|inner/file|yes
+inner|innermost|no
+absent|file|no
+inner|inner/lost|no
+";
+
+#[test]
+fn a_file_is_below_a_directory(rt: HostRuntime) -> Result<(), Fail> {
+    fs::create_dir(&rt, "inner")?;
+    fs::create_dir(&rt, "inner/deeper")?;
+    for path in ["file", "innermost", "inner/file", "inner/deeper/file"] {
+        fs::write(&rt, path, "old")?;
+    }
+    rt.symlink("inner", "to_inner")?;
+    rt.symlink("../file", "inner/out")?;
+    rt.symlink("../nothing", "inner/lost")?;
+    let outputs = SystemOutputs::new(&rt, rt.alloc());
+    for line in BELOW.lines() {
+        let mut cells = line.split('|');
+        let directory = cells.next().unwrap_or("");
+        let path = cells.next().unwrap_or("");
+        let wanted = cells.next().unwrap_or("") == "yes";
+        let is_below = outputs.is_below(rt.alloc(), directory, path)?;
+        assert_eq!(rt; is_below, wanted, "{line}");
+    }
+    for path in ["file", "innermost", "inner/file", "inner/deeper/file"] {
+        fs::remove_file(&rt, path)?;
+    }
+    for path in ["to_inner", "inner/out", "inner/lost"] {
+        fs::remove_file(&rt, path)?;
+    }
+    fs::remove_dir(&rt, "inner/deeper")?;
+    fs::remove_dir(&rt, "inner")?;
+    Ok(())
+}
+
+#[test]
+fn a_path_that_takes_no_file_is_refused(rt: HostRuntime) -> Result<(), Fail> {
+    fs::write(&rt, "fixed", "old")?;
+    rt.set_permissions("fixed", Permissions::from_mode(0o444))?;
+    let outputs = SystemOutputs::new(&rt, rt.alloc());
+    for (path, wanted) in [
+        ("fixed", ErrorKind::PermissionDenied),
+        ("absent/file", ErrorKind::NotFound),
+        ("fixed/file", ErrorKind::NotADirectory),
+    ] {
+        match outputs.replaced_files(rt.alloc(), path) {
+            Err(FileError::Failed(reason)) => assert_eq!(rt; reason, wanted, "{path}"),
+            _ => assert!(rt; false, "{path}"),
+        }
+    }
+    fs::remove_file(&rt, "fixed")?;
+    Ok(())
+}
+
 #[test]
 fn a_file_has_one_writer(rt: HostRuntime) -> Result<(), Fail> {
     let mut first = SystemOutputs::new(&rt, rt.alloc());

@@ -1,10 +1,12 @@
 -- Files of a command that would replace what the command reads.
-use Rattle.std.specs.Prelude.{◌≡◌, ◌⊎◌, ◌++◌, ℕ, Bool, List, Ok, [], ◌∷◌, false, IfSome, IsSomeAnd, Option, Some, codes, map, option_map, option_to_list}
+use Rattle.std.specs.Prelude.{◌≡◌, ◌⊎◌, ◌++◌, ℕ, Bool, List, Ok, [], ◌∷◌, false, IfSome, IsSomeAnd, Option, Some, codes, if◌then◌else◌, map, option_map, option_to_list}
 use Rattle.std.specs.Borrow.{Bor}
-use Rattle.std.specs.List.{Any, flat_map, list_any}
+use Rattle.std.specs.List.{All, Any, flat_map, list_any}
 use Rattle.std.specs.Path.{path_buf_bytes}
 use Rattle.std.specs.Str.{bytes_eq}
 use Rattle.rv_base.specs.Files.{FileContents}
+use Rattle.rv_accept.specs.Sharing.{marks_to_run}
+use Rattle.rvtest_cli.specs.declared.accept.AcceptAsked.{AcceptAsked}
 use Rattle.rvtest_cli.specs.declared.counts.CountsAsked.{CountsAsked}
 use Rattle.rvtest_cli.specs.declared.merge.MergeAsked.{MergeAsked}
 use Rattle.rvtest_cli.specs.declared.run.RunAsked.{RunAsked}
@@ -55,6 +57,14 @@ abbrev pub role_text : ReadRole → List ℕ
 role_text (role.Word word) = word.now
 role_text (role.JobFile key job) = job_file_text key.now job.now
 
+-- what a file that is written is to the command
+abbrev pub job_writer_text : List ℕ → List ℕ → List ℕ
+job_writer_text key job = codes "job \"" ++ job ++ codes "\": " ++ key
+
+abbrev pub writer_text : ReadRole → List ℕ
+writer_text (role.Word word) = word.now
+writer_text (role.JobFile key job) = job_writer_text key.now job.now
+
 -- which option, with which path, would overwrite what, which the command reads at which path
 abbrev pub overwrite_head : List ℕ → List ℕ → List ℕ
 overwrite_head option path = codes "rvtest: " ++ option ++ codes " \"" ++ printable_text path ++ codes "\" would overwrite "
@@ -79,10 +89,14 @@ IsOptionStop option path why = IsSomeAnd (file_path_at path) (λ path. IsOverwri
 
 -- ---- the files of a run
 
--- the files that a job names, each taken from a folder if one is given
+-- the golden files that a job names, each taken from a folder if one is given
+abbrev pub golden_paths_of_job : Option (List ℕ) → Job → List (List ℕ)
+golden_paths_of_job root job = map (resolved_path root)
+    (option_to_list job.expect_signature ++ option_to_list (console_path job.expect_console))
+
+-- all files that it names
 abbrev pub paths_of_job : Option (List ℕ) → Job → List (List ℕ)
-paths_of_job root job = map (resolved_path root)
-    (job.image ∷ option_to_list job.expect_signature ++ option_to_list (console_path job.expect_console))
+paths_of_job root job = resolved_path root job.image ∷ golden_paths_of_job root job
 
 -- what a run reads and never writes: its list, the known failures, and the files of all jobs of the list
 abbrev pub inputs_of_run : RunAsked → List Job → List (List ℕ)
@@ -124,6 +138,57 @@ abbrev pub AreRunInputsKept : Option FileContents → RunAsked → Option (List 
 AreRunInputsKept known words before after = (after ≡ before)
     ⊎ ((text : List ℕ) × (jobs : List Job) × (IsTextAt known words.list.now text × ((job_list_of text ≡ Ok jobs)
     × IfSome before (λ _. AreRunFilesApart words jobs))))
+
+-- ---- the files of accept
+
+-- what accept reads beside the list and never writes: the report whose failed jobs it chooses, and the images of all jobs
+abbrev pub inputs_of_accept : AcceptAsked → List Job → List (List ℕ)
+inputs_of_accept words jobs = failed_of_run words.run ++ map (λ job. resolved_path (optional_text words.run.root) job.image) jobs
+
+-- the golden files of the jobs that are marked
+unfoldable pub golden_paths_of_marked : Option (List ℕ) → List Job → List Bool → List (List ℕ)
+golden_paths_of_marked root [] marks = []
+golden_paths_of_marked root (job ∷ jobs) [] = []
+golden_paths_of_marked root (job ∷ jobs) (marked ∷ marks) =
+    (if marked then golden_paths_of_job root job else []) ++ golden_paths_of_marked root jobs marks
+
+-- what writing the file at a path would replace is neither the list nor one of these
+abbrev pub IsGoldenApart : List (List ℕ) → List (List ℕ) → List ℕ → Type 0
+IsGoldenApart list inputs path = IsUnread list path × IsUnread inputs path
+
+-- no golden file of the marked jobs is the list or something else that is read, and nor is the list
+pub record AreAcceptFilesApart (words : AcceptAsked) (jobs : List Job) (marks : List Bool) : Type 0 where
+  pub list : IsUnread (inputs_of_accept words jobs) words.run.list.now
+  pub golden : All (IsGoldenApart (words.run.list.now ∷ []) (inputs_of_accept words jobs))
+      (golden_paths_of_marked (optional_text words.run.root) jobs marks)
+
+-- a golden file is outside of a directory
+abbrev pub outside_text : List ℕ → List ℕ → List ℕ → List ℕ
+outside_text role path directory = codes "rvtest: " ++ role ++ codes " \"" ++ printable_text path
+    ++ codes "\" is outside the directory \"" ++ printable_text directory ++ codes "\""
+
+abbrev pub outside_message : List ℕ → List ℕ → List ℕ → List ℕ
+outside_message role path directory = outside_text role path directory ++ codes "; use --outside to write it\n"
+
+abbrev pub IsOutsideStop : List ℕ → Stop → Type 0
+IsOutsideStop path why = (role : List ℕ) × (directory : List ℕ) × IsStop 2 (outside_message role path directory) why
+
+-- a file that accept writes would overwrite something, cannot be written, or is outside of the directory
+abbrev pub IsUnwritableStop : List ℕ → Stop → Type 0
+IsUnwritableStop path why = (why ≡ stop.OutOfMemory)
+    ⊎ (((role : List ℕ) × IsOverwriteStop role path why) ⊎ IsOutsideStop path why)
+
+-- so the list, or a golden file of a job
+abbrev pub IsAcceptOverwriteStop : AcceptAsked → List Job → Stop → Type 0
+IsAcceptOverwriteStop words jobs why = (why ≡ stop.OutOfMemory) ⊎ ((marks : List Bool)
+    × Any (λ path. IsUnwritableStop path why)
+    (words.run.list.now ∷ golden_paths_of_marked (optional_text words.run.root) jobs marks))
+
+-- accept placed files only where none of them is one that it reads, as far as it is told which files are placed
+abbrev pub AreAcceptInputsKept : Option FileContents → AcceptAsked → Option (List PlacedFile) → Option (List PlacedFile) → Type 0
+AreAcceptInputsKept known words before after = (after ≡ before)
+    ⊎ ((text : List ℕ) × (jobs : List Job) × (chosen : List Bool) × (IsTextAt known words.run.list.now text
+    × ((job_list_of text ≡ Ok jobs) × IfSome before (λ _. AreAcceptFilesApart words jobs (marks_to_run jobs chosen jobs chosen)))))
 
 -- ---- the files of the other commands
 

@@ -15,14 +15,18 @@ ghost use Rattle.rv_choice.specs.Chosen.{IsChoice};
 ghost use Rattle.rv_command.specs.Texts.{IsTextAt, optional_text};
 ghost use Rattle.rv_lists.specs.JobList.{job_list_of};
 ghost use Rattle.rv_lists.specs.Jobs.{without_expectations};
-ghost use Rattle.rvtest_app.specs.AcceptStops.{IsAcceptingStop, IsGoldenUnreadStop, IsPutAcceptedStop};
+ghost use Rattle.rvtest_app.specs.AcceptStops.{IsAcceptChosenStop, IsGoldenUnreadStop, IsPutAcceptedStop};
 ghost use Rattle.rvtest_app.specs.Accepts.{AreGoldenFiles, AreRowsPut, IsAcceptedAt, IsAcceptedOfMarks, IsOutcomePut, accept_status};
 ghost use Rattle.rvtest_app.specs.Accepts.{acceptance_of};
 ghost use Rattle.rvtest_app.specs.CommandStops.{IsAcceptStop, IsListStop};
 ghost use Rattle.rvtest_app.specs.Commands.{failure_rule};
+ghost use Rattle.rvtest_app.specs.Overwrites.{AreAcceptFilesApart, AreAcceptInputsKept};
 ghost use Rattle.rvtest_app.specs.Said.{said};
 
-use crate::accepted_files::{check_written_files, read_golden_files, write_accepted_files};
+use crate::accept_inputs::refuse_accept_overwrites;
+use crate::accepted_files::{
+    check_unchanged_files, check_written_files, read_golden_files, write_accepted_files,
+};
 use crate::crew::requested_crew;
 use crate::destinations::Destinations;
 use crate::host::Host;
@@ -91,6 +95,8 @@ pub(crate) fn accept_runs<
     // In a check nothing is opened for writing, whatever comes of it.
     ensures unwritten { asked.now.check ≡ true → to.new.files ≡ to.old.files }
     ensures stopped { IfErr result (IsAcceptStop (D.contents host.now.inputs.now) asked.now) }
+    // What is read and not accepted stays.
+    ensures kept { AreAcceptInputsKept (D.contents host.now.inputs.now) asked.now (F.placed to.old.files) (F.placed to.new.files) }
 {
     let list = chosen_list(host, asked)?;
     put_message(&mut to.errors, list.notes.as_slice());
@@ -122,9 +128,14 @@ fn accept_chosen<
         (said F.placed O.taken E.taken E.failed to.old) (said F.placed O.taken E.taken E.failed to.new)) }
     ensures unwritten { asked.now.check ≡ true → to.new.files ≡ to.old.files }
     ensures stopped { IfErr result
-        (IsAcceptingStop (D.contents host.now.inputs.now) asked.now list.now.jobs) }
+        (IsAcceptChosenStop (D.contents host.now.inputs.now) asked.now list.now.jobs) }
+    ensures kept { (F.placed to.new.files ≡ F.placed to.old.files) ⊎ IfSome (F.placed to.old.files) (λ _. AreAcceptFilesApart
+        asked.now list.now.jobs (marks_to_run list.now.jobs chosen.now list.now.jobs chosen.now)) }
 {
     let marked = marked_jobs(host.alloc, asked, list, chosen)?;
+    let (jobs, marks) = (list.jobs.as_slice(), marked.marks.as_slice());
+    let outside = refuse_accept_overwrites(&to.files, host.alloc, asked, jobs, marks)?;
+    put_message(&mut to.errors, outside.as_slice());
     let rows = run_marked(host, asked, marked, to)?;
     let list = ListFile {
         path: asked.run.list,
@@ -299,6 +310,7 @@ fn put_accepted<'x, R, D: Inputs, F: Outputs + Drop, O: Sink + Drop, E: Sink + D
         put_count(host.alloc, &accepting, Writing::Asked, &mut to.out)?;
         return Ok(accept_status(accepting.left_count(), accepting.changed_count()));
     }
+    check_unchanged_files(host.inputs, host.alloc, &accepting)?;
     write_accepted_files(&mut to.files, host.alloc, &accepting)?;
     check_written_files(host.inputs, host.alloc, &accepting)?;
     put_count(host.alloc, &accepting, Writing::Done, &mut to.out)?;

@@ -7,6 +7,7 @@
 #![tactic(auto)]
 
 mod accept;
+mod accept_inputs;
 mod accept_law;
 mod accepted_files;
 mod check;

@@ -62,7 +62,8 @@ pub(crate) fn refuse_overwrite<F: Outputs>(
     }
 }
 
-fn refuse_file<F: Outputs>(
+/// Refuses the file at a path that would replace or remove one that is read.
+pub(crate) fn refuse_file<F: Outputs>(
     files: &F,
     alloc: Global,
     option: &str,
@@ -84,8 +85,8 @@ fn refuse_file<F: Outputs>(
 }
 
 impl<'a> ReadFiles<'a> {
-    // The first that is one of some files.
-    fn first_of(&self, files: &[Text]) -> Option<usize>
+    /// The first that is one of some files.
+    pub(crate) fn first_of(&self, files: &[Text]) -> Option<usize>
         ensures within { IfSome result (λ at. at < length self.now.identities.items) }
         ensures none { result ≡ None → list_any (is_among files.now) self.now.identities.items ≡ false }
     {
@@ -98,13 +99,20 @@ impl<'a> ReadFiles<'a> {
     }
 }
 
-fn is_among(files: &[Text], identity: &Text) -> bool
+/// Whether a file is one of some files, by what the system knows each by.
+pub(crate) fn is_among(files: &[Text], identity: &Text) -> bool
     ensures { result ≡ is_among files.now identity.now }
 {
     files.iter().any(|file| file.as_str() == identity.as_str())
 }
 
-fn overwrite_stop<'a>(alloc: Global, option: &'a str, path: &'a str, read: &ReadPath<'_>) -> Stop
+/// That a file would overwrite one that is read.
+pub(crate) fn overwrite_stop<'a>(
+    alloc: Global,
+    option: &'a str,
+    path: &'a str,
+    read: &ReadPath<'_>,
+) -> Stop
     ensures { IsOverwriteTold option.entry.now path.entry.now result }
 {
     Stop::of_refusal(overwrite_message(alloc, option, path, read))

@@ -1,9 +1,10 @@
 //! What a run reads, beside the files that it writes.
 
-ghost use Rattle.std.specs.Prelude.{◌≡◌, ◌++◌, IfErr, IfOk, IfSome, OnOk};
+ghost use Rattle.std.specs.Prelude.{◌≡◌, ◌++◌, ◌∷◌, [], IfErr, IfOk, IfSome, OnOk};
 ghost use Rattle.rv_command.specs.Texts.{optional_text};
+ghost use Rattle.rv_files.specs.UnreadPaths.{resolved_path};
 ghost use Rattle.rv_lists.specs.Jobs.{console_path};
-ghost use Rattle.rvtest_app.specs.Overwrites.{AreRunFilesApart, IsRunOverwriteStop, failed_of_run, inputs_of_run, paths_of_job, read_paths, reports_of_run};
+ghost use Rattle.rvtest_app.specs.Overwrites.{AreRunFilesApart, IsRunOverwriteStop, failed_of_run, golden_paths_of_job, inputs_of_run, paths_of_job, read_paths, reports_of_run};
 
 use crate::overwrites::{look_up_files, push_read, refuse_overwrite};
 use crate::read_files::{ReadPath, ReadRole};
@@ -62,12 +63,38 @@ fn push_job_paths<'a>(
 ) -> Result<(), AllocError>
     ensures { OnOk result (read_paths read.new.items ≡ read_paths read.old.items ++ paths_of_job (optional_text root.entry) job.now) }
 {
-    let name = job.name.as_str();
-    let image = ReadRole::JobFile {
+    push_image_path(alloc, read, root, job)?;
+    push_golden_paths(alloc, read, root, job)
+}
+
+/// Appends the image of a job.
+pub(crate) fn push_image_path<'a>(
+    alloc: Global,
+    read: &mut Vec<ReadPath<'a>>,
+    root: Option<&str>,
+    job: &'a Job,
+) -> Result<(), AllocError>
+    ensures { OnOk result (read_paths read.new.items
+        ≡ read_paths read.old.items ++ resolved_path (optional_text root.entry) job.now.image ∷ []) }
+{
+    let role = ReadRole::JobFile {
         key: "image",
-        job: name,
+        job: job.name.as_str(),
     };
-    push_read(alloc, read, root, job.image.as_str(), image)?;
+    push_read(alloc, read, root, job.image.as_str(), role)
+}
+
+/// Appends the golden files of a job: the signature's, and then the console's.
+pub(crate) fn push_golden_paths<'a>(
+    alloc: Global,
+    read: &mut Vec<ReadPath<'a>>,
+    root: Option<&str>,
+    job: &'a Job,
+) -> Result<(), AllocError>
+    ensures { OnOk result (read_paths read.new.items
+        ≡ read_paths read.old.items ++ golden_paths_of_job (optional_text root.entry) job.now) }
+{
+    let name = job.name.as_str();
     if let Some(path) = &job.expect_signature {
         let signature = ReadRole::JobFile {
             key: "expect_signature",
@@ -94,7 +121,11 @@ fn console_file(job: &Job) -> Option<&str>
     }
 }
 
-fn failed_of_run<'a>(alloc: Global, asked: &RunAsked<'_>) -> Result<Vec<ReadPath<'a>>, AllocError>
+/// The report whose failed jobs are chosen.
+pub(crate) fn failed_of_run<'a>(
+    alloc: Global,
+    asked: &RunAsked<'_>,
+) -> Result<Vec<ReadPath<'a>>, AllocError>
     ensures { IfOk result (λ read. read_paths read.items ≡ failed_of_run asked.now) }
 {
     let mut read = Vec::new(alloc);
