@@ -48,10 +48,10 @@ pub(crate) fn refuse_accept_overwrites<F: Outputs>(
 {
     let root = asked.run.root;
     let reads = look_up_reads(files, alloc, asked, jobs)?;
-    refuse_list_overwrite(files, alloc, asked.run.list, &reads)?;
     let mut golden = Vec::new(alloc);
     push_golden_of_marked(alloc, &mut golden, root, jobs, marks)?;
     refuse_golden_files(files, alloc, golden.as_slice(), &reads)?;
+    refuse_list_overwrite(files, alloc, asked.run.list, &reads)?;
     outside_notes(files, alloc, asked, golden.as_slice())
 }
 
@@ -343,21 +343,21 @@ fn outside_message(
     Ok(text)
 }
 
-fn push_outside_text(
+fn push_outside_text<'x>(
     alloc: Global,
     text: &mut Vec<u8>,
-    directory: &str,
-    golden: &ReadPath<'_>,
+    directory: &'x str,
+    golden: &'x ReadPath<'_>,
 ) -> Result<(), AllocError>
     ensures { OnOk result (text.new.items ≡ text.old.items
-        ++ outside_text (writer_text golden.now.role) (path_buf_bytes golden.now.path) directory.now) }
+        ++ outside_text (writer_text golden.entry.now.role) (path_buf_bytes golden.entry.now.path) directory.entry.now) }
 {
     let role = writer_text(alloc, golden.role)?;
+    push_text(text, "rvtest: ")?;
+    push_text(text, role.as_str())?;
     push_spans(
         text,
         &[
-            Span::Text("rvtest: "),
-            Span::Text(role.as_str()),
             Span::Text(" \""),
             Span::Shown(golden.path.as_str().as_bytes()),
             Span::Text("\" is outside the directory \""),
