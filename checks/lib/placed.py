@@ -107,7 +107,13 @@ LIST = """job = [
     {name = 'b', image = 'b.elf', budget = 9},
 ]
 """
-MADE = ["run list.toml --report r --counts c", "run list.toml --shard 1/2 --stamp s --report p1", "run list.toml --shard 2/2 --stamp s --report p2"]
+# With the status of each.
+MADE = {
+    "run list.toml --report r --counts c": 0,
+    "run list.toml --shard 1/2 --stamp s --report p1": 0,
+    "run list.toml --shard 2/2 --stamp s --report p2": 0,
+    "run list.toml --budget 1 --report f": 1,
+}
 
 
 def everything_in(folder):
@@ -122,8 +128,8 @@ def check_overwrite(row):
         row.write(name, images.image("code 00000513 X"))
     row.write("g.out", "")
     row.write("k", "")
-    for words in MADE:
-        if row.run(words.split())[0] != 0:
+    for words, status in MADE.items():
+        if row.run(words.split())[0] != status:
             raise ValueError(f"{words} failed")
     for word in row["there"].split():
         put_there(row.folder, word)
