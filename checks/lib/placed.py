@@ -112,7 +112,7 @@ MADE = {
     "run list.toml --report r --counts c": 0,
     "run list.toml --shard 1/2 --stamp s --report p1": 0,
     "run list.toml --shard 2/2 --stamp s --report p2": 0,
-    "run list.toml --budget 1 --report f": 1,
+    "run red.toml --report f": 1,
 }
 
 
@@ -124,6 +124,7 @@ def everything_in(folder):
 def check_overwrite(row):
     """What is told of files that a command writes and reads; if they are refused, each is as it was."""
     row.write("list.toml", LIST)
+    row.write("red.toml", LIST.replace("budget = 9", "budget = 1"))
     for name in ("a.elf", "b.elf"):
         row.write(name, images.image("code 00000513 X"))
     row.write("g.out", "")
