@@ -124,7 +124,7 @@ def everything_in(folder):
 def check_overwrite(row):
     """What is told of files that a command writes and reads; if they are refused, each is as it was."""
     row.write("list.toml", LIST)
-    row.write("red.toml", LIST.replace("budget = 9", "budget = 1"))
+    row.write("red.toml", LIST.replace("budget = 9", "budget = 9, expect_exit = 5"))
     for name in ("a.elf", "b.elf"):
         row.write(name, images.image("code 00000513 X"))
     row.write("g.out", "")
