@@ -71,7 +71,11 @@ fn gives_way(met: &Metadata) -> bool
 const MOST_LINKS: u32 = 40;
 
 /// The place that a path leads to.
-pub(crate) fn follow_links<R: Files>(files: &R, alloc: Global, path: &str) -> Result<PathBuf, FileError>
+pub(crate) fn follow_links<R: Files>(
+    files: &R,
+    alloc: Global,
+    path: &str,
+) -> Result<PathBuf, FileError>
     ensures { IfErr result (λ error. error ≢ FileError.SamePlace) }
 {
     let mut place = PathBuf::from_str(alloc, path)?;

@@ -1,6 +1,6 @@
 //! The files that `accept` reads and writes.
 
-ghost use Rattle.std.specs.Prelude.{◌≡◌, ◌++◌, ◌∷◌, [], IfErr, IfOk, OnOk, Some, option_map};
+ghost use Rattle.std.specs.Prelude.{◌≡◌, ◌++◌, ◌∷◌, [], IfErr, IfOk, IsTrue, OnOk, Some, option_map};
 ghost use Rattle.rv_command.specs.Stops.{IsListUnreadStop};
 ghost use Rattle.rv_command.specs.Texts.{optional_text};
 ghost use Rattle.rv_files.specs.UnreadPaths.{resolved_path};
@@ -117,10 +117,21 @@ fn check_unchanged<D: Inputs>(
     ensures same { OnOk result (IsOldAt (D.contents inputs.now) path.now (option_map (λ old. old.now) old.entry)) }
     ensures stopped { IfErr result (IsUncheckedStop (D.contents inputs.now) path.now) }
 {
-    match (read_golden_file(inputs, alloc, path)?, old) {
-        (Some(found), Some(old)) if found.as_slice() == old => Ok(()),
-        (None, None) => Ok(()),
-        _ => Err(changed_stop(alloc, path)),
+    let found = read_golden_file(inputs, alloc, path)?;
+    if is_text(&found, old) {
+        Ok(())
+    } else {
+        Err(changed_stop(alloc, path))
+    }
+}
+
+fn is_text(found: &Option<Bytes>, old: Option<&[u8]>) -> bool
+    ensures { IsTrue result → found.now ≡ option_map (λ old. old.now) old.entry }
+{
+    match (found, old) {
+        (Some(found), Some(old)) => found.as_slice() == old,
+        (None, None) => true,
+        _ => false,
     }
 }
 
