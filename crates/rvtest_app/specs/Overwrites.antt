@@ -111,15 +111,19 @@ failed_of_run words = option_to_list (optional_text words.failed)
 abbrev pub reports_of_run : RunAsked → List (List ℕ)
 reports_of_run words = failed_of_run words ++ option_to_list (optional_text words.into)
 
+-- no file of a run is a report that it reads, but that of --into
+pub record AreReportsKept (words : RunAsked) : Type 0 where
+  pub report : IsApart (failed_of_run words) (optional_text words.report)
+  pub junit : IsApart (reports_of_run words) (optional_text words.junit)
+  pub counts : IsApart (reports_of_run words) (optional_text words.counts)
+
 -- no file of a run is one that it reads
 pub record AreRunFilesApart (words : RunAsked) (jobs : List Job) : Type 0 where
   pub report : IsApart (inputs_of_run words jobs) (optional_text words.report)
   pub junit : IsApart (inputs_of_run words jobs) (optional_text words.junit)
   pub counts : IsApart (inputs_of_run words jobs) (optional_text words.counts)
   pub into : IsApart (inputs_of_run words jobs) (optional_text words.into)
-  pub report_beside : IsApart (failed_of_run words) (optional_text words.report)
-  pub junit_beside : IsApart (reports_of_run words) (optional_text words.junit)
-  pub counts_beside : IsApart (reports_of_run words) (optional_text words.counts)
+  pub reports : AreReportsKept words
 
 -- a file of a run would be one
 abbrev pub IsRunOverwriteStop : RunAsked → Stop → Type 0
@@ -142,8 +146,11 @@ AreRunInputsKept known words before after = (after ≡ before)
 -- ---- the files of accept
 
 -- what accept reads beside the list and never writes: the report whose failed jobs it chooses, and the images of all jobs
+abbrev pub image_paths : Option (List ℕ) → Job → List (List ℕ)
+image_paths root job = resolved_path root job.image ∷ []
+
 abbrev pub inputs_of_accept : AcceptAsked → List Job → List (List ℕ)
-inputs_of_accept words jobs = failed_of_run words.run ++ map (λ job. resolved_path (optional_text words.run.root) job.image) jobs
+inputs_of_accept words jobs = failed_of_run words.run ++ flat_map (image_paths (optional_text words.run.root)) jobs
 
 -- the golden files of the jobs that are marked
 unfoldable pub golden_paths_of_marked : Option (List ℕ) → List Job → List Bool → List (List ℕ)
@@ -163,9 +170,15 @@ pub record AreAcceptFilesApart (words : AcceptAsked) (jobs : List Job) (marks : 
       (golden_paths_of_marked (optional_text words.run.root) jobs marks)
 
 -- a golden file is outside of a directory
+abbrev pub outside_head : List ℕ → List ℕ
+outside_head role = codes "rvtest: " ++ role
+
+abbrev pub outside_place : List ℕ → List ℕ → List ℕ
+outside_place path directory = codes " \"" ++ printable_text path ++ codes "\" is outside the directory \""
+    ++ printable_text directory ++ codes "\""
+
 abbrev pub outside_text : List ℕ → List ℕ → List ℕ → List ℕ
-outside_text role path directory = codes "rvtest: " ++ role ++ codes " \"" ++ printable_text path
-    ++ codes "\" is outside the directory \"" ++ printable_text directory ++ codes "\""
+outside_text role path directory = outside_head role ++ outside_place path directory
 
 abbrev pub outside_message : List ℕ → List ℕ → List ℕ → List ℕ
 outside_message role path directory = outside_text role path directory ++ codes "; use --outside to write it\n"
@@ -180,9 +193,9 @@ IsUnwritableStop path why = (why ≡ stop.OutOfMemory)
 
 -- so the list, or a golden file of a job
 abbrev pub IsAcceptOverwriteStop : AcceptAsked → List Job → Stop → Type 0
-IsAcceptOverwriteStop words jobs why = (why ≡ stop.OutOfMemory) ⊎ ((marks : List Bool)
-    × Any (λ path. IsUnwritableStop path why)
-    (words.run.list.now ∷ golden_paths_of_marked (optional_text words.run.root) jobs marks))
+IsAcceptOverwriteStop words jobs why = (why ≡ stop.OutOfMemory) ⊎ (IsUnwritableStop words.run.list.now why
+    ⊎ ((marks : List Bool) × Any (λ path. IsUnwritableStop path why)
+    (golden_paths_of_marked (optional_text words.run.root) jobs marks)))
 
 -- accept placed files only where none of them is one that it reads, as far as it is told which files are placed
 abbrev pub AreAcceptInputsKept : Option FileContents → AcceptAsked → Option (List PlacedFile) → Option (List PlacedFile) → Type 0

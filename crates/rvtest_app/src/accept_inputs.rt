@@ -6,7 +6,7 @@ ghost use Rattle.std.specs.Path.{path_buf_bytes};
 ghost use Rattle.rv_command.specs.Texts.{optional_text};
 ghost use Rattle.rvtest_app.specs.Overwrites.{AreAcceptFilesApart, AreFilesOf, IsAcceptOverwriteStop, IsGoldenApart, IsOutsideStop, IsOverwriteStop, IsOverwriteTold};
 ghost use Rattle.rvtest_app.specs.Overwrites.{IsUnread, IsUnwritableStop, golden_paths_of_job, golden_paths_of_marked, inputs_of_accept, job_writer_text};
-ghost use Rattle.rvtest_app.specs.Overwrites.{outside_message, outside_text, read_paths, writer_text};
+ghost use Rattle.rvtest_app.specs.Overwrites.{outside_head, outside_message, outside_place, outside_text, read_paths, writer_text};
 
 use crate::overwrites::{
     is_among, look_up_files, overwrite_stop, read_paths_of_words, refuse_file,
@@ -343,23 +343,38 @@ fn outside_message(
     Ok(text)
 }
 
-fn push_outside_text<'x>(
+fn push_outside_text(
     alloc: Global,
     text: &mut Vec<u8>,
-    directory: &'x str,
-    golden: &'x ReadPath<'_>,
+    directory: &str,
+    golden: &ReadPath<'_>,
 ) -> Result<(), AllocError>
     ensures { OnOk result (text.new.items ≡ text.old.items
-        ++ outside_text (writer_text golden.entry.now.role) (path_buf_bytes golden.entry.now.path) directory.entry.now) }
+        ++ outside_text (writer_text golden.now.role) (path_buf_bytes golden.now.path) directory.now) }
 {
     let role = writer_text(alloc, golden.role)?;
-    push_text(text, "rvtest: ")?;
-    push_text(text, role.as_str())?;
+    push_outside_head(text, role.as_str())?;
+    push_outside_place(text, golden.path.as_str(), directory)
+}
+
+fn push_outside_head(text: &mut Vec<u8>, role: &str) -> Result<(), AllocError>
+    ensures { OnOk result (text.new.items ≡ text.old.items ++ outside_head role.now) }
+{
+    push_spans(text, &[Span::Text("rvtest: "), Span::Text(role)])
+}
+
+fn push_outside_place<'x>(
+    text: &mut Vec<u8>,
+    path: &'x str,
+    directory: &'x str,
+) -> Result<(), AllocError>
+    ensures { OnOk result (text.new.items ≡ text.old.items ++ outside_place path.entry.now directory.entry.now) }
+{
     push_spans(
         text,
         &[
             Span::Text(" \""),
-            Span::Shown(golden.path.as_str().as_bytes()),
+            Span::Shown(path.as_bytes()),
             Span::Text("\" is outside the directory \""),
             Span::Shown(directory.as_bytes()),
             Span::Text("\""),

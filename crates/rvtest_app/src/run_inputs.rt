@@ -4,7 +4,7 @@ ghost use Rattle.std.specs.Prelude.{◌≡◌, ◌++◌, ◌∷◌, [], IfErr, I
 ghost use Rattle.rv_command.specs.Texts.{optional_text};
 ghost use Rattle.rv_files.specs.UnreadPaths.{resolved_path};
 ghost use Rattle.rv_lists.specs.Jobs.{console_path};
-ghost use Rattle.rvtest_app.specs.Overwrites.{AreRunFilesApart, IsRunOverwriteStop, failed_of_run, golden_paths_of_job, inputs_of_run, paths_of_job, read_paths, reports_of_run};
+ghost use Rattle.rvtest_app.specs.Overwrites.{AreReportsKept, AreRunFilesApart, IsRunOverwriteStop, failed_of_run, golden_paths_of_job, inputs_of_run, paths_of_job, read_paths, reports_of_run};
 
 use crate::overwrites::{look_up_files, push_read, refuse_overwrite};
 use crate::read_files::{ReadPath, ReadRole};
@@ -30,6 +30,18 @@ pub(crate) fn refuse_run_overwrites<F: Outputs>(
     refuse_overwrite(files, alloc, "--junit", asked.junit, &inputs)?;
     refuse_overwrite(files, alloc, "--counts", asked.counts, &inputs)?;
     refuse_overwrite(files, alloc, "--into", asked.into, &inputs)?;
+    refuse_report_overwrites(files, alloc, asked)
+}
+
+// But for the report that `--into` replaces, no file of a run replaces a report that it reads.
+fn refuse_report_overwrites<F: Outputs>(
+    files: &F,
+    alloc: Global,
+    asked: &RunAsked<'_>,
+) -> Result<(), Stop>
+    ensures apart { OnOk result (IfSome (F.placed files.now) (λ _. AreReportsKept asked.now)) }
+    ensures stopped { IfErr result (IsRunOverwriteStop asked.now) }
+{
     let failed = look_up_files(files, alloc, failed_of_run(alloc, asked)?)?;
     refuse_overwrite(files, alloc, "--report", asked.report, &failed)?;
     let reports = look_up_files(files, alloc, reports_of_run(alloc, asked)?)?;
