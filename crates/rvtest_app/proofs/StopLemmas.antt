@@ -71,7 +71,7 @@ unshown_run known is_terminal words Untouched =
 pub unshown_accept : (known : Option FileContents) (is_terminal : Bool) (words : AcceptAsked) (status : ℕ) (before after : Said)
     → IsAcceptedAt known words status before after → IsCommandStop known is_terminal (asked.Accept words) stop.WriteFailed
 unshown_accept known is_terminal words status before after done =
-    inr (done.bytes, (done.read, (done.jobs, (done.listed, inr (inr (inl refl))))))
+    inr (done.bytes, (done.read, (done.jobs, (done.listed, inr (inr (inr (inl refl)))))))
 
 pub unshown_merge : (known : Option FileContents) (is_terminal : Bool) (words : MergeAsked) (status : ℕ) (before after : Said)
     → IsMergedAt known words status before after → IsCommandStop known is_terminal (asked.Merge words) stop.WriteFailed

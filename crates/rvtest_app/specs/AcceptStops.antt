@@ -82,7 +82,7 @@ IsAcceptingStop known words jobs why = (why ≡ stop.OutOfMemory) ⊎ ((why ≡ 
 
 -- a file would overwrite something; or that happened
 abbrev pub IsAcceptChosenStop : Option FileContents → AcceptAsked → List Job → Stop → Type 0
-IsAcceptChosenStop known words jobs why = IsAcceptOverwriteStop words jobs why ⊎ IsAcceptingStop known words jobs why
+IsAcceptChosenStop known words jobs why = IsAcceptOverwriteStop why ⊎ IsAcceptingStop known words jobs why
 
 -- the list was read, and then that
 abbrev pub IsUnacceptedStop : Option FileContents → AcceptAsked → Stop → Type 0

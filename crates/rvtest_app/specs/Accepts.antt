@@ -138,14 +138,17 @@ pub record IsOutcomePut (check : Bool) (list : ListFile) (runs : List (Option Jo
   pub of : accepting_of list runs claims files new told
   pub put : IsAcceptancePut check told status before after
 
--- it was said which golden files are outside of the list's directory, as far as there are directories; then the jobs that are chosen ran,
--- without their expectations, and those that name a golden file of theirs
-pub record IsAcceptedOfMarks (known : Option FileContents) (words : AcceptAsked) (bytes : List ℕ) (jobs : List Job)
-    (chosen : List Bool) (status : ℕ) (before after : Said) : Type 0 where
+-- it was said which golden files are outside of the list's directory, as far as there are directories
+pub record IsOutsideTold (before after : Said) : Type 0 where
   pub outside : List ℕ
   pub inside : IfSome before.placed (λ _. outside ≡ [])
+  pub told : IsOnlyTold outside before after
+
+-- then the jobs that are chosen ran, without their expectations, and those that name a golden file of theirs
+pub record IsAcceptedOfMarks (known : Option FileContents) (words : AcceptAsked) (bytes : List ℕ) (jobs : List Job)
+    (chosen : List Bool) (status : ℕ) (before after : Said) : Type 0 where
   pub first : Said
-  pub noted : IsOnlyTold outside before first
+  pub outside : IsOutsideTold before first
   pub rows : List (Option Row)
   pub middle : Said
   pub ran : AreRowsPut known (optional_text words.run.root) (map without_expectations jobs)

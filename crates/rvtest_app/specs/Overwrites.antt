@@ -1,7 +1,7 @@
 -- Files of a command that would replace what the command reads.
 use Rattle.std.specs.Prelude.{◌≡◌, ◌⊎◌, ◌++◌, ℕ, Bool, List, Ok, [], ◌∷◌, false, IfSome, IsSomeAnd, Option, Some, codes, if◌then◌else◌, map, option_map, option_to_list}
 use Rattle.std.specs.Borrow.{Bor}
-use Rattle.std.specs.List.{All, Any, flat_map, list_any}
+use Rattle.std.specs.List.{flat_map, list_any}
 use Rattle.std.specs.Path.{path_buf_bytes}
 use Rattle.std.specs.Str.{bytes_eq}
 use Rattle.rv_base.specs.Files.{FileContents}
@@ -159,26 +159,31 @@ golden_paths_of_marked root (job ∷ jobs) [] = []
 golden_paths_of_marked root (job ∷ jobs) (marked ∷ marks) =
     (if marked then golden_paths_of_job root job else []) ++ golden_paths_of_marked root jobs marks
 
--- what writing the file at a path would replace is neither the list nor one of these
-abbrev pub IsGoldenApart : List (List ℕ) → List (List ℕ) → List ℕ → Type 0
-IsGoldenApart list inputs path = IsUnread list path × IsUnread inputs path
+-- the file at a path is one of those that are read, by what they are known by
+abbrev pub is_read : List (List ℕ) → List ℕ → Bool
+is_read read path = list_any (is_among (path ∷ [])) read
+
+abbrev pub is_golden_read : List (List ℕ) → ReadPath → Bool
+is_golden_read read golden = is_read read (path_buf_bytes golden.path)
 
 -- no golden file of the marked jobs is the list or something else that is read, and nor is the list
 pub record AreAcceptFilesApart (words : AcceptAsked) (jobs : List Job) (marks : List Bool) : Type 0 where
   pub list : IsUnread (inputs_of_accept words jobs) words.run.list.now
-  pub golden : All (IsGoldenApart (words.run.list.now ∷ []) (inputs_of_accept words jobs))
-      (golden_paths_of_marked (optional_text words.run.root) jobs marks)
+  pub no_list : list_any (is_read (words.run.list.now ∷ [])) (golden_paths_of_marked (optional_text words.run.root) jobs marks) ≡ false
+  pub no_input : list_any (is_read (inputs_of_accept words jobs)) (golden_paths_of_marked (optional_text words.run.root) jobs marks) ≡ false
 
 -- a golden file is outside of a directory
 abbrev pub outside_head : List ℕ → List ℕ
 outside_head role = codes "rvtest: " ++ role
 
-abbrev pub outside_place : List ℕ → List ℕ → List ℕ
-outside_place path directory = codes " \"" ++ printable_text path ++ codes "\" is outside the directory \""
-    ++ printable_text directory ++ codes "\""
+abbrev pub outside_path : List ℕ → List ℕ
+outside_path path = codes " \"" ++ printable_text path ++ codes "\" is outside the directory "
+
+abbrev pub quoted_text : List ℕ → List ℕ
+quoted_text text = codes "\"" ++ printable_text text ++ codes "\""
 
 abbrev pub outside_text : List ℕ → List ℕ → List ℕ → List ℕ
-outside_text role path directory = outside_head role ++ outside_place path directory
+outside_text role path directory = outside_head role ++ outside_path path ++ quoted_text directory
 
 abbrev pub outside_message : List ℕ → List ℕ → List ℕ → List ℕ
 outside_message role path directory = outside_text role path directory ++ codes "; use --outside to write it\n"
@@ -191,11 +196,12 @@ abbrev pub IsUnwritableStop : List ℕ → Stop → Type 0
 IsUnwritableStop path why = (why ≡ stop.OutOfMemory)
     ⊎ (((role : List ℕ) × IsOverwriteStop role path why) ⊎ IsOutsideStop path why)
 
--- so the list, or a golden file of a job
-abbrev pub IsAcceptOverwriteStop : AcceptAsked → List Job → Stop → Type 0
-IsAcceptOverwriteStop words jobs why = (why ≡ stop.OutOfMemory) ⊎ (IsUnwritableStop words.run.list.now why
-    ⊎ ((marks : List Bool) × Any (λ path. IsUnwritableStop path why)
-    (golden_paths_of_marked (optional_text words.run.root) jobs marks)))
+-- so some file
+abbrev pub IsAnyUnwritableStop : Stop → Type 0
+IsAnyUnwritableStop why = (path : List ℕ) × IsUnwritableStop path why
+
+abbrev pub IsAcceptOverwriteStop : Stop → Type 0
+IsAcceptOverwriteStop why = (why ≡ stop.OutOfMemory) ⊎ IsAnyUnwritableStop why
 
 -- accept placed files only where none of them is one that it reads, as far as it is told which files are placed
 abbrev pub AreAcceptInputsKept : Option FileContents → AcceptAsked → Option (List PlacedFile) → Option (List PlacedFile) → Type 0

@@ -16,11 +16,11 @@ ghost use Rattle.rv_command.specs.Texts.{IsTextAt, optional_text};
 ghost use Rattle.rv_lists.specs.JobList.{job_list_of};
 ghost use Rattle.rv_lists.specs.Jobs.{without_expectations};
 ghost use Rattle.rvtest_app.specs.AcceptStops.{IsAcceptChosenStop, IsGoldenUnreadStop, IsPutAcceptedStop};
-ghost use Rattle.rvtest_app.specs.Accepts.{AreGoldenFiles, AreRowsPut, IsAcceptedAt, IsAcceptedOfMarks, IsOutcomePut, accept_status};
+ghost use Rattle.rvtest_app.specs.Accepts.{AreGoldenFiles, AreRowsPut, IsAcceptedAt, IsAcceptedOfMarks, IsOutcomePut, IsOutsideTold, accept_status};
 ghost use Rattle.rvtest_app.specs.Accepts.{acceptance_of};
 ghost use Rattle.rvtest_app.specs.CommandStops.{IsAcceptStop, IsListStop};
 ghost use Rattle.rvtest_app.specs.Commands.{failure_rule};
-ghost use Rattle.rvtest_app.specs.Overwrites.{AreAcceptFilesApart, AreAcceptInputsKept};
+ghost use Rattle.rvtest_app.specs.Overwrites.{AreAcceptFilesApart, AreAcceptInputsKept, IsAcceptOverwriteStop};
 ghost use Rattle.rvtest_app.specs.Said.{said};
 
 use crate::accept_inputs::refuse_accept_overwrites;
@@ -132,10 +132,7 @@ fn accept_chosen<
     ensures kept { (F.placed to.new.files ≡ F.placed to.old.files) ⊎ IfSome (F.placed to.old.files) (λ _. AreAcceptFilesApart
         asked.now list.now.jobs (marks_to_run list.now.jobs chosen.now list.now.jobs chosen.now)) }
 {
-    let marked = marked_jobs(host.alloc, asked, list, chosen)?;
-    let (jobs, marks) = (list.jobs.as_slice(), marked.marks.as_slice());
-    let outside = refuse_accept_overwrites(&to.files, host.alloc, asked, jobs, marks)?;
-    put_message(&mut to.errors, outside.as_slice());
+    let marked = guarded_jobs(host, asked, list, chosen, to)?;
     let rows = run_marked(host, asked, marked, to)?;
     let list = ListFile {
         path: asked.run.list,
@@ -146,6 +143,33 @@ fn accept_chosen<
     let runs = judged_runs(host.alloc, acceptance, list.jobs, chosen, rows)?;
     let outcomes = outcomes_of_runs(host, asked, &list, runs)?;
     put_accepted(host, asked, &list, &outcomes, to)
+}
+
+// The jobs that run, once it is known that no file replaces something else that is read.
+fn guarded_jobs<R, D, F: Outputs + Drop, O: Sink + Drop, E: Sink + Drop>(
+    host: &Host<'_, R, D>,
+    asked: &AcceptAsked<'_>,
+    list: &ChosenList,
+    chosen: &[bool],
+    to: &mut Destinations<F, O, E>,
+) -> Result<BareJobs, Stop>
+    requires counted { length chosen.now ≡ length list.now.jobs }
+    requires listed { job_list_of list.now.text.items ≡ Ok list.now.jobs }
+    ensures jobs { IfOk result (λ marked. marked.jobs ≡ map without_expectations list.now.jobs) }
+    ensures marks { IfOk result (λ marked. marked.marks.items
+        ≡ marks_to_run list.now.jobs chosen.now list.now.jobs chosen.now) }
+    ensures files { to.new.files ≡ to.old.files }
+    ensures outside { OnOk result (IsOutsideTold (said F.placed O.taken E.taken E.failed to.old)
+        (said F.placed O.taken E.taken E.failed to.new)) }
+    ensures apart { OnOk result (IfSome (F.placed to.old.files) (λ _. AreAcceptFilesApart
+        asked.now list.now.jobs (marks_to_run list.now.jobs chosen.now list.now.jobs chosen.now))) }
+    ensures stopped { IfErr result IsAcceptOverwriteStop }
+{
+    let marked = marked_jobs(host.alloc, asked, list, chosen)?;
+    let (jobs, marks) = (list.jobs.as_slice(), marked.marks.as_slice());
+    let outside = refuse_accept_overwrites(&to.files, host.alloc, asked, jobs, marks)?;
+    put_message(&mut to.errors, outside.as_slice());
+    Ok(marked)
 }
 
 fn acceptance_of(ends: bool) -> Acceptance

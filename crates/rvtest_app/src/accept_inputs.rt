@@ -1,12 +1,12 @@
 //! What `accept` reads, beside the files that it writes.
 
-ghost use Rattle.std.specs.Prelude.{◌≡◌, ◌<◌, ◌⊎◌, ◌++◌, ◌∷◌, [], ℕ, List, None, IfErr, IfOk, IfSome, OnOk, length, string_bytes};
-ghost use Rattle.std.specs.List.{All, Any, flat_map};
+ghost use Rattle.std.specs.Prelude.{◌≡◌, ◌<◌, ◌⊎◌, ◌++◌, ◌∷◌, [], ℕ, List, None, IfErr, IfOk, IfSome, OnOk, codes, false, length, string_bytes};
+ghost use Rattle.std.specs.List.{flat_map, list_any};
 ghost use Rattle.std.specs.Path.{path_buf_bytes};
 ghost use Rattle.rv_command.specs.Texts.{optional_text};
-ghost use Rattle.rvtest_app.specs.Overwrites.{AreAcceptFilesApart, AreFilesOf, IsAcceptOverwriteStop, IsGoldenApart, IsOutsideStop, IsOverwriteStop, IsOverwriteTold};
+ghost use Rattle.rvtest_app.specs.Overwrites.{AreAcceptFilesApart, AreFilesOf, IsAcceptOverwriteStop, IsOutsideStop, IsOverwriteStop, IsOverwriteTold};
 ghost use Rattle.rvtest_app.specs.Overwrites.{IsUnread, IsUnwritableStop, golden_paths_of_job, golden_paths_of_marked, inputs_of_accept, job_writer_text};
-ghost use Rattle.rvtest_app.specs.Overwrites.{outside_head, outside_message, outside_place, outside_text, read_paths, writer_text};
+ghost use Rattle.rvtest_app.specs.Overwrites.{is_golden_read, outside_head, outside_message, outside_path, outside_text, quoted_text, read_paths, writer_text};
 
 use crate::overwrites::{
     is_among, look_up_files, overwrite_stop, read_paths_of_words, refuse_file,
@@ -44,7 +44,7 @@ pub(crate) fn refuse_accept_overwrites<F: Outputs>(
 ) -> Result<Vec<u8>, Stop>
     ensures apart { OnOk result (IfSome (F.placed files.now) (λ _. AreAcceptFilesApart asked.now jobs.now marks.now)) }
     ensures inside { IfOk result (λ notes. IfSome (F.placed files.now) (λ _. notes.items ≡ [])) }
-    ensures stopped { IfErr result (IsAcceptOverwriteStop asked.now jobs.now) }
+    ensures stopped { IfErr result IsAcceptOverwriteStop }
 {
     let root = asked.run.root;
     let reads = look_up_reads(files, alloc, asked, jobs)?;
@@ -135,7 +135,7 @@ fn refuse_list_overwrite<F: Outputs>(
 ) -> Result<(), Stop>
     ensures apart { (paths : List (List ℕ)) → AreFilesOf (F.placed files.now) paths reads.now.inputs
         → OnOk result (IfSome (F.placed files.now) (λ _. IsUnread paths list.now)) }
-    ensures stopped { IfErr result (λ why. (role : List ℕ) × IsOverwriteStop role list.now why) }
+    ensures stopped { IfErr result (IsOverwriteStop (codes "LIST") list.now) }
 {
     refuse_file(files, alloc, "LIST", list, &reads.inputs)?;
     refuse_file(files, alloc, "LIST", list, &reads.golden)
@@ -148,18 +148,14 @@ fn refuse_golden_files<F: Outputs>(
     golden: &[ReadPath<'_>],
     reads: &AcceptReads<'_>,
 ) -> Result<(), Stop>
-    ensures apart { (list inputs : List (List ℕ)) → AreFilesOf (F.placed files.now) list reads.now.list
-        → AreFilesOf (F.placed files.now) inputs reads.now.inputs
-        → OnOk result (IfSome (F.placed files.now) (λ _. All (IsGoldenApart list inputs) (read_paths golden.now))) }
-    ensures stopped { IfErr result (λ why. Any (λ path. IsUnwritableStop path why) (read_paths golden.now)) }
+    ensures no_list { OnOk result (IfSome (F.placed files.now) (λ _. list_any (is_golden_read reads.now.list.identities.items) golden.now ≡ false)) }
+    ensures no_input { OnOk result (IfSome (F.placed files.now) (λ _. list_any (is_golden_read reads.now.inputs.identities.items) golden.now ≡ false)) }
+    ensures stopped { IfErr result IsAcceptOverwriteStop }
 {
-    match golden {
-        [file, rest @ ..] => {
-            refuse_golden_file(files, alloc, file, reads)?;
-            refuse_golden_files(files, alloc, rest, reads)
-        }
-        [] => Ok(()),
+    for at in 0..golden.len() {
+        refuse_golden_file(files, alloc, &golden[at], reads)?;
     }
+    Ok(())
 }
 
 fn refuse_golden_file<F: Outputs>(
@@ -168,10 +164,9 @@ fn refuse_golden_file<F: Outputs>(
     golden: &ReadPath<'_>,
     reads: &AcceptReads<'_>,
 ) -> Result<(), Stop>
-    ensures apart { (list inputs : List (List ℕ)) → AreFilesOf (F.placed files.now) list reads.now.list
-        → AreFilesOf (F.placed files.now) inputs reads.now.inputs
-        → OnOk result (IfSome (F.placed files.now) (λ _. IsGoldenApart list inputs (path_buf_bytes golden.now.path))) }
-    ensures stopped { IfErr result (IsUnwritableStop (path_buf_bytes golden.now.path)) }
+    ensures no_list { OnOk result (IfSome (F.placed files.now) (λ _. is_golden_read reads.now.list.identities.items golden.now ≡ false)) }
+    ensures no_input { OnOk result (IfSome (F.placed files.now) (λ _. is_golden_read reads.now.inputs.identities.items golden.now ≡ false)) }
+    ensures stopped { IfErr result IsAcceptOverwriteStop }
 {
     let path = golden.path.as_str();
     let replaced = match files.replaced_files(alloc, path) {
@@ -262,7 +257,7 @@ fn outside_notes<F: Outputs>(
     golden: &[ReadPath<'_>],
 ) -> Result<Vec<u8>, Stop>
     ensures inside { IfOk result (λ notes. IfSome (F.placed files.now) (λ _. notes.items ≡ [])) }
-    ensures stopped { IfErr result (λ why. Any (λ path. IsUnwritableStop path why) (read_paths golden.now)) }
+    ensures stopped { IfErr result IsAcceptOverwriteStop }
 {
     let bounds = Bounds {
         directory: match asked.run.root {
@@ -291,7 +286,7 @@ fn push_outside_notes<F: Outputs>(
     notes: &mut Vec<u8>,
 ) -> Result<(), Stop>
     ensures inside { OnOk result (IfSome (F.placed files.now) (λ _. notes.new.items ≡ notes.old.items)) }
-    ensures stopped { IfErr result (λ why. Any (λ path. IsUnwritableStop path why) (read_paths golden.now)) }
+    ensures stopped { IfErr result IsAcceptOverwriteStop }
 {
     match golden {
         [file, rest @ ..] => {
@@ -354,7 +349,8 @@ fn push_outside_text(
 {
     let role = writer_text(alloc, golden.role)?;
     push_outside_head(text, role.as_str())?;
-    push_outside_place(text, golden.path.as_str(), directory)
+    push_outside_path(text, golden.path.as_str())?;
+    push_quoted_text(text, directory)
 }
 
 fn push_outside_head(text: &mut Vec<u8>, role: &str) -> Result<(), AllocError>
@@ -363,20 +359,27 @@ fn push_outside_head(text: &mut Vec<u8>, role: &str) -> Result<(), AllocError>
     push_spans(text, &[Span::Text("rvtest: "), Span::Text(role)])
 }
 
-fn push_outside_place<'x>(
-    text: &mut Vec<u8>,
-    path: &'x str,
-    directory: &'x str,
-) -> Result<(), AllocError>
-    ensures { OnOk result (text.new.items ≡ text.old.items ++ outside_place path.entry.now directory.entry.now) }
+fn push_outside_path(text: &mut Vec<u8>, path: &str) -> Result<(), AllocError>
+    ensures { OnOk result (text.new.items ≡ text.old.items ++ outside_path path.now) }
 {
     push_spans(
         text,
         &[
             Span::Text(" \""),
             Span::Shown(path.as_bytes()),
-            Span::Text("\" is outside the directory \""),
-            Span::Shown(directory.as_bytes()),
+            Span::Text("\" is outside the directory "),
+        ],
+    )
+}
+
+fn push_quoted_text(text: &mut Vec<u8>, quoted: &str) -> Result<(), AllocError>
+    ensures { OnOk result (text.new.items ≡ text.old.items ++ quoted_text quoted.now) }
+{
+    push_spans(
+        text,
+        &[
+            Span::Text("\""),
+            Span::Shown(quoted.as_bytes()),
             Span::Text("\""),
         ],
     )

@@ -20,11 +20,8 @@ returns-clause-accepted g c =
     let outcomes = c.in_ok-outcomes.outcomes in
     IfOk-map c.put_accepted.result _ _
     (λ status put. record {
-      outside = c.in_ok-outside.outside.items;
-      inside = c.in_ok-outside.ensures.inside;
-      first = said g.F.Outputs.placed g.O.Sink.taken g.E.Sink.taken g.E.Sink.failed
-          (record c.args.to.now { errors = c.put_message.new.errors });
-      noted = (refl, rw c.as_slice-4.ensures.value at c.put_message.ensures, refl);
+      first = said g.F.Outputs.placed g.O.Sink.taken g.E.Sink.taken g.E.Sink.failed c.guarded_jobs.new.to;
+      outside = c.in_ok-marked.ensures.outside;
       rows = c.in_ok-rows.rows.items;
       middle = said g.F.Outputs.placed g.O.Sink.taken g.E.Sink.taken g.E.Sink.failed c.run_marked.new.to;
       ran = rw (c.in_ok-marked.ensures.jobs, c.in_ok-marked.ensures.marks) at c.in_ok-rows.ensures.rows;
