@@ -1,5 +1,6 @@
 pub mod StepRanks
 mod StepOrder
+mod AcceptInputs
 mod AcceptStops
 mod AcceptedAgain
 mod AcceptedFiles
