@@ -4,8 +4,8 @@ ghost use Rattle.std.specs.Prelude.{◌≡◌, ◌<◌, ◌⊎◌, ◌++◌, ◌
 ghost use Rattle.std.specs.List.{flat_map, list_any};
 ghost use Rattle.std.specs.Path.{path_buf_bytes};
 ghost use Rattle.rv_command.specs.Texts.{optional_text};
-ghost use Rattle.rvtest_app.specs.Overwrites.{AreAcceptFilesApart, AreFilesOf, IsAcceptOverwriteStop, IsOutsideStop, IsOverwriteStop, IsOverwriteTold};
-ghost use Rattle.rvtest_app.specs.Overwrites.{IsUnread, IsUnwritableStop, golden_paths_of_job, golden_paths_of_marked, inputs_of_accept, job_writer_text};
+ghost use Rattle.rvtest_app.specs.Overwrites.{AreAcceptFilesApart, AreFilesOf, IsAcceptOverwriteStop, IsOverwriteStop, IsOverwriteTold};
+ghost use Rattle.rvtest_app.specs.Overwrites.{IsUnread, golden_paths_of_job, golden_paths_of_marked, inputs_of_accept, job_writer_text};
 ghost use Rattle.rvtest_app.specs.Overwrites.{is_golden_read, outside_head, outside_message, outside_path, outside_text, quoted_text, read_paths, writer_text};
 
 use crate::overwrites::{
@@ -305,7 +305,7 @@ fn check_bounds<F: Outputs>(
     notes: &mut Vec<u8>,
 ) -> Result<(), Stop>
     ensures inside { OnOk result (IfSome (F.placed files.now) (λ _. notes.new.items ≡ notes.old.items)) }
-    ensures stopped { IfErr result (IsUnwritableStop (path_buf_bytes golden.now.path)) }
+    ensures stopped { IfErr result IsAcceptOverwriteStop }
 {
     if files.is_below(alloc, bounds.directory, golden.path.as_str())? {
         return Ok(());
@@ -319,7 +319,7 @@ fn check_bounds<F: Outputs>(
 }
 
 fn outside_stop(alloc: Global, directory: &str, golden: &ReadPath<'_>) -> Stop
-    ensures { IsOutsideStop (path_buf_bytes golden.now.path) result }
+    ensures { IsAcceptOverwriteStop result }
 {
     Stop::of_refusal(outside_message(alloc, directory, golden))
 }

@@ -56,6 +56,8 @@ pub returns-in-Some-clause-kept : goal.returns-in-Some-clause-kept
 returns-in-Some-clause-kept g c =
     ⊎_elim inl (λ apart. inr (
       c.in_ok-list.list.text.items,
-      (c.in_ok-list.list.jobs, (c.in-Some.chosen.items, (c.in_ok-list.ensures.read, (c.in_ok-list.ensures.listed, apart)))),
+      c.in_ok-list.list.jobs,
+      c.in-Some.chosen.items,
+      (c.in_ok-list.ensures.read, (c.in_ok-list.ensures.listed, apart)),
     ))
     (rw c.as_slice-in-Some.ensures.value at c.accept_chosen.ensures.kept)

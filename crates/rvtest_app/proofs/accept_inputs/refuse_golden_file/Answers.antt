@@ -28,3 +28,12 @@ returns-clause-stopped g c =
       inr (inl (writer_text c.args.golden.now.role, inr told)),
     ))
     c.refuse_first-3.ensures.stopped
+
+pub returns-in-Err-clause-stopped : goal.returns-in-Err-clause-stopped
+returns-in-Err-clause-stopped g c = inr (
+  path_buf_bytes c.args.golden.now.path,
+  inr (inl (
+    writer_text c.args.golden.now.role,
+    inl (c.in-Err.error, rw c.as_str-path.ensures at c.file_error_stop.ensures),
+  )),
+)
