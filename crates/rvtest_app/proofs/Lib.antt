@@ -11,6 +11,7 @@ mod CountedRuns
 mod Numbers
 mod Sent
 mod Results
+mod Standings
 mod StopLemmas
 mod StoreAfter
 mod PutTexts

@@ -16,7 +16,7 @@ ghost use Rattle.rv_command.specs.Texts.{IsTextAt, optional_text};
 ghost use Rattle.rv_lists.specs.JobList.{job_list_of};
 ghost use Rattle.rv_lists.specs.Jobs.{without_expectations};
 ghost use Rattle.rvtest_app.specs.AcceptStops.{IsAcceptingStop, IsGoldenUnreadStop, IsPutAcceptedStop};
-ghost use Rattle.rvtest_app.specs.Accepts.{AreGoldenFiles, AreRowsPut, IsAcceptedAt, IsAcceptedOfMarks, IsOutcomePut, accept_status};
+ghost use Rattle.rvtest_app.specs.Accepts.{AreGoldenFiles, AreJudged, AreRowsPut, IsAcceptedAt, IsAcceptedOfMarks, IsOutcomePut, accept_status};
 ghost use Rattle.rvtest_app.specs.Accepts.{acceptance_of};
 ghost use Rattle.rvtest_app.specs.CommandStops.{IsAcceptStop, IsListStop};
 ghost use Rattle.rvtest_app.specs.Commands.{failure_rule};
@@ -29,6 +29,7 @@ use crate::host::Host;
 use crate::missing_images::missing_images_note;
 use crate::rules::failure_rule;
 use crate::run::gather_jobs_at;
+use crate::standing::Standpoint;
 use rv_accept::{
     Acceptance, Claim, JobRun, claims_of_runs, judged_runs, marks_to_run, placed_rows, targets_of,
 };
@@ -37,10 +38,10 @@ use rv_choice::{Choice, Chooser};
 use rv_command::{DONE, SOME_FAIL, Stop, parse_list, put_message, put_results, read_list_text};
 use rv_files::{Inputs, NotingStore, Outputs};
 use rv_fleet::{Batch, FreeGate, PlacesError, Row, run_places};
-use rv_jobs::{JobList, marked_places};
+use rv_jobs::{Job, JobList, marked_places};
 use rv_rows::Sink;
 use rvtest_cli::{AcceptAsked, ChoosingCommand};
-use std::alloc::Global;
+use std::alloc::{AllocError, Global};
 use std::sync::Wait;
 use std::thread::Threads;
 
@@ -131,10 +132,31 @@ fn accept_chosen<
         text: list.text.as_slice(),
         jobs: list.jobs.as_slice(),
     };
-    let acceptance = acceptance_of(asked.ends);
-    let runs = judged_runs(host.alloc, acceptance, list.jobs, chosen, rows)?;
+    let runs = judge_rows(host, asked, list.jobs, chosen, rows)?;
     let outcomes = outcomes_of_runs(host, asked, &list, runs)?;
     put_accepted(host, asked, &list, &outcomes, to)
+}
+
+// The runs of jobs, of which some are chosen, by the rows of those that were run.
+fn judge_rows<R, D: Inputs>(
+    host: &Host<'_, R, D>,
+    asked: &AcceptAsked<'_>,
+    jobs: &[Job],
+    chosen: &[bool],
+    rows: Vec<Option<Row>>,
+) -> Result<Vec<Option<JobRun>>, AllocError>
+    ensures { IfOk result (λ runs. AreJudged (D.contents host.now.inputs.now) asked.now jobs.now chosen.now
+        rows.items runs.items) }
+{
+    let standpoint = Standpoint {
+        inputs: host.inputs,
+        alloc: host.alloc,
+        folder: asked.run.root,
+        rows: rows.as_slice(),
+    };
+    let candidates = standpoint.candidates(jobs, chosen)?;
+    let acceptance = acceptance_of(asked.ends);
+    judged_runs(host.alloc, acceptance, jobs, candidates.as_slice(), rows)
 }
 
 fn acceptance_of(ends: bool) -> Acceptance
@@ -188,7 +210,7 @@ fn marked_jobs(
     requires listed { job_list_of list.now.text.items ≡ Ok list.now.jobs }
     ensures jobs { IfOk result (λ marked. marked.jobs ≡ map without_expectations list.now.jobs) }
     ensures marks { IfOk result (λ marked. marked.marks.items
-        ≡ marks_to_run list.now.jobs chosen.now list.now.jobs chosen.now) }
+        ≡ marks_to_run list.now.jobs chosen.now) }
     ensures memory { IfErr result (λ why. why ≡ Stop.OutOfMemory) }
 {
     let listed = parse_list(alloc, asked.run.list, list.text.as_slice())?;

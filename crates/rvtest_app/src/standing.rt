@@ -1,0 +1,209 @@
+//! How the jobs stand that `accept` runs: whether `run` passes them, and whether they differ from the jobs that they name.
+
+ghost use Rattle.std.specs.Prelude.{◌≡◌, ◌++◌, IfOk, List, OnOk, option_map};
+ghost use Rattle.std.specs.List.{list_any};
+ghost use Rattle.rv_accept.specs.Runs.{row_or_none};
+ghost use Rattle.rv_accept.specs.declared.standing.Candidate.{Candidate as ACandidate};
+ghost use Rattle.rv_command.specs.Texts.{optional_text};
+ghost use Rattle.rv_expect.specs.Comparisons.{sides_of};
+ghost use Rattle.rv_expect.specs.Telling.{is_same};
+ghost use Rattle.rvtest_app.specs.Standings.{AreCandidates, IsCandidate, IsGoldenText, IsStanding, IsWholeText, compared_row, path_to_read, standing_by};
+
+use rv_accept::{Acceptance, Candidate, Standing, console_path, is_accepted_end};
+use rv_expect::{Comparison, Unmet, unmet_expectations};
+use rv_files::{InputError, Inputs, read_whole_up_to};
+use rv_jobs::limits::MOST_BYTES;
+use rv_jobs::Job;
+use rv_rows::{Row, did_run};
+use std::alloc::{AllocError, Global};
+use std::path::Path;
+
+/// What runs without expectations are compared with.
+#[derive(Drop)]
+pub(crate) struct Standpoint<'x, D> {
+    /// Golden files as they are.
+    pub inputs: &'x D,
+    pub alloc: Global,
+    /// The folder from which the paths of golden files are taken.
+    pub folder: Option<&'x str>,
+    /// The row of each job of the list that was run.
+    pub rows: &'x [Option<Row>],
+}
+
+impl<'x, D: Inputs> Standpoint<'x, D> {
+    /// The jobs of the list, of which some are chosen.
+    pub(crate) fn candidates(
+        &self,
+        jobs: &[Job],
+        chosen: &[bool],
+    ) -> Result<Vec<Candidate>, AllocError>
+        ensures { IfOk result (λ candidates. AreCandidates (D.contents self.now.inputs.now)
+            (optional_text self.now.folder) self.now.rows.now jobs.now chosen.now self.now.rows.now candidates.items) }
+    {
+        let mut candidates = Vec::new(self.alloc);
+        self.push_candidates(&mut candidates, jobs, chosen, self.rows)?;
+        Ok(candidates)
+    }
+
+    fn push_candidates(
+        &self,
+        candidates: &mut Vec<Candidate>,
+        jobs: &[Job],
+        chosen: &[bool],
+        rows: &[Option<Row>],
+    ) -> Result<(), AllocError>
+        ensures { OnOk result ((more : List ACandidate)
+            × ((candidates.new.items ≡ candidates.old.items ++ more)
+            × AreCandidates (D.contents self.now.inputs.now) (optional_text self.now.folder) self.now.rows.now
+            jobs.now chosen.now rows.now more)) }
+    {
+        match (jobs, chosen, rows) {
+            ([job, jobs @ ..], [is_chosen, chosen @ ..], [row, rows @ ..]) => {
+                let candidate = self.candidate(job, *is_chosen, row)?;
+                candidates.push(candidate)?;
+                self.push_candidates(candidates, jobs, chosen, rows)
+            }
+            _ => Ok(()),
+        }
+    }
+
+    fn candidate(
+        &self,
+        job: &Job,
+        is_chosen: bool,
+        row: &Option<Row>,
+    ) -> Result<Candidate, AllocError>
+        ensures { IfOk result (IsCandidate (D.contents self.now.inputs.now) (optional_text self.now.folder)
+            self.now.rows.now job.now is_chosen row.now) }
+    {
+        let standing = match row {
+            Some(row) => self.standing(job, row)?,
+            None => Standing::Fails,
+        };
+        Ok(Candidate {
+            is_chosen,
+            standing,
+        })
+    }
+
+    fn standing(&self, job: &Job, row: &Row) -> Result<Standing, AllocError>
+        ensures { IfOk result (IsStanding (D.contents self.now.inputs.now) (optional_text self.now.folder)
+            self.now.rows.now job.now row.now) }
+    {
+        let console = self.golden_text(path_to_read(job, row, console_path(job)))?;
+        let signature = self.golden_text(path_to_read(job, row, signature_path(job)))?;
+        let comparison = Comparison {
+            job,
+            row,
+            console: text_of(&console),
+            reference: text_of(&signature),
+            other: self.compared_row(job),
+        };
+        let unmet = unmet_expectations(self.alloc, &comparison)?;
+        Ok(standing_by(did_run(row.ending), unmet.as_slice()))
+    }
+
+    // The row of the job that one names by `same_as`, if it names one.
+    fn compared_row(&self, job: &Job) -> Option<&Row>
+        ensures { option_map (λ row. row.now) result ≡ compared_row self.now.rows.now job.now.same_as }
+    {
+        match job.same_as {
+            Some(place) => row_if_run(self.rows.get(place)),
+            None => None,
+        }
+    }
+
+    // What a golden file holds, where one is named.
+    fn golden_text(&self, path: Option<&str>) -> Result<Option<Vec<u8>>, AllocError>
+        ensures { IfOk result (λ text. IsGoldenText (D.contents self.now.inputs.now) (optional_text self.now.folder)
+            (option_map (λ path. path.now) path.entry) (option_map (λ bytes. bytes.items) text)) }
+    {
+        match (path, self.folder) {
+            (Some(path), Some(folder)) => {
+                let place = Path::new(folder).join(self.alloc, path)?;
+                self.text_at(place.as_str())
+            }
+            (Some(path), None) => self.text_at(path),
+            (None, _) => Ok(None),
+        }
+    }
+
+    // What stands at a place; nothing where it was not read, as `run` reads no expectation there.
+    fn text_at(&self, place: &str) -> Result<Option<Vec<u8>>, AllocError>
+        ensures { IfOk result (λ text. IsWholeText (D.contents self.now.inputs.now) place.now
+            (option_map (λ bytes. bytes.items) text)) }
+    {
+        match read_whole_up_to(self.inputs, self.alloc, place, MOST_BYTES) {
+            Ok(text) => Ok(text),
+            Err(InputError::Failed(_)) => Ok(None),
+            // Out of memory: reading the file says so.
+            Err(InputError::OutOfMemory) => Err(AllocError),
+        }
+    }
+}
+
+// The path of a golden file, where what it holds may let the job pass: one that ended as is expected is accepted whatever it holds.
+fn path_to_read<'a>(job: &Job, row: &Row, path: Option<&'a str>) -> Option<&'a str>
+    ensures { option_map (λ path. path.now) result
+        ≡ path_to_read job.now row.now (option_map (λ path. path.now) path.entry) }
+{
+    if is_accepted_end(Acceptance::Expected, job, row.ending) {
+        None
+    } else {
+        path
+    }
+}
+
+fn signature_path(job: &Job) -> Option<&str>
+    ensures { option_map (λ path. path.now) result ≡ job.now.expect_signature }
+{
+    match &job.expect_signature {
+        Some(path) => Some(path.as_str()),
+        None => None,
+    }
+}
+
+fn text_of(bytes: &Option<Vec<u8>>) -> Option<&[u8]>
+    ensures { option_map (λ bytes. bytes.now) result ≡ option_map (λ bytes. bytes.items) bytes.now }
+{
+    match bytes {
+        Some(bytes) => Some(bytes.as_slice()),
+        None => None,
+    }
+}
+
+fn row_if_run(row: Option<&Option<Row>>) -> Option<&Row>
+    ensures { option_map (λ row. row.now) result ≡ row_or_none (option_map (λ row. row.now) row.entry) }
+{
+    match row {
+        Some(Some(row)) => Some(row),
+        Some(None) | None => None,
+    }
+}
+
+// How a job stands by whether it ran, and the expectations that its run does not meet.
+fn standing_by(ran: bool, unmet: &[Unmet]) -> Standing
+    ensures { result ≡ standing_by ran unmet.now }
+{
+    if ran && unmet.is_empty() {
+        Standing::Passes
+    } else if unmet.iter().any(|one| is_difference(*one)) {
+        Standing::Differs
+    } else {
+        Standing::Fails
+    }
+}
+
+// Whether an expectation is to be the same as another job.
+fn is_difference(unmet: Unmet) -> bool
+    ensures { result ≡ is_same unmet }
+{
+    match unmet {
+        Unmet::Same(_) => true,
+        Unmet::Exit
+        | Unmet::End
+        | Unmet::Console(_)
+        | Unmet::Signature(_)
+        | Unmet::Nothing => false,
+    }
+}
