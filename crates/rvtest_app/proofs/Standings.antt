@@ -9,7 +9,7 @@ use Rattle.rv_accept.specs.declared.standing.Standing.TheVariants as standing
 use Rattle.rv_base.specs.Files.{FileContents}
 use Rattle.rv_expect.specs.Comparisons.{Sides}
 use Rattle.rv_expect.specs.Telling.{is_same}
-use Rattle.rv_expect.specs.Unmet.{unmet_of}
+use Rattle.rv_expect.specs.Unmet.{unmet_default_exit, unmet_of, unmet_of_expecting_job}
 use Rattle.rv_expect.specs.declared.unmet.Unmet.{Unmet}
 use Rattle.rv_expect.specs.declared.unmet.Unmet.TheVariants as unmet
 use Rattle.rv_jobs.specs.declared_job.ExpectedEnd.{ExpectedEnd}
@@ -21,7 +21,7 @@ use Rattle.rvtest_app.specs.Standings.{AreCandidates, IsStanding, IsStandingIfRu
 
 -- ---- nothing is unmet
 
-differing : (same : Bool) → (if same then standing.Differs else standing.Fails) ≡ standing.Passes → {A : Type 0} → A
+differing : {A : Type 0} (same : Bool) → (if same then standing.Differs else standing.Fails) ≡ standing.Passes → A
 differing true is = cc
 differing false is = cc
 
@@ -54,9 +54,10 @@ ended_well sides passes =
     go (expects_anything sides.job) refl none.0 (rw none.0 at none.1)
   where
     go : (asks : Bool) → expects_anything sides.job ≡ asks → did_run sides.row.ending ≡ true
-        → (if expects_anything sides.job then _ else _) ≡ [] → EndedWell sides.job sides.row
+        → (if asks then unmet_of_expecting_job sides else option_to_list (unmet_default_exit sides.row.ending)) ≡ []
+        → EndedWell sides.job sides.row
     go true asks ran none =
-        let first = first_met (has_expected_exit sides.job.expect_exit sides.row.ending) unmet.Exit _ (rw asks at none) in
+        let first = first_met (has_expected_exit sides.job.expect_exit sides.row.ending) unmet.Exit _ none in
         let second = first_met (has_expected_end sides.job.expect_end sides.row.ending) unmet.End _ first.1 in
         record { ran = ran; exit = first.0; end = second.0 }
     go false asks ran none =

@@ -7,13 +7,14 @@ ghost use Rattle.rv_accept.specs.declared.standing.Candidate.{Candidate as ACand
 ghost use Rattle.rv_command.specs.Texts.{optional_text};
 ghost use Rattle.rv_expect.specs.Comparisons.{sides_of};
 ghost use Rattle.rv_expect.specs.Telling.{is_same};
-ghost use Rattle.rvtest_app.specs.Standings.{AreCandidates, IsCandidate, IsGoldenText, IsStanding, IsWholeText, compared_row, path_to_read, standing_by};
+ghost use Rattle.rvtest_app.specs.Standings.{AreCandidates, IsCandidate, IsGoldenText, IsStanding, IsWholeText, compared_row, path_to_read};
+ghost use Rattle.rvtest_app.specs.Standings.{sides_over, standing_by, standing_of};
 
 use rv_accept::{Acceptance, Candidate, Standing, console_path, is_accepted_end};
 use rv_expect::{Comparison, Unmet, unmet_expectations};
 use rv_files::{InputError, Inputs, read_whole_up_to};
-use rv_jobs::limits::MOST_BYTES;
 use rv_jobs::Job;
+use rv_jobs::limits::MOST_BYTES;
 use rv_rows::{Row, did_run};
 use std::alloc::{AllocError, Global};
 use std::path::Path;
@@ -92,11 +93,25 @@ impl<'x, D: Inputs> Standpoint<'x, D> {
     {
         let console = self.golden_text(path_to_read(job, row, console_path(job)))?;
         let signature = self.golden_text(path_to_read(job, row, signature_path(job)))?;
+        self.standing_over(job, row, text_of(&console), text_of(&signature))
+    }
+
+    // How a job stands over what was read of its golden files.
+    fn standing_over<'r>(
+        &self,
+        job: &'r Job,
+        row: &'r Row,
+        console: Option<&'r [u8]>,
+        signature: Option<&'r [u8]>,
+    ) -> Result<Standing, AllocError>
+        ensures { IfOk result (λ standing. standing ≡ standing_of (sides_over self.now.rows.now job.now row.now
+            (option_map (λ bytes. bytes.now) console.entry) (option_map (λ bytes. bytes.now) signature.entry))) }
+    {
         let comparison = Comparison {
             job,
             row,
-            console: text_of(&console),
-            reference: text_of(&signature),
+            console,
+            reference: signature,
             other: self.compared_row(job),
         };
         let unmet = unmet_expectations(self.alloc, &comparison)?;
@@ -200,10 +215,7 @@ fn is_difference(unmet: Unmet) -> bool
 {
     match unmet {
         Unmet::Same(_) => true,
-        Unmet::Exit
-        | Unmet::End
-        | Unmet::Console(_)
-        | Unmet::Signature(_)
-        | Unmet::Nothing => false,
+        Unmet::Exit | Unmet::End | Unmet::Console(_) | Unmet::Signature(_) | Unmet::Nothing =>
+            false,
     }
 }
