@@ -357,7 +357,7 @@ passes_after words before after bytes jobs chosen status from to place job row r
     let of : IsAccepted (acceptance_of words.ends) job accepted.judging.candidates accepted.rows place run.of =
     accepted_at (acceptance_of words.ends) jobs accepted.judging.candidates accepted.rows place job run.of at
     (rw accepted.judging.are at first) run.accepted in
-    let standing_is = stands_at (Some before) (optional_text words.run.root) accepted.rows jobs chosen accepted.rows
+    let standing_is = stands_at (Some before) (optional_text words.run.root) accepted.rows jobs chosen
     accepted.judging.candidates place job run.of.row of.candidate accepted.judging.stand at of.row of.stands in
     let bare : slice_index_or earlier.jobs place (single_job [] 0 []) ≡ without_expectations job =
     ap (λ jobs. slice_index_or jobs place (single_job [] 0 [])) accepted.ran.are.planned.listed

@@ -1,6 +1,7 @@
--- A job that passes as it stands ended as it expects.
-use Rattle.std.proofs.Common.{◌≡◌, ◌∷◌, ◌++◌, ◌||◌, [], ℕ, zero, suc, Bool, true, false, List, Option, Some, None, is_some, refl}
+-- A job that passes as it stands ended as it expects, and each job has a candidate.
+use Rattle.std.proofs.Common.{◌≡◌, ◌∙◌, ◌⊎◌, ◌<◌, ◌≤◌, ◌+◌, ◌∷◌, ◌++◌, ◌||◌, [], ℕ, zero, suc, Bool, true, false, List, Option, Some, None, ap, arith, get_or, inl, inr, is_some, length, refl, sym}
 use Rattle.std.specs.Prelude.{if◌then◌else◌, option_to_list, slice_get}
+use Rattle.std.proofs.lemmas.Option.{slice_get-get_or}
 use Rattle.std.specs.List.{list_any}
 use Rattle.rv_accept.specs.Passing.{EndedWell}
 use Rattle.rv_accept.specs.declared.standing.Candidate.{Candidate}
@@ -17,7 +18,7 @@ use Rattle.rv_lists.specs.declared.job.Job.{Job}
 use Rattle.rv_report.specs.declared.row.Row.{Row}
 use Rattle.rv_report.specs.declared.row.RowEnd.{RowEnd}
 use Rattle.rv_rows.specs.Verdict.{did_run, expects_anything, has_expected_end, has_expected_exit}
-use Rattle.rvtest_app.specs.Standings.{AreCandidates, IsStanding, IsStandingIfRun, standing_by, standing_of}
+use Rattle.rvtest_app.specs.Standings.{AreCandidates, IsCandidateAt, IsStanding, standing_by, standing_of}
 
 -- ---- nothing is unmet
 
@@ -69,24 +70,85 @@ ended_well sides passes =
           end = any_end sides.job.expect_end sides.row.ending second.0;
         }
 
--- ---- the candidate of a job
+-- ---- candidates, one more at a time
+
+-- what stands in a list with one more at its end
+last_or_before : {X : Type 0} (xs : List X) (last x : X) (place : ℕ) → slice_get (xs ++ last ∷ []) place ≡ Some x
+    → (slice_get xs place ≡ Some x) ⊎ ((place ≡ length xs) × (last ≡ x))
+last_or_before [] last x zero is = inr (refl, cc)
+last_or_before [] last x (suc place) is = cc
+last_or_before (y ∷ xs) last x zero is = inl is
+last_or_before (y ∷ xs) last x (suc place) is = go (last_or_before xs last x place is)
+  where
+    go : (slice_get xs place ≡ Some x) ⊎ ((place ≡ length xs) × (last ≡ x))
+        → (slice_get xs place ≡ Some x) ⊎ ((suc place ≡ suc (length xs)) × (last ≡ x))
+    go (inl before) = inl before
+    go (inr at) = inr (ap suc at.0, at.1)
+
+one_more_count : {X : Type 0} (xs : List X) (last : X) → length (xs ++ last ∷ []) ≡ length xs + 1
+one_more_count [] last = refl
+one_more_count (x ∷ xs) last = omega (arith, one_more_count xs last)
 
 some_same : {X : Type 0} (x y : X) → Some x ≡ Some y → x ≡ y
 some_same x y is = cc
 
-pub stands_at : (known : Option FileContents) (root : Option (List ℕ)) (all : List (Option Row)) (jobs : List Job)
-    (chosen : List Bool) (rows : List (Option Row)) (candidates : List Candidate) (place : ℕ) (job : Job) (row : Row)
-    (candidate : Candidate) → AreCandidates known root all jobs chosen rows candidates → slice_get jobs place ≡ Some job
+-- the first so many jobs have a candidate
+pub record StandSoFar (known : Option FileContents) (root : Option (List ℕ)) (rows : List (Option Row)) (jobs : List Job)
+    (chosen : List Bool) (count : ℕ) (candidates : List Candidate) : Type 0 where
+  pub counted : length candidates ≡ count
+  pub within : count ≤ length jobs
+  pub each : (place : ℕ) (job : Job) (candidate : Candidate) → slice_get jobs place ≡ Some job
+      → slice_get candidates place ≡ Some candidate → IsCandidateAt known root rows chosen place job candidate
+
+pub one_more_stands : (known : Option FileContents) (root : Option (List ℕ)) (rows : List (Option Row)) (jobs : List Job)
+    (chosen : List Bool) (count place : ℕ) (before after : List Candidate) (job : Job) (candidate : Candidate)
+    → StandSoFar known root rows jobs chosen count before → count < length jobs → job ≡ get_or jobs count job
+    → place ≡ length before → IsCandidateAt known root rows chosen place job candidate → after ≡ before ++ candidate ∷ []
+    → StandSoFar known root rows jobs chosen (count + 1) after
+one_more_stands known root rows jobs chosen count place before after job candidate so below is at one added = record {
+  counted = rw added (one_more_count before candidate ∙ ap (λ n. n + 1) so.counted);
+  within = omega (arith, below);
+  each = λ k other some there stands.
+      go k other some there (last_or_before before candidate some k (rw added at stands));
+}
+  where
+    here : slice_get jobs place ≡ Some job
+    here = rw (at, so.counted) (slice_get-get_or jobs count job below ∙ ap Some (sym is))
+
+    go : (k : ℕ) (other : Job) (some : Candidate) → slice_get jobs k ≡ Some other
+        → (slice_get before k ≡ Some some) ⊎ ((k ≡ length before) × (candidate ≡ some))
+        → IsCandidateAt known root rows chosen k other some
+    go k other some there (inl earlier) = so.each k other some there earlier
+    go k other some there (inr last) =
+        let same : k ≡ place = last.0 ∙ sym at in
+        let same_job : job ≡ other = some_same job other (sym here ∙ (rw same at there)) in
+        rw same (rw (← same_job) (rw (← last.1) one))
+
+pub all_stand : (known : Option FileContents) (root : Option (List ℕ)) (rows : List (Option Row)) (jobs : List Job)
+    (chosen : List Bool) (count : ℕ) (candidates : List Candidate)
+    → StandSoFar known root rows jobs chosen count candidates → length jobs ≤ count
+    → AreCandidates known root rows jobs chosen candidates
+all_stand known root rows jobs chosen count candidates so all = record {
+  counted = let counted = so.counted in let within = so.within in omega (arith, counted, within, all);
+  each = so.each;
+}
+
+pub none_stand : (known : Option FileContents) (root : Option (List ℕ)) (rows : List (Option Row)) (jobs : List Job)
+    (chosen : List Bool) → StandSoFar known root rows jobs chosen 0 []
+none_stand known root rows jobs chosen = record {
+  counted = refl;
+  within = omega arith;
+  each = λ place job candidate at stands. no_candidate place candidate stands;
+}
+  where
+    no_candidate : {A : Type 0} (place : ℕ) (candidate : Candidate) → slice_get [] place ≡ Some candidate → A
+    no_candidate place candidate is = cc
+
+-- how the job stands that came to a row
+pub stands_at : (known : Option FileContents) (root : Option (List ℕ)) (rows : List (Option Row)) (jobs : List Job)
+    (chosen : List Bool) (candidates : List Candidate) (place : ℕ) (job : Job) (row : Row) (candidate : Candidate)
+    → AreCandidates known root rows jobs chosen candidates → slice_get jobs place ≡ Some job
     → slice_get rows place ≡ Some (Some row) → slice_get candidates place ≡ Some candidate
-    → IsStanding known root all job row candidate.standing
-stands_at known root all (other ∷ jobs) (mark ∷ chosen) (first ∷ rows) (here ∷ candidates) zero job row candidate are at ran is =
-    let same_job : other ≡ job = cc in
-    let same_row : first ≡ Some row = cc in
-    let same : here ≡ candidate = cc in
-    rw (same_job, same_row, same) at are.0.stands
-stands_at known root all (other ∷ jobs) (mark ∷ chosen) (first ∷ rows) (here ∷ candidates) (suc place) job row candidate are at ran is =
-    stands_at known root all jobs chosen rows candidates place job row candidate are.1 at ran is
-stands_at known root all (other ∷ jobs) (mark ∷ chosen) (first ∷ rows) [] place job row candidate are at ran is = cc
-stands_at known root all [] chosen rows candidates place job row candidate are at ran is = cc
-stands_at known root all (other ∷ jobs) [] rows candidates place job row candidate are at ran is = cc
-stands_at known root all (other ∷ jobs) (mark ∷ chosen) [] candidates place job row candidate are at ran is = cc
+    → IsStanding known root rows job row candidate.standing
+stands_at known root rows jobs chosen candidates place job row candidate are at ran stands =
+    rw ran at (are.each place job candidate at stands).1

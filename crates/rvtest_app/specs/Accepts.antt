@@ -144,7 +144,7 @@ pub record IsOutcomePut (check : Bool) (list : ListFile) (runs : List (Option Jo
 pub record AreJudged (known : Option FileContents) (words : AcceptAsked) (jobs : List Job) (chosen : List Bool)
     (rows : List (Option Row)) (judged : List (Option JobRun)) : Type 0 where
   pub candidates : List Candidate
-  pub stand : AreCandidates known (optional_text words.run.root) rows jobs chosen rows candidates
+  pub stand : AreCandidates known (optional_text words.run.root) rows jobs chosen candidates
   pub are : judged ≡ judged_runs (acceptance_of words.ends) jobs candidates rows
 
 -- the jobs that are chosen ran, without their expectations, those that name a golden file of theirs, and those with which one of all

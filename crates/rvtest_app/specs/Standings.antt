@@ -72,29 +72,35 @@ sides_over rows job row console signature = record {
 
 -- a job that came to a row stands so, over its golden files as they are, among the rows of all jobs
 pub record IsStanding (known : Option FileContents) (root : Option (List ℕ)) (rows : List (Option Row)) (job : Job) (row : Row)
-    (standing : Standing) : Type 0 where
+    (stands : Standing) : Type 0 where
   pub console : Option (List ℕ)
   pub signature : Option (List ℕ)
   pub console_read : IsGoldenText known root (path_to_read job row (console_path job.expect_console)) console
   pub signature_read : IsGoldenText known root (path_to_read job row job.expect_signature) signature
-  pub is : standing ≡ standing_of (sides_over rows job row console signature)
+  pub is : stands ≡ standing_of (sides_over rows job row console signature)
 
 -- one that was not run does not pass
 abbrev pub IsStandingIfRun : Option FileContents → Option (List ℕ) → List (Option Row) → Job → Option Row → Standing → Type 0
 IsStandingIfRun known root rows job None stands = stands ≡ standing.Fails
 IsStandingIfRun known root rows job (Some row) stands = IsStanding known root rows job row stands
 
+abbrev pub is_true : Option Bool → Bool
+is_true None = false
+is_true (Some marked) = marked
+
+abbrev pub is_marked : List Bool → ℕ → Bool
+is_marked marks place = is_true (slice_get marks place)
+
+-- the job at a place: whether it is chosen, and how it stands
+abbrev pub IsCandidateAt : Option FileContents → Option (List ℕ) → List (Option Row) → List Bool → ℕ → Job → Candidate → Type 0
+IsCandidateAt known root rows chosen place job candidate = (candidate.is_chosen ≡ is_marked chosen place)
+    × IsStandingIfRun known root rows job (row_or_none (slice_get rows place)) candidate.standing
+
 -- ---- all of them
 
-pub record IsCandidate (known : Option FileContents) (root : Option (List ℕ)) (rows : List (Option Row)) (job : Job)
-    (chosen : Bool) (row : Option Row) (candidate : Candidate) : Type 0 where
-  pub mark : candidate.is_chosen ≡ chosen
-  pub stands : IsStandingIfRun known root rows job row candidate.standing
-
--- of jobs, each with its mark and its row, among the rows of all jobs
-abbrev pub AreCandidates : Option FileContents → Option (List ℕ) → List (Option Row) → List Job → List Bool → List (Option Row)
-    → List Candidate → Type 0
-AreCandidates known root all (job ∷ jobs) (chosen ∷ marks) (row ∷ rows) (candidate ∷ candidates) =
-    IsCandidate known root all job chosen row candidate × AreCandidates known root all jobs marks rows candidates
-AreCandidates known root all (job ∷ jobs) (chosen ∷ marks) (row ∷ rows) [] = ⊥
-AreCandidates known root all _ _ _ candidates = candidates ≡ []
+-- each job of the list has a candidate at its place
+pub record AreCandidates (known : Option FileContents) (root : Option (List ℕ)) (rows : List (Option Row)) (jobs : List Job)
+    (chosen : List Bool) (candidates : List Candidate) : Type 0 where
+  pub counted : length candidates ≡ length jobs
+  pub each : (place : ℕ) (job : Job) (candidate : Candidate) → slice_get jobs place ≡ Some job
+      → slice_get candidates place ≡ Some candidate → IsCandidateAt known root rows chosen place job candidate

@@ -1,13 +1,12 @@
 //! How the jobs stand that `accept` runs: whether `run` passes them, and whether they differ from the jobs that they name.
 
-ghost use Rattle.std.specs.Prelude.{◌≡◌, ◌++◌, IfOk, List, OnOk, option_map};
+ghost use Rattle.std.specs.Prelude.{◌≡◌, ◌++◌, ◌∷◌, [], IfOk, OnOk, option_map, slice_get};
 ghost use Rattle.std.specs.List.{list_any};
 ghost use Rattle.rv_accept.specs.Runs.{row_or_none};
-ghost use Rattle.rv_accept.specs.declared.standing.Candidate.{Candidate as ACandidate};
 ghost use Rattle.rv_command.specs.Texts.{optional_text};
 ghost use Rattle.rv_expect.specs.Comparisons.{sides_of};
 ghost use Rattle.rv_expect.specs.Telling.{is_same};
-ghost use Rattle.rvtest_app.specs.Standings.{AreCandidates, IsCandidate, IsGoldenText, IsStanding, IsWholeText, compared_row, path_to_read};
+ghost use Rattle.rvtest_app.specs.Standings.{AreCandidates, IsCandidateAt, IsGoldenText, IsStanding, IsWholeText, compared_row, is_marked, path_to_read};
 ghost use Rattle.rvtest_app.specs.Standings.{sides_over, standing_by, standing_of};
 
 use rv_accept::{Acceptance, Candidate, Standing, console_path, is_accepted_end};
@@ -32,59 +31,48 @@ pub(crate) struct Standpoint<'x, D> {
 }
 
 impl<'x, D: Inputs> Standpoint<'x, D> {
-    /// The jobs of the list, of which some are chosen.
+    /// The jobs of the list, of which some are chosen, and how each stands.
     pub(crate) fn candidates(
         &self,
         jobs: &[Job],
         chosen: &[bool],
     ) -> Result<Vec<Candidate>, AllocError>
         ensures { IfOk result (λ candidates. AreCandidates (D.contents self.now.inputs.now)
-            (optional_text self.now.folder) self.now.rows.now jobs.now chosen.now self.now.rows.now candidates.items) }
+            (optional_text self.now.folder) self.now.rows.now jobs.now chosen.now candidates.items) }
     {
         let mut candidates = Vec::new(self.alloc);
-        self.push_candidates(&mut candidates, jobs, chosen, self.rows)?;
+        for job in jobs {
+            let place = candidates.len();
+            let candidate = self.candidate_at(place, job, chosen)?;
+            add_candidate(&mut candidates, candidate)?;
+        }
         Ok(candidates)
     }
 
-    fn push_candidates(
+    // The job at a place of the list, and how it stands; one that was not run does not pass.
+    fn candidate_at(
         &self,
-        candidates: &mut Vec<Candidate>,
-        jobs: &[Job],
-        chosen: &[bool],
-        rows: &[Option<Row>],
-    ) -> Result<(), AllocError>
-        ensures { OnOk result ((more : List ACandidate)
-            × ((candidates.new.items ≡ candidates.old.items ++ more)
-            × AreCandidates (D.contents self.now.inputs.now) (optional_text self.now.folder) self.now.rows.now
-            jobs.now chosen.now rows.now more)) }
-    {
-        match (jobs, chosen, rows) {
-            ([job, jobs @ ..], [is_chosen, chosen @ ..], [row, rows @ ..]) => {
-                let candidate = self.candidate(job, *is_chosen, row)?;
-                candidates.push(candidate)?;
-                self.push_candidates(candidates, jobs, chosen, rows)
-            }
-            _ => Ok(()),
-        }
-    }
-
-    fn candidate(
-        &self,
+        place: usize,
         job: &Job,
-        is_chosen: bool,
-        row: &Option<Row>,
+        chosen: &[bool],
     ) -> Result<Candidate, AllocError>
-        ensures { IfOk result (IsCandidate (D.contents self.now.inputs.now) (optional_text self.now.folder)
-            self.now.rows.now job.now is_chosen row.now) }
+        ensures { IfOk result (IsCandidateAt (D.contents self.now.inputs.now) (optional_text self.now.folder)
+            self.now.rows.now chosen.now place job.now) }
     {
-        let standing = match row {
-            Some(row) => self.standing(job, row)?,
-            None => Standing::Fails,
-        };
-        Ok(Candidate {
-            is_chosen,
-            standing,
-        })
+        let is_chosen = is_marked(chosen, place);
+        match self.row_at(place) {
+            Some(row) => {
+                let standing = self.standing(job, row)?;
+                Ok(Candidate {
+                    is_chosen,
+                    standing,
+                })
+            }
+            None => Ok(Candidate {
+                is_chosen,
+                standing: Standing::Fails,
+            }),
+        }
     }
 
     fn standing(&self, job: &Job, row: &Row) -> Result<Standing, AllocError>
@@ -123,9 +111,16 @@ impl<'x, D: Inputs> Standpoint<'x, D> {
         ensures { option_map (λ row. row.now) result ≡ compared_row self.now.rows.now job.now.same_as }
     {
         match job.same_as {
-            Some(place) => row_if_run(self.rows.get(place)),
+            Some(place) => self.row_at(place),
             None => None,
         }
+    }
+
+    // The row of the job at a place, where it was run.
+    fn row_at(&self, place: usize) -> Option<&Row>
+        ensures { option_map (λ row. row.now) result ≡ row_or_none (slice_get self.now.rows.now place) }
+    {
+        row_if_run(self.rows.get(place))
     }
 
     // What a golden file holds, where one is named.
@@ -154,6 +149,22 @@ impl<'x, D: Inputs> Standpoint<'x, D> {
             // Out of memory: reading the file says so.
             Err(InputError::OutOfMemory) => Err(AllocError),
         }
+    }
+}
+
+fn add_candidate(candidates: &mut Vec<Candidate>, candidate: Candidate) -> Result<(), AllocError>
+    ensures { OnOk result (candidates.new.items ≡ candidates.old.items ++ candidate ∷ []) }
+{
+    candidates.push(candidate)?;
+    Ok(())
+}
+
+fn is_marked(marks: &[bool], place: usize) -> bool
+    ensures { result ≡ is_marked marks.now place }
+{
+    match marks.get(place) {
+        Some(marked) => *marked,
+        None => false,
     }
 }
 
