@@ -1,6 +1,6 @@
 -- How the jobs stand that `accept` runs: whether they pass as `run` judges them, over their golden files as they are, and whether they differ
 -- from the jobs that they name.
-use Rattle.std.specs.Prelude.{◌≡◌, ◌≤◌, ◌<◌, ◌&&◌, ℕ, Bool, true, false, List, [], ◌∷◌, Option, Some, None, IfSome, ⊤, if◌then◌else◌, length, slice_get}
+use Rattle.std.specs.Prelude.{◌≡◌, ◌⊎◌, ◌≤◌, ◌<◌, ◌&&◌, ℕ, Bool, true, false, List, [], ◌∷◌, Option, Some, None, IfSome, IsSomeAnd, if◌then◌else◌, length, slice_get}
 use Rattle.std.specs.List.{list_any}
 use Rattle.rv_accept.specs.Ends.{is_accepted_end}
 use Rattle.rv_accept.specs.Runs.{row_or_none}
@@ -22,14 +22,16 @@ use Rattle.rv_rows.specs.Verdict.{did_run}
 
 -- ---- golden files
 
--- nothing is there, or more than is read of a file
-abbrev pub IsMissingOrLong : Option (List ℕ) → Type 0
-IsMissingOrLong None = ⊤
-IsMissingOrLong (Some bytes) = most_bytes < length bytes
+abbrev pub IsMissingAt : Option FileContents → List ℕ → Type 0
+IsMissingAt known place = IfSome known (λ files. files place ≡ None)
+
+-- more stands there than is read of a file
+abbrev pub IsLongAt : Option FileContents → List ℕ → Type 0
+IsLongAt known place = IfSome known (λ files. IsSomeAnd (files place) (λ bytes. most_bytes < length bytes))
 
 -- all that stands at a place, where that is told, if it is there and not too long
 abbrev pub IsWholeText : Option FileContents → List ℕ → Option (List ℕ) → Type 0
-IsWholeText known place None = IfSome known (λ files. IsMissingOrLong (files place))
+IsWholeText known place None = IsMissingAt known place ⊎ IsLongAt known place
 IsWholeText known place (Some bytes) = (length bytes ≤ most_bytes) × IfSome known (λ files. files place ≡ Some bytes)
 
 -- the same of the golden file at a path, if one is named

@@ -6,14 +6,15 @@ ghost use Rattle.rv_accept.specs.Runs.{row_or_none};
 ghost use Rattle.rv_command.specs.Texts.{optional_text};
 ghost use Rattle.rv_expect.specs.Comparisons.{sides_of};
 ghost use Rattle.rv_expect.specs.Telling.{is_same};
+ghost use Rattle.rv_files.specs.UnreadPaths.{resolved_path};
 ghost use Rattle.rvtest_app.specs.Standings.{AreCandidates, IsCandidateAt, IsGoldenText, IsStanding, IsWholeText, compared_row, is_marked, path_to_read};
 ghost use Rattle.rvtest_app.specs.Standings.{sides_over, standing_by, standing_of};
 
 use rv_accept::{Acceptance, Candidate, Standing, console_path, is_accepted_end};
 use rv_expect::{Comparison, Unmet, unmet_expectations};
 use rv_files::{InputError, Inputs, read_whole_up_to};
-use rv_jobs::Job;
 use rv_jobs::limits::MOST_BYTES;
+use rv_jobs::{Job, Text};
 use rv_rows::{Row, did_run};
 use std::alloc::{AllocError, Global};
 use std::path::Path;
@@ -128,14 +129,18 @@ impl<'x, D: Inputs> Standpoint<'x, D> {
         ensures { IfOk result (λ text. IsGoldenText (D.contents self.now.inputs.now) (optional_text self.now.folder)
             (option_map (λ path. path.now) path.entry) (option_map (λ bytes. bytes.items) text)) }
     {
-        match (path, self.folder) {
-            (Some(path), Some(folder)) => {
-                let place = Path::new(folder).join(self.alloc, path)?;
-                self.text_at(place.as_str())
-            }
-            (Some(path), None) => self.text_at(path),
-            (None, _) => Ok(None),
+        match path {
+            Some(path) => self.text_of_path(path),
+            None => Ok(None),
         }
+    }
+
+    fn text_of_path(&self, path: &str) -> Result<Option<Vec<u8>>, AllocError>
+        ensures { IfOk result (λ text. IsWholeText (D.contents self.now.inputs.now)
+            (resolved_path (optional_text self.now.folder) path.now) (option_map (λ bytes. bytes.items) text)) }
+    {
+        let place = place_of_path(self.alloc, self.folder, path)?;
+        self.text_at(place.as_str())
     }
 
     // What stands at a place; nothing where it was not read, as `run` reads no expectation there.
@@ -144,11 +149,24 @@ impl<'x, D: Inputs> Standpoint<'x, D> {
             (option_map (λ bytes. bytes.items) text)) }
     {
         match read_whole_up_to(self.inputs, self.alloc, place, MOST_BYTES) {
-            Ok(text) => Ok(text),
+            Ok(Some(text)) => Ok(Some(text)),
+            Ok(None) => Ok(None),
             Err(InputError::Failed(_)) => Ok(None),
             // Out of memory: reading the file says so.
             Err(InputError::OutOfMemory) => Err(AllocError),
         }
+    }
+}
+
+fn place_of_path(alloc: Global, folder: Option<&str>, path: &str) -> Result<Text, AllocError>
+    ensures { IfOk result (λ place. place ≡ resolved_path (optional_text folder.entry) path.now) }
+{
+    match folder {
+        Some(folder) => {
+            let place = Path::new(folder).join(alloc, path)?;
+            Text::copy(alloc, place.as_str())
+        }
+        None => Text::copy(alloc, path),
     }
 }
 

@@ -3,8 +3,8 @@ use Rattle.rv_command.specs.Texts.{optional_text}
 use Rattle.rvtest_app.proofs.Standings.{all_stand, none_stand, one_more_stands}
 use Rattle.rvtest_app.proofs.standing.Standpoint.candidates.Goals as goal
 
-pub loop-job-starts : goal.loop-job-starts
-loop-job-starts g c = none_stand (g.D.Inputs.contents c.args.self.now.inputs.now) (optional_text c.args.self.now.folder)
+pub loop-job-init : goal.loop-job-init
+loop-job-init g c = none_stand (g.D.Inputs.contents c.args.self.now.inputs.now) (optional_text c.args.self.now.folder)
     c.args.self.now.rows.now c.args.jobs.now c.args.chosen.now
 
 pub loop-job-preserved : goal.loop-job-preserved
