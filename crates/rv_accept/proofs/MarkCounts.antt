@@ -1,5 +1,5 @@
 -- As many marks as there are jobs.
-use Rattle.std.proofs.Common.{◌≡◌, ◌+◌, ◌∙◌, ℕ, Bool, List, [], ◌∷◌, length, refl, suc, ap, arith}
+use Rattle.std.proofs.Common.{◌≡◌, ◌+◌, ℕ, Bool, List, [], ◌∷◌, length, refl, suc, ap, arith}
 use Rattle.rv_jobs.specs.declared_job.Job.{Job}
 use Rattle.rv_accept.specs.Sharing.{marks_to_run, marks_with_compared, sharing_marks}
 
