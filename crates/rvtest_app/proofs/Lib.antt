@@ -12,6 +12,7 @@ mod CountedRuns
 mod Numbers
 mod Sent
 mod Results
+mod Standings
 mod StopLemmas
 mod StoreAfter
 mod PutTexts

@@ -207,7 +207,7 @@ IsAcceptOverwriteStop why = (why ≡ stop.OutOfMemory) ⊎ IsAnyUnwritableStop w
 abbrev pub AreAcceptInputsKept : Option FileContents → AcceptAsked → Option (List PlacedFile) → Option (List PlacedFile) → Type 0
 AreAcceptInputsKept known words before after = (after ≡ before)
     ⊎ ((text : List ℕ) × (jobs : List Job) × (chosen : List Bool) × (IsTextAt known words.run.list.now text
-    × ((job_list_of text ≡ Ok jobs) × IfSome before (λ _. AreAcceptFilesApart words jobs (marks_to_run jobs chosen jobs chosen)))))
+    × ((job_list_of text ≡ Ok jobs) × IfSome before (λ _. AreAcceptFilesApart words jobs (marks_to_run jobs chosen)))))
 
 -- ---- the files of the other commands
 

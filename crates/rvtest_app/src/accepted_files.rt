@@ -46,7 +46,12 @@ fn add_file(files: &mut Vec<GoldenFile>, file: GoldenFile) -> Result<(), AllocEr
     Ok(())
 }
 
-fn place_of_path(alloc: Global, folder: Option<&str>, path: &str) -> Result<Text, AllocError>
+/// The path of a golden file, which is taken from a folder where one is given.
+pub(crate) fn place_of_path(
+    alloc: Global,
+    folder: Option<&str>,
+    path: &str,
+) -> Result<Text, AllocError>
     ensures { IfOk result (λ place. place ≡ resolved_path (optional_text folder.entry) path.now) }
 {
     match folder {

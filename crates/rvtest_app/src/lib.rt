@@ -63,6 +63,7 @@ mod run_into_files;
 mod run_output;
 mod show;
 mod shown_run;
+mod standing;
 mod terminals;
 mod view;
 mod view_table;

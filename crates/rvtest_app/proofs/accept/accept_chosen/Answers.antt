@@ -25,10 +25,12 @@ returns-clause-accepted g c =
       rows = c.in_ok-rows.rows.items;
       middle = said g.F.Outputs.placed g.O.Sink.taken g.E.Sink.taken g.E.Sink.failed c.run_marked.new.to;
       ran = rw (c.in_ok-marked.ensures.jobs, c.in_ok-marked.ensures.marks) at c.in_ok-rows.ensures.rows;
+      judged = c.in_ok-runs.runs.items;
+      judging = rw c.as_slice-2.ensures.value at c.in_ok-runs.ensures;
       told = put.told;
-      outcome = rw (c.as_slice.ensures.value, c.as_slice-2.ensures.value, c.acceptance_of-acceptance.ensures)
+      outcome = rw (c.as_slice.ensures.value, c.as_slice-2.ensures.value)
           at (outcome_told known c.args.asked.now _ _ outcomes.claims.items outcomes.files.items outcomes.new put.told refl
-          (rw c.in_ok-runs.ensures at c.in_ok-outcomes.ensures.runs) c.in_ok-outcomes.ensures.claims
+          c.in_ok-outcomes.ensures.runs c.in_ok-outcomes.ensures.claims
           c.in_ok-outcomes.ensures.files c.in_ok-outcomes.ensures.edited c.in_ok-outcomes.ensures.meant
           c.in_ok-outcomes.ensures.unchanged put.of);
       put = put.put;
