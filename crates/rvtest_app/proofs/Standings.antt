@@ -9,8 +9,9 @@ use Rattle.rv_accept.specs.declared.standing.Standing.{Standing}
 use Rattle.rv_accept.specs.declared.standing.Standing.TheVariants as standing
 use Rattle.rv_base.specs.Files.{FileContents}
 use Rattle.rv_expect.specs.Comparisons.{Sides}
+use Rattle.rv_expect.specs.Reference.{signature_difference}
 use Rattle.rv_expect.specs.Telling.{is_same}
-use Rattle.rv_expect.specs.Unmet.{unmet_default_exit, unmet_of, unmet_of_expecting_job}
+use Rattle.rv_expect.specs.Unmet.{unmet_console, unmet_default_exit, unmet_end, unmet_exit, unmet_of, unmet_of_expecting_job, unmet_same_as, unmet_signature}
 use Rattle.rv_expect.specs.declared.unmet.Unmet.{Unmet}
 use Rattle.rv_expect.specs.declared.unmet.Unmet.TheVariants as unmet
 use Rattle.rv_jobs.specs.declared_job.ExpectedEnd.{ExpectedEnd}
@@ -31,10 +32,13 @@ passes_by true [] is = (refl, refl)
 passes_by true (one ∷ more) is = differing (list_any is_same (one ∷ more)) is
 passes_by false found is = differing (list_any is_same found) is
 
-first_met : (met : Bool) (one : Unmet) (more : List Unmet)
-    → option_to_list (if met then None else Some one) ++ more ≡ [] → (met ≡ true) × (more ≡ [])
-first_met true one more is = (refl, is)
-first_met false one more is = cc
+none_of : (xs ys : List Unmet) → xs ++ ys ≡ [] → (xs ≡ []) × (ys ≡ [])
+none_of [] ys is = (refl, is)
+none_of (x ∷ xs) ys is = cc
+
+is_met : (met : Bool) (one : Unmet) → option_to_list (if met then None else Some one) ≡ [] → met ≡ true
+is_met true one is = refl
+is_met false one is = cc
 
 both_false : (a b : Bool) → (a || b) ≡ false → (a ≡ false) × (b ≡ false)
 both_false true b is = cc
@@ -58,9 +62,21 @@ ended_well sides passes =
         → (if asks then unmet_of_expecting_job sides else option_to_list (unmet_default_exit sides.row.ending)) ≡ []
         → EndedWell sides.job sides.row
     go true asks ran none =
-        let first = first_met (has_expected_exit sides.job.expect_exit sides.row.ending) unmet.Exit _ none in
-        let second = first_met (has_expected_end sides.job.expect_end sides.row.ending) unmet.End _ first.1 in
-        record { ran = ran; exit = first.0; end = second.0 }
+        let exit = option_to_list (unmet_exit sides.job sides.row.ending) in
+        let end = option_to_list (unmet_end sides.job sides.row.ending) in
+        let console = option_to_list (unmet_console sides.job sides.console sides.row) in
+        let signature = option_to_list (unmet_signature
+        (signature_difference sides.job.expect_signature sides.reference sides.row.signature)) in
+        let same = option_to_list (unmet_same_as sides.job sides.other sides.row) in
+        let four = none_of (exit ++ end ++ console ++ signature) same none in
+        let three = none_of (exit ++ end ++ console) signature four.0 in
+        let two = none_of (exit ++ end) console three.0 in
+        let one = none_of exit end two.0 in
+        record {
+          ran = ran;
+          exit = is_met (has_expected_exit sides.job.expect_exit sides.row.ending) unmet.Exit one.0;
+          end = is_met (has_expected_end sides.job.expect_end sides.row.ending) unmet.End one.1;
+        }
     go false asks ran none =
         let first = both_false (is_some sides.job.expect_exit) _ asks in
         let second = both_false (is_some sides.job.expect_end) _ first.1 in

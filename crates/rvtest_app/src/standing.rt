@@ -7,7 +7,7 @@ ghost use Rattle.rv_command.specs.Texts.{optional_text};
 ghost use Rattle.rv_expect.specs.Comparisons.{sides_of};
 ghost use Rattle.rv_expect.specs.Telling.{is_same};
 ghost use Rattle.rv_files.specs.UnreadPaths.{resolved_path};
-ghost use Rattle.rvtest_app.specs.Standings.{AreCandidates, IsCandidateAt, IsGoldenText, IsStanding, IsWholeText, compared_row, is_marked, path_to_read};
+ghost use Rattle.rvtest_app.specs.Standings.{AreCandidates, IsCandidateAt, IsGoldenText, IsStanding, IsWholeText, compared_row, is_marked, is_none_unmet, path_to_read};
 ghost use Rattle.rvtest_app.specs.Standings.{sides_over, standing_by, standing_of};
 
 use crate::accepted_files::place_of_path;
@@ -217,13 +217,28 @@ fn row_if_run(row: Option<&Option<Row>>) -> Option<&Row>
 fn standing_by(ran: bool, unmet: &[Unmet]) -> Standing
     ensures { result ≡ standing_by ran unmet.now }
 {
-    if ran && unmet.is_empty() {
+    if ran && is_none_unmet(unmet) {
         Standing::Passes
-    } else if unmet.iter().any(|one| is_difference(*one)) {
+    } else if is_any_difference(unmet) {
         Standing::Differs
     } else {
         Standing::Fails
     }
+}
+
+fn is_none_unmet(unmet: &[Unmet]) -> bool
+    ensures { result ≡ is_none_unmet unmet.now }
+{
+    match unmet {
+        [] => true,
+        [_one, _more @ ..] => false,
+    }
+}
+
+fn is_any_difference(unmet: &[Unmet]) -> bool
+    ensures { result ≡ list_any is_same unmet.now }
+{
+    unmet.iter().any(|one| is_difference(*one))
 }
 
 // Whether an expectation is to be the same as another job.
