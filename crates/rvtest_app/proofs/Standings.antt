@@ -5,7 +5,6 @@ use Rattle.std.proofs.lemmas.Option.{slice_get-get_or}
 use Rattle.std.specs.List.{list_any}
 use Rattle.rv_accept.specs.Passing.{EndedWell}
 use Rattle.rv_accept.specs.declared.standing.Candidate.{Candidate}
-use Rattle.rv_accept.specs.declared.standing.Standing.{Standing}
 use Rattle.rv_accept.specs.declared.standing.Standing.TheVariants as standing
 use Rattle.rv_base.specs.Files.{FileContents}
 use Rattle.rv_expect.specs.Comparisons.{Sides}

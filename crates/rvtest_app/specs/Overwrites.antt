@@ -1,5 +1,5 @@
 -- Files of a command that would replace what the command reads.
-use Rattle.std.specs.Prelude.{◌≡◌, ◌⊎◌, ◌++◌, ℕ, Bool, List, Ok, [], ◌∷◌, false, IfSome, IsSomeAnd, Option, Some, codes, if◌then◌else◌, map, option_map, option_to_list}
+use Rattle.std.specs.Prelude.{◌≡◌, ◌⊎◌, ◌++◌, ℕ, Bool, List, Ok, [], ◌∷◌, false, IfSome, IsSomeAnd, Option, codes, if◌then◌else◌, map, option_to_list}
 use Rattle.std.specs.Borrow.{Bor}
 use Rattle.std.specs.List.{flat_map, list_any}
 use Rattle.std.specs.Path.{path_buf_bytes}

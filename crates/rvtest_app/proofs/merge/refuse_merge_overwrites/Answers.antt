@@ -1,4 +1,4 @@
-use Rattle.std.proofs.Common.{◌≡◌, Option, Result, Ok, Err, Some, None, IfSome, OnOk}
+use Rattle.std.proofs.Common.{Option, Result, Ok, Err, Some, None, IfSome, OnOk}
 use Rattle.rvtest_app.proofs.merge.refuse_merge_overwrites.Goals as goal
 
 -- of two facts that hold where something is told both do
