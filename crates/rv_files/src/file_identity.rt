@@ -3,6 +3,7 @@
 use crate::sink_paths::directory_of;
 use rv_base::Text;
 use std::alloc::{AllocError, Global};
+use std::io::ErrorKind;
 use std::os::unix::fs::MetadataExt;
 use std::path::{Path, PathBuf};
 use std::rt::Files;
@@ -40,6 +41,7 @@ pub(crate) fn resolved_path<R: Files>(
     };
     match files.canonicalize(alloc, directory_of(path.as_str()).as_str()) {
         Ok(folder) => folder.join(alloc, name),
+        Err(error) if error.kind() == ErrorKind::OutOfMemory => Err(AllocError),
         Err(_) => path.to_path_buf(alloc),
     }
 }

@@ -15,7 +15,7 @@ use crate::streams::StreamSink;
 use rv_base::Text;
 use std::alloc::{AllocError, Global};
 use std::fs::{self, OpenFile, OpenOptions};
-use std::io;
+use std::io::{self, ErrorKind};
 use std::path::PathBuf;
 use std::rt::Files;
 
@@ -123,6 +123,19 @@ where
     }
 }
 
+// The path as the system resolves it; none where it resolves none.
+fn real_path_of<R: Files>(
+    files: &R,
+    alloc: Global,
+    path: &str,
+) -> Result<Option<PathBuf>, AllocError> {
+    match files.canonicalize(alloc, path) {
+        Ok(path) => Ok(Some(path)),
+        Err(error) if error.kind() == ErrorKind::OutOfMemory => Err(AllocError),
+        Err(_) => Ok(None),
+    }
+}
+
 // Where a file is made for a path at which nothing is, or a link that leads to nothing.
 fn place_of_missing_file<R: Files>(
     files: &R,
@@ -165,12 +178,12 @@ where
 
     // As the system resolves both: of a link the place that it leads to counts.
     fn is_below(&self, alloc: Global, directory: &str, path: &str) -> Result<bool, AllocError> {
-        let Ok(directory) = self.files.canonicalize(alloc, directory) else {
+        let Some(directory) = real_path_of(self.files, alloc, directory)? else {
             return Ok(false);
         };
-        let path = match self.files.canonicalize(alloc, path) {
-            Ok(path) => path,
-            Err(_) => place_of_missing_file(self.files, alloc, path)?,
+        let path = match real_path_of(self.files, alloc, path)? {
+            Some(path) => path,
+            None => place_of_missing_file(self.files, alloc, path)?,
         };
         Ok(path.starts_with(directory.as_str()))
     }

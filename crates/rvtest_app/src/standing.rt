@@ -152,7 +152,6 @@ impl<'x, D: Inputs> Standpoint<'x, D> {
             Ok(Some(text)) => Ok(Some(text)),
             Ok(None) => Ok(None),
             Err(InputError::Failed(_)) => Ok(None),
-            // Out of memory: reading the file says so.
             Err(InputError::OutOfMemory) => Err(AllocError),
         }
     }
