@@ -1,5 +1,5 @@
 -- The statuses of commands that end before their work is done, and what these commands tell.
-use Rattle.std.specs.Prelude.{◌≡◌, ◌⊎◌, ◌<◌, ◌+◌, ◌^◌, ℕ, Bool, true, false, List, [], ◌∷◌, IfSome, IsSomeAnd, Option, None, Result, Ok, Err, Vec, codes, length, string_bytes}
+use Rattle.std.specs.Prelude.{◌≡◌, ◌⊎◌, ◌<◌, ◌+◌, ℕ, Bool, true, false, List, [], ◌∷◌, IfSome, IsSomeAnd, Option, None, Result, Ok, Err, Vec, codes, length, string_bytes}
 use Rattle.std.specs.declared.alloc.AllocError.{AllocError}
 use Rattle.std.specs.declared.alloc.Global.{Global}
 use Rattle.std.specs.declared.io.ErrorKind.{ErrorKind}
@@ -96,7 +96,7 @@ IsUnreadStop known path stop = (stop ≡ why.OutOfMemory)
 
 -- the most bytes of a report, and of a table of counts
 abbrev pub most_result_bytes : ℕ
-most_result_bytes = 2 ^ 30
+most_result_bytes = 1073741824
 
 -- the path was not read, or more bytes stand there than a report or a table of counts may have
 abbrev pub IsResultUnreadStop : Option FileContents → List ℕ → Stop → Type 0
