@@ -62,15 +62,8 @@ with_put f name es more ns e is none =
     ∙ ap (inserted (new_name f name)) e
     ∙ sym (ap (λ (b : Bool). cond b ns (inserted (new_name f name) ns)) none)
 
--- a name that is there changes nothing
-pub with_found : (n : FunctionName) (ns : List FunctionName) → has_name (name_of n.function ns) ≡ true → ns ≡ with_name n ns
-with_found n ns some = sym (ap (λ (b : Bool). cond b ns (inserted n ns)) some)
-
-module _ {X : Type 0} (shows : X → List ℕ) where
-  pub has_none : (o : Option X) (p : Option (List ℕ)) → option_map shows o ≡ p → is_none o ≡ true → has_name p ≡ false
-  has_none None p e h = ap has_name (sym e)
-  has_none (Some x) p e h = absurd (false≢true h)
-
-  pub has_some : (o : Option X) (p : Option (List ℕ)) → option_map shows o ≡ p → is_none o ≡ false → has_name p ≡ true
-  has_some None p e h = absurd (false≢true (sym h))
-  has_some (Some x) p e h = ap has_name (sym e)
+-- a function without a name
+pub has_none : {X : Type 0} (shows : X → List ℕ) (o : Option X) (p : Option (List ℕ)) → option_map shows o ≡ p → is_none o ≡ true
+    → has_name p ≡ false
+has_none shows None p e h = ap has_name (sym e)
+has_none shows (Some x) p e h = absurd (false≢true h)

@@ -1,9 +1,9 @@
 -- A name is put where the map has none.
-use Rattle.std.proofs.Common.{◌≡◌, ◌∙◌, true, false, rules}
+use Rattle.std.proofs.Common.{◌≡◌, ◌∙◌, false, rules}
 use Rattle.rv_counts.specs.NamesByFunctionInside.{names_of_entries}
 use Rattle.rv_counts.specs.ReadSteps.{with_name}
 use Rattle.rv_counts.specs.Table.{has_name, name_of}
-use Rattle.rv_counts.proofs.NamesOfMaps.{has_none, has_some, with_found, with_put}
+use Rattle.rv_counts.proofs.NamesOfMaps.{has_none, with_put}
 use Rattle.rv_counts.proofs.names_by_function.NamesByFunction.add.Goals as goal
 use Rattle.rv_counts.proofs.names_by_function.NamesByFunction.add.Goals.{in-Some-1, in-None-1}
 

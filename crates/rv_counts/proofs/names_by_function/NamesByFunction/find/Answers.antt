@@ -1,6 +1,5 @@
 -- What the map has at a function is its name.
-use Rattle.std.proofs.Common.{◌≡◌, ◌∙◌, Option, Some, None, ℕ, List, ap, option_map, rules}
-use Rattle.rv_counts.specs.Table.{name_of}
+use Rattle.std.proofs.Common.{rules}
 use Rattle.rv_counts.proofs.NamesOfMaps.{found_in_map}
 use Rattle.rv_counts.proofs.names_by_function.NamesByFunction.find.Goals as goal
 
