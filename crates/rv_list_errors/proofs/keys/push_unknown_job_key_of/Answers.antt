@@ -1,4 +1,4 @@
-use Rattle.std.proofs.Common.{[], refl, sym, subst}
+use Rattle.std.proofs.Common.{[], append-nil, refl, sym}
 use Rattle.rv_list_errors.specs.Lines.{BeginsWith}
 use Rattle.rv_list_errors.specs.Told.{unknown_key_text}
 use Rattle.rv_list_errors.proofs.Messages.{adds_some, then_some}
@@ -11,4 +11,7 @@ returns-in-Nearest c =
     c.push_nearest_key.ensures (λ more is. (more, refl))
 
 pub returns-in-Nothing : goal.returns-in-Nothing
-returns-in-Nothing c = ?
+returns-in-Nothing c =
+    let text = unknown_key_text c.args.key.now in
+    adds_some c.args.message.now c.push_unknown_key.new.message text (BeginsWith text) c.push_unknown_key.ensures
+    ([], sym (append-nil text))
