@@ -45,16 +45,16 @@ module _ (nodes : List Node) (old new : Flat) (number : ℕ) (node : Node) (dept
     (path : new.path.items ≡ old.path.items ++ node.function ∷ []) (trail : new.trail.items ≡ old.trail.items ++ number ∷ [])
     (spot_is : new.spots.items ≡ old.spots.items
     ++ record { depth = depth; function = node.function; arrivals = node.arrivals; steps = node.steps } ∷ []) where
-  front : List ℕ
+  abbrev front : List ℕ
   front = last_path [] old.spots.items
 
-  parent : ℕ
+  abbrev parent : ℕ
   parent = get_or old.trail.items (length old.path.items) 0
 
-  spot : Spot
+  abbrev spot : Spot
   spot = record { depth = depth; function = node.function; arrivals = node.arrivals; steps = node.steps }
 
-  emptied : Node
+  abbrev emptied : Node
   emptied = record { parent = node.parent; function = node.function; arrivals = 0; steps = 0 }
 
   next : IsNext parent old.from number nodes
@@ -188,9 +188,10 @@ no_spot nodes flat path trail spots_are =
         long = omega (arith, long, one);
         within = λ k d less. let e = first k d (omega (arith, less, one)) in omega (arith, e);
         paths = λ k d less.
-            ap (λ (n : ℕ). path_of n nodes) (first k d (omega (arith, less, one)))
+            let at : k ≡ 0 = omega (arith, less, one) in
+            ap (λ (n : ℕ). path_of n nodes) (first k d at)
             ∙ first_paths ([] ∷ []) nodes 0 [] (omega arith)
-            ∙ sym (ap (λ (j : ℕ). take j flat.path.items) (omega (arith, less, one)));
+            ∙ sym (ap (λ (j : ℕ). take j flat.path.items) at);
       };
       within = omega (arith, long);
       front = path ∙ sym (ap (λ (j : ℕ). take j (last_path [] flat.spots.items)) long);

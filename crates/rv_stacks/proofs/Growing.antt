@@ -11,9 +11,13 @@ use Rattle.rv_stacks.specs.Nodes.{all_arrivals, all_steps, arrivals_at, own_in, 
 use Rattle.rv_stacks.specs.Walks.{Arrives, IsTrail, IsWalk, Returns, Steps}
 use Rattle.rv_stacks.proofs.Nodes.{first_paths, long_paths, path_with, paths_more, paths_with, weighed_more, weighed_with, IsOfSame}
 
+-- what stands at number 0
+abbrev root : List (List ℕ)
+root = [] ∷ []
+
 -- ---- a child
 
-nothing : Node
+abbrev nothing : Node
 nothing = record { parent = 0; function = 0; arrivals = 0; steps = 0 }
 
 pub found_child : (parent function number : ℕ) (nodes : List Node) → IsChild parent function number nodes
@@ -40,10 +44,10 @@ no_weight true = refl
 no_weight false = refl
 
 module _ (parent function : ℕ) (nodes : List Node) (within : parent < length nodes + 1) where
-  fresh : Node
+  abbrev fresh : Node
   fresh = record { parent = parent; function = function; arrivals = 0; steps = 0 }
 
-  grown : List Node
+  abbrev grown : List Node
   grown = nodes ++ fresh ∷ []
 
   same_weight : (w : List ℕ → Node → ℕ) → ((p : List ℕ) → w p fresh ≡ 0) → weighed w grown ≡ weighed w nodes
@@ -134,9 +138,9 @@ module _ (nodes : List Node) (number : ℕ) (some : 0 < number) (within : number
 
   ends_here : (f : ℕ) → ends_with f (path_of number nodes) ≡ (old.function == f)
   ends_here f =
-      let at : number ≡ length ([] ∷ []) + (number - 1) = omega (arith, some) in
+      let at : number ≡ length root + (number - 1) = omega (arith, some) in
       ap (λ (k : ℕ). ends_with f (path_of k nodes)) at
-      ∙ ends_at ([] ∷ []) nodes (number - 1) old f (omega (arith, some, within))
+      ∙ ends_at root nodes (number - 1) old f (omega (arith, some, within))
       ∙ ap (λ (x : Node). x.function == f) (sym is)
 
   pub arrived_once : ArrivesOnce number nodes
@@ -211,7 +215,10 @@ trail_longer nodes path trail function number h within here =
 
 -- the node where a walk is
 pub some_number : (w : Walk) (number : ℕ) → path_of number w.nodes.items ≡ w.path.items → 0 < length w.path.items → 0 < number
-some_number w zero here some = let none = ap length here in absurd (omega (arith, none, some))
+some_number w zero here some =
+    let first = first_paths root w.nodes.items 0 [] (omega arith) in
+    let none = ap length (sym first ∙ here) in
+    absurd (omega (arith, none, some))
 some_number w (suc number) here some = omega arith
 
 pub arrived : (old mid new : Walk) (parent depth function number : ℕ) (made : List Node) → Returns depth old mid

@@ -115,27 +115,31 @@ at_most_all w ps (m ∷ ms) (suc place) d within alike =
 
 -- ---- by numbers
 
+-- what stands at number 0
+abbrev root : List (List ℕ)
+root = [] ∷ []
+
 -- the node of a number in place of another
 module _ (nodes : List Node) (number : ℕ) (some : 0 < number) (within : number < length nodes + 1) where
   inside : number - 1 < length nodes
   inside = omega (arith, some, within)
 
-  at_number : length ([] ∷ []) + (number - 1) ≡ number
+  at_number : length root + (number - 1) ≡ number
   at_number = omega (arith, some)
 
   pub path_with : (parent : ℕ) (d : Node) → (get_or nodes (number - 1) d).parent ≡ parent → parent < number
       → path_of number nodes ≡ path_of parent nodes ++ (get_or nodes (number - 1) d).function ∷ []
   path_with parent d above behind =
-      let less : (get_or nodes (number - 1) d).parent < length ([] ∷ []) + (number - 1) = omega (arith, above, behind, some) in
+      let less : (get_or nodes (number - 1) d).parent < length root + (number - 1) = omega (arith, above, behind, some) in
       ap (λ (k : ℕ). path_of k nodes) (sym at_number)
-      ∙ path_at ([] ∷ []) nodes (number - 1) d inside less
+      ∙ path_at root nodes (number - 1) d inside less
       ∙ ap (λ (k : ℕ). path_of k nodes ++ (get_or nodes (number - 1) d).function ∷ []) above
 
   pub weighed_with : (w : List ℕ → Node → ℕ) (n d : Node) → IsOfSame n (get_or nodes (number - 1) d)
       → weighed w (set nodes (number - 1) n) + w (path_of number nodes) (get_or nodes (number - 1) d)
       ≡ weighed w nodes + w (path_of number nodes) n
   weighed_with w n d h =
-      let all = weighed_set w ([] ∷ []) nodes (number - 1) n d inside h in
+      let all = weighed_set w root nodes (number - 1) n d inside h in
       let same = ap (λ (k : ℕ). path_of k nodes) at_number in
       let of_old = ap (λ (p : List ℕ). w p (get_or nodes (number - 1) d)) same in
       let of_new = ap (λ (p : List ℕ). w p n) same in
@@ -143,4 +147,4 @@ module _ (nodes : List Node) (number : ℕ) (some : 0 < number) (within : number
 
   pub paths_with : (n d : Node) → IsOfSame n (get_or nodes (number - 1) d)
       → paths_of (set nodes (number - 1) n) ≡ paths_of nodes
-  paths_with n d h = paths_stay ([] ∷ []) nodes (number - 1) n d inside h
+  paths_with n d h = paths_stay root nodes (number - 1) n d inside h
