@@ -200,7 +200,7 @@ no_spot nodes flat path trail spots_are =
 
 -- what is left of nodes, and what is in spots, is what was counted
 pub record Conserves (start left : List Node) (flat : Flat) : Type 0 where
-  pub flat : IsFlat left flat
+  pub standing : IsFlat left flat
   pub arrivals : (path : List ℕ) → spots.arrivals_at path flat.spots.items + arrivals_at path left ≡ arrivals_at path start
   pub steps : (path : List ℕ) → spots.steps_at path flat.spots.items + steps_at path left ≡ steps_at path start
   pub own : (f : ℕ) → spots.own_in f flat.spots.items + own_in f left ≡ own_in f start
@@ -208,7 +208,7 @@ pub record Conserves (start left : List Node) (flat : Flat) : Type 0 where
 
 pub none_moved : (nodes : List Node) (flat : Flat) → IsFlat nodes flat → flat.spots.items ≡ [] → Conserves nodes nodes flat
 none_moved nodes flat h none = record {
-  flat = h;
+  standing = h;
   arrivals = λ path. ap (λ (ss : List Spot). spots.arrivals_at path ss + arrivals_at path nodes) none;
   steps = λ path. ap (λ (ss : List Spot). spots.steps_at path ss + steps_at path nodes) none;
   own = λ f. ap (λ (ss : List Spot). spots.own_in f ss + own_in f nodes) none;
@@ -218,7 +218,7 @@ none_moved nodes flat h none = record {
 pub one_moved : (start before after : List Node) (old new : Flat) → Conserves start before old → Moves before old after new
     → Conserves start after new
 one_moved start before after old new h m = record {
-  flat = m.flat;
+  standing = m.flat;
   arrivals = λ path. m.arrivals path ∙ h.arrivals path;
   steps = λ path. m.steps path ∙ h.steps path;
   own = λ f. m.own f ∙ h.own f;
@@ -249,8 +249,8 @@ zero_if false n h = refl
 pub all_moved : (start left : List Node) (flat : Flat) → Conserves start left flat → list_all is_empty left ≡ true
     → AreSpotsOf start flat.spots.items
 all_moved start left flat h empty = record {
-  tree = h.flat.tree;
-  some = h.flat.some;
+  tree = h.standing.tree;
+  some = h.standing.some;
   arrivals = λ path.
       let all = h.arrivals path in
       let none = empty_weight (λ p n. cond (bytes_eq p path) n.arrivals 0) ([] ∷ []) left

@@ -11,7 +11,7 @@ pub turns-init : goal.turns-init
 turns-init c = let h = c.in_ok-flat.ensures c.args.nodes.items in none_moved c.args.nodes.items c.in_ok-flat.flat h.0 h.1
 
 pub turn-requires : goal.turn-requires
-turn-requires c = c.turns.invariant.flat
+turn-requires c = c.turns.invariant.standing
 
 pub turns-preserved : goal.turns-preserved
 turns-preserved c = one_moved c.args.nodes.items c.turns.left.items c.turn.new.left.items c.turns.flat c.turn.new.self
