@@ -1,7 +1,6 @@
 //! Nodes as spots in preorder.
 
 ghost use Rattle.std.specs.Prelude.{◌≡◌, [], ℕ, List, IfOk, IfSome, OnOk, length, slice_index_or, true};
-
 ghost use Rattle.std.specs.List.{list_all};
 ghost use Rattle.rv_stacks.specs.declared.node.Node.{Node as ANode};
 ghost use Rattle.rv_stacks.specs.Nodes.{is_empty};
@@ -41,7 +40,7 @@ pub(crate) fn spots_of_nodes(
     if are_empty(left.as_slice()) {
         return Ok(Spots::new(flat.spots));
     }
-    // Not proved, but so: each node hangs below one that is come to, and is met from there, so that none is left here.
+    // Out of memory: never so. Each node hangs below one that is come to, and is met from there, so that none is left; no clause says so.
     Err(AllocError)
 }
 
