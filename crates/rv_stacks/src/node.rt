@@ -75,7 +75,9 @@ fn is_child(nodes: &[Node], parent: usize, function: u32, number: usize) -> bool
 pub(crate) fn key_of(parent: usize, function: u64) -> u64
     ensures { result ≡ ((parent * 2 ^ 32) % 2 ^ 64 + function) % 2 ^ 64 }
 {
-    (parent as u64).wrapping_mul(0x1_0000_0000).wrapping_add(function)
+    (parent as u64)
+        .wrapping_mul(0x1_0000_0000)
+        .wrapping_add(function)
 }
 
 /// Counts an arrival at the node of a number.
