@@ -209,10 +209,10 @@ pub record Conserves (start left : List Node) (flat : Flat) : Type 0 where
 pub none_moved : (nodes : List Node) (flat : Flat) → IsFlat nodes flat → flat.spots.items ≡ [] → Conserves nodes nodes flat
 none_moved nodes flat h none = record {
   standing = h;
-  arrivals = λ path. ap (λ (ss : List Spot). spots.arrivals_at path ss + arrivals_at path nodes) none;
-  steps = λ path. ap (λ (ss : List Spot). spots.steps_at path ss + steps_at path nodes) none;
-  own = λ f. ap (λ (ss : List Spot). spots.own_in f ss + own_in f nodes) none;
-  all_steps = ap (λ (ss : List Spot). spots.all_steps ss + all_steps nodes) none;
+  arrivals = λ path. let e = ap (λ (ss : List Spot). spots.arrivals_at path ss) none in omega (arith, e);
+  steps = λ path. let e = ap (λ (ss : List Spot). spots.steps_at path ss) none in omega (arith, e);
+  own = λ f. let e = ap (λ (ss : List Spot). spots.own_in f ss) none in omega (arith, e);
+  all_steps = (let e = ap (λ (ss : List Spot). spots.all_steps ss) none in omega (arith, e));
 }
 
 pub one_moved : (start before after : List Node) (old new : Flat) → Conserves start before old → Moves before old after new

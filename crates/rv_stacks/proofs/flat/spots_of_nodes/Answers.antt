@@ -18,6 +18,6 @@ turns-preserved c = one_moved c.args.nodes.items c.turns.left.items c.turn.new.l
     c.turns.invariant c.in_ok-turn.ensures
 
 pub returns-then-are_empty : goal.returns-then-are_empty
-returns-then-are_empty c = subst (λ (ss : List Spot). AreSpotsOf c.args.nodes.items ss) (sym c.new.ensures)
+returns-then-are_empty c = subst (λ (ss : List Spot). AreSpotsOf c.args.nodes.items ss) (sym c.new-then-are_empty.ensures)
     (all_moved c.args.nodes.items c.turns.left.items c.turns.flat c.turns.invariant
     (ap (list_all is_empty) (sym c.as_slice.ensures.value) ∙ sym c.are_empty.ensures ∙ c.if-are_empty.true))
