@@ -8,7 +8,7 @@ _rvfleet_options() {
         'rvtest console') echo '--root --help' ;;
         'rvtest gdb') echo '--root --memory --help' ;;
         'rvtest check') echo '--root --help' ;;
-        'rvtest accept') echo '--only --match --exclude --failed --partial --ends --check --workers --group --root --help' ;;
+        'rvtest accept') echo '--only --match --exclude --failed --partial --ends --check --outside --workers --group --root --help' ;;
         'rvtest merge') echo '--report --junit --suite --lenient --help' ;;
         'rvtest diff') echo '--partial --steps --slower --color --help' ;;
         'rvtest show') echo '--partial --junit --suite --lenient --color --help' ;;

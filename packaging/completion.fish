@@ -66,6 +66,7 @@ complete -c rvtest -n '__fish_seen_subcommand_from accept' -l failed -r -F -d 'C
 complete -c rvtest -n '__fish_seen_subcommand_from accept' -l partial -d 'Takes a report that is cut off by its whole rows'
 complete -c rvtest -n '__fish_seen_subcommand_from accept' -l ends -d 'Accepts another exit code too, and another kind of fault'
 complete -c rvtest -n '__fish_seen_subcommand_from accept' -l check -d 'Tells what would change, and writes nothing'
+complete -c rvtest -n '__fish_seen_subcommand_from accept' -l outside -d 'Also writes golden files outside of the list\'s directory, or of DIR'
 complete -c rvtest -n '__fish_seen_subcommand_from accept' -s j -l workers -x -d 'Threads, from 1 to 64; else one a processor'
 complete -c rvtest -n '__fish_seen_subcommand_from accept' -l group -x -d 'Jobs that a thread takes at once, from 1 to 4096 [default: 1]'
 complete -c rvtest -n '__fish_seen_subcommand_from accept' -l root -x -a '(__fish_complete_directories)' -d 'Takes the paths in the list from this folder'

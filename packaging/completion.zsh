@@ -106,6 +106,7 @@ _rvfleet_behind_rvtest() {
                 '--partial[Takes a report that is cut off by its whole rows]' \
                 '--ends[Accepts another exit code too, and another kind of fault]' \
                 '--check[Tells what would change, and writes nothing]' \
+                '--outside[Also writes golden files outside of the list'\''s directory, or of DIR]' \
                 ''{-j,--workers}'[Threads, from 1 to 64; else one a processor]:N: ' \
                 '--group[Jobs that a thread takes at once, from 1 to 4096 \[default\: 1\]]:N: ' \
                 '--root[Takes the paths in the list from this folder]:DIR:_directories' \

@@ -80,16 +80,18 @@ def check_accepted(row):
         put_there(row.folder, word)
     words, told = ["accept", "list.toml", *row["words"].split()], row["told"]
     status, before = int(row["status"] or 0), files_in(row.folder)
-    body = lines(told) if told else ""
+    body, said = (lines(row[key]) if row[key] else "" for key in ("told", "said"))
     if status > 1:
-        row.wants(words, status, body, lines(row["said"]))
+        if not told:
+            row.wants([*words, "--check"], status, body, said)
+        row.wants(words, status, body, said)
     else:
         in_check = int(bool(told))
-        row.wants([*words, "--check"], in_check, body + lines(last_line(told, True)))
+        row.wants([*words, "--check"], in_check, body + lines(last_line(told, True)), said)
         if files_in(row.folder) != before:
             raise ValueError("--check has changed a file")
-        row.wants(words, status, body + lines(last_line(told, False)))
-        row.wants(words, status, left_of(told) + lines(last_line(left_of(told), False)))
+        row.wants(words, status, body + lines(last_line(told, False)), said)
+        row.wants(words, status, left_of(told) + lines(last_line(left_of(told), False)), said)
     check_files(row, before)
 
 

@@ -5,6 +5,7 @@ share a golden file.
     checks/lib/accepting.py RVTEST SHIM FOLDER LISTS SEED
 """
 import concurrent.futures
+import fcntl
 import os
 import pathlib
 import random
@@ -201,9 +202,9 @@ def try_kills(rvtest, shim, folder, variable):
             raise Failed(f"killed before call {call}: {found}")
         if status == 0:
             return call - 1
-        ended = run(rvtest, place, ["accept", "list.toml"])
-        if ended[0] or ended[2] or contents(place) != new:
-            raise Failed(f"behind a kill before call {call}: {ended}, {contents(place)}, {said}")
+        again = run(rvtest, place, ["accept", "list.toml"])
+        if again[0] or again[2] or contents(place) != new:
+            raise Failed(f"behind a kill before call {call}: {again}, {contents(place)}, {said}")
     raise Failed("no run was whole")
 
 
@@ -221,6 +222,60 @@ def try_shared(rvtest, folder):
         failed = run(rvtest, shared, ["run", f"{other}.toml"])[0]
         if accepted[0] or accepted[2] or (passed, failed) != (0, 1) or (shared / "golden").read_bytes() != console:
             raise Failed(f"of two lists: {name} is accepted with {accepted}, statuses {passed} and {failed}")
+
+
+def changed(name):
+    return f"rvtest: {name}: changed since it was read; nothing is written\n"
+
+
+def ended(process):
+    """The status of a process that was started, and what it says beside its output, which is read to its end."""
+    _, said = process.communicate(timeout=60)
+    return process.returncode, said.decode()
+
+
+def try_changed_list(rvtest, folder):
+    """A comment that is appended to the list while an image is read stays, and no golden file is written."""
+    place = folder / "changed_list"
+    list_to_kill(place)
+    image = (place / "text.elf").read_bytes()
+    (place / "text.elf").unlink()
+    os.mkfifo(place / "text.elf")
+    accept = subprocess.Popen([rvtest, "accept", "list.toml"], cwd=place, stdout=subprocess.PIPE, stderr=subprocess.PIPE)
+    # Opens once `accept` does so, too: the list is read by then.
+    with open(place / "text.elf", "wb") as fifo:
+        with open(place / "list.toml", "a", encoding="ascii") as jobs:
+            jobs.write("# mine\n")
+        fifo.write(image)
+    found = ended(accept)
+    if found != (3, changed("list.toml")) or not (place / "list.toml").read_text().endswith("# mine\n"):
+        raise Failed(f"a list that changes: {found}")
+    if any((place / f"job{number}.out").read_bytes() != b"old" for number in range(3)):
+        raise Failed("a list that changes: a golden file was written")
+
+
+def try_changed_golden_file(rvtest, folder):
+    """A golden file that changes while changes are told stays, and no other one is written."""
+    place, jobs = folder / "changed_golden_file", 200
+    place.mkdir()
+    (place / "a.elf").write_bytes(images.program(images.run_of(b"ab", "0")[0]))
+    tables = [
+        f"[[job]]\nname = 'job{number}'\nimage = 'a.elf'\nbudget = {STEPS}\nexpect_console_file = 'job{number}.out'\n" for number in range(jobs)
+    ]
+    (place / "list.toml").write_text("".join(tables))
+    there, into = os.pipe()
+    # What is told of 200 files does not fit, so `accept` waits until it is read.
+    room = fcntl.fcntl(into, fcntl.F_SETPIPE_SZ, 4096)
+    accept = subprocess.Popen([rvtest, "accept", "list.toml"], cwd=place, stdout=into, stderr=subprocess.PIPE)
+    os.close(into)
+    with open(there, "rb") as told:
+        first = told.read(room // 2)
+        (place / "job1.out").write_bytes(b"mine")
+        if not (first + told.read()).endswith(f"job{jobs - 1}, 2 bytes\n".encode()):
+            raise Failed("a golden file that changes: not all is told")
+    found = ended(accept)
+    if found != (3, changed("job1.out")) or (place / "job1.out").read_bytes() != b"mine" or (place / "job0.out").exists():
+        raise Failed(f"a golden file that changes: {found}")
 
 
 def try_lists(rvtest, top, lists, seed):
@@ -249,6 +304,9 @@ def main(rvtest, shim, folder, lists, seed):
         print(f"accepts: killed before each of {changes} changes of a disk, files are old or new, and the next call ends the work")
         writes = try_kills(rvtest, shim, top, "KILLED_WRITE")
         print(f"accepts: killed before each of {writes} writes, the same")
+        try_changed_list(rvtest, top)
+        try_changed_golden_file(rvtest, top)
+        print("accepts: a list or a golden file that changes in between is told, and nothing is written")
         try_shared(rvtest, top)
         print("accepts: of two lists that share a golden file each is accepted by itself")
     except Failed as why:

@@ -100,7 +100,51 @@ def check_root(row):
         row.fails(words, (int(told != "one"), told.encode(), note.encode()), (status, out, said))
 
 
+# ---- files that are read
+
+LIST = """job = [
+    {name = 'a', image = 'a.elf', budget = 9, expect_console_file = 'g.out'},
+    {name = 'b', image = 'b.elf', budget = 9},
+]
+"""
+# With the status of each.
+MADE = {
+    "run list.toml --report r --counts c": 0,
+    "run list.toml --shard 1/2 --stamp s --report p1": 0,
+    "run list.toml --shard 2/2 --stamp s --report p2": 0,
+    "run red.toml --report f": 1,
+}
+
+
+def everything_in(folder):
+    """What is in a folder: each link's target, and each file's bytes."""
+    return {path: os.readlink(path) if path.is_symlink() else path.read_bytes() if path.is_file() else None for path in folder.rglob("*")}
+
+
+def check_overwrite(row):
+    """What is told of files that a command writes and reads; if they are refused, each is as it was."""
+    row.write("list.toml", LIST)
+    row.write("red.toml", LIST.replace("budget = 9", "budget = 9, expect_exit = 5"))
+    for name in ("a.elf", "b.elf"):
+        row.write(name, images.image("code 00000513 X"))
+    row.write("g.out", "")
+    row.write("k", "")
+    for words, status in MADE.items():
+        if row.run(words.split())[0] != status:
+            raise ValueError(f"{words} failed")
+    for word in row["there"].split():
+        put_there(row.folder, word)
+    words, before = row["words"].split(), everything_in(row.folder)
+    status, out, said = row.run(words)
+    wanted = (2, b"", raw(f"rvtest: {row['told']}\n")) if row["told"] else (0, out, b"")
+    if wanted != (status, out, said):
+        row.fails(words, wanted, (status, out, said))
+    if row["told"] and before != everything_in(row.folder):
+        raise ValueError(f"{' '.join(words)} changed a file that it refused to write")
+
+
 FORMS = {
+    "overwrites": Form(check_overwrite, "there words told"),
     "outputs": Form(check_place, "there path told then"),
     "roots": Form(check_root, "root path told"),
 }

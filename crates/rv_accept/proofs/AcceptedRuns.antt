@@ -12,6 +12,7 @@ use Rattle.rv_accept.specs.Meant.{meant_job, meant_jobs}
 use Rattle.rv_accept.specs.Runs.{accepted_row, first_row, is_accepted_run, judged_run, judged_runs, placed_rows, why_chosen_is_left}
 use Rattle.rv_accept.specs.declared.ends.Acceptance.{Acceptance}
 use Rattle.rv_accept.specs.declared.runs.JobRun.{JobRun}
+use Rattle.rv_accept.specs.declared.standing.Candidate.{Candidate}
 
 -- ---- the row
 
@@ -76,59 +77,59 @@ row_behind : (rows : List (Option Row)) (place : ℕ) → slice_get (drop 1 rows
 row_behind [] place = refl
 row_behind (row ∷ rows) place = refl
 
+no : {A : Type 0} → false ≡ true → A
+no is = cc
+
 none_of : {X : Type 0} (o : Option X) → not (is_some o) ≡ true → o ≡ None
 none_of None is = refl
 none_of (Some x) is = cc
 
--- an accepted run has the row that stands there, and is not left for it
-record IsAccepted (asked : Acceptance) (job : Job) (rows : List (Option Row)) (place : ℕ) (run : JobRun) : Type 0 where
+-- an accepted run has the row that stands there, and its candidate is not left for it
+pub record IsAccepted (asked : Acceptance) (job : Job) (candidates : List Candidate) (rows : List (Option Row)) (place : ℕ)
+    (run : JobRun) : Type 0 where
+  pub candidate : Candidate
+  pub stands : slice_get candidates place ≡ Some candidate
   pub row : slice_get rows place ≡ Some (Some run.row)
-  pub kept : why_chosen_is_left asked job run.row ≡ None
+  pub kept : why_chosen_is_left asked candidate.standing job run.row ≡ None
 
-first_judged : (asked : Acceptance) (job : Job) (chosen : Bool) (rows : List (Option Row)) (run : JobRun)
-    → Some (option_map (judged_run asked job chosen) (first_row rows)) ≡ Some (Some run) → is_accepted_run run ≡ true
-    → IsAccepted asked job rows 0 run
-first_judged asked job chosen [] run is accepted = cc
-first_judged asked job chosen (None ∷ rows) run is accepted = cc
-first_judged asked job chosen (Some row ∷ rows) run is accepted =
-    let judged : judged_run asked job chosen row ≡ run = cc in
-    go chosen (rw (← judged) at accepted) judged
+first_judged : (asked : Acceptance) (job : Job) (candidate : Candidate) (candidates : List Candidate)
+    (rows : List (Option Row)) (run : JobRun)
+    → Some (option_map (judged_run asked job candidate) (first_row rows)) ≡ Some (Some run) → is_accepted_run run ≡ true
+    → IsAccepted asked job (candidate ∷ candidates) rows 0 run
+first_judged asked job candidate candidates [] run is accepted = cc
+first_judged asked job candidate candidates (None ∷ rows) run is accepted = cc
+first_judged asked job candidate candidates (Some row ∷ rows) run is accepted =
+    let judged : judged_run asked job candidate row ≡ run = cc in
+    go candidate.is_chosen refl (rw (← judged) at accepted) judged
   where
-    go : (chosen : Bool) → is_accepted_run (judged_run asked job chosen row) ≡ true
-        → judged_run asked job chosen row ≡ run → IsAccepted asked job (Some row ∷ rows) 0 run
-    go true accepted judged = rw (← judged) (record {
+    go : (chosen : Bool) → candidate.is_chosen ≡ chosen → is_accepted_run (judged_run asked job candidate row) ≡ true
+        → judged_run asked job candidate row ≡ run → IsAccepted asked job (candidate ∷ candidates) (Some row ∷ rows) 0 run
+    go true chosen_is accepted judged = rw (← judged) (record {
+      candidate = candidate;
+      stands = refl;
       row = refl;
-      kept = none_of (why_chosen_is_left asked job row) accepted;
+      kept = none_of (why_chosen_is_left asked candidate.standing job row) (rw chosen_is at accepted);
     })
-    go false accepted judged = cc
+    go false chosen_is accepted judged = no (rw chosen_is at accepted)
 
-accepted_at : (asked : Acceptance) (jobs : List Job) (chosen : List Bool) (rows : List (Option Row)) (place : ℕ)
-    (job : Job) (run : JobRun) → slice_get jobs place ≡ Some job
-    → slice_get (judged_runs asked jobs chosen rows) place ≡ Some (Some run) → is_accepted_run run ≡ true
-    → IsAccepted asked job rows place run
+pub accepted_at : (asked : Acceptance) (jobs : List Job) (candidates : List Candidate) (rows : List (Option Row))
+    (place : ℕ) (job : Job) (run : JobRun) → slice_get jobs place ≡ Some job
+    → slice_get (judged_runs asked jobs candidates rows) place ≡ Some (Some run) → is_accepted_run run ≡ true
+    → IsAccepted asked job candidates rows place run
 unfolding judged_runs
-accepted_at asked [] chosen rows place job run at is accepted = cc
+accepted_at asked [] candidates rows place job run at is accepted = cc
 accepted_at asked (other ∷ jobs) [] rows place job run at is accepted = cc
-accepted_at asked (other ∷ jobs) (mark ∷ chosen) rows zero job run at is accepted =
+accepted_at asked (other ∷ jobs) (candidate ∷ candidates) rows zero job run at is accepted =
     let same : other ≡ job = cc in
-    rw (← same) (first_judged asked other mark rows run is accepted)
-accepted_at asked (other ∷ jobs) (mark ∷ chosen) rows (suc place) job run at is accepted =
-    let behind = accepted_at asked jobs chosen (drop 1 rows) place job run at is accepted in
-    record { row = rw (row_behind rows place) at behind.row; kept = behind.kept }
-
-pub accepted_run_has_row : (asked : Acceptance) (jobs : List Job) (chosen : List Bool) (rows : List (Option Row))
-    (place : ℕ) (job : Job) (run : JobRun) → slice_get jobs place ≡ Some job
-    → slice_get (judged_runs asked jobs chosen rows) place ≡ Some (Some run) → is_accepted_run run ≡ true
-    → slice_get rows place ≡ Some (Some run.row)
-accepted_run_has_row asked jobs chosen rows place job run at is accepted =
-    (accepted_at asked jobs chosen rows place job run at is accepted).row
-
-pub accepted_run_is_kept : (asked : Acceptance) (jobs : List Job) (chosen : List Bool) (rows : List (Option Row))
-    (place : ℕ) (job : Job) (run : JobRun) → slice_get jobs place ≡ Some job
-    → slice_get (judged_runs asked jobs chosen rows) place ≡ Some (Some run) → is_accepted_run run ≡ true
-    → why_chosen_is_left asked job run.row ≡ None
-accepted_run_is_kept asked jobs chosen rows place job run at is accepted =
-    (accepted_at asked jobs chosen rows place job run at is accepted).kept
+    rw (← same) (first_judged asked other candidate candidates rows run is accepted)
+accepted_at asked (other ∷ jobs) (candidate ∷ candidates) rows (suc place) job run at is accepted =
+    let behind = accepted_at asked jobs candidates (drop 1 rows) place job run at is accepted in
+    record {
+      candidate = behind.candidate;
+      stands = behind.stands;
+      row = rw (row_behind rows place) at behind.row;
+      kept = behind.kept;
+    }
 
 -- ---- the job that is meant
 

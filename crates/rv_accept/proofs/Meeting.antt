@@ -11,6 +11,7 @@ use Rattle.rv_jobs.specs.declared_job.ExpectedEnd.TheVariants as expected
 use Rattle.rv_jobs.specs.Jobs.{console_path}
 use Rattle.rv_jobs.specs.declared_job.Job.{Job}
 use Rattle.rv_rows.specs.declared.outcome.Outcome.{Outcome}
+use Rattle.rv_rows.specs.declared_row.Row.{Row}
 use Rattle.rv_rows.specs.declared_row.RowEnd.{RowEnd}
 use Rattle.rv_rows.specs.declared_row.RowEnd.TheVariants as ending
 use Rattle.rv_rows.specs.Verdict.{did_run, has_expected_console, has_expected_end, has_expected_exit}
@@ -18,13 +19,14 @@ use Rattle.rv_rows.specs.Verdict.{has_expected_signature, lines_of_signature, me
 use Rattle.rv_accept.specs.declared.ends.Acceptance.{Acceptance}
 use Rattle.rv_accept.specs.declared.ends.Acceptance.TheVariants as acceptance
 use Rattle.rv_accept.specs.Accepted.{accepted_job, console_met, end_met, exit_met}
+use Rattle.rv_accept.specs.Passing.{EndedWell}
 use Rattle.rv_accept.specs.Ends.{ended_as_expected, ended_in_expected_way, is_accepted, is_accepted_end}
 
--- what is known of an end that is accepted
-record Met (exit : Option ℕ) (how : Option ExpectedEnd) (end : RowEnd) : Type 0 where
-  ran : did_run end ≡ true
-  code : has_expected_exit (exit_met exit end) end ≡ true
-  way : has_expected_end (end_met how end) end ≡ true
+-- what is known of an end that meets its expectations once they are those of the run
+pub record Met (exit : Option ℕ) (how : Option ExpectedEnd) (end : RowEnd) : Type 0 where
+  pub ran : did_run end ≡ true
+  pub code : has_expected_exit (exit_met exit end) end ≡ true
+  pub way : has_expected_end (end_met how end) end ≡ true
 
 exit_holds : (exit : Option ℕ) (end : RowEnd) → has_expected_exit exit end ≡ true
     → has_expected_exit (exit_met exit end) end ≡ true
@@ -75,7 +77,7 @@ either : (a b : Bool) → (a || b) ≡ true → (a ≡ true) ⊎ (b ≡ true)
 either true b holds = inl refl
 either false b holds = inr holds
 
-met : (acceptance : Acceptance) (exit : Option ℕ) (how : Option ExpectedEnd) (end : RowEnd)
+pub met : (acceptance : Acceptance) (exit : Option ℕ) (how : Option ExpectedEnd) (end : RowEnd)
     → is_accepted acceptance exit how end ≡ true → Met exit how end
 met acceptance.Expected exit how end holds = of_expected exit how end holds
 met acceptance.InExpectedWay exit how end holds = go (either (ended_as_expected exit how end) _ holds)
@@ -83,6 +85,14 @@ met acceptance.InExpectedWay exit how end holds = go (either (ended_as_expected 
     go : (ended_as_expected exit how end ≡ true) ⊎ (ended_in_expected_way exit how end ≡ true) → Met exit how end
     go (inl holds) = of_expected exit how end holds
     go (inr holds) = of_way exit how end holds
+
+-- so does an end that is the expected one
+pub met_if_ended_well : (job : Job) (row : Row) → EndedWell job row → Met job.expect_exit job.expect_end row.ending
+met_if_ended_well job row well = record {
+  ran = well.ran;
+  code = exit_holds job.expect_exit row.ending well.exit;
+  way = end_holds job.expect_end row.ending well.end;
+}
 
 same_bytes : (bytes : List ℕ) → bytes_eq bytes bytes ≡ true
 same_bytes bytes = (bytes_eq-Decides bytes bytes).1 refl
@@ -101,13 +111,12 @@ signature_holds None outcome reference ran is = refl
 signature_holds (Some path) outcome reference ran is = rw is (rw ran (same_bytes (lines_of_signature outcome.signature)))
 
 -- over golden files that hold what the run gave
-pub meets_over : (acceptance : Acceptance) (job : Job) (outcome : Outcome) (reference console : Option (List ℕ))
-    (other : Option Outcome) → is_accepted_end acceptance job outcome.ending ≡ true → job.same_as ≡ None
+pub meets_over : (job : Job) (outcome : Outcome) (reference console : Option (List ℕ)) (other : Option Outcome)
+    → Met job.expect_exit job.expect_end outcome.ending → job.same_as ≡ None
     → IfSome job.expect_signature (λ path. reference ≡ Some (lines_of_signature outcome.signature))
     → IfSome (console_path job.expect_console) (λ path. console ≡ Some outcome.console)
     → meets_all_expectations (accepted_job job outcome.ending outcome.console) outcome reference console other ≡ true
-meets_over acceptance job outcome reference console other accepted alone lines bytes =
-    let known = met acceptance job.expect_exit job.expect_end outcome.ending accepted in
+meets_over job outcome reference console other known alone lines bytes =
     rw known.code (rw known.way (rw (console_holds job.expect_console outcome console known.ran bytes)
     (rw (signature_holds job.expect_signature outcome reference known.ran lines) (rw alone refl))))
 
@@ -119,10 +128,6 @@ pub meets : (acceptance : Acceptance) (job : Job) (outcome : Outcome) (other : O
     → is_accepted_end acceptance job outcome.ending ≡ true → job.same_as ≡ None
     → meets_all_expectations (accepted_job job outcome.ending outcome.console) outcome
     (Some (lines_of_signature outcome.signature)) (Some outcome.console) other ≡ true
-meets acceptance job outcome other accepted alone = meets_over acceptance job outcome _ _ other accepted alone
+meets acceptance job outcome other accepted alone = meets_over job outcome _ _ other
+    (met acceptance job.expect_exit job.expect_end outcome.ending accepted) alone
     (always job.expect_signature refl) (always (console_path job.expect_console) refl)
-
--- a job that is accepted ran
-pub ran_if_accepted : (acceptance : Acceptance) (job : Job) (end : RowEnd) → is_accepted_end acceptance job end ≡ true
-    → did_run end ≡ true
-ran_if_accepted acceptance job end accepted = (met acceptance job.expect_exit job.expect_end end accepted).ran

@@ -12,12 +12,13 @@ use Rattle.rv_rows.specs.Verdict.{did_run, lines_of_signature, verdict_of}
 use Rattle.rv_rows.specs.declared.outcome.Outcome.{Outcome}
 use Rattle.rv_rows.specs.declared_row.Row.{Row}
 use Rattle.rv_accept.proofs.ImagesThatRan.{RanOver, outcome_over, ran_over, runs_alike}
-use Rattle.rv_accept.proofs.Meeting.{ran_if_accepted}
-use Rattle.rv_accept.proofs.Passing.{accepted_if_kept, accepted_passes, unasked_passes}
+use Rattle.rv_accept.proofs.Passing.{accepted_passes, met_if_kept, unasked_passes}
 use Rattle.rv_accept.specs.Accepted.{accepted_job, console_met}
-use Rattle.rv_accept.specs.Passing.{FindsItsFiles, is_pass_or_unasked, outcome_of_row}
+use Rattle.rv_accept.specs.Passing.{EndedWell, FindsItsFiles, is_pass_or_unasked, outcome_of_row}
 use Rattle.rv_accept.specs.Runs.{takes_from_run, why_chosen_is_left}
 use Rattle.rv_accept.specs.declared.ends.Acceptance.{Acceptance}
+use Rattle.rv_accept.specs.declared.standing.Standing.{Standing}
+use Rattle.rv_accept.specs.declared.standing.Standing.TheVariants as standing
 
 -- the path of a console's file stays
 pub console_path_stays : (console : Option ExpectedConsole) (bytes : List ℕ)
@@ -57,13 +58,13 @@ outcome_again earlier later job row came ran finds =
     (file_read later (console_path job.expect_console) row.console finds.console)
     ∙ runs_alike job row.ending row.console over.file ∙ sym over.came ∙ sym came))
 
-passes_again : (acceptance : Acceptance) (job : Job) (earlier : List Answer) (later : Planned) (row : Row)
-    → outcome_of_row row ≡ outcome_in earlier (without_expectations job)
-    → why_chosen_is_left acceptance job row ≡ None → job.same_as ≡ None
-    → FindsItsFiles earlier later.answers job row
+passes_again : (acceptance : Acceptance) (stands : Standing) (job : Job) (earlier : List Answer) (later : Planned)
+    (row : Row) → outcome_of_row row ≡ outcome_in earlier (without_expectations job)
+    → why_chosen_is_left acceptance stands job row ≡ None → (stands ≡ standing.Passes → EndedWell job row)
+    → job.same_as ≡ None → FindsItsFiles earlier later.answers job row
     → is_pass_or_unasked (row_of later (accepted_job job row.ending row.console)).verdict ≡ true
 unfolding row_of
-passes_again acceptance job earlier later row came kept alone finds = go (takes_from_run job) refl
+passes_again acceptance stands job earlier later row came kept well alone finds = go (takes_from_run job) refl
   where
     changed : Job
     changed = accepted_job job row.ending row.console
@@ -74,11 +75,10 @@ passes_again acceptance job earlier later row came kept alone finds = go (takes_
         (named_job_outcome later changed)) ≡ true
     go false is = unasked_passes job row.ending row.console _ _ _ _ is alone
     go true is =
-        let accepted = accepted_if_kept acceptance job row is kept in
-        let again = outcome_again earlier later.answers job row came
-        (ran_if_accepted acceptance job row.ending accepted) finds in
+        let met = met_if_kept acceptance stands job row is kept well in
+        let again = outcome_again earlier later.answers job row came met.ran finds in
         rw again (rw (console_path_stays job.expect_console row.console)
-        (accepted_passes acceptance job (outcome_of_row row) _ _ (named_job_outcome later changed) accepted alone
+        (accepted_passes job (outcome_of_row row) _ _ (named_job_outcome later changed) met alone
         (text_read later.answers job.expect_signature (lines_of_signature row.signature) finds.signature)
         (text_read later.answers (console_path job.expect_console) row.console finds.console)))
 
@@ -86,10 +86,11 @@ pub outcome_of_its_row : (plan : Planned) (job : Job) → outcome_of_row (row_of
 unfolding row_of
 outcome_of_its_row plan job = refl
 
-pub passes_over_files : (acceptance : Acceptance) (job : Job) (earlier later : Planned) (row : Row)
-    → row ≡ row_of earlier (without_expectations job) → why_chosen_is_left acceptance job row ≡ None
-    → job.same_as ≡ None → FindsItsFiles earlier.answers later.answers job row
+pub passes_over_files : (acceptance : Acceptance) (stands : Standing) (job : Job) (earlier later : Planned) (row : Row)
+    → row ≡ row_of earlier (without_expectations job) → why_chosen_is_left acceptance stands job row ≡ None
+    → (stands ≡ standing.Passes → EndedWell job row) → job.same_as ≡ None
+    → FindsItsFiles earlier.answers later.answers job row
     → is_pass_or_unasked (row_of later (accepted_job job row.ending row.console)).verdict ≡ true
-passes_over_files acceptance job earlier later row is kept alone finds =
-    passes_again acceptance job earlier.answers later row
-    (ap outcome_of_row is ∙ outcome_of_its_row earlier (without_expectations job)) kept alone finds
+passes_over_files acceptance stands job earlier later row is kept well alone finds =
+    passes_again acceptance stands job earlier.answers later row
+    (ap outcome_of_row is ∙ outcome_of_its_row earlier (without_expectations job)) kept well alone finds

@@ -14,14 +14,16 @@ use Rattle.rv_rows.specs.declared_row.RowEnd.{RowEnd}
 use Rattle.rv_rows.specs.declared_row.RowEnd.TheVariants as ending
 use Rattle.rv_rows.specs.declared_row.Verdict.TheVariants as verdict
 use Rattle.rv_rows.specs.Verdict.{expects_anything, lines_of_signature, verdict_of}
-use Rattle.rv_accept.proofs.Meeting.{meets_over}
+use Rattle.rv_accept.proofs.Meeting.{Met, meets_over, met, met_if_ended_well}
 use Rattle.rv_accept.specs.Accepted.{accepted_job, console_met, end_met, exit_met}
 use Rattle.rv_accept.specs.Ends.{is_accepted_end}
-use Rattle.rv_accept.specs.Passing.{is_pass_or_unasked}
+use Rattle.rv_accept.specs.Passing.{EndedWell, is_pass_or_unasked}
 use Rattle.rv_accept.specs.Runs.{takes_from_run, why_chosen_is_left, why_text_is_left}
 use Rattle.rv_accept.specs.declared.ends.Acceptance.{Acceptance}
 use Rattle.rv_accept.specs.declared.runs.WhyLeft.{WhyLeft}
 use Rattle.rv_accept.specs.declared.runs.WhyLeft.TheVariants as why
+use Rattle.rv_accept.specs.declared.standing.Standing.{Standing}
+use Rattle.rv_accept.specs.declared.standing.Standing.TheVariants as standing
 
 -- ---- nothing is expected
 
@@ -83,20 +85,23 @@ unasked_passes job end bytes outcome reference console other nothing alone =
     no_failure (expects_anything (accepted_job job end bytes)) _
     (λ asked. absurd (false≢true (sym (unasked job end bytes nothing alone) ∙ asked)))
 
--- one that is not left ended so that it is accepted
-pub accepted_if_kept : (acceptance : Acceptance) (job : Job) (row : Row) → takes_from_run job ≡ true
-    → why_chosen_is_left acceptance job row ≡ None → is_accepted_end acceptance job row.ending ≡ true
-accepted_if_kept acceptance job row takes kept =
-    end_of_why (is_accepted_end acceptance job row.ending) (why_text_is_left job row) (rw takes at kept)
+-- one that is not left met its end, or what its end becomes
+pub met_if_kept : (acceptance : Acceptance) (stands : Standing) (job : Job) (row : Row) → takes_from_run job ≡ true
+    → why_chosen_is_left acceptance stands job row ≡ None → (stands ≡ standing.Passes → EndedWell job row)
+    → Met job.expect_exit job.expect_end row.ending
+met_if_kept acceptance standing.Passes job row takes kept well = met_if_ended_well job row (well refl)
+met_if_kept acceptance standing.Fails job row takes kept well = met acceptance job.expect_exit job.expect_end row.ending
+    (end_of_why (is_accepted_end acceptance job row.ending) (why_text_is_left job row) (rw takes at kept))
+met_if_kept acceptance standing.Differs job row takes kept well = cc
 
 -- and then it passes, or is not asked anything
-pub accepted_passes : (acceptance : Acceptance) (job : Job) (outcome : Outcome) (reference console : Option (List ℕ))
-    (other : Option Outcome) → is_accepted_end acceptance job outcome.ending ≡ true → job.same_as ≡ None
+pub accepted_passes : (job : Job) (outcome : Outcome) (reference console : Option (List ℕ)) (other : Option Outcome)
+    → Met job.expect_exit job.expect_end outcome.ending → job.same_as ≡ None
     → IfSome job.expect_signature (λ path. reference ≡ Some (lines_of_signature outcome.signature))
     → IfSome (console_path job.expect_console) (λ path. console ≡ Some outcome.console)
     → is_pass_or_unasked (verdict_of (accepted_job job outcome.ending outcome.console) outcome reference console other)
     ≡ true
 unfolding verdict_of
-accepted_passes acceptance job outcome reference console other accepted alone lines bytes =
+accepted_passes job outcome reference console other met alone lines bytes =
     no_failure (expects_anything (accepted_job job outcome.ending outcome.console)) _
-    (λ asked. meets_over acceptance job outcome reference console other accepted alone lines bytes)
+    (λ asked. meets_over job outcome reference console other met alone lines bytes)

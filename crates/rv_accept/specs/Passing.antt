@@ -5,7 +5,7 @@ use Rattle.rv_jobs.specs.Plans.{kept_for}
 use Rattle.rv_jobs.specs.declared.answers.Answer.{Answer}
 use Rattle.rv_jobs.specs.declared.kept.Kept.TheVariants as kept
 use Rattle.rv_jobs.specs.declared_job.Job.{Job}
-use Rattle.rv_rows.specs.Verdict.{did_run, lines_of_signature}
+use Rattle.rv_rows.specs.Verdict.{did_run, has_expected_end, has_expected_exit, lines_of_signature}
 use Rattle.rv_rows.specs.declared.outcome.Outcome.{Outcome}
 use Rattle.rv_rows.specs.declared_row.Row.{Row}
 use Rattle.rv_rows.specs.declared_row.Verdict.{Verdict}
@@ -29,3 +29,9 @@ pub record FindsItsFiles (earlier later : List Answer) (job : Job) (row : Row) :
   pub image : IsTrue (did_run row.ending) → kept_for later job.image ≡ kept_for earlier job.image
   pub signature : IfSome job.expect_signature (λ path. kept_for later path ≡ kept.Content (lines_of_signature row.signature))
   pub console : IfSome (console_path job.expect_console) (λ path. kept_for later path ≡ kept.Content row.console)
+
+-- a job that came to this row ran, and ended as it expects, if it expects something of its end
+pub record EndedWell (job : Job) (row : Row) : Type 0 where
+  pub ran : IsTrue (did_run row.ending)
+  pub exit : IsTrue (has_expected_exit job.expect_exit row.ending)
+  pub end : IsTrue (has_expected_end job.expect_end row.ending)

@@ -11,6 +11,9 @@ use Rattle.rv_accept.specs.declared.ends.Acceptance.TheVariants as acceptance
 use Rattle.rv_accept.specs.declared.runs.JobRun.{JobRun}
 use Rattle.rv_accept.specs.declared.runs.WhyLeft.{WhyLeft}
 use Rattle.rv_accept.specs.declared.runs.WhyLeft.TheVariants as why
+use Rattle.rv_accept.specs.declared.standing.Candidate.{Candidate}
+use Rattle.rv_accept.specs.declared.standing.Standing.{Standing}
+use Rattle.rv_accept.specs.declared.standing.Standing.TheVariants as standing
 use Rattle.rv_accept.specs.declared.values.ValueKey.TheVariants as key
 
 abbrev pub why_end_is_left : Acceptance → Job → RowEnd → Option WhyLeft
@@ -21,7 +24,7 @@ abbrev pub why_text_is_left : Job → Row → Option WhyLeft
 why_text_is_left job row =
     if is_value_changed key.Console job row && not (is_utf8 row.console) then Some why.NoText else None
 
--- why a chosen job is left, if it is
+-- why a chosen job is left from whose run something is taken, if it is
 abbrev pub why_left : Acceptance → Job → Row → Option WhyLeft
 why_left asked job row = if is_accepted_end asked job row.ending then why_text_is_left job row else Some why.End
 
@@ -30,16 +33,28 @@ abbrev pub takes_from_run : Job → Bool
 takes_from_run job = is_some job.expect_exit || (is_some job.expect_end || (is_some job.expect_console
     || is_some job.expect_signature))
 
--- a job of which nothing is taken is not left
-abbrev pub why_chosen_is_left : Acceptance → Job → Row → Option WhyLeft
-why_chosen_is_left asked job row = if takes_from_run job then why_left asked job row else None
+-- why a job is left that differs from the one that it names: an end that is not taken comes first
+abbrev pub why_differing_is_left : Acceptance → Job → RowEnd → WhyLeft
+why_differing_is_left asked job end = if takes_from_run job && not (is_accepted_end asked job end) then why.End else why.Differs
 
--- a job that was run: one that is not chosen gives its golden files only where it ended exactly as is expected
-abbrev pub judged_run : Acceptance → Job → Bool → Row → JobRun
-judged_run asked job chosen row = record {
+-- why a chosen job is left, if it is: one that passes as it stands is not, and one that fails is, unless its run gives what it expects
+abbrev pub why_chosen_is_left : Acceptance → Standing → Job → Row → Option WhyLeft
+why_chosen_is_left asked standing.Passes job row = None
+why_chosen_is_left asked standing.Fails job row = if takes_from_run job then why_left asked job row else Some why.End
+why_chosen_is_left asked standing.Differs job row = Some (why_differing_is_left asked job row.ending)
+
+-- why a job is left that is not chosen: it gives its golden files only where it passes as it stands, or ended exactly as is expected
+abbrev pub why_sharing_is_left : Standing → Job → RowEnd → Option WhyLeft
+why_sharing_is_left standing.Passes job end = None
+why_sharing_is_left _ job end = why_end_is_left acceptance.Expected job end
+
+-- a job that was run
+abbrev pub judged_run : Acceptance → Job → Candidate → Row → JobRun
+judged_run asked job candidate row = record {
   row = row;
-  is_chosen = chosen;
-  left = if chosen then why_chosen_is_left asked job row else why_end_is_left acceptance.Expected job row.ending;
+  is_chosen = candidate.is_chosen;
+  left = if candidate.is_chosen then why_chosen_is_left asked candidate.standing job row
+      else why_sharing_is_left candidate.standing job row.ending;
 }
 
 -- the first of some rows where a job is marked, and those behind it
@@ -62,11 +77,11 @@ abbrev pub first_row : List (Option Row) → Option Row
 first_row rows = row_or_none (slice_get rows 0)
 
 -- the runs of jobs, with the rows of those that were run
-unfoldable pub judged_runs : Acceptance → List Job → List Bool → List (Option Row) → List (Option JobRun)
-judged_runs asked [] chosen rows = []
+unfoldable pub judged_runs : Acceptance → List Job → List Candidate → List (Option Row) → List (Option JobRun)
+judged_runs asked [] candidates rows = []
 judged_runs asked (job ∷ jobs) [] rows = []
-judged_runs asked (job ∷ jobs) (chosen ∷ more) rows =
-    option_map (judged_run asked job chosen) (first_row rows) ∷ judged_runs asked jobs more (drop 1 rows)
+judged_runs asked (job ∷ jobs) (candidate ∷ candidates) rows =
+    option_map (judged_run asked job candidate) (first_row rows) ∷ judged_runs asked jobs candidates (drop 1 rows)
 
 -- it is chosen, and accepted
 abbrev pub is_accepted_run : JobRun → Bool

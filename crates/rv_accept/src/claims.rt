@@ -105,7 +105,7 @@ fn push_claims_of_run(
 }
 
 /// The file that a job's console is expected to be as, where one is named.
-pub(crate) fn console_path(job: &Job) -> Option<&str>
+pub fn console_path(job: &Job) -> Option<&str>
     ensures { option_map (λ path. path.now) result ≡ console_path job.now.expect_console }
 {
     match &job.expect_console {

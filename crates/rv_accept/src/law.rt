@@ -10,12 +10,14 @@ ghost use Rattle.rv_rows.specs.declared_row.Row.{Row};
 ghost use Rattle.rv_rows.specs.Rows.{row_of};
 ghost use Rattle.rv_rows.specs.Verdict.{lines_of_signature, meets_all_expectations};
 ghost use Rattle.rv_accept.specs.declared.ends.Acceptance.{Acceptance as AnAcceptance};
+ghost use Rattle.rv_accept.specs.declared.standing.Standing.{Standing as AStanding};
+ghost use Rattle.rv_accept.specs.declared.standing.Standing.TheVariants as standing;
 ghost use Rattle.rv_accept.specs.declared.claims.Claim.{Claim as AClaim};
 ghost use Rattle.rv_accept.specs.declared.fates.Fate.TheVariants as fate;
 ghost use Rattle.rv_accept.specs.Accepted.{accepted_job};
 ghost use Rattle.rv_accept.specs.Ends.{is_accepted_end};
 ghost use Rattle.rv_accept.specs.Fates.{fate_of_file, names_file};
-ghost use Rattle.rv_accept.specs.Passing.{FindsItsFiles, is_pass_or_unasked};
+ghost use Rattle.rv_accept.specs.Passing.{EndedWell, FindsItsFiles, is_pass_or_unasked};
 ghost use Rattle.rv_accept.specs.Runs.{why_chosen_is_left};
 
 /// A job that is accepted, and names no other, meets all its expectations once they are what its run gave: its golden files hold the
@@ -34,13 +36,14 @@ pub fn an_agreed_text_is_given_by_each_job()
         → All (λ claim. IsTrue (names_file path claim) → claim.text ≡ Some text) claims }
 {}
 
-/// A chosen job that ran without its expectations, is not left for its row, and names no other, passes in a later run, or nothing is
-/// expected of it: its own values are those that were met, and the later run finds its image as it was, and in its golden files
-/// what the earlier run gave.
+/// A chosen job that ran without its expectations, is not left for its row and as it stands, and names no other, passes in a later run, or
+/// nothing is expected of it: its own values are those that were met, and the later run finds its image as it was, and in its golden
+/// files what the earlier run gave. One that passes as it stands ended as it expects.
 pub fn accepted_jobs_pass_over_their_files()
-    ensures { (acceptance : AnAcceptance) (job : Job) (earlier later : Planned) (row : Row)
+    ensures { (acceptance : AnAcceptance) (stands : AStanding) (job : Job) (earlier later : Planned) (row : Row)
         → row ≡ row_of earlier (without_expectations job)
-        → why_chosen_is_left acceptance job row ≡ None
+        → why_chosen_is_left acceptance stands job row ≡ None
+        → (stands ≡ standing.Passes → EndedWell job row)
         → job.same_as ≡ None
         → FindsItsFiles earlier.answers later.answers job row
         → IsTrue (is_pass_or_unasked (row_of later (accepted_job job row.ending row.console)).verdict) }

@@ -1,6 +1,7 @@
 //! What a run gives in place of what its job expects: golden files, and values of a list.
 //!
-//! A job whose run ended as it is expected is accepted ([`is_accepted_end`]); a run that ended otherwise gives nothing. The jobs that name
+//! A job whose run ended as it is expected is accepted ([`is_accepted_end`]), and so is one that passes as it stands ([`Standing`]); a run
+//! that ended otherwise gives nothing. The jobs that name
 //! a golden file must all be accepted and give it the same text ([`fate_of_file`]). What an accepted job gives is exactly what makes
 //! its verdict a pass ([`accepted_jobs_meet_their_expectations`]).
 #![tactic(auto)]
@@ -14,11 +15,12 @@ mod law;
 mod meant;
 mod runs;
 mod sharing;
+mod standing;
 mod targets;
 mod values;
 
 pub use basic_string::push_basic_string;
-pub use claims::{Claim, Part, claims_of_runs};
+pub use claims::{Claim, Part, claims_of_runs, console_path};
 pub use edits::{Edit, edited_text};
 pub use ends::{Acceptance, is_accepted_end};
 pub use fates::{Fate, fate_of_file, first_of_another_text, first_on_file};
@@ -29,5 +31,6 @@ pub use law::{
 pub use meant::are_meant_jobs;
 pub use runs::{JobRun, WhyLeft, judged_runs, placed_rows};
 pub use sharing::marks_to_run;
+pub use standing::{Candidate, Standing};
 pub use targets::{Target, targets_of};
 pub use values::{ValueKey, is_value_changed, push_new_value};

@@ -3,9 +3,11 @@
 ghost use Rattle.std.specs.Prelude.{◌≡◌, ◌++◌, IfOk, OnOk, drop, option_map};
 ghost use Rattle.std.specs.Vec.Iter.{into_iter_items};
 ghost use Rattle.std.specs.Str.{is_utf8};
-ghost use Rattle.rv_accept.specs.Runs.{first_row, is_accepted_run, judged_run, judged_runs, placed_rows, rest_if, row_if, takes_from_run, why_chosen_is_left, why_end_is_left, why_left};
+ghost use Rattle.rv_accept.specs.Runs.{first_row, is_accepted_run, judged_run, judged_runs, placed_rows, rest_if, row_if, takes_from_run};
+ghost use Rattle.rv_accept.specs.Runs.{why_chosen_is_left, why_differing_is_left, why_end_is_left, why_left, why_sharing_is_left};
 
 use crate::ends::{Acceptance, is_accepted_end};
+use crate::standing::{Candidate, Standing};
 use crate::values::{ValueKey, is_value_changed};
 use rv_jobs::Job;
 use rv_rows::{Row, RowEnd};
@@ -17,6 +19,8 @@ use std::vec::IntoIter;
 pub enum WhyLeft {
     /// It ended otherwise than is expected.
     End,
+    /// It differs from the job that it names by `same_as`.
+    Differs,
     /// The list has a text for its console, which is no UTF-8 now.
     NoText,
     /// The value of this key stands where it is not replaced.
@@ -29,7 +33,7 @@ pub enum WhyLeft {
 #[derive(Drop)]
 pub struct JobRun {
     pub row: Row,
-    /// Whether it is chosen, or was run since it names a golden file that a chosen one names.
+    /// Whether it is chosen, or was run since a chosen one names a golden file of it, or is compared with it.
     pub is_chosen: bool,
     pub left: Option<WhyLeft>,
 }
@@ -83,19 +87,19 @@ fn next_if(is_marked: bool, rows: &mut IntoIter<Row>) -> Option<Row>
     if is_marked { rows.next() } else { None }
 }
 
-/// The runs of jobs, of which some are chosen, with the rows of those that were run.
+/// The runs of jobs, of each of which a candidate tells whether it is chosen and how it stands, with the rows of those that were run.
 pub fn judged_runs(
     alloc: Global,
     acceptance: Acceptance,
     jobs: &[Job],
-    chosen: &[bool],
+    candidates: &[Candidate],
     rows: Vec<Option<Row>>,
 ) -> Result<Vec<Option<JobRun>>, AllocError>
-    ensures { IfOk result (λ runs. runs.items ≡ judged_runs acceptance jobs.now chosen.now rows.items) }
+    ensures { IfOk result (λ runs. runs.items ≡ judged_runs acceptance jobs.now candidates.now rows.items) }
 {
     let mut runs = Vec::new(alloc);
     let mut rows = rows.into_iter();
-    push_judged_runs(&mut runs, acceptance, jobs, chosen, &mut rows)?;
+    push_judged_runs(&mut runs, acceptance, jobs, candidates, &mut rows)?;
     Ok(runs)
 }
 
@@ -104,17 +108,17 @@ fn push_judged_runs(
     runs: &mut Vec<Option<JobRun>>,
     acceptance: Acceptance,
     jobs: &[Job],
-    chosen: &[bool],
+    candidates: &[Candidate],
     rows: &mut IntoIter<Option<Row>>,
 ) -> Result<(), AllocError>
     ensures { OnOk result (runs.new.items
-        ≡ runs.old.items ++ judged_runs acceptance jobs.now chosen.now (into_iter_items rows.old)) }
+        ≡ runs.old.items ++ judged_runs acceptance jobs.now candidates.now (into_iter_items rows.old)) }
 {
-    match (jobs, chosen) {
-        ([job, jobs @ ..], [is_chosen, chosen @ ..]) => {
+    match (jobs, candidates) {
+        ([job, jobs @ ..], [candidate, candidates @ ..]) => {
             let row = next_row(rows);
-            runs.push(judged_run_if(acceptance, job, *is_chosen, row))?;
-            push_judged_runs(runs, acceptance, jobs, chosen, rows)
+            runs.push(judged_run_if(acceptance, job, *candidate, row))?;
+            push_judged_runs(runs, acceptance, jobs, candidates, rows)
         }
         ([], _) => Ok(()),
         ([_job, _jobs @ ..], []) => Ok(()),
@@ -135,25 +139,29 @@ fn next_row(rows: &mut IntoIter<Option<Row>>) -> Option<Row>
 fn judged_run_if(
     acceptance: Acceptance,
     job: &Job,
-    is_chosen: bool,
+    candidate: Candidate,
     row: Option<Row>,
 ) -> Option<JobRun>
-    ensures { result ≡ option_map (judged_run acceptance job.now is_chosen) row }
+    ensures { result ≡ option_map (judged_run acceptance job.now candidate) row }
 {
     match row {
-        Some(row) => Some(judged_run(acceptance, job, is_chosen, row)),
+        Some(row) => Some(judged_run(acceptance, job, candidate, row)),
         None => None,
     }
 }
 
-// A job that was run. One that is not chosen gives its golden files only where it ended exactly as is expected.
-fn judged_run(acceptance: Acceptance, job: &Job, is_chosen: bool, row: Row) -> JobRun
-    ensures { result ≡ judged_run acceptance job.now is_chosen row }
+// A job that was run. One that is not chosen gives its golden files only where it passes as it stands, or ended exactly as is expected.
+fn judged_run(acceptance: Acceptance, job: &Job, candidate: Candidate, row: Row) -> JobRun
+    ensures { result ≡ judged_run acceptance job.now candidate row }
 {
+    let Candidate {
+        is_chosen,
+        standing,
+    } = candidate;
     let left = if is_chosen {
-        why_chosen_is_left(acceptance, job, &row)
+        why_chosen_is_left(acceptance, standing, job, &row)
     } else {
-        why_end_is_left(Acceptance::Expected, job, row.ending)
+        why_sharing_is_left(standing, job, row.ending)
     };
     JobRun {
         row,
@@ -162,14 +170,42 @@ fn judged_run(acceptance: Acceptance, job: &Job, is_chosen: bool, row: Row) -> J
     }
 }
 
-// A job of which nothing is taken is not left.
-fn why_chosen_is_left(acceptance: Acceptance, job: &Job, row: &Row) -> Option<WhyLeft>
-    ensures { result ≡ why_chosen_is_left acceptance job.now row.now }
+// A job that passes as it stands is not left. One that fails is, unless its run gives what it expects.
+fn why_chosen_is_left(
+    acceptance: Acceptance,
+    standing: Standing,
+    job: &Job,
+    row: &Row,
+) -> Option<WhyLeft>
+    ensures { result ≡ why_chosen_is_left acceptance standing job.now row.now }
 {
-    if takes_from_run(job) {
-        why_left(acceptance, job, row)
+    match standing {
+        Standing::Passes => None,
+        Standing::Fails if takes_from_run(job) => why_left(acceptance, job, row),
+        Standing::Fails => Some(WhyLeft::End),
+        Standing::Differs => Some(why_differing_is_left(acceptance, job, row.ending)),
+    }
+}
+
+// Why a job is left that differs from the one that it names: an end that is not taken comes first.
+fn why_differing_is_left(acceptance: Acceptance, job: &Job, ending: RowEnd) -> WhyLeft
+    ensures { result ≡ why_differing_is_left acceptance job.now ending }
+{
+    if takes_from_run(job) && !is_accepted_end(acceptance, job, ending) {
+        WhyLeft::End
     } else {
-        None
+        WhyLeft::Differs
+    }
+}
+
+fn why_sharing_is_left(standing: Standing, job: &Job, ending: RowEnd) -> Option<WhyLeft>
+    ensures { result ≡ why_sharing_is_left standing job.now ending }
+{
+    match standing {
+        Standing::Passes => None,
+        Standing::Fails | Standing::Differs => {
+            why_end_is_left(Acceptance::Expected, job, ending)
+        }
     }
 }
 

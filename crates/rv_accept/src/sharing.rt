@@ -1,36 +1,84 @@
 //! Which jobs run, so that what becomes of a golden file is known.
 
-ghost use Rattle.std.specs.Prelude.{◌≡◌, ◌++◌, IfOk, OnOk, option_map};
-ghost use Rattle.rv_accept.specs.Sharing.{is_file_of_marked, is_named_by_marked, is_path, marks_to_run, names_golden_file, shares_with_marked};
+ghost use Rattle.std.specs.Prelude.{◌≡◌, ◌++◌, ◌+◌, ◌^◌, ◌<◌, IfOk, OnOk, length, option_map};
+ghost use Rattle.rv_accept.specs.Sharing.{is_compared_with, is_file_of_marked, is_named_by_marked, is_path, is_place, marks_to_run};
+ghost use Rattle.rv_accept.specs.Sharing.{marks_with_compared, names_golden_file, shares_with_marked, sharing_marks};
 
 use crate::claims::console_path;
 use rv_jobs::Job;
 use std::alloc::{AllocError, Global};
 
-/// Marks the jobs that run where some are chosen: these, and each that names a golden file which a chosen one names.
+/// Marks the jobs that run where some are chosen: these, each that names a golden file which a chosen one names, and each that one
+/// of all these names by `same_as`.
 pub fn marks_to_run(alloc: Global, jobs: &[Job], chosen: &[bool]) -> Result<Vec<bool>, AllocError>
-    ensures { IfOk result (λ marks. marks.items ≡ marks_to_run jobs.now chosen.now jobs.now chosen.now) }
+    ensures { IfOk result (λ marks. marks.items ≡ marks_to_run jobs.now chosen.now) }
 {
+    let mut sharing = Vec::new(alloc);
+    push_sharing_marks(&mut sharing, (jobs, chosen), jobs, chosen)?;
     let mut marks = Vec::new(alloc);
-    push_marks_to_run(&mut marks, (jobs, chosen), jobs, chosen)?;
+    push_marks_with_compared(&mut marks, 0, jobs, sharing.as_slice())?;
     Ok(marks)
 }
 
-// Appends the marks of jobs of a list, of which some are chosen.
-#[tactic(auto, unfolding(crate::specs::Sharing::marks_to_run))]
-fn push_marks_to_run(
+// Appends the marks of the jobs from a place on, with those that marked ones name by `same_as`. They stand before these.
+#[tactic(auto, unfolding(crate::specs::Sharing::marks_with_compared))]
+fn push_marks_with_compared(
+    out: &mut Vec<bool>,
+    place: usize,
+    jobs: &[Job],
+    marks: &[bool],
+) -> Result<(), AllocError>
+    requires { place + length jobs.now < 2 ^ 64 }
+    ensures { OnOk result (out.new.items ≡ out.old.items ++ marks_with_compared place jobs.now marks.now) }
+{
+    match (jobs, marks) {
+        ([_job, jobs @ ..], [marked, marks @ ..]) => {
+            out.push(*marked || is_compared_with(place, jobs, marks))?;
+            push_marks_with_compared(out, place + 1, jobs, marks)
+        }
+        ([], _) => Ok(()),
+        ([_job, _jobs @ ..], []) => Ok(()),
+    }
+}
+
+// Whether a job that is marked names the one at a place by `same_as`.
+#[tactic(auto, unfolding(crate::specs::Sharing::is_compared_with))]
+fn is_compared_with(place: usize, jobs: &[Job], marks: &[bool]) -> bool
+    ensures { result ≡ is_compared_with place jobs.now marks.now }
+{
+    match (jobs, marks) {
+        ([job, jobs @ ..], [marked, marks @ ..]) => {
+            (*marked && is_place(place, job.same_as)) || is_compared_with(place, jobs, marks)
+        }
+        ([], _) => false,
+        ([_job, _jobs @ ..], []) => false,
+    }
+}
+
+fn is_place(place: usize, named: Option<usize>) -> bool
+    ensures { result ≡ is_place place named }
+{
+    match named {
+        Some(named) => place == named,
+        None => false,
+    }
+}
+
+// Appends the marks of jobs of a list, of which some are chosen, with those that share a golden file.
+#[tactic(auto, unfolding(crate::specs::Sharing::sharing_marks))]
+fn push_sharing_marks(
     marks: &mut Vec<bool>,
     all: (&[Job], &[bool]),
     jobs: &[Job],
     chosen: &[bool],
 ) -> Result<(), AllocError>
     ensures { OnOk result (marks.new.items
-        ≡ marks.old.items ++ marks_to_run all.entry.0.now all.entry.1.now jobs.now chosen.now) }
+        ≡ marks.old.items ++ sharing_marks all.entry.0.now all.entry.1.now jobs.now chosen.now) }
 {
     match (jobs, chosen) {
         ([job, jobs @ ..], [is_chosen, chosen @ ..]) => {
             marks.push(*is_chosen || shares_with_marked(all.0, all.1, job))?;
-            push_marks_to_run(marks, all, jobs, chosen)
+            push_sharing_marks(marks, all, jobs, chosen)
         }
         ([], _) => Ok(()),
         ([_job, _jobs @ ..], []) => Ok(()),

@@ -20,7 +20,7 @@ use Rattle.rv_accept.specs.declared.runs.WhyLeft.TheVariants as why
 use Rattle.rv_accept.specs.declared.values.ValueKey.{ValueKey}
 use Rattle.rv_accept.specs.declared.values.ValueKey.TheVariants as key
 use Rattle.rv_accept_text.specs.ChangedTexts.{text_change}
-use Rattle.rv_accept_text.specs.FileLines.{left_head}
+use Rattle.rv_accept_text.specs.FileLines.{job_name, left_head}
 use Rattle.rv_accept_text.specs.declared.new_list.ChangedValue.{ChangedValue}
 
 -- ---- a value that is replaced
@@ -91,18 +91,34 @@ other_end_text job end = met_end_text end ++ (codes ", expected " ++ wanted_text
 abbrev pub new_entry_text : ValueKey → Row → List ℕ
 new_entry_text key row = value_key_name key ++ codes " = " ++ new_value_text key row.ending row.console
 
-abbrev pub why_left_text : WhyLeft → Job → Row → List ℕ
-why_left_text why.End job row = other_end_text job row.ending
-why_left_text why.NoText job row = codes "prints bytes that are no UTF-8, so name a file by expect_console_file"
-why_left_text (why.NoPlace key) job row = value_key_name key ++ codes " stands in no table of its own: "
+-- the name of the job with which one of a list is compared
+abbrev pub name_if_named : List Job → Option ℕ → List ℕ
+name_if_named list None = []
+name_if_named list (Some place) = job_name list place
+
+abbrev pub name_of_compared : List Job → Job → List ℕ
+name_of_compared list job = name_if_named list job.same_as
+
+-- from which job it differs
+abbrev pub difference_text : List Job → Job → List ℕ
+difference_text list job = codes "it differs from " ++ printable_text (name_of_compared list job)
+    ++ codes ", which it names by same_as"
+
+-- why a job of a list is left
+abbrev pub why_left_text : WhyLeft → List Job → Job → Row → List ℕ
+why_left_text why.End list job row = other_end_text job row.ending
+why_left_text why.Differs list job row = difference_text list job
+why_left_text why.NoText list job row = codes "prints bytes that are no UTF-8, so name a file by expect_console_file"
+why_left_text (why.NoPlace key) list job row = value_key_name key ++ codes " stands in no table of its own: "
     ++ new_entry_text key row
-why_left_text (why.Made key) job row = codes "the list is made by mklist, from files beside the test: " ++ new_entry_text key row
+why_left_text (why.Made key) list job row = codes "the list is made by mklist, from files beside the test: "
+    ++ new_entry_text key row
 
-abbrev pub left_line_of : Job → Row → Option WhyLeft → List ℕ
-left_line_of job row None = []
-left_line_of job row (Some left) = left_head job.name ++ why_left_text left job row ++ codes "\n"
+abbrev pub left_line_of : List Job → Job → Row → Option WhyLeft → List ℕ
+left_line_of list job row None = []
+left_line_of list job row (Some left) = left_head job.name ++ why_left_text left list job row ++ codes "\n"
 
--- why a chosen job is left, if it is
-abbrev pub left_job_line : Job → Option JobRun → List ℕ
-left_job_line job None = []
-left_job_line job (Some run) = if run.is_chosen then left_line_of job run.row run.left else []
+-- why a chosen job of a list is left, if it is
+abbrev pub left_job_line : List Job → Job → Option JobRun → List ℕ
+left_job_line list job None = []
+left_job_line list job (Some run) = if run.is_chosen then left_line_of list job run.row run.left else []

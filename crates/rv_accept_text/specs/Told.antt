@@ -24,16 +24,17 @@ abbrev pub value_line_in : Accepting → ChangedValue → List ℕ
 value_line_in told value = value_line_of told.list.path.now value (slice_get told.list.jobs.now value.job)
     (slice_get told.runs.now value.job)
 
-unfoldable pub left_job_lines : List Job → List (Option JobRun) → List ℕ
-left_job_lines [] runs = []
-left_job_lines (job ∷ jobs) [] = []
-left_job_lines (job ∷ jobs) (run ∷ runs) = left_job_line job run ++ left_job_lines jobs runs
+-- why jobs of a list are left, each with its run
+unfoldable pub left_job_lines : List Job → List Job → List (Option JobRun) → List ℕ
+left_job_lines list [] runs = []
+left_job_lines list (job ∷ jobs) [] = []
+left_job_lines list (job ∷ jobs) (run ∷ runs) = left_job_line list job run ++ left_job_lines list jobs runs
 
 -- changes first, of golden files and then of the list; and then what is left, jobs and then golden files
 abbrev pub told_lines : Accepting → List ℕ
 told_lines told = flat_map (file_line told.list) told.files.now
     ++ flat_map (value_line_in told) told.new.now.values.items
-    ++ left_job_lines told.list.jobs.now told.runs.now
+    ++ left_job_lines told.list.jobs.now told.list.jobs.now told.runs.now
     ++ flat_map (left_file_line told.list told.claims.now) told.files.now
 
 -- ---- the last line

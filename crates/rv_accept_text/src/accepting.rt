@@ -42,7 +42,7 @@ impl<'a> Accepting<'a> {
     {
         self.push_file_lines(out)?;
         self.push_value_lines(out)?;
-        push_left_job_lines(alloc, out, self.list.jobs, self.runs)?;
+        push_left_job_lines(alloc, out, self.list.jobs, self.list.jobs, self.runs)?;
         self.push_left_file_lines(out)
     }
 
@@ -171,19 +171,21 @@ fn push_value_line_of(
     }
 }
 
+// Appends why jobs of a list are left.
 #[tactic(auto, unfolding(crate::specs::Told::left_job_lines))]
 fn push_left_job_lines(
     alloc: Global,
     out: &mut Vec<u8>,
+    list: &[Job],
     jobs: &[Job],
     runs: &[Option<JobRun>],
 ) -> Result<(), AllocError>
-    ensures { OnOk result (out.new.items ≡ out.old.items ++ left_job_lines jobs.now runs.now) }
+    ensures { OnOk result (out.new.items ≡ out.old.items ++ left_job_lines list.now jobs.now runs.now) }
 {
     match (jobs, runs) {
         ([job, jobs @ ..], [run, runs @ ..]) => {
-            push_left_job_line(alloc, out, job, run)?;
-            push_left_job_lines(alloc, out, jobs, runs)
+            push_left_job_line(alloc, out, list, job, run)?;
+            push_left_job_lines(alloc, out, list, jobs, runs)
         }
         ([], _) => Ok(()),
         ([_job, _jobs @ ..], []) => Ok(()),

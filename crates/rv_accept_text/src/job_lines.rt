@@ -4,7 +4,7 @@ ghost use Rattle.std.specs.Prelude.{◌≡◌, ◌++◌, OnOk, option_map, slice
 ghost use Rattle.rv_accept_text.specs.FileLines.{job_name};
 ghost use Rattle.rv_accept_text.specs.JobLines.{end_change, exit_change, exit_code, expected_end_word, fault_word, left_job_line, left_line_of};
 ghost use Rattle.rv_accept_text.specs.JobLines.{met_end_text, new_entry_text, other_end_text, text_of_list, value_change, value_head, value_line};
-ghost use Rattle.rv_accept_text.specs.JobLines.{wanted_end_text, wanted_text, why_left_text};
+ghost use Rattle.rv_accept_text.specs.JobLines.{difference_text, name_of_compared, wanted_end_text, wanted_text, why_left_text};
 
 use crate::changed_text::push_text_change;
 use crate::file_lines::push_left_head;
@@ -158,17 +158,18 @@ fn text_of_list(expected: &Option<ExpectedConsole>) -> &[u8]
     }
 }
 
-/// Appends why a chosen job is left, if it is.
+/// Appends why a chosen job of a list is left, if it is.
 pub(crate) fn push_left_job_line(
     alloc: Global,
     out: &mut Vec<u8>,
+    list: &[Job],
     job: &Job,
     run: &Option<JobRun>,
 ) -> Result<(), AllocError>
-    ensures { OnOk result (out.new.items ≡ out.old.items ++ left_job_line job.now run.now) }
+    ensures { OnOk result (out.new.items ≡ out.old.items ++ left_job_line list.now job.now run.now) }
 {
     match run {
-        Some(run) if run.is_chosen => push_left_line(alloc, out, job, &run.row, run.left),
+        Some(run) if run.is_chosen => push_left_line(alloc, out, list, job, run),
         _ => Ok(()),
     }
 }
@@ -176,17 +177,17 @@ pub(crate) fn push_left_job_line(
 fn push_left_line(
     alloc: Global,
     out: &mut Vec<u8>,
+    list: &[Job],
     job: &Job,
-    row: &Row,
-    left: Option<WhyLeft>,
+    run: &JobRun,
 ) -> Result<(), AllocError>
-    ensures { OnOk result (out.new.items ≡ out.old.items ++ left_line_of job.now row.now left) }
+    ensures { OnOk result (out.new.items ≡ out.old.items ++ left_line_of list.now job.now run.now.row run.now.left) }
 {
-    let Some(why) = left else {
+    let Some(why) = run.left else {
         return Ok(());
     };
     push_left_head(out, job.name.as_str())?;
-    push_why_left(alloc, out, why, job, row)?;
+    push_why_left(alloc, out, why, (list, job), &run.row)?;
     push_text(out, "\n")
 }
 
@@ -194,13 +195,16 @@ fn push_why_left(
     alloc: Global,
     out: &mut Vec<u8>,
     why: WhyLeft,
-    job: &Job,
+    of: (&[Job], &Job),
     row: &Row,
 ) -> Result<(), AllocError>
-    ensures { OnOk result (out.new.items ≡ out.old.items ++ why_left_text why job.now row.now) }
+    ensures { OnOk result (out.new.items
+        ≡ out.old.items ++ why_left_text why of.entry.0.now of.entry.1.now row.now) }
 {
+    let (list, job) = of;
     match why {
         WhyLeft::End => push_other_end(out, job, row.ending),
+        WhyLeft::Differs => push_difference(out, list, job),
         WhyLeft::NoText => push_text(
             out,
             "prints bytes that are no UTF-8, so name a file by expect_console_file",
@@ -222,6 +226,30 @@ fn push_why_left(
             )?;
             push_new_entry(alloc, out, key, row)
         }
+    }
+}
+
+// Appends from which job one differs.
+fn push_difference(out: &mut Vec<u8>, list: &[Job], job: &Job) -> Result<(), AllocError>
+    ensures { OnOk result (out.new.items ≡ out.old.items ++ difference_text list.now job.now) }
+{
+    push_spans(
+        out,
+        &[
+            Span::Text("it differs from "),
+            Span::Shown(name_of_compared(list, job).as_bytes()),
+            Span::Text(", which it names by same_as"),
+        ],
+    )
+}
+
+// The name of the job with which one is compared.
+fn name_of_compared<'x>(list: &'x [Job], job: &Job) -> &'x str
+    ensures { result.now ≡ name_of_compared list.now job.now }
+{
+    match job.same_as {
+        Some(place) => job_name(list, place),
+        None => "",
     }
 }
 

@@ -1,5 +1,5 @@
 -- A text without control characters is one line.
-use Rattle.std.proofs.Common.{◌≡◌, ◌∙◌, ◌==◌, ◌+◌, ◌/◌, ◌%◌, ◌<◌, ◌&&◌, not, ℕ, Bool, true, false, cond, ltb, List, [], ◌∷◌, ◌++◌, refl, sym, ap, subst, arith, inl, inr}
+use Rattle.std.proofs.Common.{◌≡◌, ◌∙◌, ◌==◌, ◌+◌, ◌/◌, ◌%◌, ◌<◌, ◌&&◌, ◌||◌, not, ℕ, Bool, true, false, cond, ltb, List, [], ◌∷◌, ◌++◌, refl, sym, ap, subst, arith, inl, inr}
 use Rattle.std.proofs.lemmas.Bool.{and_from, false≢true}
 use Rattle.std.proofs.lemmas.Bool.Decides.{eqb_tells}
 use Rattle.std.proofs.lemmas.List.Elements.{All-head, All-tail}
@@ -8,7 +8,7 @@ use Rattle.std.specs.Char.{encode_utf8, is_control}
 use Rattle.std.specs.List.{All}
 use Rattle.std.specs.Str.{chars, encode_utf8_all}
 use Rattle.rv_counts.specs.Lines.{lacks}
-use Rattle.rv_text.specs.Printable.{IsUtf8WithoutControls}
+use Rattle.rv_text.specs.Printable.{IsUtf8WithoutControls, is_format}
 
 abbrev IsLine : List ℕ → Type 0
 IsLine text = lacks 10 text ≡ true
@@ -60,14 +60,18 @@ character_line c other =
     (big (224 + c / 4096) (middle ∷ last ∷ []) (omega arith) two)
     (big (240 + c / 262144) (high ∷ middle ∷ last ∷ []) (omega arith) three)))
 
-no_feed : (c : ℕ) → is_control c ≡ false → c ≡ 10 → ⊥
-no_feed c h e = false≢true (sym h ∙ ap is_control e)
+-- a control character, or a format character
+abbrev is_hidden : ℕ → Bool
+is_hidden c = is_control c || is_format c
 
-characters_line : (cs : List ℕ) → All (λ c. is_control c ≡ false) cs → IsLine (encode_utf8_all cs)
+no_feed : (c : ℕ) → is_hidden c ≡ false → c ≡ 10 → ⊥
+no_feed c h e = false≢true (sym h ∙ ap is_hidden e)
+
+characters_line : (cs : List ℕ) → All (λ c. is_hidden c ≡ false) cs → IsLine (encode_utf8_all cs)
 characters_line [] h = refl
 characters_line (c ∷ cs) h =
-    both_lines (encode_utf8 c) (encode_utf8_all cs) (character_line c (no_feed c (All-head (λ (k : ℕ). is_control k ≡ false) c cs h)))
-    (characters_line cs (All-tail (λ (k : ℕ). is_control k ≡ false) c cs h))
+    both_lines (encode_utf8 c) (encode_utf8_all cs) (character_line c (no_feed c (All-head (λ (k : ℕ). is_hidden k ≡ false) c cs h)))
+    (characters_line cs (All-tail (λ (k : ℕ). is_hidden k ≡ false) c cs h))
 
 pub one_line : (text : List ℕ) → IsUtf8WithoutControls text → lacks 10 text ≡ true
 one_line text h = subst IsLine (encodes-chars text h.utf8) (characters_line (chars text) h.without_controls)

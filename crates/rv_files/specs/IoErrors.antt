@@ -3,7 +3,7 @@ use Rattle.std.specs.Prelude.{ℕ, Bool, true, false, List, codes}
 use Rattle.std.specs.declared.io.ErrorKind.{ErrorKind}
 use Rattle.std.specs.declared.io.ErrorKind.TheVariants as kind
 
--- what the system said when a file was opened or read: three things in plain words, others that it
+-- what the system said when a file was opened, read or written: three things in plain words, others that it
 -- may say of a file as the standard library words them
 unfoldable pub io_error_text : ErrorKind → List ℕ
 io_error_text kind.NotFound = codes "missing"
@@ -11,6 +11,11 @@ io_error_text kind.IsADirectory = codes "a folder"
 io_error_text kind.PermissionDenied = codes "no permission"
 io_error_text kind.NotADirectory = codes "not a directory"
 io_error_text kind.FilesystemLoop = codes "filesystem loop or indirection limit (e.g. symlink loop)"
+io_error_text kind.ReadOnlyFilesystem = codes "read-only filesystem or storage medium"
+io_error_text kind.StorageFull = codes "no storage space"
+io_error_text kind.QuotaExceeded = codes "quota exceeded"
+io_error_text kind.FileTooLarge = codes "file too large"
+io_error_text kind.CrossesDevices = codes "cross-device link or rename"
 io_error_text kind.InvalidFilename = codes "invalid filename"
 io_error_text kind.InvalidInput = codes "invalid input parameter"
 io_error_text kind.StaleNetworkFileHandle = codes "stale network file handle"

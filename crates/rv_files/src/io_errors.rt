@@ -5,7 +5,7 @@ ghost use Rattle.rv_files.specs.IoErrors.{io_error_text};
 
 use std::io::ErrorKind;
 
-/// What the system said when a file was opened or read.
+/// What the system said when a file was opened, read or written.
 #[tactic(auto, unfolding(crate::specs::IoErrors::io_error_text))]
 pub fn io_error_text(kind: ErrorKind) -> &'static str
     ensures { result.now ≡ io_error_text kind }
@@ -16,6 +16,11 @@ pub fn io_error_text(kind: ErrorKind) -> &'static str
         ErrorKind::PermissionDenied => "no permission",
         ErrorKind::NotADirectory => "not a directory",
         ErrorKind::FilesystemLoop => "filesystem loop or indirection limit (e.g. symlink loop)",
+        ErrorKind::ReadOnlyFilesystem => "read-only filesystem or storage medium",
+        ErrorKind::StorageFull => "no storage space",
+        ErrorKind::QuotaExceeded => "quota exceeded",
+        ErrorKind::FileTooLarge => "file too large",
+        ErrorKind::CrossesDevices => "cross-device link or rename",
         ErrorKind::InvalidFilename => "invalid filename",
         ErrorKind::InvalidInput => "invalid input parameter",
         ErrorKind::StaleNetworkFileHandle => "stale network file handle",

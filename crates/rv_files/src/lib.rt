@@ -8,12 +8,15 @@
 #![tactic(auto)]
 
 mod file_error;
+mod file_identity;
+mod file_lock;
 mod file_sink;
 mod file_store;
 mod input;
 mod inputs;
 mod io_errors;
 mod memory_files;
+mod new_file;
 mod noting_store;
 mod outputs;
 mod pipe_sink;
@@ -24,6 +27,7 @@ mod system_outputs;
 mod tests;
 
 pub use file_error::FileError;
+pub use file_lock::FileLock;
 pub use file_store::{FileStore, WholeError, read_whole};
 pub use input::{InputError, read_at_most};
 pub use inputs::{Inputs, SystemInputs, read_whole_up_to};

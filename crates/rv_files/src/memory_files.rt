@@ -1,6 +1,6 @@
 //! Files in memory, as inputs and as outputs. They tell all bytes, so they show that the contracts of both can be met.
 
-ghost use Rattle.std.specs.Prelude.{◌≡◌, ◌+◌, [], Some, MatchResult, option_map};
+ghost use Rattle.std.specs.Prelude.{◌≡◌, ◌+◌, ◌++◌, ◌∷◌, [], Some, MatchResult, OnOk, option_map};
 ghost use Rattle.rv_files.specs.MemoryFiles.{memory_contents, memory_placed};
 
 use crate::file_error::FileError;
@@ -8,7 +8,7 @@ use crate::input::InputError;
 use crate::inputs::Inputs;
 use crate::outputs::Outputs;
 use rv_base::{Sink, SinkFailed, Text};
-use std::alloc::Global;
+use std::alloc::{AllocError, Global};
 use std::io::ErrorKind;
 
 /// A file in memory.
@@ -141,6 +141,20 @@ impl Outputs for MemoryOutputs {
 
     ghost synced_bytes = { λ bytes. Some bytes.items };
 
+    fn identity(&self, alloc: Global, path: &str) -> Result<Text, AllocError> {
+        Text::copy(alloc, path)
+    }
+
+    fn is_below(&self, _alloc: Global, _directory: &str, _path: &str) -> Result<bool, AllocError> {
+        Ok(true)
+    }
+
+    fn replaced_files(&self, alloc: Global, path: &str) -> Result<Vec<Text>, FileError> {
+        let mut replaced = Vec::with_capacity(alloc, 1)?;
+        add_text(&mut replaced, Text::copy(alloc, path)?)?;
+        Ok(replaced)
+    }
+
     fn create(&mut self, alloc: Global, path: &str) -> Result<(Text, MemorySink), FileError> {
         self.take_step()?;
         let file = MemorySink {
@@ -164,4 +178,11 @@ impl Outputs for MemoryOutputs {
     }
 
     fn abandon(&mut self, _place: Text) {}
+}
+
+fn add_text(texts: &mut Vec<Text>, text: Text) -> Result<(), AllocError>
+    ensures { OnOk result (texts.new.items ≡ texts.old.items ++ text ∷ []) }
+{
+    texts.push(text)?;
+    Ok(())
 }

@@ -1,11 +1,11 @@
 //! Where a command writes its files, each of which stands there whole in the end, or not at all.
 
-ghost use Rattle.std.specs.Prelude.{◌≡◌, ◌≢◌, [], List, ℕ, Option, Some, IfErr, IfOk, IfSome, OnErr, OnOk};
+ghost use Rattle.std.specs.Prelude.{◌≡◌, ◌≢◌, ◌∷◌, [], List, ℕ, Option, Some, IfErr, IfOk, IfSome, IsTrue, OnErr, OnOk};
 ghost use Rattle.rv_files.specs.Placed.{PlacedFile, IsOneMorePlaced};
 
 use crate::file_error::FileError;
-use rv_base::Sink;
-use std::alloc::Global;
+use rv_base::{Sink, Text};
+use std::alloc::{AllocError, Global};
 
 /// Something that takes files, each of which is written, handed to the disk, and then put in its place.
 pub trait Outputs {
@@ -26,6 +26,21 @@ pub trait Outputs {
 
     // The bytes of a file that the disk has, where these are told.
     ghost synced_bytes: { Self.Synced → Option (List ℕ) };
+
+    /// A text that two paths share if they lead to the same file, however they are spelled, and only then.
+    fn identity(&self, alloc: Global, path: &str) -> Result<Text, AllocError>
+        // Where it is told which files are placed, a file has one path.
+        ensures { IfOk result (λ identity. IfSome (placed self.now) (λ _. identity ≡ path.now)) };
+
+    /// Whether the file at a path is in a directory or below it, however both are spelled.
+    fn is_below(&self, alloc: Global, directory: &str, path: &str) -> Result<bool, AllocError>
+        // Where it is told which files are placed, there are no directories.
+        ensures { IfOk result (λ below. IfSome (placed self.now) (λ _. IsTrue below)) };
+
+    /// The identities of the files that writing one for a path replaces or removes. An error where none can be written: its
+    /// directory is missing, or a read-only file is there.
+    fn replaced_files(&self, alloc: Global, path: &str) -> Result<Vec<Text>, FileError>
+        ensures { IfOk result (λ replaced. IfSome (placed self.now) (λ _. replaced.items ≡ path.now ∷ [])) };
 
     /// A new file without bytes for a path, and its place. What stands at the path stays.
     fn create(&mut self, alloc: Global, path: &str) -> Result<(Self::Place, Self::File), FileError>

@@ -5,6 +5,8 @@ ghost use Rattle.std.specs.Fs.{IsFile, file_type};
 ghost use Rattle.std.specs.Path.{path_buf_bytes};
 
 use crate::file_error::FileError;
+use crate::file_identity::file_identity;
+use rv_base::Text;
 use std::alloc::{AllocError, Global};
 use std::fs::Metadata;
 use std::io::{self, ErrorKind};
@@ -16,6 +18,21 @@ use std::rt::Files;
 pub(crate) struct Places {
     pub(crate) new: PathBuf,
     pub(crate) whole: PathBuf,
+}
+
+impl Places {
+    /// Which files are there.
+    pub(crate) fn identities<R: Files>(
+        &self,
+        files: &R,
+        alloc: Global,
+    ) -> Result<Vec<Text>, AllocError> {
+        let mut identities = Vec::with_capacity(alloc, 2)?;
+        for path in [&self.whole, &self.new] {
+            identities.push(file_identity(files, alloc, path.as_str())?)?;
+        }
+        Ok(identities)
+    }
 }
 
 /// The places of a file that is to stand at a path. None where something is there that is no regular file.
@@ -53,8 +70,12 @@ fn gives_way(met: &Metadata) -> bool
 // Links that are followed, one behind the other: as many as Linux follows.
 const MOST_LINKS: u32 = 40;
 
-// The place that a path leads to.
-fn follow_links<R: Files>(files: &R, alloc: Global, path: &str) -> Result<PathBuf, FileError>
+/// The place that a path leads to.
+pub(crate) fn follow_links<R: Files>(
+    files: &R,
+    alloc: Global,
+    path: &str,
+) -> Result<PathBuf, FileError>
     ensures { IfErr result (λ error. error ≢ FileError.SamePlace) }
 {
     let mut place = PathBuf::from_str(alloc, path)?;
@@ -72,6 +93,14 @@ fn is_link<R: Files>(files: &R, path: &str) -> bool {
     match files.symlink_metadata(path) {
         Ok(met) => met.is_symlink(),
         Err(_) => false,
+    }
+}
+
+/// The directory of a path's file.
+pub(crate) fn directory_of(path: &str) -> Path<'_> {
+    match Path::new(path).parent() {
+        Some(parent) if !parent.as_str().is_empty() => parent,
+        _ => Path::new("."),
     }
 }
 

@@ -3,9 +3,14 @@
 ghost use Rattle.std.specs.Prelude.{◌≡◌, ◌<◌, [], None, IfErr, IfOk, vec_len};
 
 use crate::file_error::FileError;
+use crate::file_identity::{file_identity, resolved_path};
+use crate::file_lock::FileLock;
 use crate::file_sink::FileSink;
+use crate::new_file::{check_places, create_new_file, sync_directory};
 use crate::outputs::Outputs;
-use crate::sink_paths::{Places, is_same_place, temporary_and_final_path, with_new_suffix};
+use crate::sink_paths::{
+    Places, follow_links, is_same_place, temporary_and_final_path, with_new_suffix,
+};
 use crate::streams::StreamSink;
 use rv_base::Text;
 use std::alloc::{AllocError, Global};
@@ -15,9 +20,11 @@ use std::path::PathBuf;
 use std::rt::Files;
 
 /// The system's files. What is at a file's path stays as it is until the file is placed: the bytes go to a file of the
-/// same path with `.new` behind it, and one that an earlier run left there gives way. Of a link the place that it leads to
-/// is written so, whether something is there or not. What is there and no regular file, as a pipe, is written as it is.
-/// Where a file cannot be placed, the one that took its bytes is taken away.
+/// same path with `.new` behind it, which is locked until then. One that an earlier run left there is replaced, and one that
+/// another run has locked is refused. The placed file has the mode of the one that it replaces, and its owner and group where
+/// the system allows it; a read-only file is not replaced. Of a link the place that it leads to is written so, whether
+/// something is there or not. What is there and no regular file, as a pipe, is written as it is. Where a file cannot be placed,
+/// the one that took its bytes is taken away.
 #[derive(Drop)]
 pub struct SystemOutputs<'a, R: Files> {
     files: &'a R,
@@ -34,14 +41,16 @@ pub struct SystemPlace {
     places: Option<Places>,
 }
 
-/// A file of the system that the disk has.
+/// A file of the system that the disk has. It stays open, and so locked, until it is placed.
 #[derive(Drop)]
-pub struct SyncedFile {
-    // Keeps others from making one.
-    sealed: (),
+pub struct SyncedFile<W: Drop> {
+    file: W,
 }
 
-impl<'a, R: Files> SystemOutputs<'a, R> {
+impl<'a, R: Files> SystemOutputs<'a, R>
+where
+    R::File: FileLock,
+{
     /// Takes no memory.
     pub fn new(files: &'a R, alloc: Global) -> SystemOutputs<'a, R>
         ensures files { result.files ≡ files.entry }
@@ -79,7 +88,7 @@ impl<'a, R: Files> SystemOutputs<'a, R> {
     {
         self.refuse_same_place(alloc, places)?;
         self.note_unplaced(alloc, places.new.as_str())?;
-        match replace_file(self.files, places.new.as_str()) {
+        match create_new_file(self.files, places) {
             Ok(file) => Ok(file),
             Err(error) => {
                 self.unplaced.pop();
@@ -114,38 +123,81 @@ impl<'a, R: Files> SystemOutputs<'a, R> {
     }
 }
 
+// The path as the system resolves it; none where it resolves none.
+fn real_path_of<R: Files>(
+    files: &R,
+    alloc: Global,
+    path: &str,
+) -> Result<Option<PathBuf>, AllocError> {
+    match files.canonicalize(alloc, path) {
+        Ok(path) => Ok(Some(path)),
+        Err(error) if error.kind() == ErrorKind::OutOfMemory => Err(AllocError),
+        Err(_) => Ok(None),
+    }
+}
+
+// Where a file is made for a path at which nothing is, or a link that leads to nothing.
+fn place_of_missing_file<R: Files>(
+    files: &R,
+    alloc: Global,
+    path: &str,
+) -> Result<PathBuf, AllocError> {
+    match follow_links(files, alloc, path) {
+        Ok(place) => resolved_path(files, alloc, place.as_str()),
+        Err(FileError::OutOfMemory) => Err(AllocError),
+        Err(_) => PathBuf::from_str(alloc, path),
+    }
+}
+
 // A file that is open. Three of them take the places of standard streams that are closed, so that the file which is
 // opened behind them takes none, and what goes to the streams is not written to it.
 fn open_null_device<R: Files>(files: &R) -> io::Result<R::File> {
     fs::open(files, "/dev/null")
 }
 
-// A new file: what stands at its path gives way.
-fn replace_file<R: Files>(files: &R, path: &str) -> io::Result<R::File> {
-    match files.remove_file(path) {
-        Ok(()) => {}
-        Err(error) if error.kind() == ErrorKind::NotFound => {}
-        Err(error) => return Err(error),
-    }
-    OpenOptions::new()
-        .write(true)
-        .create_new(true)
-        .open(files, path)
-}
-
 // What the world outside holds is not known, so it is not told what is placed.
-impl<'a, R: Files> Outputs for SystemOutputs<'a, R> {
+impl<'a, R: Files> Outputs for SystemOutputs<'a, R>
+where
+    R::File: FileLock,
+{
     type Place = SystemPlace;
 
     type File = FileSink<R::File>;
 
-    type Synced = SyncedFile;
+    type Synced = SyncedFile<R::File>;
 
     ghost placed = { λ _. None };
 
     ghost place_path = { λ place. place.given };
 
     ghost synced_bytes = { λ _. None };
+
+    fn identity(&self, alloc: Global, path: &str) -> Result<Text, AllocError> {
+        file_identity(self.files, alloc, path)
+    }
+
+    // As the system resolves both: of a link the place that it leads to counts.
+    fn is_below(&self, alloc: Global, directory: &str, path: &str) -> Result<bool, AllocError> {
+        let Some(directory) = real_path_of(self.files, alloc, directory)? else {
+            return Ok(false);
+        };
+        let path = match real_path_of(self.files, alloc, path)? {
+            Some(path) => path,
+            None => place_of_missing_file(self.files, alloc, path)?,
+        };
+        Ok(path.starts_with(directory.as_str()))
+    }
+
+    // What is at the path, and at the one of the file that takes the bytes. What is there and no regular file stays.
+    fn replaced_files(&self, alloc: Global, path: &str) -> Result<Vec<Text>, FileError> {
+        match temporary_and_final_path(self.files, alloc, path)? {
+            Some(places) => {
+                check_places(self.files, &places)?;
+                Ok(places.identities(self.files, alloc)?)
+            }
+            None => Ok(Vec::new(alloc)),
+        }
+    }
 
     fn create(
         &mut self,
@@ -166,14 +218,18 @@ impl<'a, R: Files> Outputs for SystemOutputs<'a, R> {
         Ok((SystemPlace { given, places }, file))
     }
 
-    fn sync(&mut self, file: FileSink<R::File>) -> Result<SyncedFile, FileError> {
-        if file.is_on_disk {
-            file.stream.into_inner().sync_all()?;
+    fn sync(&mut self, file: FileSink<R::File>) -> Result<SyncedFile<R::File>, FileError> {
+        let FileSink { stream, is_on_disk } = file;
+        let file = stream.into_inner();
+        if is_on_disk {
+            file.sync_all()?;
         }
-        Ok(SyncedFile { sealed: () })
+        Ok(SyncedFile { file })
     }
 
-    fn place(&mut self, place: SystemPlace, _file: SyncedFile) -> Result<(), FileError> {
+    fn place(&mut self, place: SystemPlace, file: SyncedFile<R::File>) -> Result<(), FileError> {
+        // Its lock ends here, once the file has its own path.
+        let SyncedFile { file: _locked } = file;
         let Some(places) = &place.places else {
             return Ok(());
         };
@@ -183,7 +239,9 @@ impl<'a, R: Files> Outputs for SystemOutputs<'a, R> {
             let _ = self.files.remove_file(new);
         }
         self.forget_unplaced(new);
-        Ok(placed?)
+        placed?;
+        sync_directory(self.files, whole);
+        Ok(())
     }
 
     fn abandon(&mut self, place: SystemPlace) {

@@ -4,12 +4,14 @@ ghost use Rattle.std.specs.Prelude.{◌≡◌, ◌++◌, ◌∷◌, [], Some, If
 ghost use Rattle.rv_files.specs.Placed.{placed_file};
 
 use crate::{
-    FileError, Inputs, MemoryFile, MemoryInputs, MemoryOutputs, NotingStore, Outputs, SystemInputs,
-    SystemOutputs,
+    FileError, FileLock, Inputs, MemoryFile, MemoryInputs, MemoryOutputs, NotingStore, Outputs,
+    SystemInputs, SystemOutputs,
 };
 use rv_base::{Store, Text, put_all};
 use std::alloc::{AllocError, Global};
-use std::fs;
+use std::fs::{self, Permissions};
+use std::io::ErrorKind;
+use std::os::unix::fs::{MetadataExt, PermissionsExt};
 use std::process::Abort;
 use std::rt::Files;
 use std::test::Fail;
@@ -56,7 +58,10 @@ report|missing/report|failed|first
 /dev/null|/dev/null|placed|
 ";
 
-fn writes_pair<R: Files + Abort>(rt: &R, alloc: Global, line: &str) -> Result<(), Fail> {
+fn writes_pair<R: Files + Abort>(rt: &R, alloc: Global, line: &str) -> Result<(), Fail>
+where
+    R::File: FileLock,
+{
     let mut cells = line.split('|');
     let first = cells.next().unwrap_or("");
     let second = cells.next().unwrap_or("");
@@ -86,6 +91,161 @@ fn files_of_one_command(rt: HostRuntime) -> Result<(), Fail> {
             let _ = fs::remove_file(&rt, path);
         }
     }
+    Ok(())
+}
+
+// A path that is written | a path that is read | whether the first replaces or removes the second.
+const REPLACED: &str = "\
+report|report|yes
+report|./report|yes
+report|link|yes
+link|report|yes
+report|hard|yes
+hard|report|yes
+report|report.new|yes
+report.new|report|no
+report|absent|no
+absent|absent|yes
+absent|./absent|yes
+absent|absent.new|yes
+link|report.new|yes
+/dev/null|/dev/null|no
+";
+
+#[test]
+fn written_paths_are_compared_with_read_ones(rt: HostRuntime) -> Result<(), Fail> {
+    fs::write(&rt, "report", "old")?;
+    fs::write(&rt, "report.new", "other")?;
+    rt.symlink("report", "link")?;
+    rt.hard_link("report", "hard")?;
+    for line in REPLACED.lines() {
+        let mut cells = line.split('|');
+        let written = cells.next().unwrap_or("");
+        let read = cells.next().unwrap_or("");
+        let wanted = cells.next().unwrap_or("") == "yes";
+        let outputs = SystemOutputs::new(&rt, rt.alloc());
+        let identity = outputs.identity(rt.alloc(), read)?;
+        let replaced = outputs.replaced_files(rt.alloc(), written)?;
+        let is_replaced = replaced
+            .iter()
+            .any(|file| file.as_str() == identity.as_str());
+        assert_eq!(rt; is_replaced, wanted, "{line}");
+    }
+    for path in ["report", "link", "hard", "report.new"] {
+        fs::remove_file(&rt, path)?;
+    }
+    Ok(())
+}
+
+// A directory | a path | whether its file is in the directory or below it.
+const BELOW: &str = "\
+.|file|yes
+inner|inner/file|yes
+inner|inner/deeper/file|yes
+inner|file|no
+inner|inner/../file|no
+inner|./inner/file|yes
+inner|inner/out|no
+inner|inner/absent|yes
+inner|absent|no
+inner|to_inner/file|yes
+to_inner|inner/file|yes
+inner|innermost|no
+absent|file|no
+inner|inner/lost|no
+";
+
+#[test]
+fn a_file_is_below_a_directory(rt: HostRuntime) -> Result<(), Fail> {
+    fs::create_dir(&rt, "inner")?;
+    fs::create_dir(&rt, "inner/deeper")?;
+    for path in ["file", "innermost", "inner/file", "inner/deeper/file"] {
+        fs::write(&rt, path, "old")?;
+    }
+    rt.symlink("inner", "to_inner")?;
+    rt.symlink("../file", "inner/out")?;
+    rt.symlink("../nothing", "inner/lost")?;
+    let outputs = SystemOutputs::new(&rt, rt.alloc());
+    for line in BELOW.lines() {
+        let mut cells = line.split('|');
+        let directory = cells.next().unwrap_or("");
+        let path = cells.next().unwrap_or("");
+        let wanted = cells.next().unwrap_or("") == "yes";
+        let is_below = outputs.is_below(rt.alloc(), directory, path)?;
+        assert_eq!(rt; is_below, wanted, "{line}");
+    }
+    for path in ["file", "innermost", "inner/file", "inner/deeper/file"] {
+        fs::remove_file(&rt, path)?;
+    }
+    for path in ["to_inner", "inner/out", "inner/lost"] {
+        fs::remove_file(&rt, path)?;
+    }
+    fs::remove_dir(&rt, "inner/deeper")?;
+    fs::remove_dir(&rt, "inner")?;
+    Ok(())
+}
+
+#[test]
+fn a_path_that_takes_no_file_is_refused(rt: HostRuntime) -> Result<(), Fail> {
+    fs::write(&rt, "fixed", "old")?;
+    rt.set_permissions("fixed", Permissions::from_mode(0o444))?;
+    let outputs = SystemOutputs::new(&rt, rt.alloc());
+    for (path, wanted) in [
+        ("fixed", ErrorKind::PermissionDenied),
+        ("absent/file", ErrorKind::NotFound),
+        ("fixed/file", ErrorKind::NotADirectory),
+    ] {
+        match outputs.replaced_files(rt.alloc(), path) {
+            Err(FileError::Failed(reason)) => assert_eq!(rt; reason, wanted, "{path}"),
+            _ => assert!(rt; false, "{path}"),
+        }
+    }
+    fs::remove_file(&rt, "fixed")?;
+    Ok(())
+}
+
+#[test]
+fn a_file_has_one_writer(rt: HostRuntime) -> Result<(), Fail> {
+    let mut first = SystemOutputs::new(&rt, rt.alloc());
+    let (place, mut file) = first.create(rt.alloc(), "shared")?;
+    let mut second = SystemOutputs::new(&rt, rt.alloc());
+    match second.create(rt.alloc(), "shared") {
+        Err(FileError::Failed(reason)) => assert_eq!(rt; reason, ErrorKind::ResourceBusy),
+        _ => assert!(rt; false, "both write the file"),
+    }
+    put_all(&mut file, b"first")?;
+    let synced = first.sync(file)?;
+    // The file is locked until it is placed.
+    assert!(rt; second.create(rt.alloc(), "shared").is_err());
+    first.place(place, synced)?;
+    assert_eq!(rt; fs::read(&rt, "shared")?.as_slice(), b"first".as_slice());
+    write_file(&mut second, rt.alloc(), "shared", b"second")?;
+    assert_eq!(rt; fs::read(&rt, "shared")?.as_slice(), b"second".as_slice());
+    fs::remove_file(&rt, "shared")?;
+    Ok(())
+}
+
+#[test]
+fn modes_are_kept(rt: HostRuntime) -> Result<(), Fail> {
+    for mode in [0o600, 0o644, 0o664, 0o755] {
+        fs::write(&rt, "mode", "old")?;
+        rt.set_permissions("mode", Permissions::from_mode(mode))?;
+        let mut outputs = SystemOutputs::new(&rt, rt.alloc());
+        write_file(&mut outputs, rt.alloc(), "mode", b"new")?;
+        let found = fs::metadata(&rt, "mode")?;
+        assert_eq!(rt; found.mode() & 0o7777, mode);
+        fs::remove_file(&rt, "mode")?;
+    }
+    fs::write(&rt, "mode", "old")?;
+    rt.set_permissions("mode", Permissions::from_mode(0o444))?;
+    let mut outputs = SystemOutputs::new(&rt, rt.alloc());
+    assert_eq!(rt;
+        answer_text(write_file(&mut outputs, rt.alloc(), "mode", b"new")),
+        "failed"
+    );
+    assert_eq!(rt; fs::read(&rt, "mode")?.as_slice(), b"old".as_slice());
+    assert!(rt; fs::metadata(&rt, "mode.new").is_err());
+    fs::remove_file(&rt, "mode")?;
     Ok(())
 }
 

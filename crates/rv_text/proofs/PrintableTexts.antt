@@ -2,11 +2,11 @@
 use Rattle.std.proofs.Common.{◌≡◌, ◌∙◌, ap, refl, subst, sym, ℕ, zero, suc, ◌+◌, ◌/◌, ◌%◌, ◌<◌, ◌≤◌, List, [], ◌∷◌, ◌++◌}
 use Rattle.std.proofs.Common.{Bool, true, false, cond, not, append-nil, arith, drop, get_or, inl, inr, length, take}
 use Rattle.std.proofs.Common.{◌-◌, get_or-drop, min, length-append, length-drop, length-take, ne_eqb}
-use Rattle.std.specs.Prelude.{◌==◌, ◌&&◌, nat_lt}
+use Rattle.std.specs.Prelude.{◌==◌, ◌&&◌, ◌||◌, Some, nat_lt, slice_get}
 use Rattle.std.specs.Char.{IsScalar, encode_utf8, is_control}
 use Rattle.std.specs.List.{list_all}
 use Rattle.std.specs.Str.{chars, continuation_len, encode_utf8_all, is_utf8}
-use Rattle.std.proofs.lemmas.Bool.{and_parts, cases_lt, false_from_ne_true, false≢true, le-ltb, lt-ltb, ltb-true, not-true}
+use Rattle.std.proofs.lemmas.Bool.{and_parts, cases_lt, false_from_ne_true, false≢true, le-ltb, lt-ltb, ltb-true, not-true, or_parts}
 use Rattle.std.proofs.lemmas.Bool.Decides.{nat_tests}
 use Rattle.std.proofs.lemmas.List.{get_or_append_left, take-append-drop, take_min}
 use Rattle.std.proofs.lemmas.List.Elements.{All-append, All-cons, All-get_or, All-nil}
@@ -15,13 +15,17 @@ use Rattle.std.proofs.lemmas.Str.{IsUtf8-append, IsUtf8-encode, IsUtf8-from_is_u
 use Rattle.std.proofs.lemmas.Str.{chars-nil, encode_ascii, len_utf8_bounds, length-encode}
 use lib.Utf8.{low_scalar, scalars}
 use Rattle.hex.specs.Hex.{IsBytes, encode_with, lower_digits}
-use Rattle.rv_text.specs.Printable.{IsUtf8WithoutControls, begins_with_control, behind_printable_front, escape, front_width}
+use Rattle.rv_text.specs.Printable.{IsUtf8WithoutControls, begins_with_control, begins_with_format, behind_printable_front, escape}
+use Rattle.rv_text.specs.Printable.{front_width, is_format}
 use Rattle.rv_text.specs.Printable.{front_character_bytes, plain_front_len, printable_from, printable_front, printable_within}
 use Rattle.rv_text.proofs.Pieces.{printable_within-empty, printable_within-front, printable_within-full, shown-empty, shown-front}
 
--- no control character
+-- no control character, and no format character
+abbrev is_hidden : ℕ → Bool
+is_hidden c = is_control c || is_format c
+
 abbrev IsNoControl : ℕ → Type 0
-IsNoControl c = is_control c ≡ false
+IsNoControl c = is_hidden c ≡ false
 
 -- ---- joined texts
 
@@ -48,14 +52,14 @@ shown_character c scalar plain =
 
 -- ASCII without a control character
 abbrev is_shown_ascii : ℕ → Bool
-is_shown_ascii c = nat_lt c 128 && not (is_control c)
+is_shown_ascii c = nat_lt c 128 && not (is_hidden c)
 
 shown_ascii : (c : ℕ) → is_shown_ascii c ≡ true → IsUtf8WithoutControls (c ∷ [])
 shown_ascii c is =
-    let parts = and_parts (nat_lt c 128) (not (is_control c)) is in
+    let parts = and_parts (nat_lt c 128) (not (is_hidden c)) is in
     let below : c < 128 = ltb-true c 128 parts.0 in
     subst IsUtf8WithoutControls (encode_ascii c below)
-    (shown_character c (low_scalar c (omega arith)) (not-true (is_control c) parts.1))
+    (shown_character c (low_scalar c (omega arith)) (not-true (is_hidden c) parts.1))
 
 -- ---- a byte as an escape
 
@@ -156,21 +160,36 @@ control_begins c rest is =
           rw (le-ltb c 128 high, lt-ltb c 2048 below) (grind (arith, nat_tests))
     ]
 
+-- the first character of its UTF-8
+first_character : (c : ℕ) (front : List ℕ) → IsScalar c → encode_utf8 c ≡ front → slice_get (chars front) 0 ≡ Some c
+first_character c front scalar spelt =
+    let one : chars (encode_utf8 c) ≡ c ∷ [] =
+    ap chars (sym (append-nil (encode_utf8 c))) ∙ chars-encodes (c ∷ []) (rw scalar refl) in
+    ap (λ text. slice_get (chars text) 0) (sym spelt) ∙ ap (λ all. slice_get all 0) one
+
+format_begins : (c : ℕ) (text : List ℕ) → is_utf8 (front_character_bytes text) ≡ true →
+    slice_get (chars (front_character_bytes text)) 0 ≡ Some c → begins_with_format text ≡ is_format c
+unfolding begins_with_format
+format_begins c text is first = rw (is, first) refl
+
 shown_front_character : (text : List ℕ) → 0 < length text → is_utf8 (front_character_bytes text) ≡ true →
-    begins_with_control text ≡ false → IsUtf8WithoutControls (front_character_bytes text)
-shown_front_character text some is plain =
+    (begins_with_control text || begins_with_format text) ≡ false → IsUtf8WithoutControls (front_character_bytes text)
+shown_front_character text some is hidden =
+    let (plain, no_format) = or_parts (begins_with_control text) (begins_with_format text) hidden in
     let len = continuation_len (get_or text 0 0) + 1 in
     let (c, scalar, spelt) = front_is_character text some is in
     let whole : encode_utf8 c ++ drop len text ≡ text =
     ap (λ front. front ++ drop len text) spelt ∙ take-append-drop len text in
     let no_control : is_control c ≡ false = false_from_ne_true (is_control c) (λ control.
     false≢true (sym plain ∙ ap begins_with_control (sym whole) ∙ control_begins c (drop len text) control)) in
-    subst IsUtf8WithoutControls spelt (shown_character c scalar no_control)
+    let first = first_character c (front_character_bytes text) scalar spelt in
+    let is_seen : is_format c ≡ false = sym (format_begins c text is first) ∙ no_format in
+    subst IsUtf8WithoutControls spelt (shown_character c scalar (rw (no_control, is_seen) refl))
 
 -- ---- the piece in front
 
 shown_piece : (text : List ℕ) (utf8 control : Bool) → is_utf8 (front_character_bytes text) ≡ utf8 →
-    begins_with_control text ≡ control → IsBytes text → 0 < length text →
+    (begins_with_control text || begins_with_format text) ≡ control → IsBytes text → 0 < length text →
     let plain = cond (utf8 && not control) (length (front_character_bytes text)) 0 in
     IsUtf8WithoutControls (cond (plain == 0) (escape (get_or text 0 0)) (take plain text))
 shown_piece text false control is begins are some = shown_escape (get_or text 0 0) (are 0)
@@ -186,7 +205,7 @@ shown_piece text true false is begins are some =
 shown_printable_front : (text : List ℕ) → IsBytes text → 0 < length text → IsUtf8WithoutControls (printable_front text)
 unfolding plain_front_len
 shown_printable_front text are some =
-    shown_piece text (is_utf8 (front_character_bytes text)) (begins_with_control text) refl refl are some
+    shown_piece text (is_utf8 (front_character_bytes text)) (begins_with_control text || begins_with_format text) refl refl are some
 
 -- ---- what is behind it
 

@@ -1,9 +1,10 @@
--- Text that comes from files, as it is shown to a person: characters as they are; control characters,
+-- Text that comes from files, as it is shown to a person: characters as they are; control and format characters,
 -- and bytes that are of no character, each byte as a backslash, an x and two lower-case hexadecimal
 -- digits.
 use Rattle.std.specs.Prelude.{◌≡◌, ◌==◌, ◌&&◌, ◌||◌, ◌+◌, ◌-◌, ℕ, zero, suc, Bool, false, List, [], ◌∷◌, ◌++◌}
-use Rattle.std.specs.Prelude.{if◌then◌else◌, nat_lt, not, codes, drop, length, take, slice_index}
+use Rattle.std.specs.Prelude.{Option, Some, None, if◌then◌else◌, nat_lt, not, codes, drop, length, take, slice_get, slice_index}
 use Rattle.std.specs.Char.{is_control}
+use Rattle.std.specs.Int.{is_in_range}
 use Rattle.std.specs.List.{All}
 use Rattle.std.specs.Str.{IsUtf8, chars, continuation_len, is_utf8}
 use Rattle.hex.specs.Hex.{encode_lower}
@@ -18,11 +19,29 @@ begins_with_control text = let first = slice_index text 0 in
 abbrev pub front_character_bytes : List ℕ → List ℕ
 front_character_bytes text = take (continuation_len (slice_index text 0) + 1) text
 
--- how many bytes in front are shown as they are: those of one character, if it is no control
--- character
+-- whether a reader does not see a character, or it turns the text around it: Unicode's general categories Cf (format), Zl and Zp
+-- (separators of lines and of paragraphs), and the codes of the same blocks that have no character yet
+abbrev pub is_format : ℕ → Bool
+is_format c = c == 0xAD || (is_in_range 0x600 0x605 c || (c == 0x61C || (c == 0x6DD || (c == 0x70F ||
+    (is_in_range 0x890 0x891 c || (c == 0x8E2 || (c == 0x180E || (is_in_range 0x200B 0x200F c || (is_in_range
+    0x2028 0x202E c || (is_in_range 0x2060 0x206F c || (c == 0xFEFF || (is_in_range 0xFFF9 0xFFFB c || (c ==
+    0x1_10BD || (c == 0x1_10CD || (is_in_range 0x1_3430 0x1_343F c || (is_in_range 0x1_BCA0 0x1_BCA3 c ||
+    (is_in_range 0x1_D173 0x1_D17A c || (is_in_range 0xE_0000 0xE_007F c))))))))))))))))))
+
+abbrev pub is_format_if_any : Option ℕ → Bool
+is_format_if_any None = false
+is_format_if_any (Some c) = is_format c
+
+-- whether such a character stands in front
+unfoldable pub begins_with_format : List ℕ → Bool
+begins_with_format text = let front = front_character_bytes text in
+    if is_utf8 front then is_format_if_any (slice_get (chars front) 0) else false
+
+-- how many bytes in front are shown as they are: those of one character, if it is no control character and no format character
 unfoldable pub plain_front_len : List ℕ → ℕ
 plain_front_len text =
-    if is_utf8 (front_character_bytes text) && not (begins_with_control text) then length (front_character_bytes text) else 0
+    if is_utf8 (front_character_bytes text) && not (begins_with_control text || begins_with_format text)
+    then length (front_character_bytes text) else 0
 
 -- a byte as it is shown where it is not shown as it is
 abbrev pub escape : ℕ → List ℕ
@@ -65,6 +84,14 @@ most_shown_characters = 80
 abbrev pub printable_value : List ℕ → List ℕ
 printable_value text = printable_within most_shown_characters 0 text
 
+-- how many characters of a symbol's name are shown at most
+abbrev pub most_characters_of_name : ℕ
+most_characters_of_name = 256
+
+-- the name of a symbol, as it is shown
+abbrev pub printable_name : List ℕ → List ℕ
+printable_name text = printable_within most_characters_of_name 0 text
+
 -- ---- the piece in front: a character that is shown as it is, or one byte
 
 abbrev pub printable_front : List ℕ → List ℕ
@@ -76,7 +103,7 @@ behind_printable_front text = if plain_front_len text == 0 then drop 1 text else
 
 -- ---- what a terminal takes as text
 
--- UTF-8 of which no character is a control character
+-- UTF-8 of which no character is a control character or a format character
 pub record IsUtf8WithoutControls (text : List ℕ) : Type 0 where
   pub utf8 : IsUtf8 text
-  pub without_controls : All (λ character. is_control character ≡ false) (chars text)
+  pub without_controls : All (λ character. (is_control character || is_format character) ≡ false) (chars text)

@@ -3,13 +3,14 @@
 ghost use Rattle.std.specs.Prelude.{◌≡◌, ◌<◌, ◌≤◌, ◌++◌, IfOk, OnOk, length};
 ghost use Rattle.std.specs.Str.{is_utf8};
 ghost use Rattle.rv_text.specs.Printable.{behind_printable_front, escape, front_width, front_character_bytes, printable_front, begins_with_control};
-ghost use Rattle.rv_text.specs.Printable.{plain_front_len, printable_text, printable_value};
+ghost use Rattle.rv_text.specs.Printable.{begins_with_format, is_format, is_format_if_any, plain_front_len, printable_name, printable_text, printable_value};
+ghost use Rattle.rv_text.specs.Printable.{printable_within};
 
 use crate::slices::{byte_at, char_len, tail_from};
 use std::alloc::AllocError;
 
-/// Appends a text as it is shown: characters as they are, and each byte of a control character and of what is no
-/// character as `\xNN`.
+/// Appends a text as it is shown: characters as they are, and each byte of a control character, of a format character and of
+/// what is no character as `\xNN`.
 pub fn push_printable_text(bytes: &mut Vec<u8>, text: &[u8]) -> Result<(), AllocError>
     ensures { OnOk result (bytes.new.items ≡ bytes.old.items ++ printable_text text.now) }
 {
@@ -23,13 +24,34 @@ pub fn push_printable_text(bytes: &mut Vec<u8>, text: &[u8]) -> Result<(), Alloc
 /// How many characters of a value are shown at most.
 pub const VALUE_ROOM: usize = 80;
 
+/// How many characters of the name of a symbol are shown at most.
+pub const NAME_ROOM: usize = 256;
+
 /// Appends a value that was met or is expected as it is shown: as [`push_printable_text`] does, but only as far as whole
 /// characters, and `\xNN` of whole bytes, fit into [`VALUE_ROOM`] characters.
 pub fn push_printable_value(bytes: &mut Vec<u8>, value: &[u8]) -> Result<(), AllocError>
     ensures { OnOk result (bytes.new.items ≡ bytes.old.items ++ printable_value value.now) }
 {
-    let mut rest = value;
-    let mut room = VALUE_ROOM;
+    push_printable_within(bytes, VALUE_ROOM, value)
+}
+
+/// Appends the name of a symbol as it is shown: as [`push_printable_value`] does, but within [`NAME_ROOM`] characters.
+pub fn push_printable_name(bytes: &mut Vec<u8>, name: &[u8]) -> Result<(), AllocError>
+    ensures { OnOk result (bytes.new.items ≡ bytes.old.items ++ printable_name name.now) }
+{
+    push_printable_within(bytes, NAME_ROOM, name)
+}
+
+// Appends a text as far as whole characters, and `\xNN` of whole bytes, fit into so many characters.
+fn push_printable_within(
+    bytes: &mut Vec<u8>,
+    characters: usize,
+    text: &[u8],
+) -> Result<(), AllocError>
+    ensures { OnOk result (bytes.new.items ≡ bytes.old.items ++ printable_within characters 0 text.now) }
+{
+    let mut rest = text;
+    let mut room = characters;
     while !rest.is_empty() {
         let width = front_width(rest);
         if room < width {
@@ -64,14 +86,14 @@ fn push_printable_front<'a>(bytes: &mut Vec<u8>, text: &'a [u8]) -> Result<&'a [
     Ok(tail_from(text, plain))
 }
 
-// How many bytes in front are shown as they are: those of one character, if it is no control character.
+// How many bytes in front are shown as they are: those of one character, if it is no control character and no format character.
 #[tactic(auto, unfolding(crate::specs::Printable::plain_front_len))]
 fn plain_front_len(text: &[u8]) -> usize
     ensures value { result ≡ plain_front_len text.now }
     ensures within { result ≤ length text.now }
 {
     let front = front_character_bytes(text);
-    if is_utf8(front) && !begins_with_control(text) {
+    if is_utf8(front) && !(begins_with_control(text) || begins_with_format(text)) {
         front.len()
     } else {
         0
@@ -105,6 +127,38 @@ fn begins_with_control(text: &[u8]) -> bool
 {
     let first = byte_at(text, 0);
     first < 0x20 || first == 0x7F || (first == 0xC2 && byte_at(text, 1) < 0xA0)
+}
+
+fn begins_with_format(text: &[u8]) -> bool
+    ensures { result ≡ begins_with_format text.now }
+{
+    match str::from_utf8(front_character_bytes(text)) {
+        Ok(front) => is_format_if_any(front.chars().next()),
+        Err(_) => false,
+    }
+}
+
+fn is_format_if_any(character: Option<char>) -> bool
+    ensures { result ≡ is_format_if_any character }
+{
+    match character {
+        Some(character) => is_format(character),
+        None => false,
+    }
+}
+
+// Whether a reader does not see a character, or it turns the text around it.
+fn is_format(character: char) -> bool
+    ensures { result ≡ is_format character }
+{
+    matches!(
+        character,
+        '\u{AD}' | '\u{600}'..='\u{605}' | '\u{61C}' | '\u{6DD}' | '\u{70F}' |
+            '\u{890}'..='\u{891}' | '\u{8E2}' | '\u{180E}' | '\u{200B}'..='\u{200F}' |
+            '\u{2028}'..='\u{202E}' | '\u{2060}'..='\u{206F}' | '\u{FEFF}' | '\u{FFF9}'..='\u{FFFB}'
+            | '\u{110BD}' | '\u{110CD}' | '\u{13430}'..='\u{1343F}' | '\u{1BCA0}'..='\u{1BCA3}' |
+            '\u{1D173}'..='\u{1D17A}' | '\u{E0000}'..='\u{E007F}'
+    )
 }
 
 fn push_escape(bytes: &mut Vec<u8>, byte: u8) -> Result<(), AllocError>

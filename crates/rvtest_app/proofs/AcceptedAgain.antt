@@ -8,13 +8,13 @@ use Rattle.std.proofs.lemmas.List.Elements.{All-cons, All-head, All-nil, All-tai
 use Rattle.std.proofs.lemmas.List.Folds.{Any-from_list_any}
 use Rattle.std.proofs.lemmas.Option.{get_or_from_slice_get, slice_get-map}
 use Rattle.std.proofs.lemmas.Slice.Eq.{bytes_eq-Decides}
-use Rattle.rv_accept.proofs.Public.{accepted_run_has_row, accepted_run_is_kept, agreed, console_claim_among, console_is_target, image_that_ran, meant_at, passes_over_files, ran_over, outcome_of_its_row, console_path_stays, row_at_place, signature_claim_among, signature_is_target, targets_have_fates, unclaimed}
+use Rattle.rv_accept.proofs.Public.{IsAccepted, accepted_at, agreed, console_claim_among, console_is_target, image_that_ran, meant_at, passes_over_files, ran_over, outcome_of_its_row, console_path_stays, row_at_place, signature_claim_among, signature_is_target, targets_have_fates, unclaimed}
 use Rattle.rv_accept.specs.Accepted.{accepted_job}
 use Rattle.rv_accept.specs.Claims.{claims_of_runs}
 use Rattle.rv_accept.specs.Fates.{fate_of_file, names_file}
 use Rattle.rv_accept.specs.Meant.{meant_job, meant_jobs}
 use Rattle.rv_accept.specs.Passing.{FindsItsFiles, is_pass_or_unasked, outcome_of_row}
-use Rattle.rv_accept.specs.Runs.{accepted_row, is_accepted_run, judged_runs}
+use Rattle.rv_accept.specs.Runs.{accepted_row, is_accepted_run}
 use Rattle.rv_accept.specs.Sharing.{is_path, marks_to_run, names_golden_file}
 use Rattle.rv_accept.specs.Targets.{is_of_accepted, is_target, with_target}
 use Rattle.rv_accept.specs.declared.claims.Claim.{Claim}
@@ -42,6 +42,7 @@ use Rattle.rv_report.specs.declared.row.Row.{Row}
 use Rattle.rv_rows.specs.Rows.{outcome_in, row_of}
 use Rattle.rv_rows.specs.Verdict.{did_run, lines_of_signature}
 use Rattle.rv_rows.specs.declared.outcome.Outcome.{Outcome}
+use Rattle.rvtest_app.proofs.Standings.{ended_well, stands_at}
 use Rattle.rvtest_app.proofs.StoreAfter.{any_elim, golden_files_there, image_stays, list_is_there, list_stays, stood}
 use Rattle.rvtest_app.specs.AcceptLaw.{AreFilesRead, HaveOneTextEach, IsRowIn, IsStoreAfter, IsWhollyAccepted, is_read}
 use Rattle.rvtest_app.specs.Accepts.{AreGoldenFiles, IsAcceptedOfMarks, IsOutcome, acceptance_of, written_files}
@@ -348,21 +349,22 @@ pub passes_after : (words : AcceptAsked) (before after : FileContents) (bytes : 
 passes_after words before after bytes jobs chosen status from to place job row read listed accepted store alike whole later =
     let told = accepted.told in
     let outcome = accepted.outcome in
-    let judged = judged_runs (acceptance_of words.ends) jobs chosen accepted.rows in
+    let judged = accepted.judged in
     let earlier = accepted.ran.are.plan in
     let at : slice_get jobs place ≡ Some job = rw outcome.listed at whole.stands in
     let run : AcceptedRun (slice_get told.runs.now place) = accepted_run (slice_get told.runs.now place) whole.accepted in
     let first = accepted_from_the_first judged told.runs.now place run.of outcome.runs run.is run.accepted in
-    let has_row = accepted_run_has_row (acceptance_of words.ends) jobs chosen accepted.rows place job run.of at first
-    run.accepted in
-    let kept = accepted_run_is_kept (acceptance_of words.ends) jobs chosen accepted.rows place job run.of at first
-    run.accepted in
+    let of : IsAccepted (acceptance_of words.ends) job accepted.judging.candidates accepted.rows place run.of =
+    accepted_at (acceptance_of words.ends) jobs accepted.judging.candidates accepted.rows place job run.of at
+    (rw accepted.judging.are at first) run.accepted in
+    let standing_is = stands_at (Some before) (optional_text words.run.root) accepted.rows jobs chosen
+    accepted.judging.candidates place job run.of.row of.candidate accepted.judging.stand at of.row of.stands in
     let bare : slice_index_or earlier.jobs place (single_job [] 0 []) ≡ without_expectations job =
     ap (λ jobs. slice_index_or jobs place (single_job [] 0 [])) accepted.ran.are.planned.listed
     ∙ get_or_from_slice_get (map without_expectations jobs) place (without_expectations job) (single_job [] 0 [])
     (slice_get-map without_expectations jobs place ∙ ap (option_map without_expectations) at) in
     let row_is : run.of.row ≡ row_of earlier (without_expectations job) =
-    row_at_place earlier (marks_to_run jobs chosen jobs chosen) place run.of.row (rw accepted.ran.are.are at has_row)
+    row_at_place earlier (marks_to_run jobs chosen) place run.of.row (rw accepted.ran.are.are at of.row)
     ∙ ap (row_of earlier) bare in
     let jobs_are = list_reads words before after bytes jobs judged told outcome read listed store alike later.bytes later.jobs
     later.read later.listed in
@@ -372,5 +374,5 @@ passes_after words before after bytes jobs chosen status from to place job row r
     (subst (AreFilesRead later.plan.answers) job_is later.files) in
     let finds_them = finds words before after bytes jobs judged told outcome read listed store alike place job run.of at run.is
     run.accepted whole.files earlier later.plan.answers accepted.ran.are.planned.kept later.planned.kept files row_is in
-    rw later.is (rw job_is (passes_over_files (acceptance_of words.ends) job earlier later.plan run.of.row row_is kept
-    whole.alone finds_them))
+    rw later.is (rw job_is (passes_over_files (acceptance_of words.ends) of.candidate.standing job earlier later.plan run.of.row
+    row_is of.kept (λ passes. ended_well _ (sym standing_is.is ∙ passes)) whole.alone finds_them))

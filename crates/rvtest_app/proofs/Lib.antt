@@ -1,5 +1,6 @@
 pub mod StepRanks
 mod StepOrder
+mod AcceptInputs
 mod AcceptStops
 mod AcceptedAgain
 mod AcceptedFiles
@@ -11,6 +12,7 @@ mod CountedRuns
 mod Numbers
 mod Sent
 mod Results
+mod Standings
 mod StopLemmas
 mod StoreAfter
 mod PutTexts

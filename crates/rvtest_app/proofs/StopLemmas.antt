@@ -10,7 +10,7 @@ use Rattle.rvtest_cli.specs.declared.merge.MergeAsked.{MergeAsked}
 use Rattle.rvtest_cli.specs.declared.requests.Asked.TheVariants as asked
 use Rattle.rvtest_cli.specs.declared.run.RunAsked.{RunAsked}
 use Rattle.rvtest_cli.specs.declared.show.ShowAsked.{ShowAsked}
-use Rattle.rv_command.specs.Stops.{IsUnreadStop}
+use Rattle.rv_command.specs.Stops.{IsResultUnreadStop}
 use Rattle.rv_command.specs.Texts.{IsTextAt, optional_text}
 use Rattle.rv_command.specs.declared.stop.Stop.{Stop}
 use Rattle.rv_command.specs.declared.stop.Stop.TheVariants as stop
@@ -45,13 +45,13 @@ put_or_found (Err stop) (Err why) P stopped put = inr (rw put stopped)
 -- a report of two is blamed, of which both were read
 pub diff_stop_at : (known : Option FileContents) (words : DiffAsked) (old : List ℕ) (new : Result (Vec ℕ Global) Stop)
     (why : Stop) → IsTextAt known words.old.now old → IfOk new (λ bytes. IsTextAt known words.new.now bytes.items)
-    → IfErr new (IsUnreadStop known words.new.now) → IsDiffStop words old new why → IsDiffAtStop known words why
+    → IfErr new (IsResultUnreadStop known words.new.now) → IsDiffStop words old new why → IsDiffAtStop known words why
 diff_stop_at known words old (Ok bytes) why read found unread =
-    ⊎_elim (λ memory. inl (inl (inl memory)))
+    ⊎_elim (λ memory. inl (inl (inl (inl memory))))
     (⊎_elim (λ fault. inl (inr (old, read, fault)))
     (λ is. inr (is.0, (record { bytes = old; found = read; of = is.1 }, inr (bytes.items, found, is.2)))))
 diff_stop_at known words old (Err failed) why read found unread =
-    ⊎_elim (λ memory. inl (inl (inl memory)))
+    ⊎_elim (λ memory. inl (inl (inl (inl memory))))
     (⊎_elim (λ fault. inl (inr (old, read, fault)))
     (λ is. inr (is.0, (record { bytes = old; found = read; of = is.1 }, inl (rw is.2 unread)))))
 
@@ -65,22 +65,22 @@ gdb_stop known is_terminal words before after x y why =
 pub unshown_run : (known : Option FileContents) (is_terminal : Bool) (words : RunAsked) (Untouched : Type 0)
     → AreJobsToRun known words ⊎ Untouched → IsCommandStop known is_terminal (asked.Run words) stop.WriteFailed ⊎ Untouched
 unshown_run known is_terminal words Untouched =
-    ⊎_elim (λ found. inl (inr (inr (found, inl (inr (inr (inl refl))))))) inr
+    ⊎_elim (λ found. inl (inr (inr (inr (found, inl (inr (inr (inl refl)))))))) inr
 
 -- so may an acceptance, a merge and what is shown of a report
 pub unshown_accept : (known : Option FileContents) (is_terminal : Bool) (words : AcceptAsked) (status : ℕ) (before after : Said)
     → IsAcceptedAt known words status before after → IsCommandStop known is_terminal (asked.Accept words) stop.WriteFailed
 unshown_accept known is_terminal words status before after done =
-    inr (done.bytes, (done.read, (done.jobs, (done.listed, inr (inr (inl refl))))))
+    inr (done.bytes, (done.read, (done.jobs, (done.listed, inr (inr (inr (inl refl)))))))
 
 pub unshown_merge : (known : Option FileContents) (is_terminal : Bool) (words : MergeAsked) (status : ℕ) (before after : Said)
     → IsMergedAt known words status before after → IsCommandStop known is_terminal (asked.Merge words) stop.WriteFailed
 unshown_merge known is_terminal words status before after done =
-    inr (done.texts, (done.read, inr (done.rows, (done.parts, inr (inl refl)))))
+    inr (inr (done.texts, (done.read, inr (done.rows, (done.parts, inr (inl refl))))))
 
 pub unshown_report : (known : Option FileContents) (is_terminal : Bool) (words : ShowAsked) (status : ℕ) (before after : Said)
     → IsShownAt known words status before after → IsCommandStop known is_terminal (asked.Show words) stop.WriteFailed
-unshown_report known is_terminal words status before after done = inr (done.found, (done.read, inr (inl refl)))
+unshown_report known is_terminal words status before after done = inr (inr (done.found, (done.read, inr (inl refl))))
 
 -- a sum of tables that goes to standard output may be stopped there, and one that goes to a file put nothing there
 pub unshown_sum : (known : Option FileContents) (is_terminal : Bool) (words : CountsAsked) (status : ℕ) (before after : Said) (Untouched : Type 0)
@@ -88,10 +88,10 @@ pub unshown_sum : (known : Option FileContents) (is_terminal : Bool) (words : Co
     → (is_stdout (written_path (optional_text words.out)) ≡ true) ⊎ Untouched
     → IsCommandStop known is_terminal (asked.Counts words) stop.WriteFailed ⊎ Untouched
 unshown_sum known is_terminal words status before after Untouched put =
-    ⊎_elim (λ out. inl (inr (inr (
+    ⊎_elim (λ out. inl (inr (inr (inr (
       put.sum,
       (
         put.added,
         subst (λ (b : Bool). IsUnwrittenBy b (written_path (optional_text words.out)) stop.WriteFailed) (sym out) refl,
       ),
-    )))) inr
+    ))))) inr

@@ -14,6 +14,7 @@ use Rattle.rv_command.specs.declared.stop.Stop.TheVariants as stop
 use Rattle.rv_files.specs.UnreadPaths.{resolved_path}
 use Rattle.rv_lists.specs.JobList.{job_list_of}
 use Rattle.rv_lists.specs.declared.job.Job.{Job}
+use Rattle.rvtest_app.specs.Overwrites.{IsAcceptOverwriteStop}
 use Rattle.rvtest_app.specs.PutStops.{IsUnopenedStop, IsUnwrittenStop}
 
 -- ---- one file
@@ -26,9 +27,13 @@ IsUnmadeStop path why = IsUnopenedStop path why ⊎ IsUnwrittenStop path why
 abbrev pub IsOtherBytesStop : List ℕ → Stop → Type 0
 IsOtherBytesStop path why = IsStop 3 (path_message path (codes "has other bytes than were written")) why
 
--- it was not read back, or it was, and has other bytes
+-- it is another file than the one that was read
+abbrev pub IsChangedStop : List ℕ → Stop → Type 0
+IsChangedStop path why = IsStop 3 (path_message path (codes "changed since it was read; nothing is written")) why
+
+-- it was not read again, or it was, and has other bytes than it had when it was read or was written
 abbrev pub IsUncheckedStop : Option FileContents → List ℕ → Stop → Type 0
-IsUncheckedStop known path why = IsListUnreadStop known path why ⊎ IsOtherBytesStop path why
+IsUncheckedStop known path why = IsListUnreadStop known path why ⊎ (IsOtherBytesStop path why ⊎ IsChangedStop path why)
 
 -- it was not written as it is meant to be
 abbrev pub IsUnputStop : Option FileContents → List ℕ → Stop → Type 0
@@ -75,7 +80,11 @@ abbrev pub IsAcceptingStop : Option FileContents → AcceptAsked → List Job �
 IsAcceptingStop known words jobs why = (why ≡ stop.OutOfMemory) ⊎ ((why ≡ stop.NoWorker) ⊎ ((why ≡ stop.WriteFailed)
     ⊎ ((path : List ℕ) × (IsFileOfList words jobs path × IsFileOfListStop known words.check path why))))
 
--- the list was read, and that happened
+-- a file would overwrite something; or that happened
+abbrev pub IsAcceptChosenStop : Option FileContents → AcceptAsked → List Job → Stop → Type 0
+IsAcceptChosenStop known words jobs why = IsAcceptOverwriteStop why ⊎ IsAcceptingStop known words jobs why
+
+-- the list was read, and then that
 abbrev pub IsUnacceptedStop : Option FileContents → AcceptAsked → Stop → Type 0
 IsUnacceptedStop known words why = (text : List ℕ) × (IsTextAt known words.run.list.now text
-    × ((jobs : List Job) × ((job_list_of text ≡ Ok jobs) × IsAcceptingStop known words jobs why)))
+    × ((jobs : List Job) × ((job_list_of text ≡ Ok jobs) × IsAcceptChosenStop known words jobs why)))

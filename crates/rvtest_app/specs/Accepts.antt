@@ -13,6 +13,7 @@ use Rattle.rv_accept.specs.declared.ends.Acceptance.{Acceptance}
 use Rattle.rv_accept.specs.declared.ends.Acceptance.TheVariants as acceptance
 use Rattle.rv_accept.specs.declared.claims.Claim.{Claim}
 use Rattle.rv_accept.specs.declared.runs.JobRun.{JobRun}
+use Rattle.rv_accept.specs.declared.standing.Candidate.{Candidate}
 use Rattle.rv_accept.specs.declared.targets.Target.{Target}
 use Rattle.rv_accept_text.specs.GoldenFiles.{new_text}
 use Rattle.rv_accept_text.specs.NewLists.{AreLeftFrom}
@@ -40,6 +41,7 @@ use Rattle.rvtest_app.specs.MissingImages.{missing_images_note}
 use Rattle.rvtest_app.specs.Outlets.{AreFilesPlaced}
 use Rattle.rvtest_app.specs.Runs.{IsPlanFor, places_of_marks}
 use Rattle.rvtest_app.specs.Said.{IsOnlyPut, IsOnlyTold, Said}
+use Rattle.rvtest_app.specs.Standings.{AreCandidates}
 
 -- ---- what is run
 
@@ -138,15 +140,33 @@ pub record IsOutcomePut (check : Bool) (list : ListFile) (runs : List (Option Jo
   pub of : accepting_of list runs claims files new told
   pub put : IsAcceptancePut check told status before after
 
--- the jobs that are chosen ran, without their expectations, and those that name a golden file of theirs
+-- it was said which golden files are outside of the list's directory, as far as there are directories
+pub record IsOutsideTold (before after : Said) : Type 0 where
+  pub outside : List ℕ
+  pub inside : IfSome before.placed (λ _. outside ≡ [])
+  pub told : IsOnlyTold outside before after
+
+-- the runs of jobs of which some are chosen, by their rows: each is left or accepted by how it stands
+pub record AreJudged (known : Option FileContents) (words : AcceptAsked) (jobs : List Job) (chosen : List Bool)
+    (rows : List (Option Row)) (judged : List (Option JobRun)) : Type 0 where
+  pub candidates : List Candidate
+  pub stand : AreCandidates known (optional_text words.run.root) rows jobs chosen candidates
+  pub are : judged ≡ judged_runs (acceptance_of words.ends) jobs candidates rows
+
+-- that was said, and the jobs that are chosen ran, without their expectations, those that name a golden file of theirs, and those with
+-- which one of all these is compared
 pub record IsAcceptedOfMarks (known : Option FileContents) (words : AcceptAsked) (bytes : List ℕ) (jobs : List Job)
     (chosen : List Bool) (status : ℕ) (before after : Said) : Type 0 where
+  pub first : Said
+  pub outside : IsOutsideTold before first
   pub rows : List (Option Row)
   pub middle : Said
   pub ran : AreRowsPut known (optional_text words.run.root) (map without_expectations jobs)
-      (marks_to_run jobs chosen jobs chosen) rows before middle
+      (marks_to_run jobs chosen) rows first middle
+  pub judged : List (Option JobRun)
+  pub judging : AreJudged known words jobs chosen rows judged
   pub told : Accepting
-  pub outcome : IsOutcome known words bytes jobs (judged_runs (acceptance_of words.ends) jobs chosen rows) told
+  pub outcome : IsOutcome known words bytes jobs judged told
   pub put : IsAcceptancePut words.check told status middle after
 
 -- where no job is chosen, the status is 0 and nothing more is said

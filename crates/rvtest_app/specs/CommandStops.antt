@@ -34,6 +34,7 @@ use Rattle.rvtest_app.specs.CoverStops.{IsCoverStop}
 use Rattle.rvtest_app.specs.Debugging.{IsBrokenStop, IsFailureTold, IsNoGdbStop, IsUnopenedOfStop}
 use Rattle.rvtest_app.specs.HelpTopics.{IsNoTopicStop}
 use Rattle.rvtest_app.specs.MergeStops.{IsMergeStop}
+use Rattle.rvtest_app.specs.Overwrites.{IsShowOverwriteStop}
 use Rattle.rvtest_app.specs.ProfileStops.{IsProfileStop}
 use Rattle.rvtest_app.specs.PutStops.{IsOutputStop}
 use Rattle.rvtest_app.specs.RunStops.{IsRunStop}
@@ -104,11 +105,11 @@ IsDiffAtStop known words why = IsRequestedUnreadStop known words.partial words.o
     ⊎ ((found : PartialReport) × (IsReportReadAt known words.partial words.old.now found
     × IsRequestedUnreadStop known words.partial words.new.now why))
 
--- `show`: the report was not read, or it was, and what is shown of it did not go out
+-- `show`: the JUnit file would replace the report; or that was not read, or it was, and what is shown of it did not go out
 abbrev pub IsShowStop : Option FileContents → ShowAsked → Stop → Type 0
-IsShowStop known words why = IsRequestedUnreadStop known words.partial words.report.now why
+IsShowStop known words why = IsShowOverwriteStop words why ⊎ (IsRequestedUnreadStop known words.partial words.report.now why
     ⊎ ((found : PartialReport) × (IsReportReadAt known words.partial words.report.now found
-    × IsOutputStop None (optional_text words.junit) why))
+    × IsOutputStop None (optional_text words.junit) why)))
 
 -- what stopped a command, where standard output is a terminal or is none; one that puts a text alone was stopped before, or the text was not put
 abbrev pub IsCommandStop : Option FileContents → Bool → Asked → Stop → Type 0

@@ -4,7 +4,7 @@ use Rattle.std.specs.Borrow.{Bor}
 use Rattle.rv_base.specs.Files.{FileContents}
 use Rattle.rvtest_cli.specs.declared.counts.CountsAsked.{CountsAsked}
 use Rattle.rv_command.specs.Messages.{path_message, path_number_message}
-use Rattle.rv_command.specs.Stops.{IsStop, IsUnreadStop}
+use Rattle.rv_command.specs.Stops.{IsStop, IsResultUnreadStop}
 use Rattle.rv_command.specs.Texts.{IsTextAt, optional_text}
 use Rattle.rv_command.specs.declared.stop.Stop.{Stop}
 use Rattle.rv_command.specs.declared.stop.Stop.TheVariants as stop
@@ -20,6 +20,7 @@ use Rattle.rv_counts.specs.declared.table.CountTable.{CountTable}
 use Rattle.rv_text.specs.Printable.{printable_text}
 use Rattle.rv_text.specs.Words.{word_digits}
 use Rattle.rvtest_app.specs.CountSums.{AreAdded, IsTableAt}
+use Rattle.rvtest_app.specs.Overwrites.{IsSumOverwriteStop}
 use Rattle.rvtest_app.specs.WrittenTexts.{IsUnwrittenAtStop, written_path}
 
 -- a text at a path is refused as a table of counts
@@ -61,7 +62,7 @@ IsGreatSumStop known path before why = (table : CountTable) × (IsTableAt known 
 
 -- the path was not read; or its text is no table; or it has no sum with what was added before
 abbrev pub IsUnaddedStop : Option FileContents → List ℕ → CountTable → Stop → Type 0
-IsUnaddedStop known path before why = IsUnreadStop known path why
+IsUnaddedStop known path before why = IsResultUnreadStop known path why
     ⊎ (((text : List ℕ) × (IsTextAt known path text × IsTableFaultStop path text why))
     ⊎ IsGreatSumStop known path before why)
 
@@ -75,8 +76,9 @@ pub record IsSumStop (known : Option FileContents) (paths : List (Bor (List ℕ)
   pub added : AreAdded known before no_counts sum
   pub stopped : IsUnaddedStop known path.now sum why
 
--- `counts`: memory was wanting, or one of the tables was not added, or all were, and their sum was not written
+-- `counts`: the sum would replace a table; or memory was wanting, or one of the tables was not added, or all were, and their sum was
+-- not written
 abbrev pub IsCountsStop : Option FileContents → CountsAsked → Stop → Type 0
-IsCountsStop known words why = (why ≡ stop.OutOfMemory) ⊎ (IsSumStop known words.tables.items why
+IsCountsStop known words why = IsSumOverwriteStop words why ⊎ ((why ≡ stop.OutOfMemory) ⊎ (IsSumStop known words.tables.items why
     ⊎ ((sum : CountTable) × (AreAdded known words.tables.items no_counts sum
-    × IsUnwrittenAtStop (written_path (optional_text words.out)) why)))
+    × IsUnwrittenAtStop (written_path (optional_text words.out)) why))))

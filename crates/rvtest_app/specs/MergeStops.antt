@@ -3,7 +3,7 @@ use Rattle.std.specs.Prelude.{◌≡◌, ◌⊎◌, ◌++◌, ◌∷◌, ℕ, Li
 use Rattle.std.specs.Borrow.{Bor}
 use Rattle.rv_base.specs.Files.{FileContents}
 use Rattle.rvtest_cli.specs.declared.merge.MergeAsked.{MergeAsked}
-use Rattle.rv_command.specs.Stops.{IsUnreadStop}
+use Rattle.rv_command.specs.Stops.{IsResultUnreadStop}
 use Rattle.rv_command.specs.Texts.{optional_text}
 use Rattle.rv_command.specs.declared.stop.Stop.{Stop}
 use Rattle.rv_command.specs.declared.stop.Stop.TheVariants as stop
@@ -11,6 +11,7 @@ use Rattle.rv_merge.specs.Parts.{AreParts}
 use Rattle.rv_report.specs.declared.row.Row.{Row}
 use Rattle.rvtest_app.specs.MergeRefusals.{ArePartsRefused}
 use Rattle.rvtest_app.specs.Merges.{AreTextsAt, merged_report_path}
+use Rattle.rvtest_app.specs.Overwrites.{IsMergeOverwriteStop}
 use Rattle.rvtest_app.specs.PutStops.{IsOutputStop}
 
 -- one of the paths was not read, and those before it were
@@ -21,7 +22,7 @@ pub record IsPartUnreadStop (known : Option FileContents) (paths : List (Bor (Li
   pub texts : List (List ℕ)
   pub listed : paths ≡ before ++ path ∷ behind
   pub read : AreTextsAt known before texts
-  pub unread : IsUnreadStop known path.now why
+  pub unread : IsResultUnreadStop known path.now why
 
 -- memory was wanting, or one of the parts was not read
 abbrev pub ArePartsUnread : Option FileContents → List (Bor (List ℕ)) → Stop → Type 0
@@ -37,7 +38,7 @@ abbrev pub IsMergeOfStop : MergeAsked → List (List ℕ) → Stop → Type 0
 IsMergeOfStop words texts why = ArePartsRefused words.parts.items texts why
     ⊎ ((rows : List Row) × (AreParts rows texts × IsMergedPutStop words why))
 
--- `merge`: a part was not read, or all were, and that happened
+-- `merge`: a file would replace a part; or a part was not read, or all were, and that happened
 abbrev pub IsMergeStop : Option FileContents → MergeAsked → Stop → Type 0
-IsMergeStop known words why = ArePartsUnread known words.parts.items why
-    ⊎ ((texts : List (List ℕ)) × (AreTextsAt known words.parts.items texts × IsMergeOfStop words texts why))
+IsMergeStop known words why = IsMergeOverwriteStop words why ⊎ (ArePartsUnread known words.parts.items why
+    ⊎ ((texts : List (List ℕ)) × (AreTextsAt known words.parts.items texts × IsMergeOfStop words texts why)))

@@ -21,6 +21,7 @@ use Rattle.rvtest_app.specs.IntoReports.{run_report_path}
 use Rattle.rvtest_app.specs.IntoStops.{IsIntoStop}
 use Rattle.rvtest_app.specs.KnownStops.{IsKnownStop}
 use Rattle.rvtest_app.specs.Outlets.{file_path_at}
+use Rattle.rvtest_app.specs.Overwrites.{IsRunOverwriteStop}
 use Rattle.rvtest_app.specs.PutStops.{IsFileStop, IsOutputStop, IsUnwrittenStop}
 use Rattle.rvtest_app.specs.Runs.{AreJobsToRun, AreRequestedJobs}
 use Rattle.rvtest_app.specs.StackStops.{IsUnstackedStop}
@@ -80,8 +81,8 @@ IsRunPutStop words why = IsRowsPutStop words why
 abbrev pub IsUnfinishedStop : Option FileContents → RunAsked → Stop → Type 0
 IsUnfinishedStop known words why = AreJobsToRun known words × IsRunPutStop words why
 
--- `run`: no jobs were found that words ask for; or they were, and the known failures among them were not; or both were, and the run
--- was not finished
+-- `run`: a file would replace one that it reads; or no jobs were found that words ask for; or they were, and the known failures among
+-- them were not; or both were, and the run was not finished
 abbrev pub IsRunStop : Option FileContents → RunAsked → Stop → Type 0
-IsRunStop known words why = IsUnrequestedStop known words why
-    ⊎ (IsUnknownStop known words why ⊎ IsUnfinishedStop known words why)
+IsRunStop known words why = IsRunOverwriteStop words why ⊎ (IsUnrequestedStop known words why
+    ⊎ (IsUnknownStop known words why ⊎ IsUnfinishedStop known words why))

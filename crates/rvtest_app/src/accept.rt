@@ -15,20 +15,25 @@ ghost use Rattle.rv_choice.specs.Chosen.{IsChoice};
 ghost use Rattle.rv_command.specs.Texts.{IsTextAt, optional_text};
 ghost use Rattle.rv_lists.specs.JobList.{job_list_of};
 ghost use Rattle.rv_lists.specs.Jobs.{without_expectations};
-ghost use Rattle.rvtest_app.specs.AcceptStops.{IsAcceptingStop, IsGoldenUnreadStop, IsPutAcceptedStop};
-ghost use Rattle.rvtest_app.specs.Accepts.{AreGoldenFiles, AreRowsPut, IsAcceptedAt, IsAcceptedOfMarks, IsOutcomePut, accept_status};
+ghost use Rattle.rvtest_app.specs.AcceptStops.{IsAcceptChosenStop, IsGoldenUnreadStop, IsPutAcceptedStop};
+ghost use Rattle.rvtest_app.specs.Accepts.{AreGoldenFiles, AreJudged, AreRowsPut, IsAcceptedAt, IsAcceptedOfMarks, IsOutcomePut, IsOutsideTold, accept_status};
 ghost use Rattle.rvtest_app.specs.Accepts.{acceptance_of};
 ghost use Rattle.rvtest_app.specs.CommandStops.{IsAcceptStop, IsListStop};
 ghost use Rattle.rvtest_app.specs.Commands.{failure_rule};
+ghost use Rattle.rvtest_app.specs.Overwrites.{AreAcceptFilesApart, AreAcceptInputsKept, IsAcceptOverwriteStop};
 ghost use Rattle.rvtest_app.specs.Said.{said};
 
-use crate::accepted_files::{check_written_files, read_golden_files, write_accepted_files};
+use crate::accept_inputs::refuse_accept_overwrites;
+use crate::accepted_files::{
+    check_unchanged_files, check_written_files, read_golden_files, write_accepted_files,
+};
 use crate::crew::requested_crew;
 use crate::destinations::Destinations;
 use crate::host::Host;
 use crate::missing_images::missing_images_note;
 use crate::rules::failure_rule;
 use crate::run::gather_jobs_at;
+use crate::standing::Standpoint;
 use rv_accept::{
     Acceptance, Claim, JobRun, claims_of_runs, judged_runs, marks_to_run, placed_rows, targets_of,
 };
@@ -37,10 +42,10 @@ use rv_choice::{Choice, Chooser};
 use rv_command::{DONE, SOME_FAIL, Stop, parse_list, put_message, put_results, read_list_text};
 use rv_files::{Inputs, NotingStore, Outputs};
 use rv_fleet::{Batch, FreeGate, PlacesError, Row, run_places};
-use rv_jobs::{JobList, marked_places};
+use rv_jobs::{Job, JobList, marked_places};
 use rv_rows::Sink;
 use rvtest_cli::{AcceptAsked, ChoosingCommand};
-use std::alloc::Global;
+use std::alloc::{AllocError, Global};
 use std::sync::Wait;
 use std::thread::Threads;
 
@@ -91,6 +96,8 @@ pub(crate) fn accept_runs<
     // In a check nothing is opened for writing, whatever comes of it.
     ensures unwritten { asked.now.check ≡ true → to.new.files ≡ to.old.files }
     ensures stopped { IfErr result (IsAcceptStop (D.contents host.now.inputs.now) asked.now) }
+    // What is read and not accepted stays.
+    ensures kept { AreAcceptInputsKept (D.contents host.now.inputs.now) asked.now (F.placed to.old.files) (F.placed to.new.files) }
 {
     let list = chosen_list(host, asked)?;
     put_message(&mut to.errors, list.notes.as_slice());
@@ -122,19 +129,69 @@ fn accept_chosen<
         (said F.placed O.taken E.taken E.failed to.old) (said F.placed O.taken E.taken E.failed to.new)) }
     ensures unwritten { asked.now.check ≡ true → to.new.files ≡ to.old.files }
     ensures stopped { IfErr result
-        (IsAcceptingStop (D.contents host.now.inputs.now) asked.now list.now.jobs) }
+        (IsAcceptChosenStop (D.contents host.now.inputs.now) asked.now list.now.jobs) }
+    ensures kept { (F.placed to.new.files ≡ F.placed to.old.files) ⊎ IfSome (F.placed to.old.files) (λ _. AreAcceptFilesApart
+        asked.now list.now.jobs (marks_to_run list.now.jobs chosen.now)) }
 {
-    let marked = marked_jobs(host.alloc, asked, list, chosen)?;
+    let marked = guarded_jobs(host, asked, list, chosen, to)?;
     let rows = run_marked(host, asked, marked, to)?;
     let list = ListFile {
         path: asked.run.list,
         text: list.text.as_slice(),
         jobs: list.jobs.as_slice(),
     };
-    let acceptance = acceptance_of(asked.ends);
-    let runs = judged_runs(host.alloc, acceptance, list.jobs, chosen, rows)?;
+    let runs = judge_rows(host, asked, list.jobs, chosen, rows)?;
     let outcomes = outcomes_of_runs(host, asked, &list, runs)?;
     put_accepted(host, asked, &list, &outcomes, to)
+}
+
+// The jobs that run, once it is known that no file replaces something else that is read.
+fn guarded_jobs<R, D, F: Outputs + Drop, O: Sink + Drop, E: Sink + Drop>(
+    host: &Host<'_, R, D>,
+    asked: &AcceptAsked<'_>,
+    list: &ChosenList,
+    chosen: &[bool],
+    to: &mut Destinations<F, O, E>,
+) -> Result<BareJobs, Stop>
+    requires counted { length chosen.now ≡ length list.now.jobs }
+    requires listed { job_list_of list.now.text.items ≡ Ok list.now.jobs }
+    ensures jobs { IfOk result (λ marked. marked.jobs ≡ map without_expectations list.now.jobs) }
+    ensures marks { IfOk result (λ marked. marked.marks.items
+        ≡ marks_to_run list.now.jobs chosen.now) }
+    ensures files { to.new.files ≡ to.old.files }
+    ensures outside { OnOk result (IsOutsideTold (said F.placed O.taken E.taken E.failed to.old)
+        (said F.placed O.taken E.taken E.failed to.new)) }
+    ensures apart { OnOk result (IfSome (F.placed to.old.files) (λ _. AreAcceptFilesApart
+        asked.now list.now.jobs (marks_to_run list.now.jobs chosen.now))) }
+    ensures stopped { IfErr result IsAcceptOverwriteStop }
+{
+    let marked = marked_jobs(host.alloc, asked, list, chosen)?;
+    let (jobs, marks) = (list.jobs.as_slice(), marked.marks.as_slice());
+    let outside = refuse_accept_overwrites(&to.files, host.alloc, asked, jobs, marks)?;
+    put_message(&mut to.errors, outside.as_slice());
+    Ok(marked)
+}
+
+// The runs of jobs, of which some are chosen, by the rows of those that were run.
+fn judge_rows<R, D: Inputs>(
+    host: &Host<'_, R, D>,
+    asked: &AcceptAsked<'_>,
+    jobs: &[Job],
+    chosen: &[bool],
+    rows: Vec<Option<Row>>,
+) -> Result<Vec<Option<JobRun>>, AllocError>
+    ensures { IfOk result (λ runs. AreJudged (D.contents host.now.inputs.now) asked.now jobs.now chosen.now
+        rows.items runs.items) }
+{
+    let standpoint = Standpoint {
+        inputs: host.inputs,
+        alloc: host.alloc,
+        folder: asked.run.root,
+        rows: rows.as_slice(),
+    };
+    let candidates = standpoint.candidates(jobs, chosen)?;
+    let acceptance = acceptance_of(asked.ends);
+    judged_runs(host.alloc, acceptance, jobs, candidates.as_slice(), rows)
 }
 
 fn acceptance_of(ends: bool) -> Acceptance
@@ -188,7 +245,7 @@ fn marked_jobs(
     requires listed { job_list_of list.now.text.items ≡ Ok list.now.jobs }
     ensures jobs { IfOk result (λ marked. marked.jobs ≡ map without_expectations list.now.jobs) }
     ensures marks { IfOk result (λ marked. marked.marks.items
-        ≡ marks_to_run list.now.jobs chosen.now list.now.jobs chosen.now) }
+        ≡ marks_to_run list.now.jobs chosen.now) }
     ensures memory { IfErr result (λ why. why ≡ Stop.OutOfMemory) }
 {
     let listed = parse_list(alloc, asked.run.list, list.text.as_slice())?;
@@ -299,6 +356,7 @@ fn put_accepted<'x, R, D: Inputs, F: Outputs + Drop, O: Sink + Drop, E: Sink + D
         put_count(host.alloc, &accepting, Writing::Asked, &mut to.out)?;
         return Ok(accept_status(accepting.left_count(), accepting.changed_count()));
     }
+    check_unchanged_files(host.inputs, host.alloc, &accepting)?;
     write_accepted_files(&mut to.files, host.alloc, &accepting)?;
     check_written_files(host.inputs, host.alloc, &accepting)?;
     put_count(host.alloc, &accepting, Writing::Done, &mut to.out)?;

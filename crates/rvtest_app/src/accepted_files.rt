@@ -1,10 +1,10 @@
 //! The files that `accept` reads and writes.
 
-ghost use Rattle.std.specs.Prelude.{◌≡◌, ◌++◌, ◌∷◌, [], IfErr, IfOk, OnOk, Some};
+ghost use Rattle.std.specs.Prelude.{◌≡◌, ◌++◌, ◌∷◌, [], IfErr, IfOk, IsTrue, OnOk, Some, option_map};
 ghost use Rattle.rv_command.specs.Stops.{IsListUnreadStop};
 ghost use Rattle.rv_command.specs.Texts.{optional_text};
 ghost use Rattle.rv_files.specs.UnreadPaths.{resolved_path};
-ghost use Rattle.rvtest_app.specs.AcceptStops.{AreTargetsUnread, IsOtherBytesStop, IsStopOfFiles, IsUncheckedStop, IsUnmadeStop};
+ghost use Rattle.rvtest_app.specs.AcceptStops.{AreTargetsUnread, IsChangedStop, IsOtherBytesStop, IsStopOfFiles, IsUncheckedStop, IsUnmadeStop};
 ghost use Rattle.rvtest_app.specs.Accepts.{AreGoldenFiles, IsOldAt, written_files};
 ghost use Rattle.rvtest_app.specs.Outlets.{AreFilesPlaced};
 
@@ -46,7 +46,12 @@ fn add_file(files: &mut Vec<GoldenFile>, file: GoldenFile) -> Result<(), AllocEr
     Ok(())
 }
 
-fn place_of_path(alloc: Global, folder: Option<&str>, path: &str) -> Result<Text, AllocError>
+/// The path of a golden file, which is taken from a folder where one is given.
+pub(crate) fn place_of_path(
+    alloc: Global,
+    folder: Option<&str>,
+    path: &str,
+) -> Result<Text, AllocError>
     ensures { IfOk result (λ place. place ≡ resolved_path (optional_text folder.entry) path.now) }
 {
     match folder {
@@ -78,6 +83,68 @@ fn read_golden_file<D: Inputs>(inputs: &D, alloc: Global, path: &str) -> Result<
             io_error_text(reason),
         ))),
     }
+}
+
+/// Refuses to write over a golden file or a list that changed since it was read.
+pub(crate) fn check_unchanged_files<D: Inputs>(
+    inputs: &D,
+    alloc: Global,
+    accepting: &Accepting<'_>,
+) -> Result<(), Stop>
+    ensures { IfErr result (IsStopOfFiles (IsUncheckedStop (D.contents inputs.now))
+        accepting.now.list.path.now accepting.now.files.now) }
+{
+    for file in accepting.files {
+        if file.new_text(&accepting.list).is_some() {
+            check_unchanged(inputs, alloc, file.place.as_str(), old_text(file))?;
+        }
+    }
+    if accepting.new.text.is_none() {
+        return Ok(());
+    }
+    let list = &accepting.list;
+    check_unchanged(inputs, alloc, list.path, Some(list.text))
+}
+
+fn old_text(file: &GoldenFile) -> Option<&[u8]> {
+    match &file.old {
+        Some(old) => Some(old.as_slice()),
+        None => None,
+    }
+}
+
+fn check_unchanged<D: Inputs>(
+    inputs: &D,
+    alloc: Global,
+    path: &str,
+    old: Option<&[u8]>,
+) -> Result<(), Stop>
+    ensures same { OnOk result (IsOldAt (D.contents inputs.now) path.now (option_map (λ old. old.now) old.entry)) }
+    ensures stopped { IfErr result (IsUncheckedStop (D.contents inputs.now) path.now) }
+{
+    let found = read_golden_file(inputs, alloc, path)?;
+    if is_text(&found, old) {
+        Ok(())
+    } else {
+        Err(changed_stop(alloc, path))
+    }
+}
+
+fn is_text(found: &Option<Bytes>, old: Option<&[u8]>) -> bool
+    ensures { IsTrue result → found.now ≡ option_map (λ old. old.now) old.entry }
+{
+    match (found, old) {
+        (Some(found), Some(old)) => found.as_slice() == old,
+        (None, None) => true,
+        _ => false,
+    }
+}
+
+fn changed_stop(alloc: Global, path: &str) -> Stop
+    ensures { IsChangedStop path.now result }
+{
+    let what = "changed since it was read; nothing is written";
+    Stop::of_failure(path_message(alloc, path, what))
 }
 
 /// Writes each golden file that changes, in the order of the list, and then the list. Each is there whole or as it was.

@@ -1,6 +1,6 @@
 //! The command `counts`.
 
-ghost use Rattle.std.specs.Prelude.{◌≡◌, ◌⊎◌, ◌≤◌, IfErr, IfOk, OnErr, true};
+ghost use Rattle.std.specs.Prelude.{◌≡◌, ◌⊎◌, ◌≤◌, IfErr, IfOk, IfSome, OnErr, OnOk, true};
 ghost use Rattle.rv_command.specs.Texts.{optional_text};
 ghost use Rattle.rv_counts.specs.Sum.{no_counts};
 ghost use Rattle.rv_counts.specs.Table.{IsTable};
@@ -8,13 +8,15 @@ ghost use Rattle.rv_counts.specs.Text.{table_text};
 ghost use Rattle.rvtest_app.specs.CountStops.{IsCountsStop, IsReadErrorStop, IsSumErrorStop, IsSumStop, IsTableFaultStop, IsUnaddedStop, great_count_message, two_names_message};
 ghost use Rattle.rvtest_app.specs.CountSums.{AreAdded, IsAdded, IsSumPut};
 ghost use Rattle.rvtest_app.specs.Outlets.{is_stdout};
+ghost use Rattle.rvtest_app.specs.Overwrites.{IsPlacedApart, IsSumFileApart, IsSumOverwriteStop};
 ghost use Rattle.rvtest_app.specs.Said.{said};
 ghost use Rattle.rvtest_app.specs.WrittenTexts.{written_path};
 
 use crate::counts_note::sum_note;
 use crate::destinations::Destinations;
+use crate::overwrites::{look_up_files, read_paths_of_words, refuse_overwrite};
 use crate::written_text::write_text;
-use rv_command::{DONE, Stop, path_message, path_number_message, put_message, read_file};
+use rv_command::{DONE, Stop, path_message, path_number_message, put_message, read_result_file};
 use rv_counts::{CountTable, Images, ReadError, SumError, read_table, sum_of_tables, table_text};
 use rv_files::{Inputs, Outputs};
 use rv_rows::Sink;
@@ -36,13 +38,33 @@ pub(crate) fn put_sum_of_tables<D: Inputs, F: Outputs + Drop, O: Sink + Drop, E:
     // The sum goes to standard output, or nothing does.
     ensures untouched { (is_stdout (written_path (optional_text asked.now.out)) ≡ true) ⊎ (to.new.out ≡ to.old.out) }
     ensures stopped { IfErr result (IsCountsStop (D.contents inputs.now) asked.now) }
+    // The tables stay.
+    ensures kept { IsPlacedApart (IsSumFileApart asked.now) (F.placed to.old.files) (F.placed to.new.files) }
 {
+    refuse_sum_overwrite(&to.files, alloc, asked)?;
     let sum = sum_of_paths(inputs, alloc, asked.tables.as_slice())?;
     let text = table_text(alloc, &sum)?;
     let note = sum_note(alloc, &sum)?;
     write_text(alloc, to, asked.out, text.as_bytes())?;
     put_message(&mut to.errors, note.as_slice());
     Ok(DONE)
+}
+
+// Refuses a file for the sum that would replace or remove a table.
+fn refuse_sum_overwrite<F: Outputs>(
+    files: &F,
+    alloc: Global,
+    asked: &CountsAsked<'_>,
+) -> Result<(), Stop>
+    ensures apart { OnOk result (IfSome (F.placed files.now) (λ _. IsSumFileApart asked.now)) }
+    ensures stopped { IfErr result (IsSumOverwriteStop asked.now) }
+{
+    let read = look_up_files(
+        files,
+        alloc,
+        read_paths_of_words(alloc, asked.tables.as_slice(), "TABLE")?,
+    )?;
+    refuse_overwrite(files, alloc, "--out", asked.out, &read)
 }
 
 // The sum of the tables at some paths.
@@ -73,7 +95,7 @@ fn sum_with_path<D: Inputs>(
     ensures table { IfOk result IsTable }
     ensures stopped { IfErr result (IsUnaddedStop (D.contents inputs.now) path.now before.now) }
 {
-    let text = read_file(inputs, alloc, path)?;
+    let text = read_result_file(inputs, alloc, path)?;
     let table = table_of_text(alloc, path, text.as_slice())?;
     match sum_of_tables(alloc, before, &table) {
         Ok(sum) => Ok(sum),

@@ -7,6 +7,7 @@
 #![tactic(auto)]
 
 mod accept;
+mod accept_inputs;
 mod accept_law;
 mod accepted_files;
 mod check;
@@ -39,12 +40,14 @@ mod merge;
 mod missing_images;
 mod named_job;
 mod outlets;
+mod overwrites;
 mod placing;
 mod planned_run;
 mod profile;
 mod profile_text;
 mod program;
 mod puts;
+mod read_files;
 mod refused_note;
 mod report_summary;
 mod report_telling;
@@ -55,10 +58,12 @@ mod rows_with_most_steps;
 mod rules;
 mod run;
 mod run_counts;
+mod run_inputs;
 mod run_into_files;
 mod run_output;
 mod show;
 mod shown_run;
+mod standing;
 mod terminals;
 mod view;
 mod view_table;

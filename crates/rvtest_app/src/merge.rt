@@ -1,6 +1,6 @@
 //! The command `merge`.
 
-ghost use Rattle.std.specs.Prelude.{◌≡◌, ◌≤◌, ◌++◌, ◌∷◌, [], IfErr, IfOk, OnErr, OnOk, Some, codes, length, map};
+ghost use Rattle.std.specs.Prelude.{◌≡◌, ◌≤◌, ◌++◌, ◌∷◌, [], IfErr, IfOk, IfSome, OnErr, OnOk, Some, codes, length, map};
 ghost use Rattle.std.specs.Fmt.{decimal};
 ghost use Rattle.rv_job_text.specs.TotalsLine.{totals_line};
 ghost use Rattle.rv_lists.specs.Limits.{most_jobs};
@@ -12,6 +12,7 @@ ghost use Rattle.rvtest_app.specs.MergeRefusals.{part_path, two_parts_message};
 ghost use Rattle.rvtest_app.specs.MergeStops.{ArePartsUnread, IsMergeStop, IsMergedPutStop};
 ghost use Rattle.rvtest_app.specs.Merges.{AreTextsAt, IsMergedAt, IsUndoneMergeAt, merged_junit, merged_report_path, merged_suite};
 ghost use Rattle.rvtest_app.specs.Outlets.{AreFilesPlacedInPart, file_at};
+ghost use Rattle.rvtest_app.specs.Overwrites.{AreMergeFilesApart, IsMergeOverwriteStop, IsPlacedApart};
 ghost use Rattle.rvtest_app.specs.Puts.{WentOut};
 ghost use Rattle.rvtest_app.specs.RunOutput.{rows_status};
 ghost use Rattle.rvtest_app.specs.Said.{said};
@@ -20,10 +21,11 @@ ghost use Rattle.rv_command.specs.Texts.{optional_text};
 use crate::destinations::Destinations;
 use crate::junit_class::suite_name;
 use crate::outlets::{abandon_outlets, open_outlets};
+use crate::overwrites::{look_up_files, read_paths_of_words, refuse_overwrite};
 use crate::puts::put_shown;
 use crate::rules::{report_judge, rows_status};
 use crate::whole_files::put_whole_files;
-use rv_command::{Stop, path_message, path_number_message, read_file, refused_line_message};
+use rv_command::{Stop, path_message, path_number_message, read_result_file, refused_line_message};
 use rv_files::{Inputs, Outputs};
 use rv_fleet::Rows;
 use rv_job_text::push_totals_line;
@@ -55,12 +57,33 @@ pub(crate) fn merge_reports<D: Inputs, F: Outputs + Drop, O: Sink + Drop, E: Sin
     ensures undone { OnErr result (IsUndoneMergeAt (D.contents inputs.now) asked.now
         (F.placed to.old.files) (F.placed to.new.files)) }
     ensures stopped { IfErr result (IsMergeStop (D.contents inputs.now) asked.now) }
+    // The parts stay.
+    ensures kept { IsPlacedApart (AreMergeFilesApart asked.now) (F.placed to.old.files) (F.placed to.new.files) }
 {
+    refuse_merge_overwrites(&to.files, alloc, asked)?;
     let texts = read_part_texts(inputs, alloc, asked)?;
     let merged = merge_part_texts(alloc, asked, texts.as_slice())?;
     let status = merged.status;
     put_merged(alloc, asked, merged, to)?;
     Ok(status)
+}
+
+// Refuses a file that would replace or remove a part.
+fn refuse_merge_overwrites<F: Outputs>(
+    files: &F,
+    alloc: Global,
+    asked: &MergeAsked<'_>,
+) -> Result<(), Stop>
+    ensures apart { OnOk result (IfSome (F.placed files.now) (λ _. AreMergeFilesApart asked.now)) }
+    ensures stopped { IfErr result (IsMergeOverwriteStop asked.now) }
+{
+    let read = look_up_files(
+        files,
+        alloc,
+        read_paths_of_words(alloc, asked.parts.as_slice(), "PART")?,
+    )?;
+    refuse_overwrite(files, alloc, "--report", asked.report, &read)?;
+    refuse_overwrite(files, alloc, "--junit", asked.junit, &read)
 }
 
 // Standard output has the report where nothing else is asked for.
@@ -127,7 +150,7 @@ fn read_part_texts<D: Inputs>(
 {
     let mut texts = Vec::new(alloc);
     for path in &asked.parts {
-        let text = read_file(inputs, alloc, path)?;
+        let text = read_result_file(inputs, alloc, path)?;
         add_part_text(&mut texts, text)?;
     }
     Ok(texts)

@@ -4,6 +4,7 @@ ghost use Rattle.std.specs.Prelude.{◌≡◌, ◌⊎◌, ◌≤◌, ◌<◌, No
 ghost use Rattle.std.specs.List.{All};
 ghost use Rattle.rv_jobs.specs.Plans.{AreKept, jobs_needed_for, one_more_times, paths_of, paths_used, unreadable_count};
 ghost use Rattle.rvtest_app.specs.Commands.{failure_rule, requested_verbosity};
+ghost use Rattle.rvtest_app.specs.Overwrites.{AreRunInputsKept};
 ghost use Rattle.rvtest_app.specs.RunStops.{IsRunPutStop, IsRunStop};
 ghost use Rattle.rvtest_app.specs.Runs.{AreJobsToRun, IsRunAt, IsRunOfMarked, IsUndoneRunAt, IsUndoneRunOfPlaces};
 ghost use Rattle.rvtest_app.specs.Runs.{places_of_marks};
@@ -15,6 +16,7 @@ use crate::known_file::requested_known_jobs;
 use crate::missing_images::missing_images_note;
 use crate::planned_run::{MarkedJobs, RequestedJobs};
 use crate::rules::failure_rule;
+use crate::run_inputs::refuse_run_overwrites;
 use crate::terminals::Terminals;
 use rv_command::{DONE, Stop, put_message};
 use rv_expect::{Judge, Rule};
@@ -63,6 +65,8 @@ where
     ensures untouched { IfOk result.1 (λ _. AreJobsToRun (D.contents host.now.inputs.now) asked.now
         ⊎ (result.0.out ≡ to.out)) }
     ensures stopped { IfErr result.1 (IsRunStop (D.contents host.now.inputs.now) asked.now) }
+    // What the run reads stays.
+    ensures kept { AreRunInputsKept (D.contents host.now.inputs.now) asked.now (F.placed to.files) (F.placed result.0.files) }
 {
     let run = ListRun {
         host,
@@ -84,6 +88,9 @@ where
         Ok(known) => known,
         Err(stop) => return (to, Err(stop)),
     };
+    if let Err(stop) = refuse_run_overwrites(&to.files, host.alloc, asked, jobs.as_slice()) {
+        return (to, Err(stop));
+    }
     put_message(&mut to.errors, notes.as_slice());
     match marks {
         Some(marks) => {

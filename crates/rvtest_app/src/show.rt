@@ -1,6 +1,6 @@
 //! The command `show`.
 
-ghost use Rattle.std.specs.Prelude.{◌≡◌, ◌≤◌, ◌<◌, ◌^◌, None, IfErr, IfOk, OnErr, OnOk, Some, length};
+ghost use Rattle.std.specs.Prelude.{◌≡◌, ◌≤◌, ◌<◌, ◌^◌, None, IfErr, IfOk, IfSome, OnErr, OnOk, Some, length};
 ghost use Rattle.rv_expect.specs.Judgement.{judging_of};
 ghost use Rattle.rv_command.specs.Texts.{optional_text};
 ghost use Rattle.rv_report.specs.Report.{report_text};
@@ -11,12 +11,14 @@ ghost use Rattle.rvtest_app.specs.Commands.{report_judging};
 ghost use Rattle.rvtest_app.specs.RunOutput.{rows_status};
 ghost use Rattle.rvtest_app.specs.ReportSummary.{summary_text};
 ghost use Rattle.rvtest_app.specs.Outlets.{AreFilesPlacedInPart, file_at};
+ghost use Rattle.rvtest_app.specs.Overwrites.{IsPlacedApart, IsShowFileApart, IsShowOverwriteStop};
 ghost use Rattle.rvtest_app.specs.Shows.{IsShownAt, IsUndoneShowAt, shown_junit};
 ghost use Rattle.rvtest_app.specs.Said.{said};
 
 use crate::destinations::Destinations;
 use crate::junit_class::suite_name;
 use crate::outlets::{abandon_outlets, open_outlets};
+use crate::overwrites::{look_up_files, read_paths_of_words, refuse_overwrite};
 use crate::puts::put_shown;
 use crate::report_summary::push_summary;
 use crate::rules::{report_judge, rows_status};
@@ -51,7 +53,10 @@ pub(crate) fn show_report<D: Inputs, F: Outputs + Drop, O: Sink + Drop, E: Sink 
     ensures undone { OnErr result (IsUndoneShowAt (D.contents inputs.now) asked.entry
         (F.placed to.old.files) (F.placed to.new.files)) }
     ensures stopped { IfErr result (IsShowStop (D.contents inputs.now) asked.entry) }
+    // The report stays.
+    ensures kept { IsPlacedApart (IsShowFileApart asked.entry) (F.placed to.old.files) (F.placed to.new.files) }
 {
+    refuse_show_overwrite(&to.files, alloc, &asked)?;
     let requested = RequestedReport {
         path: asked.report,
         partial: asked.partial,
@@ -63,6 +68,23 @@ pub(crate) fn show_report<D: Inputs, F: Outputs + Drop, O: Sink + Drop, E: Sink 
     let status = summarized.status;
     put_summarized_report(alloc, asked, summarized, to)?;
     Ok(status)
+}
+
+// Refuses a JUnit file that would replace or remove the report.
+fn refuse_show_overwrite<F: Outputs>(
+    files: &F,
+    alloc: Global,
+    asked: &ShowAsked<'_>,
+) -> Result<(), Stop>
+    ensures apart { OnOk result (IfSome (F.placed files.now) (λ _. IsShowFileApart asked.now)) }
+    ensures stopped { IfErr result (IsShowOverwriteStop asked.now) }
+{
+    let read = look_up_files(
+        files,
+        alloc,
+        read_paths_of_words(alloc, &[asked.report], "REPORT")?,
+    )?;
+    refuse_overwrite(files, alloc, "--junit", asked.junit, &read)
 }
 
 // A report with its summary and its status.

@@ -191,11 +191,11 @@ list_app = with_rule (with_choice (app_of_list (codes "list"))) (flag_rule (code
 abbrev pub with_threads : App → App
 with_threads app = with_rule (with_rule (with_rule app test_workers_rule) group_rule) (option_rule (codes "root"))
 
--- accept <LIST> [--only <NAME>].. [--match <REGEX>] [--exclude <REGEX>] [--failed <REPORT>] [--partial] [--ends] [--check]
+-- accept <LIST> [--only <NAME>].. [--match <REGEX>] [--exclude <REGEX>] [--failed <REPORT>] [--partial] [--ends] [--check] [--outside]
 -- [--workers <N>] [--group <N>] [--root <DIR>]
 abbrev pub accept_app : App
-accept_app = with_threads (with_rule (with_rule (with_choice (app_of_list (codes "accept"))) (flag_rule (codes "ends")))
-    (flag_rule (codes "check")))
+accept_app = with_threads (with_rule (with_rule (with_rule (with_choice (app_of_list (codes "accept"))) (flag_rule (codes "ends")))
+    (flag_rule (codes "check"))) (flag_rule (codes "outside")))
 
 -- cover <LIST> [--only <NAME>].. [--match <REGEX>] [--exclude <REGEX>] [--failed <REPORT>] [--partial] [--shard <K/N>] [--lenient]
 -- [--workers <N>] [--group <N>] [--root <DIR>] [--counts <TABLE>] [--csv]

@@ -95,11 +95,12 @@ pub record DiffWords : Type 0 where
   pub color : Option Text
 
 -- jobs of a list whose runs are accepted: those of which another exit code is accepted too, or another kind of fault, where words ask
--- for that; what changes is told alone where words ask for that
+-- for that; what changes is told alone where words ask for that; golden files may be anywhere where words ask for that
 pub record AcceptWords : Type 0 where
   pub run : RunWords
   pub ends : Bool
   pub check : Bool
+  pub outside : Bool
 
 -- tables of counts that are to be added up, with the path of the sum
 pub record CountsWords : Type 0 where
@@ -214,6 +215,7 @@ accept_words list rows group = accept (record {
   run = run_words list group rows;
   ends = is_flag_set (codes "ends") rows;
   check = is_flag_set (codes "check") rows;
+  outside = is_flag_set (codes "outside") rows;
 })
 
 abbrev pub accept_request : List Row → Option Words
@@ -615,6 +617,7 @@ accept_asked_words value = record {
   run = run_asked_words value.run;
   ends = value.ends;
   check = value.check;
+  outside = value.outside;
 }
 
 abbrev pub cover_asked_words : CoverAsked → CoverWords

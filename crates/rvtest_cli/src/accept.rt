@@ -23,6 +23,8 @@ pub struct AcceptAsked<'a> {
     pub ends: bool,
     /// Whether changes are told alone, and nothing is written.
     pub check: bool,
+    /// Whether golden files outside of the list's directory, or of the one that paths are taken from, are written too.
+    pub outside: bool,
 }
 
 /// What the values of `accept` ask for, or which rule its options break.
@@ -56,5 +58,6 @@ fn valid_accept_request<'a>(
         run,
         ends: is_flag_set(values, "ends"),
         check: is_flag_set(values, "check"),
+        outside: is_flag_set(values, "outside"),
     })))
 }

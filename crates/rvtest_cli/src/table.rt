@@ -136,6 +136,11 @@ pub(crate) const ACCEPT: Subcommand<'static> = Subcommand {
             "Accepts another exit code too, and another kind of fault",
         ),
         Argument::Flag("check", None, "Tells what would change, and writes nothing"),
+        Argument::Flag(
+            "outside",
+            None,
+            "Also writes golden files outside of the list's directory, or of DIR",
+        ),
         Argument::Number("workers", Some('j'), THREADS, WORKERS, &[]),
         Argument::Group,
         Argument::Option("root", "DIR", ROOT),

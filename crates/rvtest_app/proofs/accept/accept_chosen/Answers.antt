@@ -1,4 +1,4 @@
-use Rattle.std.proofs.Common.{refl}
+use Rattle.std.proofs.Common.{inr, refl}
 use Rattle.std.proofs.lemmas.Result.{err_from_is_err_and}
 use Rattle.rvtest_app.specs.Said.{said}
 use Rattle.rvtest_app.proofs.AcceptStops.{files_unput, stop_of_unread}
@@ -11,8 +11,8 @@ pub returns-in_err-outcomes-clause-stopped : goal.returns-in_err-outcomes-clause
 returns-in_err-outcomes-clause-stopped g c =
     let is = err_from_is_err_and c.from_residual-in_err-outcomes.result c.from_residual-in_err-outcomes.ensures.1 in
     rw (is.1, is.2)
-    (stop_of_unread (g.D.Inputs.contents c.args.host.now.inputs.now) c.args.asked.now c.args.list.now.jobs _
-    (rw c.as_slice-2.ensures.value at c.in_err-outcomes.ensures.stopped))
+    (inr (stop_of_unread (g.D.Inputs.contents c.args.host.now.inputs.now) c.args.asked.now c.args.list.now.jobs _
+    (rw c.as_slice-2.ensures.value at c.in_err-outcomes.ensures.stopped)))
 
 pub returns-clause-accepted : goal.returns-clause-accepted
 returns-clause-accepted g c =
@@ -20,13 +20,17 @@ returns-clause-accepted g c =
     let outcomes = c.in_ok-outcomes.outcomes in
     IfOk-map c.put_accepted.result _ _
     (λ status put. record {
+      first = said g.F.Outputs.placed g.O.Sink.taken g.E.Sink.taken g.E.Sink.failed c.guarded_jobs.new.to;
+      outside = c.in_ok-marked.ensures.outside;
       rows = c.in_ok-rows.rows.items;
       middle = said g.F.Outputs.placed g.O.Sink.taken g.E.Sink.taken g.E.Sink.failed c.run_marked.new.to;
       ran = rw (c.in_ok-marked.ensures.jobs, c.in_ok-marked.ensures.marks) at c.in_ok-rows.ensures.rows;
+      judged = c.in_ok-runs.runs.items;
+      judging = rw c.as_slice-2.ensures.value at c.in_ok-runs.ensures;
       told = put.told;
-      outcome = rw (c.as_slice.ensures.value, c.as_slice-2.ensures.value, c.acceptance_of-acceptance.ensures)
+      outcome = rw (c.as_slice.ensures.value, c.as_slice-2.ensures.value)
           at (outcome_told known c.args.asked.now _ _ outcomes.claims.items outcomes.files.items outcomes.new put.told refl
-          (rw c.in_ok-runs.ensures at c.in_ok-outcomes.ensures.runs) c.in_ok-outcomes.ensures.claims
+          c.in_ok-outcomes.ensures.runs c.in_ok-outcomes.ensures.claims
           c.in_ok-outcomes.ensures.files c.in_ok-outcomes.ensures.edited c.in_ok-outcomes.ensures.meant
           c.in_ok-outcomes.ensures.unchanged put.of);
       put = put.put;
@@ -37,8 +41,8 @@ pub returns-clause-stopped : goal.returns-clause-stopped
 returns-clause-stopped g c =
     let outcomes = c.in_ok-outcomes.outcomes in
     IfErr-map c.put_accepted.result _ _
-    (λ why is. files_unput (g.D.Inputs.contents c.args.host.now.inputs.now) c.args.asked.now c.args.list.now.jobs _
+    (λ why is. inr (files_unput (g.D.Inputs.contents c.args.host.now.inputs.now) c.args.asked.now c.args.list.now.jobs _
     outcomes.new.runs.items outcomes.claims.items outcomes.files.items why refl
     (rw c.as_slice-2.ensures.value at c.in_ok-outcomes.ensures.claims)
-    c.in_ok-outcomes.ensures.files is)
+    c.in_ok-outcomes.ensures.files is))
     c.put_accepted.ensures.stopped

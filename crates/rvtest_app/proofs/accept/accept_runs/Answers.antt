@@ -1,4 +1,4 @@
-use Rattle.std.proofs.Common.{None, Some, inl, inr, refl}
+use Rattle.std.proofs.Common.{None, Some, inl, inr, refl, ⊎_elim}
 use Rattle.std.proofs.lemmas.Result.{err_from_is_err_and}
 use Rattle.rvtest_app.specs.Said.{said}
 use Rattle.rvtest_app.proofs.Results.{IfOk-map}
@@ -51,3 +51,13 @@ returns-clause-accepted g c = record {
   said = (refl, rw c.as_slice.ensures.value at c.put_message.ensures, refl);
   accepted = (refl, refl);
 }
+
+pub returns-in-Some-clause-kept : goal.returns-in-Some-clause-kept
+returns-in-Some-clause-kept g c =
+    ⊎_elim inl (λ apart. inr (
+      c.in_ok-list.list.text.items,
+      c.in_ok-list.list.jobs,
+      c.in-Some.chosen.items,
+      (c.in_ok-list.ensures.read, (c.in_ok-list.ensures.listed, apart)),
+    ))
+    (rw c.as_slice-in-Some.ensures.value at c.accept_chosen.ensures.kept)

@@ -8,14 +8,14 @@ returns-in_err-put_merged-clause-stopped g c =
     let error = err_from_is_err_and c.from_residual-in_err-put_merged.result c.from_residual-in_err-put_merged.ensures.1 in
     let parts = rw c.as_slice.ensures.value at c.in_ok-merged.ensures.parts in
     rw (error.1, error.2)
-    (inr (
+    (inr (inr (
       map (λ text. text.items) c.in_ok-texts.texts.items,
       (
         c.in_ok-texts.ensures.read,
         inr
             (c.in_ok-merged.merged.rows, (parts, c.in_err-put_merged.ensures.stopped)),
       ),
-    ))
+    )))
 
 pub returns-in_err-put_merged-clause-undone : goal.returns-in_err-put_merged-clause-undone
 returns-in_err-put_merged-clause-undone g c =

@@ -5,7 +5,7 @@ use Rattle.rvtest_app.specs.Runs.{AreJobsToRun}
 use Rattle.rvtest_app.proofs.run.run_requested_jobs.Goals as goal
 
 pub returns-in-Err-clause-stopped : goal.returns-in-Err-clause-stopped
-returns-in-Err-clause-stopped g c = inl c.in-Err.ensures.stopped
+returns-in-Err-clause-stopped g c = inr (inl c.in-Err.ensures.stopped)
 
 pub returns-in-Some-clause-undone : goal.returns-in-Some-clause-undone
 returns-in-Some-clause-undone g c =
@@ -34,4 +34,4 @@ returns-in-Some-clause-stopped g c =
       failures = c.in-Ok-requested_known_jobs.known;
       known_to_fail = rw c.as_slice.ensures.value at c.in-Ok-requested_known_jobs.ensures.known;
     } in
-    IfErr-map c.run_marked_jobs.result.1 _ _ (λ why put. inr (inr (found, put))) c.run_marked_jobs.ensures.stopped
+    IfErr-map c.run_marked_jobs.result.1 _ _ (λ why put. inr (inr (inr (found, put)))) c.run_marked_jobs.ensures.stopped

@@ -5,8 +5,8 @@ use Rattle.rvtest_app.proofs.show.show_report.Goals as goal
 
 pub returns-in_err-found-clause-stopped : goal.returns-in_err-found-clause-stopped
 returns-in_err-found-clause-stopped g c =
-    let error = err_from_is_err_and c.from_residual.result c.from_residual.ensures.1 in
-    rw (error.1, error.2) (inl c.in_err-found.ensures.unread)
+    let error = err_from_is_err_and c.from_residual-in_err-found.result c.from_residual-in_err-found.ensures.1 in
+    rw (error.1, error.2) (inr (inl c.in_err-found.ensures.unread))
 
 pub returns-in_err-put_summarized_report-clause-undone : goal.returns-in_err-put_summarized_report-clause-undone
 returns-in_err-put_summarized_report-clause-undone g c =

@@ -1,0 +1,47 @@
+//! Which file a path leads to, however it is spelled.
+
+use crate::sink_paths::directory_of;
+use rv_base::Text;
+use std::alloc::{AllocError, Global};
+use std::io::ErrorKind;
+use std::os::unix::fs::MetadataExt;
+use std::path::{Path, PathBuf};
+use std::rt::Files;
+
+/// A text that two paths share if they lead to the same file of the system, and only then: the device and the inode of what is
+/// there; where nothing is there, the path with its directory as the system resolves it.
+pub(crate) fn file_identity<R: Files>(
+    files: &R,
+    alloc: Global,
+    path: &str,
+) -> Result<Text, AllocError> {
+    match files.metadata(path) {
+        // Files that are no system's have no inodes.
+        Ok(found) if found.ino() != 0 => {
+            let identity = format!(in alloc; "inode {} {}", found.dev(), found.ino())?;
+            Ok(Text::new(identity))
+        }
+        _ => {
+            let path = resolved_path(files, alloc, path)?;
+            let identity = format!(in alloc; "path {}", path.as_str())?;
+            Ok(Text::new(identity))
+        }
+    }
+}
+
+/// The path with its directory as the system resolves it; as it is where the system resolves none.
+pub(crate) fn resolved_path<R: Files>(
+    files: &R,
+    alloc: Global,
+    path: &str,
+) -> Result<PathBuf, AllocError> {
+    let path = Path::new(path);
+    let Some(name) = path.file_name() else {
+        return path.to_path_buf(alloc);
+    };
+    match files.canonicalize(alloc, directory_of(path.as_str()).as_str()) {
+        Ok(folder) => folder.join(alloc, name),
+        Err(error) if error.kind() == ErrorKind::OutOfMemory => Err(AllocError),
+        Err(_) => path.to_path_buf(alloc),
+    }
+}

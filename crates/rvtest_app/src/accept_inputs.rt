@@ -1,0 +1,386 @@
+//! What `accept` reads, beside the files that it writes.
+
+ghost use Rattle.std.specs.Prelude.{◌≡◌, ◌<◌, ◌⊎◌, ◌++◌, ◌∷◌, [], ℕ, List, None, IfErr, IfOk, IfSome, OnOk, codes, false, length, string_bytes};
+ghost use Rattle.std.specs.List.{flat_map, list_any};
+ghost use Rattle.std.specs.Path.{path_buf_bytes};
+ghost use Rattle.rv_command.specs.Texts.{optional_text};
+ghost use Rattle.rvtest_app.specs.Overwrites.{AreAcceptFilesApart, AreFilesOf, IsAcceptOverwriteStop, IsOverwriteStop, IsOverwriteTold};
+ghost use Rattle.rvtest_app.specs.Overwrites.{IsUnread, golden_paths_of_job, golden_paths_of_marked, inputs_of_accept, job_writer_text};
+ghost use Rattle.rvtest_app.specs.Overwrites.{is_golden_read, outside_head, outside_message, outside_path, outside_text, quoted_text, read_paths, writer_text};
+
+use crate::overwrites::{
+    is_among, look_up_files, overwrite_stop, read_paths_of_words, refuse_file,
+};
+use crate::read_files::{ReadFiles, ReadPath, ReadRole};
+use crate::run_inputs::{failed_of_run, push_golden_paths, push_image_path};
+use rv_base::Text;
+use rv_command::{Stop, file_error_stop};
+use rv_files::Outputs;
+use rv_jobs::Job;
+use rv_text::{Span, push_spans, push_text};
+use rvtest_cli::AcceptAsked;
+use std::alloc::{AllocError, Global};
+use std::path::Path;
+
+// What `accept` reads.
+#[derive(Drop)]
+struct AcceptReads<'a> {
+    list: ReadFiles<'a>,
+    // The report whose failed jobs are chosen, and the images.
+    inputs: ReadFiles<'a>,
+    // The golden files of all jobs.
+    golden: ReadFiles<'a>,
+}
+
+/// Refuses the list and the golden files of the jobs that run, where writing one would replace or remove something else that the
+/// command reads, where two paths lead to one of them, and where one cannot be written, or is outside of the list's directory. Gives
+/// what is said of those that are outside, where that is asked for.
+pub(crate) fn refuse_accept_overwrites<F: Outputs>(
+    files: &F,
+    alloc: Global,
+    asked: &AcceptAsked<'_>,
+    jobs: &[Job],
+    marks: &[bool],
+) -> Result<Vec<u8>, Stop>
+    ensures apart { OnOk result (IfSome (F.placed files.now) (λ _. AreAcceptFilesApart asked.now jobs.now marks.now)) }
+    ensures inside { IfOk result (λ notes. IfSome (F.placed files.now) (λ _. notes.items ≡ [])) }
+    ensures stopped { IfErr result IsAcceptOverwriteStop }
+{
+    let root = asked.run.root;
+    let reads = look_up_reads(files, alloc, asked, jobs)?;
+    let mut golden = Vec::new(alloc);
+    push_golden_of_marked(alloc, &mut golden, root, jobs, marks)?;
+    refuse_golden_files(files, alloc, golden.as_slice(), &reads)?;
+    refuse_list_overwrite(files, alloc, asked.run.list, &reads)?;
+    outside_notes(files, alloc, asked, golden.as_slice())
+}
+
+fn look_up_reads<'a, F: Outputs>(
+    files: &F,
+    alloc: Global,
+    asked: &AcceptAsked<'_>,
+    jobs: &'a [Job],
+) -> Result<AcceptReads<'a>, AllocError>
+    ensures list { IfOk result (λ reads. AreFilesOf (F.placed files.now) (asked.now.run.list.now ∷ []) reads.list) }
+    ensures inputs { IfOk result (λ reads. AreFilesOf (F.placed files.now) (inputs_of_accept asked.now jobs.now) reads.inputs) }
+{
+    let list = read_paths_of_words(alloc, &[asked.run.list], "LIST")?;
+    let inputs = inputs_of_accept(alloc, asked, jobs)?;
+    let golden = golden_of_jobs(alloc, asked.run.root, jobs)?;
+    Ok(AcceptReads {
+        list: look_up_files(files, alloc, list)?,
+        inputs: look_up_files(files, alloc, inputs)?,
+        golden: look_up_files(files, alloc, golden)?,
+    })
+}
+
+fn inputs_of_accept<'a>(
+    alloc: Global,
+    asked: &AcceptAsked<'_>,
+    jobs: &'a [Job],
+) -> Result<Vec<ReadPath<'a>>, AllocError>
+    ensures { IfOk result (λ read. read_paths read.items ≡ inputs_of_accept asked.now jobs.now) }
+{
+    let mut read = failed_of_run(alloc, &asked.run)?;
+    for job in jobs {
+        push_image_path(alloc, &mut read, asked.run.root, job)?;
+    }
+    Ok(read)
+}
+
+fn golden_of_jobs<'a>(
+    alloc: Global,
+    root: Option<&str>,
+    jobs: &'a [Job],
+) -> Result<Vec<ReadPath<'a>>, AllocError>
+    ensures { IfOk result (λ read. read_paths read.items ≡ flat_map (golden_paths_of_job (optional_text root.entry)) jobs.now) }
+{
+    let mut read = Vec::new(alloc);
+    for job in jobs {
+        push_golden_paths(alloc, &mut read, root, job)?;
+    }
+    Ok(read)
+}
+
+// Appends the golden files of the jobs that are marked.
+#[tactic(auto, unfolding(crate::specs::Overwrites::golden_paths_of_marked))]
+fn push_golden_of_marked<'a>(
+    alloc: Global,
+    golden: &mut Vec<ReadPath<'a>>,
+    root: Option<&str>,
+    jobs: &'a [Job],
+    marks: &[bool],
+) -> Result<(), AllocError>
+    ensures { OnOk result (read_paths golden.new.items
+        ≡ read_paths golden.old.items ++ golden_paths_of_marked (optional_text root.entry) jobs.now marks.now) }
+{
+    match (jobs, marks) {
+        ([job, jobs @ ..], [marked, marks @ ..]) => {
+            if *marked {
+                push_golden_paths(alloc, golden, root, job)?;
+            }
+            push_golden_of_marked(alloc, golden, root, jobs, marks)
+        }
+        ([], _) => Ok(()),
+        ([_job, _jobs @ ..], []) => Ok(()),
+    }
+}
+
+// The list replaces neither an input nor a golden file.
+fn refuse_list_overwrite<F: Outputs>(
+    files: &F,
+    alloc: Global,
+    list: &str,
+    reads: &AcceptReads<'_>,
+) -> Result<(), Stop>
+    ensures apart { (paths : List (List ℕ)) → AreFilesOf (F.placed files.now) paths reads.now.inputs
+        → OnOk result (IfSome (F.placed files.now) (λ _. IsUnread paths list.now)) }
+    ensures stopped { IfErr result (IsOverwriteStop (codes "LIST") list.now) }
+{
+    refuse_file(files, alloc, "LIST", list, &reads.inputs)?;
+    refuse_file(files, alloc, "LIST", list, &reads.golden)
+}
+
+// No golden file replaces the list, an input, or a golden file of another path.
+fn refuse_golden_files<F: Outputs>(
+    files: &F,
+    alloc: Global,
+    golden: &[ReadPath<'_>],
+    reads: &AcceptReads<'_>,
+) -> Result<(), Stop>
+    ensures no_list { OnOk result (IfSome (F.placed files.now) (λ _. list_any (is_golden_read reads.now.list.identities.items) golden.now ≡ false)) }
+    ensures no_input { OnOk result (IfSome (F.placed files.now) (λ _. list_any (is_golden_read reads.now.inputs.identities.items) golden.now ≡ false)) }
+    ensures stopped { IfErr result IsAcceptOverwriteStop }
+{
+    for at in 0..golden.len() {
+        refuse_golden_file(files, alloc, &golden[at], reads)?;
+    }
+    Ok(())
+}
+
+fn refuse_golden_file<F: Outputs>(
+    files: &F,
+    alloc: Global,
+    golden: &ReadPath<'_>,
+    reads: &AcceptReads<'_>,
+) -> Result<(), Stop>
+    ensures no_list { OnOk result (IfSome (F.placed files.now) (λ _. is_golden_read reads.now.list.identities.items golden.now ≡ false)) }
+    ensures no_input { OnOk result (IfSome (F.placed files.now) (λ _. is_golden_read reads.now.inputs.identities.items golden.now ≡ false)) }
+    ensures stopped { IfErr result IsAcceptOverwriteStop }
+{
+    let path = golden.path.as_str();
+    let replaced = match files.replaced_files(alloc, path) {
+        Ok(replaced) => replaced,
+        Err(error) => return Err(file_error_stop(alloc, path, error)),
+    };
+    let replaced = replaced.as_slice();
+    refuse_first(alloc, golden, &reads.list, reads.list.first_of(replaced))?;
+    refuse_first(
+        alloc,
+        golden,
+        &reads.inputs,
+        reads.inputs.first_of(replaced),
+    )?;
+    let other = first_of_another_path(&reads.golden, replaced, path);
+    refuse_first(alloc, golden, &reads.golden, other)
+}
+
+// The first that is one of some files, and has another path than this.
+fn first_of_another_path(read: &ReadFiles<'_>, files: &[Text], path: &str) -> Option<usize>
+    ensures { IfSome result (λ at. at < length read.now.paths.items) }
+{
+    for at in 0..read.identities.len() {
+        if is_among(files, &read.identities[at]) && read.paths[at].path.as_str() != path {
+            return Some(at);
+        }
+    }
+    None
+}
+
+// A golden file would replace the one that is read at an index, if there is one.
+fn refuse_first(
+    alloc: Global,
+    golden: &ReadPath<'_>,
+    read: &ReadFiles<'_>,
+    first: Option<usize>,
+) -> Result<(), Stop>
+    requires { IfSome first (λ at. at < length read.now.paths.items) }
+    ensures none { OnOk result (first ≡ None) }
+    ensures stopped { IfErr result (IsOverwriteTold (writer_text golden.now.role) (path_buf_bytes golden.now.path)) }
+{
+    match first {
+        None => Ok(()),
+        Some(at) => Err(golden_overwrite_stop(alloc, golden, &read.paths[at])),
+    }
+}
+
+fn golden_overwrite_stop(alloc: Global, golden: &ReadPath<'_>, read: &ReadPath<'_>) -> Stop
+    ensures { IsOverwriteTold (writer_text golden.now.role) (path_buf_bytes golden.now.path) result }
+{
+    match writer_text(alloc, golden.role) {
+        Ok(role) => overwrite_stop(alloc, role.as_str(), golden.path.as_str(), read),
+        Err(error) => Stop::from(error),
+    }
+}
+
+fn writer_text(alloc: Global, role: ReadRole<'_>) -> Result<String, AllocError>
+    ensures { IfOk result (λ text. string_bytes text ≡ writer_text role.entry) }
+{
+    match role {
+        ReadRole::Word(word) => String::from_str(alloc, word),
+        ReadRole::JobFile { key, job } => job_writer_text(alloc, key, job),
+    }
+}
+
+fn job_writer_text(alloc: Global, key: &str, job: &str) -> Result<String, AllocError>
+    ensures { IfOk result (λ text. string_bytes text ≡ job_writer_text key.now job.now) }
+{
+    let mut text = String::from_str(alloc, "job \"")?;
+    text.push_str(job)?;
+    text.push_str("\": ")?;
+    text.push_str(key)?;
+    Ok(text)
+}
+
+// The directory in which golden files are written, and whether they are written elsewhere, too.
+#[derive(Clone, Copy)]
+struct Bounds<'a> {
+    directory: &'a str,
+    is_outside_allowed: bool,
+}
+
+// What is said of golden files outside of the list's directory, or of the one that paths are taken from.
+fn outside_notes<F: Outputs>(
+    files: &F,
+    alloc: Global,
+    asked: &AcceptAsked<'_>,
+    golden: &[ReadPath<'_>],
+) -> Result<Vec<u8>, Stop>
+    ensures inside { IfOk result (λ notes. IfSome (F.placed files.now) (λ _. notes.items ≡ [])) }
+    ensures stopped { IfErr result IsAcceptOverwriteStop }
+{
+    let bounds = Bounds {
+        directory: match asked.run.root {
+            Some(root) => root,
+            None => directory_of(asked.run.list),
+        },
+        is_outside_allowed: asked.outside,
+    };
+    let mut notes = Vec::new(alloc);
+    push_outside_notes(files, alloc, bounds, golden, &mut notes)?;
+    Ok(notes)
+}
+
+fn directory_of(path: &str) -> &str {
+    match Path::new(path).parent() {
+        Some(parent) if !parent.as_str().is_empty() => parent.as_str(),
+        _ => ".",
+    }
+}
+
+fn push_outside_notes<F: Outputs>(
+    files: &F,
+    alloc: Global,
+    bounds: Bounds<'_>,
+    golden: &[ReadPath<'_>],
+    notes: &mut Vec<u8>,
+) -> Result<(), Stop>
+    ensures inside { OnOk result (IfSome (F.placed files.now) (λ _. notes.new.items ≡ notes.old.items)) }
+    ensures stopped { IfErr result IsAcceptOverwriteStop }
+{
+    match golden {
+        [file, rest @ ..] => {
+            check_bounds(files, alloc, bounds, file, notes)?;
+            push_outside_notes(files, alloc, bounds, rest, notes)
+        }
+        [] => Ok(()),
+    }
+}
+
+fn check_bounds<F: Outputs>(
+    files: &F,
+    alloc: Global,
+    bounds: Bounds<'_>,
+    golden: &ReadPath<'_>,
+    notes: &mut Vec<u8>,
+) -> Result<(), Stop>
+    ensures inside { OnOk result (IfSome (F.placed files.now) (λ _. notes.new.items ≡ notes.old.items)) }
+    ensures stopped { IfErr result IsAcceptOverwriteStop }
+{
+    if files.is_below(alloc, bounds.directory, golden.path.as_str())? {
+        return Ok(());
+    }
+    if !bounds.is_outside_allowed {
+        return Err(outside_stop(alloc, bounds.directory, golden));
+    }
+    push_outside_text(alloc, notes, bounds.directory, golden)?;
+    push_text(notes, "\n")?;
+    Ok(())
+}
+
+fn outside_stop(alloc: Global, directory: &str, golden: &ReadPath<'_>) -> Stop
+    ensures { IsAcceptOverwriteStop result }
+{
+    Stop::of_refusal(outside_message(alloc, directory, golden))
+}
+
+fn outside_message(
+    alloc: Global,
+    directory: &str,
+    golden: &ReadPath<'_>,
+) -> Result<Vec<u8>, AllocError>
+    ensures { IfOk result (λ text. text.items
+        ≡ outside_message (writer_text golden.now.role) (path_buf_bytes golden.now.path) directory.now) }
+{
+    let mut text = Vec::new(alloc);
+    push_outside_text(alloc, &mut text, directory, golden)?;
+    push_text(&mut text, "; use --outside to write it\n")?;
+    Ok(text)
+}
+
+fn push_outside_text(
+    alloc: Global,
+    text: &mut Vec<u8>,
+    directory: &str,
+    golden: &ReadPath<'_>,
+) -> Result<(), AllocError>
+    ensures { OnOk result (text.new.items ≡ text.old.items
+        ++ outside_text (writer_text golden.now.role) (path_buf_bytes golden.now.path) directory.now) }
+{
+    let role = writer_text(alloc, golden.role)?;
+    push_outside_head(text, role.as_str())?;
+    push_outside_path(text, golden.path.as_str())?;
+    push_quoted_text(text, directory)
+}
+
+fn push_outside_head(text: &mut Vec<u8>, role: &str) -> Result<(), AllocError>
+    ensures { OnOk result (text.new.items ≡ text.old.items ++ outside_head role.now) }
+{
+    push_spans(text, &[Span::Text("rvtest: "), Span::Text(role)])
+}
+
+fn push_outside_path(text: &mut Vec<u8>, path: &str) -> Result<(), AllocError>
+    ensures { OnOk result (text.new.items ≡ text.old.items ++ outside_path path.now) }
+{
+    push_spans(
+        text,
+        &[
+            Span::Text(" \""),
+            Span::Shown(path.as_bytes()),
+            Span::Text("\" is outside the directory "),
+        ],
+    )
+}
+
+fn push_quoted_text(text: &mut Vec<u8>, quoted: &str) -> Result<(), AllocError>
+    ensures { OnOk result (text.new.items ≡ text.old.items ++ quoted_text quoted.now) }
+{
+    push_spans(
+        text,
+        &[
+            Span::Text("\""),
+            Span::Shown(quoted.as_bytes()),
+            Span::Text("\""),
+        ],
+    )
+}

@@ -1,0 +1,219 @@
+//! Files of a command that would replace what the command reads.
+
+ghost use Rattle.std.specs.Prelude.{◌≡◌, ◌++◌, ◌<◌, ◌∷◌, [], ℕ, List, None, IfErr, IfOk, IfSome, OnOk, false, length, map};
+ghost use Rattle.std.specs.List.{list_any};
+ghost use Rattle.std.specs.Path.{path_buf_bytes};
+ghost use Rattle.rv_command.specs.Texts.{optional_text};
+ghost use Rattle.rv_files.specs.UnreadPaths.{resolved_path};
+ghost use Rattle.rvtest_app.specs.Overwrites.{AreFilesOf, IsApart, IsOptionStop, IsOverwriteStop, IsOverwriteTold, IsUnread, is_among, job_file_text, overwrite_head, overwrite_message, read_path_text, read_paths, role_text};
+ghost use Rattle.rvtest_app.specs.Outlets.{is_stdout};
+
+use crate::outlets::is_stdout;
+use crate::read_files::{ReadFiles, ReadPath, ReadRole};
+use rv_base::Text;
+use rv_command::{Stop, file_error_stop};
+use rv_files::Outputs;
+use rv_text::{Span, push_spans, push_text, text_of_spans};
+use std::alloc::{AllocError, Global};
+use std::path::{Path, PathBuf};
+
+/// Looks the files up.
+pub(crate) fn look_up_files<'a, F: Outputs>(
+    files: &F,
+    alloc: Global,
+    paths: Vec<ReadPath<'a>>,
+) -> Result<ReadFiles<'a>, AllocError>
+    ensures { IfOk result (λ read. AreFilesOf (F.placed files.now) (read_paths paths.entry.items) read) }
+{
+    let identities = file_identities(files, alloc, paths.as_slice())?;
+    Ok(ReadFiles { paths, identities })
+}
+
+fn file_identities<F: Outputs>(
+    files: &F,
+    alloc: Global,
+    paths: &[ReadPath<'_>],
+) -> Result<Vec<Text>, AllocError>
+    ensures counted { IfOk result (λ found. length found.items ≡ length paths.now) }
+    ensures told { IfOk result (λ found. IfSome (F.placed files.now) (λ _. found.items ≡ read_paths paths.now)) }
+{
+    let mut found = Vec::new(alloc);
+    for at in 0..paths.len() {
+        found.push(files.identity(alloc, paths[at].path.as_str())?)?;
+    }
+    Ok(found)
+}
+
+/// Refuses the file of an option, if it has one, that would replace or remove one that is read.
+pub(crate) fn refuse_overwrite<F: Outputs>(
+    files: &F,
+    alloc: Global,
+    option: &str,
+    path: Option<&str>,
+    read: &ReadFiles<'_>,
+) -> Result<(), Stop>
+    ensures apart { (paths : List (List ℕ)) → AreFilesOf (F.placed files.now) paths read.now
+        → OnOk result (IfSome (F.placed files.now) (λ _. IsApart paths (optional_text path.entry))) }
+    ensures stopped { IfErr result (IsOptionStop option.now (optional_text path.entry)) }
+{
+    match path {
+        Some(path) if !is_stdout(path) => refuse_file(files, alloc, option, path, read),
+        _ => Ok(()),
+    }
+}
+
+/// Refuses the file at a path that would replace or remove one that is read.
+pub(crate) fn refuse_file<F: Outputs>(
+    files: &F,
+    alloc: Global,
+    option: &str,
+    path: &str,
+    read: &ReadFiles<'_>,
+) -> Result<(), Stop>
+    ensures apart { (paths : List (List ℕ)) → AreFilesOf (F.placed files.now) paths read.now
+        → OnOk result (IfSome (F.placed files.now) (λ _. IsUnread paths path.now)) }
+    ensures stopped { IfErr result (IsOverwriteStop option.now path.now) }
+{
+    let replaced = match files.replaced_files(alloc, path) {
+        Ok(replaced) => replaced,
+        Err(error) => return Err(file_error_stop(alloc, path, error)),
+    };
+    match read.first_of(replaced.as_slice()) {
+        None => Ok(()),
+        Some(at) => Err(overwrite_stop(alloc, option, path, &read.paths[at])),
+    }
+}
+
+impl<'a> ReadFiles<'a> {
+    /// The first that is one of some files.
+    pub(crate) fn first_of(&self, files: &[Text]) -> Option<usize>
+        ensures within { IfSome result (λ at. at < length self.now.identities.items) }
+        ensures none { result ≡ None → list_any (is_among files.now) self.now.identities.items ≡ false }
+    {
+        for at in 0..self.identities.len() {
+            if is_among(files, &self.identities[at]) {
+                return Some(at);
+            }
+        }
+        None
+    }
+}
+
+/// Whether a file is one of some files, by what the system knows each by.
+pub(crate) fn is_among(files: &[Text], identity: &Text) -> bool
+    ensures { result ≡ is_among files.now identity.now }
+{
+    files.iter().any(|file| file.as_str() == identity.as_str())
+}
+
+/// That a file would overwrite one that is read.
+pub(crate) fn overwrite_stop<'a>(
+    alloc: Global,
+    option: &'a str,
+    path: &'a str,
+    read: &ReadPath<'_>,
+) -> Stop
+    ensures { IsOverwriteTold option.entry.now path.entry.now result }
+{
+    Stop::of_refusal(overwrite_message(alloc, option, path, read))
+}
+
+fn overwrite_message<'a>(
+    alloc: Global,
+    option: &'a str,
+    path: &'a str,
+    read: &ReadPath<'_>,
+) -> Result<Vec<u8>, AllocError>
+    ensures { IfOk result (λ text. text.items
+        ≡ overwrite_message option.entry.now path.entry.now (role_text read.now.role) (path_buf_bytes read.now.path)) }
+{
+    let mut text = overwrite_head(alloc, option, path)?;
+    push_role(&mut text, read.role)?;
+    push_read_path(&mut text, read.path.as_str())?;
+    Ok(text)
+}
+
+fn overwrite_head<'a>(alloc: Global, option: &'a str, path: &'a str) -> Result<Vec<u8>, AllocError>
+    ensures { IfOk result (λ text. text.items ≡ overwrite_head option.entry.now path.entry.now) }
+{
+    text_of_spans(
+        alloc,
+        &[
+            Span::Text("rvtest: "),
+            Span::Text(option),
+            Span::Text(" \""),
+            Span::Shown(path.as_bytes()),
+            Span::Text("\" would overwrite "),
+        ],
+    )
+}
+
+fn push_role(text: &mut Vec<u8>, role: ReadRole<'_>) -> Result<(), AllocError>
+    ensures { OnOk result (text.new.items ≡ text.old.items ++ role_text role.entry) }
+{
+    match role {
+        ReadRole::Word(word) => push_text(text, word),
+        ReadRole::JobFile { key, job } => push_job_file(text, key, job),
+    }
+}
+
+fn push_job_file<'a>(text: &mut Vec<u8>, key: &'a str, job: &'a str) -> Result<(), AllocError>
+    ensures { OnOk result (text.new.items ≡ text.old.items ++ job_file_text key.now job.now) }
+{
+    push_spans(
+        text,
+        &[
+            Span::Text("the \""),
+            Span::Text(key),
+            Span::Text("\" of job \""),
+            Span::Text(job),
+            Span::Text("\""),
+        ],
+    )
+}
+
+fn push_read_path(text: &mut Vec<u8>, path: &str) -> Result<(), AllocError>
+    ensures { OnOk result (text.new.items ≡ text.old.items ++ read_path_text path.now) }
+{
+    push_spans(
+        text,
+        &[
+            Span::Text(": \""),
+            Span::Shown(path.as_bytes()),
+            Span::Text("\"\n"),
+        ],
+    )
+}
+
+/// Appends a file that is read, whose path is taken from a folder if one is given.
+pub(crate) fn push_read<'a>(
+    alloc: Global,
+    read: &mut Vec<ReadPath<'a>>,
+    folder: Option<&str>,
+    path: &str,
+    role: ReadRole<'a>,
+) -> Result<(), AllocError>
+    ensures { OnOk result (read_paths read.new.items ≡ read_paths read.old.items ++ resolved_path (optional_text folder.entry) path.now ∷ []) }
+{
+    let path = match folder {
+        Some(folder) => Path::new(folder).join(alloc, path)?,
+        None => PathBuf::from_str(alloc, path)?,
+    };
+    read.push(ReadPath { path, role })?;
+    Ok(())
+}
+
+/// The files at some paths, each of which a word of the usage stands for.
+pub(crate) fn read_paths_of_words<'a>(
+    alloc: Global,
+    paths: &[&str],
+    word: &'a str,
+) -> Result<Vec<ReadPath<'a>>, AllocError>
+    ensures { IfOk result (λ read. read_paths read.items ≡ map (λ path. path.now) paths.now) }
+{
+    let mut read = Vec::new(alloc);
+    for path in paths {
+        push_read(alloc, &mut read, None, path, ReadRole::Word(word))?;
+    }
+    Ok(read)
+}

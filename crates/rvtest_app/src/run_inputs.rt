@@ -1,0 +1,158 @@
+//! What a run reads, beside the files that it writes.
+
+ghost use Rattle.std.specs.Prelude.{◌≡◌, ◌++◌, ◌∷◌, [], IfErr, IfOk, IfSome, OnOk};
+ghost use Rattle.rv_command.specs.Texts.{optional_text};
+ghost use Rattle.rv_files.specs.UnreadPaths.{resolved_path};
+ghost use Rattle.rv_lists.specs.Jobs.{console_path};
+ghost use Rattle.rvtest_app.specs.Overwrites.{AreReportsKept, AreRunFilesApart, IsRunOverwriteStop, failed_of_run, golden_paths_of_job, inputs_of_run, paths_of_job, read_paths, reports_of_run};
+
+use crate::overwrites::{look_up_files, push_read, refuse_overwrite};
+use crate::read_files::{ReadPath, ReadRole};
+use rv_command::Stop;
+use rv_files::Outputs;
+use rv_jobs::Job;
+use rvtest_cli::RunAsked;
+use std::alloc::{AllocError, Global};
+
+/// Refuses the files of a run that would replace or remove something that it reads: its list, the known failures, a file of a
+/// job of the list, whether it runs or not; and, but for the report that `--into` replaces, a report.
+pub(crate) fn refuse_run_overwrites<F: Outputs>(
+    files: &F,
+    alloc: Global,
+    asked: &RunAsked<'_>,
+    jobs: &[Job],
+) -> Result<(), Stop>
+    ensures apart { OnOk result (IfSome (F.placed files.now) (λ _. AreRunFilesApart asked.now jobs.now)) }
+    ensures stopped { IfErr result (IsRunOverwriteStop asked.now) }
+{
+    let inputs = look_up_files(files, alloc, inputs_of_run(alloc, asked, jobs)?)?;
+    refuse_overwrite(files, alloc, "--report", asked.report, &inputs)?;
+    refuse_overwrite(files, alloc, "--junit", asked.junit, &inputs)?;
+    refuse_overwrite(files, alloc, "--counts", asked.counts, &inputs)?;
+    refuse_overwrite(files, alloc, "--into", asked.into, &inputs)?;
+    refuse_report_overwrites(files, alloc, asked)
+}
+
+// But for the report that `--into` replaces, no file of a run replaces a report that it reads.
+fn refuse_report_overwrites<F: Outputs>(
+    files: &F,
+    alloc: Global,
+    asked: &RunAsked<'_>,
+) -> Result<(), Stop>
+    ensures apart { OnOk result (IfSome (F.placed files.now) (λ _. AreReportsKept asked.now)) }
+    ensures stopped { IfErr result (IsRunOverwriteStop asked.now) }
+{
+    let failed = look_up_files(files, alloc, failed_of_run(alloc, asked)?)?;
+    refuse_overwrite(files, alloc, "--report", asked.report, &failed)?;
+    let reports = look_up_files(files, alloc, reports_of_run(alloc, asked)?)?;
+    refuse_overwrite(files, alloc, "--junit", asked.junit, &reports)?;
+    refuse_overwrite(files, alloc, "--counts", asked.counts, &reports)
+}
+
+fn inputs_of_run<'a>(
+    alloc: Global,
+    asked: &RunAsked<'_>,
+    jobs: &'a [Job],
+) -> Result<Vec<ReadPath<'a>>, AllocError>
+    ensures { IfOk result (λ read. read_paths read.items ≡ inputs_of_run asked.now jobs.now) }
+{
+    let mut read = Vec::new(alloc);
+    push_read(alloc, &mut read, None, asked.list, ReadRole::Word("LIST"))?;
+    if let Some(known) = asked.known {
+        push_read(alloc, &mut read, None, known, ReadRole::Word("--known"))?;
+    }
+    for job in jobs {
+        push_job_paths(alloc, &mut read, asked.root, job)?;
+    }
+    Ok(read)
+}
+
+fn push_job_paths<'a>(
+    alloc: Global,
+    read: &mut Vec<ReadPath<'a>>,
+    root: Option<&str>,
+    job: &'a Job,
+) -> Result<(), AllocError>
+    ensures { OnOk result (read_paths read.new.items ≡ read_paths read.old.items ++ paths_of_job (optional_text root.entry) job.now) }
+{
+    push_image_path(alloc, read, root, job)?;
+    push_golden_paths(alloc, read, root, job)
+}
+
+/// Appends the image of a job.
+pub(crate) fn push_image_path<'a>(
+    alloc: Global,
+    read: &mut Vec<ReadPath<'a>>,
+    root: Option<&str>,
+    job: &'a Job,
+) -> Result<(), AllocError>
+    ensures { OnOk result (read_paths read.new.items
+        ≡ read_paths read.old.items ++ resolved_path (optional_text root.entry) job.now.image ∷ []) }
+{
+    let role = ReadRole::JobFile {
+        key: "image",
+        job: job.name.as_str(),
+    };
+    push_read(alloc, read, root, job.image.as_str(), role)
+}
+
+/// Appends the golden files of a job: the signature's, and then the console's.
+pub(crate) fn push_golden_paths<'a>(
+    alloc: Global,
+    read: &mut Vec<ReadPath<'a>>,
+    root: Option<&str>,
+    job: &'a Job,
+) -> Result<(), AllocError>
+    ensures { OnOk result (read_paths read.new.items
+        ≡ read_paths read.old.items ++ golden_paths_of_job (optional_text root.entry) job.now) }
+{
+    let name = job.name.as_str();
+    if let Some(path) = &job.expect_signature {
+        let signature = ReadRole::JobFile {
+            key: "expect_signature",
+            job: name,
+        };
+        push_read(alloc, read, root, path.as_str(), signature)?;
+    }
+    if let Some(path) = console_file(job) {
+        let console = ReadRole::JobFile {
+            key: "expect_console_file",
+            job: name,
+        };
+        push_read(alloc, read, root, path, console)?;
+    }
+    Ok(())
+}
+
+fn console_file(job: &Job) -> Option<&str>
+    ensures { optional_text result ≡ console_path job.now.expect_console }
+{
+    match &job.expect_console {
+        Some(console) => console.path(),
+        None => None,
+    }
+}
+
+/// The report whose failed jobs are chosen.
+pub(crate) fn failed_of_run<'a>(
+    alloc: Global,
+    asked: &RunAsked<'_>,
+) -> Result<Vec<ReadPath<'a>>, AllocError>
+    ensures { IfOk result (λ read. read_paths read.items ≡ failed_of_run asked.now) }
+{
+    let mut read = Vec::new(alloc);
+    if let Some(failed) = asked.failed {
+        push_read(alloc, &mut read, None, failed, ReadRole::Word("--failed"))?;
+    }
+    Ok(read)
+}
+
+fn reports_of_run<'a>(alloc: Global, asked: &RunAsked<'_>) -> Result<Vec<ReadPath<'a>>, AllocError>
+    ensures { IfOk result (λ read. read_paths read.items ≡ reports_of_run asked.now) }
+{
+    let mut read = failed_of_run(alloc, asked)?;
+    if let Some(into) = asked.into {
+        push_read(alloc, &mut read, None, into, ReadRole::Word("--into"))?;
+    }
+    Ok(read)
+}

@@ -1,0 +1,252 @@
+//! How the jobs stand that `accept` runs: whether `run` passes them, and whether they differ from the jobs that they name.
+
+ghost use Rattle.std.specs.Prelude.{◌≡◌, ◌++◌, ◌∷◌, [], IfOk, OnOk, option_map, slice_get};
+ghost use Rattle.std.specs.List.{list_any};
+ghost use Rattle.rv_accept.specs.Runs.{row_or_none};
+ghost use Rattle.rv_command.specs.Texts.{optional_text};
+ghost use Rattle.rv_expect.specs.Comparisons.{sides_of};
+ghost use Rattle.rv_expect.specs.Telling.{is_same};
+ghost use Rattle.rv_files.specs.UnreadPaths.{resolved_path};
+ghost use Rattle.rvtest_app.specs.Standings.{AreCandidates, IsCandidateAt, IsGoldenText, IsStanding, IsWholeText, compared_row, is_marked, is_none_unmet, path_to_read};
+ghost use Rattle.rvtest_app.specs.Standings.{sides_over, standing_by, standing_of};
+
+use crate::accepted_files::place_of_path;
+use rv_accept::{Acceptance, Candidate, Standing, console_path, is_accepted_end};
+use rv_expect::{Comparison, Unmet, unmet_expectations};
+use rv_files::{InputError, Inputs, read_whole_up_to};
+use rv_jobs::Job;
+use rv_jobs::limits::MOST_BYTES;
+use rv_rows::{Row, did_run};
+use std::alloc::{AllocError, Global};
+
+/// What runs without expectations are compared with.
+#[derive(Drop)]
+pub(crate) struct Standpoint<'x, D> {
+    /// Golden files as they are.
+    pub inputs: &'x D,
+    pub alloc: Global,
+    /// The folder from which the paths of golden files are taken.
+    pub folder: Option<&'x str>,
+    /// The row of each job of the list that was run.
+    pub rows: &'x [Option<Row>],
+}
+
+impl<'x, D: Inputs> Standpoint<'x, D> {
+    /// The jobs of the list, of which some are chosen, and how each stands.
+    pub(crate) fn candidates(
+        &self,
+        jobs: &[Job],
+        chosen: &[bool],
+    ) -> Result<Vec<Candidate>, AllocError>
+        ensures { IfOk result (λ candidates. AreCandidates (D.contents self.now.inputs.now)
+            (optional_text self.now.folder) self.now.rows.now jobs.now chosen.now candidates.items) }
+    {
+        let mut candidates = Vec::new(self.alloc);
+        for job in jobs {
+            let place = candidates.len();
+            let candidate = self.candidate_at(place, job, chosen)?;
+            add_candidate(&mut candidates, candidate)?;
+        }
+        Ok(candidates)
+    }
+
+    // The job at a place of the list, and how it stands; one that was not run does not pass.
+    fn candidate_at(
+        &self,
+        place: usize,
+        job: &Job,
+        chosen: &[bool],
+    ) -> Result<Candidate, AllocError>
+        ensures { IfOk result (IsCandidateAt (D.contents self.now.inputs.now) (optional_text self.now.folder)
+            self.now.rows.now chosen.now place job.now) }
+    {
+        let is_chosen = is_marked(chosen, place);
+        match self.row_at(place) {
+            Some(row) => {
+                let standing = self.standing(job, row)?;
+                Ok(Candidate {
+                    is_chosen,
+                    standing,
+                })
+            }
+            None => Ok(Candidate {
+                is_chosen,
+                standing: Standing::Fails,
+            }),
+        }
+    }
+
+    fn standing(&self, job: &Job, row: &Row) -> Result<Standing, AllocError>
+        ensures { IfOk result (IsStanding (D.contents self.now.inputs.now) (optional_text self.now.folder)
+            self.now.rows.now job.now row.now) }
+    {
+        let console = self.golden_text(path_to_read(job, row, console_path(job)))?;
+        let signature = self.golden_text(path_to_read(job, row, signature_path(job)))?;
+        self.standing_over(job, row, text_of(&console), text_of(&signature))
+    }
+
+    // How a job stands over what was read of its golden files.
+    fn standing_over<'r>(
+        &self,
+        job: &'r Job,
+        row: &'r Row,
+        console: Option<&'r [u8]>,
+        signature: Option<&'r [u8]>,
+    ) -> Result<Standing, AllocError>
+        ensures { IfOk result (λ standing. standing ≡ standing_of (sides_over self.now.rows.now job.now row.now
+            (option_map (λ bytes. bytes.now) console.entry) (option_map (λ bytes. bytes.now) signature.entry))) }
+    {
+        let comparison = Comparison {
+            job,
+            row,
+            console,
+            reference: signature,
+            other: self.compared_row(job),
+        };
+        let unmet = unmet_expectations(self.alloc, &comparison)?;
+        Ok(standing_by(did_run(row.ending), unmet.as_slice()))
+    }
+
+    // The row of the job that one names by `same_as`, if it names one.
+    fn compared_row(&self, job: &Job) -> Option<&Row>
+        ensures { option_map (λ row. row.now) result ≡ compared_row self.now.rows.now job.now.same_as }
+    {
+        match job.same_as {
+            Some(place) => self.row_at(place),
+            None => None,
+        }
+    }
+
+    // The row of the job at a place, where it was run.
+    fn row_at(&self, place: usize) -> Option<&Row>
+        ensures { option_map (λ row. row.now) result ≡ row_or_none (slice_get self.now.rows.now place) }
+    {
+        row_if_run(self.rows.get(place))
+    }
+
+    // What a golden file holds, where one is named.
+    fn golden_text(&self, path: Option<&str>) -> Result<Option<Vec<u8>>, AllocError>
+        ensures { IfOk result (λ text. IsGoldenText (D.contents self.now.inputs.now) (optional_text self.now.folder)
+            (option_map (λ path. path.now) path.entry) (option_map (λ bytes. bytes.items) text)) }
+    {
+        match path {
+            Some(path) => self.text_of_path(path),
+            None => Ok(None),
+        }
+    }
+
+    fn text_of_path(&self, path: &str) -> Result<Option<Vec<u8>>, AllocError>
+        ensures { IfOk result (λ text. IsWholeText (D.contents self.now.inputs.now)
+            (resolved_path (optional_text self.now.folder) path.now) (option_map (λ bytes. bytes.items) text)) }
+    {
+        let place = place_of_path(self.alloc, self.folder, path)?;
+        self.text_at(place.as_str())
+    }
+
+    // What stands at a place; nothing where it was not read, as `run` reads no expectation there.
+    fn text_at(&self, place: &str) -> Result<Option<Vec<u8>>, AllocError>
+        ensures { IfOk result (λ text. IsWholeText (D.contents self.now.inputs.now) place.now
+            (option_map (λ bytes. bytes.items) text)) }
+    {
+        match read_whole_up_to(self.inputs, self.alloc, place, MOST_BYTES) {
+            Ok(Some(text)) => Ok(Some(text)),
+            Ok(None) => Ok(None),
+            Err(InputError::Failed(_)) => Ok(None),
+            Err(InputError::OutOfMemory) => Err(AllocError),
+        }
+    }
+}
+
+fn add_candidate(candidates: &mut Vec<Candidate>, candidate: Candidate) -> Result<(), AllocError>
+    ensures { OnOk result (candidates.new.items ≡ candidates.old.items ++ candidate ∷ []) }
+{
+    candidates.push(candidate)?;
+    Ok(())
+}
+
+fn is_marked(marks: &[bool], place: usize) -> bool
+    ensures { result ≡ is_marked marks.now place }
+{
+    match marks.get(place) {
+        Some(marked) => *marked,
+        None => false,
+    }
+}
+
+// The path of a golden file, where what it holds may let the job pass: one that ended as is expected is accepted whatever it holds.
+fn path_to_read<'a>(job: &Job, row: &Row, path: Option<&'a str>) -> Option<&'a str>
+    ensures { option_map (λ path. path.now) result
+        ≡ path_to_read job.now row.now (option_map (λ path. path.now) path.entry) }
+{
+    if is_accepted_end(Acceptance::Expected, job, row.ending) {
+        None
+    } else {
+        path
+    }
+}
+
+fn signature_path(job: &Job) -> Option<&str>
+    ensures { option_map (λ path. path.now) result ≡ job.now.expect_signature }
+{
+    match &job.expect_signature {
+        Some(path) => Some(path.as_str()),
+        None => None,
+    }
+}
+
+fn text_of(bytes: &Option<Vec<u8>>) -> Option<&[u8]>
+    ensures { option_map (λ bytes. bytes.now) result ≡ option_map (λ bytes. bytes.items) bytes.now }
+{
+    match bytes {
+        Some(bytes) => Some(bytes.as_slice()),
+        None => None,
+    }
+}
+
+fn row_if_run(row: Option<&Option<Row>>) -> Option<&Row>
+    ensures { option_map (λ row. row.now) result ≡ row_or_none (option_map (λ row. row.now) row.entry) }
+{
+    match row {
+        Some(Some(row)) => Some(row),
+        Some(None) | None => None,
+    }
+}
+
+// How a job stands by whether it ran, and the expectations that its run does not meet.
+fn standing_by(ran: bool, unmet: &[Unmet]) -> Standing
+    ensures { result ≡ standing_by ran unmet.now }
+{
+    if ran && is_none_unmet(unmet) {
+        Standing::Passes
+    } else if is_any_difference(unmet) {
+        Standing::Differs
+    } else {
+        Standing::Fails
+    }
+}
+
+fn is_none_unmet(unmet: &[Unmet]) -> bool
+    ensures { result ≡ is_none_unmet unmet.now }
+{
+    match unmet {
+        [] => true,
+        [_one, _more @ ..] => false,
+    }
+}
+
+fn is_any_difference(unmet: &[Unmet]) -> bool
+    ensures { result ≡ list_any is_same unmet.now }
+{
+    unmet.iter().any(|one| is_difference(*one))
+}
+
+// Whether an expectation is to be the same as another job.
+fn is_difference(unmet: Unmet) -> bool
+    ensures { result ≡ is_same unmet }
+{
+    match unmet {
+        Unmet::Same(_) => true,
+        Unmet::Exit | Unmet::End | Unmet::Console(_) | Unmet::Signature(_) | Unmet::Nothing =>
+            false,
+    }
+}
