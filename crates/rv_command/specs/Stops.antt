@@ -94,6 +94,16 @@ abbrev pub IsUnreadStop : Option FileContents → List ℕ → Stop → Type 0
 IsUnreadStop known path stop = (stop ≡ why.OutOfMemory)
     ⊎ (IsNothingAt known path × ((reason : ErrorKind) × IsSystemStop path reason stop))
 
+-- the most bytes of a report, and of a table of counts
+abbrev pub most_result_bytes : ℕ
+most_result_bytes = 1073741824
+
+-- the path was not read, or more bytes stand there than a report or a table of counts may have
+abbrev pub IsResultUnreadStop : Option FileContents → List ℕ → Stop → Type 0
+IsResultUnreadStop known path stop = IsUnreadStop known path stop
+    ⊎ (IsLongAt known path most_result_bytes
+    × IsStop 3 (path_message path (codes "the file has more than 1073741824 bytes")) stop)
+
 -- a file was not written
 abbrev pub IsFileErrorStop : List ℕ → FileError → Stop → Type 0
 IsFileErrorStop path file.OutOfMemory stop = stop ≡ why.OutOfMemory
@@ -140,7 +150,7 @@ pub record IsReportFaultStop (path bytes : List ℕ) (stop : Stop) : Type 0 wher
 
 -- the path was not read, or what stands there is no report
 abbrev pub IsReportUnreadStop : Option FileContents → List ℕ → Stop → Type 0
-IsReportUnreadStop known path stop = IsUnreadStop known path stop
+IsReportUnreadStop known path stop = IsResultUnreadStop known path stop
     ⊎ ((bytes : List ℕ) × IsTextAt known path bytes × IsReportFaultStop path bytes stop)
 
 -- ---- reports that may be cut off
@@ -158,5 +168,5 @@ IsRequestedFaultStop true path bytes stop = IsPartialFaultStop path bytes stop
 
 -- the path was not read, or what stands there is none
 abbrev pub IsRequestedUnreadStop : Option FileContents → Bool → List ℕ → Stop → Type 0
-IsRequestedUnreadStop known partial path stop = IsUnreadStop known path stop
+IsRequestedUnreadStop known partial path stop = IsResultUnreadStop known path stop
     ⊎ ((bytes : List ℕ) × IsTextAt known path bytes × IsRequestedFaultStop partial path bytes stop)

@@ -1,7 +1,7 @@
 //! Files that are read whole.
 
 ghost use Rattle.std.specs.Prelude.{◌≡◌, ◌≤◌, ◌<◌, ◌+◌, ◌^◌, IfErr, IfNone, IfOk, IfSome, length};
-ghost use Rattle.rv_command.specs.Stops.{IsFileErrorStop, IsLongAt, IsSystemStop, IsUnreadStop};
+ghost use Rattle.rv_command.specs.Stops.{IsFileErrorStop, IsLongAt, IsResultUnreadStop, IsSystemStop, IsUnreadStop, most_result_bytes};
 ghost use Rattle.rv_command.specs.Texts.{IsTextAt};
 
 use crate::messages::path_message;
@@ -31,10 +31,28 @@ pub(crate) fn read_file_up_to<D: Inputs>(
     }
 }
 
+/// The most bytes of a report, and of a table of counts.
+const MOST_RESULT_BYTES: usize = 0x4000_0000;
+
+/// The bytes of the report, or of the table of counts, at a path.
+pub fn read_result_file<D: Inputs>(inputs: &D, alloc: Global, path: &str) -> Result<Vec<u8>, Stop>
+    ensures read { IfOk result (λ bytes. IsTextAt (D.contents inputs.now) path.now bytes.items) }
+    ensures within { IfOk result (λ bytes. length bytes.items ≤ most_result_bytes) }
+    ensures unread { IfErr result (IsResultUnreadStop (D.contents inputs.now) path.now) }
+{
+    match read_file_up_to(inputs, alloc, path, MOST_RESULT_BYTES)? {
+        Some(bytes) => Ok(bytes),
+        None => {
+            let what = "the file has more than 1073741824 bytes";
+            Err(Stop::of_failure(path_message(alloc, path, what)))
+        }
+    }
+}
+
 // More bytes than memory has.
 const MOST_OF_MEMORY: usize = usize::MAX - 1;
 
-/// The bytes of what stands at a path, whatever its size.
+/// The bytes of what stands at a path, whatever its size: of a file that this command itself has written.
 pub fn read_file<D: Inputs>(inputs: &D, alloc: Global, path: &str) -> Result<Vec<u8>, Stop>
     ensures read { IfOk result (λ bytes. IsTextAt (D.contents inputs.now) path.now bytes.items) }
     ensures unread { IfErr result (IsUnreadStop (D.contents inputs.now) path.now) }

@@ -12,7 +12,7 @@ mod saved_report;
 mod status;
 mod stop;
 
-pub use files::{file_error_stop, read_file};
+pub use files::{file_error_stop, read_file, read_result_file};
 pub use list::{all_faults_text, list_faults_text, parse_list, read_list_text};
 pub use messages::{
     path_message, path_number_message, put_end_message, put_message, put_results, put_stop_message,

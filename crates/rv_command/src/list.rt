@@ -18,7 +18,7 @@ use rv_jobs::{JobError, JobList, What, read_jobs};
 use rv_list_errors::{push_all_faults, push_faults};
 use std::alloc::{AllocError, Global};
 
-/// The text of the list at a path.
+/// The text of the list at a path, or of the names of the jobs that are known to fail.
 pub fn read_list_text<D: Inputs>(inputs: &D, alloc: Global, path: &str) -> Result<Vec<u8>, Stop>
     ensures read { IfOk result (λ text. IsTextAt (D.contents inputs.now) path.now text.items) }
     ensures within { IfOk result (λ text. length text.items ≤ most_bytes) }

@@ -7,7 +7,7 @@ ghost use Rattle.rv_command.specs.Stops.{IsPartialFaultStop, IsRequestedFaultSto
 ghost use Rattle.rv_command.specs.Texts.{IsReportRead, IsReportReadAt};
 ghost use Rattle.rv_report.specs.Partial.{IsReadAs};
 
-use crate::files::read_file;
+use crate::files::read_result_file;
 use crate::messages::path_number_message;
 use crate::saved_report::{parse_report, report_line_stop};
 use crate::stop::Stop;
@@ -33,7 +33,7 @@ pub fn read_requested_report<D: Inputs>(
     ensures unread { IfErr result
         (IsRequestedUnreadStop (D.contents inputs.now) asked.entry.partial asked.entry.path.now) }
 {
-    let text = read_file(inputs, alloc, asked.path)?;
+    let text = read_result_file(inputs, alloc, asked.path)?;
     parse_requested_report(alloc, asked, text.as_slice())
 }
 

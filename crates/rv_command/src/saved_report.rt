@@ -5,7 +5,7 @@ ghost use Rattle.rv_base.specs.Limits.{most_jobs};
 ghost use Rattle.rv_command.specs.Stops.{IsLineStop, IsReportFaultStop, IsReportUnreadStop};
 ghost use Rattle.rv_command.specs.Texts.{IsReportAt, IsReportText};
 
-use crate::files::read_file;
+use crate::files::read_result_file;
 use crate::messages::path_message;
 use crate::refused_line::refused_line_message;
 use crate::stop::Stop;
@@ -23,7 +23,7 @@ pub fn read_report_file<D: Inputs>(
     ensures few { IfOk result (λ report. length report.rows ≤ most_jobs) }
     ensures unread { IfErr result (IsReportUnreadStop (D.contents inputs.now) path.now) }
 {
-    let text = read_file(inputs, alloc, path)?;
+    let text = read_result_file(inputs, alloc, path)?;
     parse_report(alloc, path, text.as_slice())
 }
 

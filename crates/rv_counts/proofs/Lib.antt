@@ -5,6 +5,8 @@ pub mod Paths
 pub mod AddingImages
 pub mod AddingNames
 pub mod NamesOfSpots
+pub mod NamesOfMaps
+pub mod NameIndexes
 pub mod SumsOfStacks
 pub mod Pieces
 pub mod Words

@@ -112,20 +112,20 @@ pub prefix_within : {X : Type 0} (test : X → Bool) (xs : List X) → prefix_le
 prefix_within test [] = omega arith
 prefix_within test (x ∷ xs) = within_if (test x) (prefix_len test xs) (length xs) (prefix_within test xs)
 
-behind_lower : (n m : FunctionName) (ms : List FunctionName) → nat_lt m.function n.function ≡ true
+pub behind_lower : (n m : FunctionName) (ms : List FunctionName) → nat_lt m.function n.function ≡ true
     → inserted n (m ∷ ms) ≡ m ∷ inserted n ms
 behind_lower n m ms t =
     let q = prefix_len (λ (x : FunctionName). nat_lt x.function n.function) ms in
     ap (λ (b : Bool). insert (m ∷ ms) (cond b (1 + q) 0) n) t ∙ ap (λ (k : ℕ). insert (m ∷ ms) k n) (one_more q)
 
-ahead_of_higher : (n m : FunctionName) (ms : List FunctionName) → nat_lt m.function n.function ≡ false
+pub ahead_of_higher : (n m : FunctionName) (ms : List FunctionName) → nat_lt m.function n.function ≡ false
     → inserted n (m ∷ ms) ≡ n ∷ m ∷ ms
 ahead_of_higher n m ms t =
     let q = prefix_len (λ (x : FunctionName). nat_lt x.function n.function) ms in
     ap (λ (b : Bool). insert (m ∷ ms) (cond b (1 + q) 0) n) t
 
 -- a function without a name is not the first, and has none behind it
-not_first : (n m : FunctionName) (ms : List FunctionName) → has_name (name_of n.function (m ∷ ms)) ≡ false
+pub not_first : (n m : FunctionName) (ms : List FunctionName) → has_name (name_of n.function (m ∷ ms)) ≡ false
     → ((m.function == n.function) ≡ false) × (has_name (name_of n.function ms) ≡ false)
 not_first n m ms h = elim (cases_Bool (m.function == n.function)) [
   | inl t ↦ absurd (false≢true (sym h ∙ ap (λ (b : Bool). has_name (cond b (Some m.name) (name_of n.function ms))) t))

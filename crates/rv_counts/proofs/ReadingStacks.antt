@@ -84,7 +84,7 @@ one_spot text ss names front n m x h fits stands agrees is e =
       named = names_so_far ss names x fits agrees h.named;
     }
 
-pub spots_read : (text : List ℕ) (front : List ℕ) (read : SpotLines) → SpotsSoFar text read.spots read.functions front read.length
+spots_read : (text : List ℕ) (front : List ℕ) (read : SpotLines) → SpotsSoFar text read.spots read.functions front read.length
     → IsNoSpot read.functions front (whole_line (drop read.length text)) → AreSpotLines text read
 spots_read text front read h no_more = record {
   within = h.lines.within;
@@ -128,3 +128,14 @@ no_spot_line names front text read same name other n h stands agrees e =
     let t = name n h e in
     let one : read ≡ n = λ i. record { spot = s i; name = t i } in
     both_ways _ other ((bytes_decides text (spot_line read)).1 (e ∙ ap spot_line (sym one)))
+
+-- no other spot stands behind those that were read
+pub all_spots : (text behind front line : List ℕ) (ss : List Spot) (names : List FunctionName) (read : SpotLines)
+    → SpotsSoFar text ss names front read.length → read.spots ≡ ss → read.functions ≡ names → behind ≡ front
+    → line ≡ whole_line (drop read.length text) → IsNoSpot names behind line → AreSpotLines text read
+all_spots text behind front line ss names read h same named e w none = spots_read text front read
+    (subst (λ (xs : List Spot). SpotsSoFar text xs read.functions front read.length) (sym same)
+    (subst (λ (ns : List FunctionName). SpotsSoFar text ss ns front read.length) (sym named) h))
+    (subst (λ (ns : List FunctionName). IsNoSpot ns front (whole_line (drop read.length text))) (sym named)
+    (subst (λ (path : List ℕ). IsNoSpot names path (whole_line (drop read.length text))) e
+    (subst (IsNoSpot names behind) w none)))

@@ -5,4 +5,6 @@ pub mod Sum
 pub mod SumSteps
 pub mod ReadSteps
 pub mod Read
+pub mod NamesByFunctionInside
+pub mod NameIndex
 pub use Rattle.rv_text.specs.Words

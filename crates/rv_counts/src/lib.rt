@@ -11,6 +11,7 @@ mod law;
 mod line_parts;
 mod lookup;
 mod names;
+mod names_by_function;
 mod order;
 mod read;
 mod read_lines;

@@ -13,7 +13,7 @@ use crate::growth::push_item;
 use crate::line_parts::{
     decimal_number, hex_word, leading_bytes, text_after_byte, text_before_byte, whole_line,
 };
-use crate::names::{add_name, name_of};
+use crate::names_by_function::NamesByFunction;
 use crate::table::{FunctionName, FunctionNames, NamedSpot};
 use crate::text::push_spot_line;
 use rv_base::Text;
@@ -34,23 +34,23 @@ pub(crate) fn read_spots(alloc: Global, text: &[u8]) -> Result<SpotLines, AllocE
     ensures { IfOk result (λ read. AreSpotLines text.now read) }
 {
     let mut spots = Vec::new(alloc);
-    let mut names = Vec::new(alloc);
+    let mut names = NamesByFunction::new(alloc);
     let mut front = Vec::new(alloc);
     let mut length = 0;
     'lines: loop {
         let line = whole_line(tail_from(text, length));
-        match next_spot(alloc, line, front.as_slice(), names.as_slice())? {
+        match next_spot(alloc, line, front.as_slice(), &names)? {
             Some(read) => {
                 length += line.len();
                 front.truncate(read.spot.depth);
                 push_item(&mut front, read.spot.function)?;
                 push_item(&mut spots, read.spot)?;
-                add_name(&mut names, function_name(read))?;
+                names.add(function_name(read))?;
             }
             None => {
                 return Ok(SpotLines {
                     spots: Spots::new(spots),
-                    functions: FunctionNames::new(names),
+                    functions: names.into_names(alloc)?,
                     length,
                 });
             }
@@ -72,7 +72,7 @@ fn next_spot(
     alloc: Global,
     line: &[u8],
     front: &[u32],
-    names: &[FunctionName],
+    names: &NamesByFunction,
 ) -> Result<Option<NamedSpot>, AllocError>
     ensures spot { (text : List ℕ) → line.now ≡ whole_line text → IfOk result (λ read. IfSome read IsNamedSpot) }
     ensures stands { IfOk result (λ read. IfSome read (λ n. StandsBehind front.now n.spot)) }
@@ -98,10 +98,10 @@ fn can_stand(spot: Spot, front: &[u32]) -> bool
 }
 
 // Whether its function has no other name.
-fn agrees(read: &NamedSpot, names: &[FunctionName]) -> bool
+fn agrees(read: &NamedSpot, names: &NamesByFunction) -> bool
     ensures { IsTrue result ↔ AgreesWith read.now.name (name_of read.now.spot.function names.now) }
 {
-    match name_of(names, read.spot.function) {
+    match names.find(read.spot.function) {
         Some(name) => name == read.name.as_str(),
         None => true,
     }

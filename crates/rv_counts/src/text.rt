@@ -1,15 +1,16 @@
 //! The text of a table.
 
-ghost use Rattle.std.specs.Prelude.{◌≡◌, ◌++◌, IfOk, OnOk, string_bytes, length};
+ghost use Rattle.std.specs.Prelude.{◌≡◌, ◌++◌, ℕ, IfOk, OnOk, string_bytes, length};
 ghost use Rattle.std.specs.List.{flat_map};
 ghost use Rattle.rv_text.specs.Words.{word_digits};
+ghost use Rattle.rv_counts.specs.NameIndex.{indexed_name};
 ghost use Rattle.rv_counts.specs.Table.{name_of};
 ghost use Rattle.rv_counts.specs.Text.{address_line, image_line, image_text, last_line, line_of_spot, name_or_nothing, spot_line, table_text, words_of_spot};
 
-use crate::names::name_of;
 use crate::table::{AddressCounts, CountTable, FunctionName, ImageCounts};
 use rv_spots::Spot;
 use std::alloc::{AllocError, Global};
+use std::collections::BTreeMap;
 
 /// The text of a table.
 #[tactic(auto, unfolding(crate::specs::Text::table_text))]
@@ -67,17 +68,34 @@ fn push_spots(
 ) -> Result<(), AllocError>
     ensures { OnOk result (string_bytes text.new ≡ string_bytes text.old ++ flat_map (line_of_spot names.now) spots.now) }
 {
+    let index = index_of_names(alloc, names)?;
     for spot in spots {
-        push_spot_line(alloc, text, *spot, name_in_line(names, spot.function))?;
+        push_spot_line(alloc, text, *spot, name_in_line(&index, spot.function))?;
     }
     Ok(())
 }
 
-// The name that a line has of a function: each function of a table's spots has one.
-fn name_in_line(names: &[FunctionName], function: u32) -> &str
-    ensures { result.now ≡ name_or_nothing (name_of function names.now) }
+// The first name of each function.
+fn index_of_names<'a>(
+    alloc: Global,
+    names: &'a [FunctionName],
+) -> Result<BTreeMap<u32, &'a str>, AllocError>
+    ensures { IfOk result (λ index. (function : ℕ) → indexed_name index function ≡ name_of function names.now) }
 {
-    name_of(names, function).unwrap_or("")
+    let mut index = BTreeMap::new(alloc);
+    for name in names {
+        if !index.contains_key(&name.function) {
+            index.insert(name.function, name.name.as_str())?;
+        }
+    }
+    Ok(index)
+}
+
+// The name that a line has of a function: each function of a table's spots has one.
+fn name_in_line<'a>(index: &BTreeMap<u32, &'a str>, function: u32) -> &'a str
+    ensures { result.now ≡ name_or_nothing (indexed_name index.now function) }
+{
+    index.get(&function).copied().unwrap_or("")
 }
 
 /// Appends the line of an image, without its counts.

@@ -3,6 +3,7 @@ use Rattle.std.specs.Prelude.{◌*◌, ◌≤◌, ◌<◌, ℕ, List, [], length
 use Rattle.std.specs.Str.{chars}
 use Rattle.rv_lists.specs.declared.job.Job.{Job}
 use Rattle.rv_lists.specs.Jobs.{single_job}
+use Rattle.rv_lists.specs.Limits.{most_name}
 use Rattle.strsim.specs.Edits.{levenshtein_row}
 
 abbrev pub job_name : List Job → ℕ → List ℕ
@@ -26,5 +27,7 @@ pub record IsNearestJob (jobs : List Job) (text : List ℕ) (place : ℕ) : Type
 abbrev pub IsNear : ℕ → List ℕ → Type 0
 IsNear distance name = 3 * distance ≤ length name
 
+-- the text is no longer than a name may be, and the name of the job at the place is near to it
 abbrev pub IsNearJob : List Job → List ℕ → ℕ → Type 0
-IsNearJob jobs text place = IsNear (job_name_distance text jobs place) (job_name jobs place)
+IsNearJob jobs text place =
+    (length text ≤ most_name) × IsNear (job_name_distance text jobs place) (job_name jobs place)

@@ -13,7 +13,7 @@ use rv_lists::JobError;
 use rv_text::{Span, push_spans};
 use std::alloc::{AllocError, Global};
 
-// Of how many faults the nearest name of a job is told: to look for it takes as long as there are earlier jobs.
+// Of how many faults the nearest name or key is told: to look for it takes as long as there are names.
 const NEAR_TOLD: usize = 64;
 
 /// Appends a line for each fault of a list, in their order. `file` is the path of the list as the person wrote it, and the
@@ -66,7 +66,7 @@ fn push_fault_lines(
     Ok(())
 }
 
-/// What is told beside a name that no job has, in the fault at a place.
+/// What is told beside a name that no job has, or a key, in the fault at a place.
 pub(crate) fn suggestion_for_fault(place: usize) -> Suggestion {
     if place < NEAR_TOLD {
         Suggestion::Nearest

@@ -13,6 +13,9 @@ use rv_lists::JobError;
 use std::alloc::{AllocError, Global};
 use toml::Value;
 
+// How many faults of one job are told.
+const MOST_FAULTS: usize = 64;
+
 /// A fault of a job: the place where it stands in the list's text, and what is told of it.
 #[derive(Drop)]
 pub(crate) struct FoundFault {
@@ -20,8 +23,8 @@ pub(crate) struct FoundFault {
     pub(crate) explanation: Vec<u8>,
 }
 
-/// All faults of a job, of which there is one at least: the fault that is known where no key is found to be bad. The texts are those from
-/// each job on, and the first is the longest.
+/// The faults of a job, of which there is one at least: the fault that is known where no key is found to be bad. Where there are very many,
+/// the first ones, and that the keys behind them are not checked. The texts are those from each job on, and the first is the longest.
 pub(crate) fn faults_of_job(
     alloc: Global,
     list: &List<'_>,
@@ -75,7 +78,7 @@ impl<'a> FaultyJob<'a> {
         Ok(())
     }
 
-    // Notes the keys that have bad values, each where it stands first.
+    // Notes the keys that have bad values, each where it stands first, until too many faults are noted.
     fn find_bad_keys(
         &self,
         alloc: Global,
@@ -87,10 +90,28 @@ impl<'a> FaultyJob<'a> {
         for key in keys.as_slice() {
             let name = key.name.as_str();
             if !met.has(name) {
+                if found.len() == MOST_FAULTS {
+                    return self.stop_at_key(alloc, key, found);
+                }
                 self.find_key_fault(alloc, key, &met, found)?;
                 met.add(name)?;
             }
         }
+        Ok(())
+    }
+
+    // Notes that the keys from one on are not checked.
+    fn stop_at_key(
+        &self,
+        alloc: Global,
+        key: &JobKey<'_>,
+        found: &mut Vec<FoundFault>,
+    ) -> Result<(), AllocError> {
+        let mut message = Message::new(alloc);
+        message.push("too many faults: the keys of this job from here on are not checked");
+        let explanation = message.finish()?;
+        let place = self.list.place_of_rest(key.text);
+        found.push(FoundFault { place, explanation })?;
         Ok(())
     }
 

@@ -88,7 +88,7 @@ impl<'a> FaultyJob<'a> {
             return false;
         };
         match fault {
-            KeyFault::Unknown => push_unknown_job_key_of(message, key),
+            KeyFault::Unknown => push_unknown_job_key_of(message, key, self.suggestion),
             KeyFault::UnknownInRegion => push_unknown_region_key(message, self.table),
             KeyFault::OtherKind(kind) => push_value_of_wrong_kind(message, self.table, key, kind),
             KeyFault::Wanted(told) => push_explanation(message, self.table, told),

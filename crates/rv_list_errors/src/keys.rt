@@ -11,7 +11,7 @@ ghost use Rattle.rv_list_errors.specs.Told.{AddsSome, first_unknown_key, is_key_
 ghost use Rattle.rv_list_errors.specs.UnknownKeys.{TellsUnknownKey, TellsUnknownRegionKey};
 
 use crate::message::Message;
-use crate::names::{near_name, push_names};
+use crate::names::{Suggestion, near_name, push_names};
 use crate::regions::push_region_number;
 use crate::values::elements_at_key;
 use rv_lists::{JOB_KEYS, Kind};
@@ -93,17 +93,20 @@ pub(crate) fn push_unknown_job_key(message: &mut Message, table: &Table)
     ensures { AddsSome message.old message.new (TellsUnknownKey (table_view table.now)) }
 {
     match unknown_key(table, Owner::Job) {
-        Some(key) => push_unknown_job_key_of(message, key),
+        Some(key) => push_unknown_job_key_of(message, key, Suggestion::Nearest),
         None => push_unknown_region_key(message, table),
     }
 }
 
-/// Appends a key that no job has, and the nearest that jobs have, or all of them.
-pub(crate) fn push_unknown_job_key_of(message: &mut Message, key: &str)
+/// Appends a key that no job has. The nearest that jobs have, or all of them, are told where that is asked for.
+pub(crate) fn push_unknown_job_key_of(message: &mut Message, key: &str, suggestion: Suggestion)
     ensures { AddsSome message.old message.new (BeginsWith (unknown_key_text key.now)) }
 {
     push_unknown_key(message, key);
-    push_nearest_key(message, key);
+    match suggestion {
+        Suggestion::Nearest => push_nearest_key(message, key),
+        Suggestion::Nothing => {}
+    }
 }
 
 // Appends the key of a job that is nearest to a text, or all keys where none is near.

@@ -1,19 +1,23 @@
 //! The job whose name is nearest to a text: the one that a person probably meant.
 
 ghost use Rattle.std.specs.Prelude.{◌≡◌, ◌↔◌, ◌<◌, ℕ, IfOk, IsTrue, MatchOption, length};
-ghost use Rattle.rv_list_errors.specs.NearestJob.{IsNear, IsNearJob, IsNearestJob, job_name_distance};
+ghost use Rattle.rv_list_errors.specs.NearestJob.{IsNear, IsNearJob, IsNearestJob, job_name, job_name_distance};
 
 use rv_lists::Job;
+use rv_lists::limits::MOST_NAME;
 use std::alloc::{AllocError, Global};
 use strsim::levenshtein;
 
 /// The place of the job that a person probably meant by a text, counted from 0: the one whose name is nearest, where at most a third
-/// of the characters of that name differ.
+/// of the characters of that name differ. What is longer than a name may be is near to nothing, so that a look has its bound.
 pub fn near_job(alloc: Global, jobs: &[Job], text: &str) -> Result<Option<usize>, AllocError>
     ensures { IfOk result (λ near. MatchOption near
         ((place : ℕ) → IsNearestJob jobs.now text.now place → IsNearJob jobs.now text.now place → ⊥)
         (λ place. IsNearestJob jobs.now text.now place × IsNearJob jobs.now text.now place)) }
 {
+    if text.len() > MOST_NAME {
+        return Ok(None);
+    }
     match nearest_job(alloc, jobs, text)? {
         Some(place) if is_job_near(alloc, jobs, text, place)? => Ok(Some(place)),
         _ => Ok(None),
@@ -22,7 +26,8 @@ pub fn near_job(alloc: Global, jobs: &[Job], text: &str) -> Result<Option<usize>
 
 fn is_job_near(alloc: Global, jobs: &[Job], text: &str, place: usize) -> Result<bool, AllocError>
     requires { place < length jobs.now }
-    ensures { IfOk result (λ near. IsTrue near ↔ IsNearJob jobs.now text.now place) }
+    ensures { IfOk result (λ near. IsTrue near
+        ↔ IsNear (job_name_distance text.now jobs.now place) (job_name jobs.now place)) }
 {
     let distance = job_name_distance(alloc, jobs, text, place)?;
     Ok(is_near(distance, jobs[place].name.as_str()))

@@ -44,10 +44,10 @@ fn push_job_of_name(message: &mut Message, number: Option<u64>)
     }
 }
 
-/// What is told beside a name that no job has.
+/// What is told beside a name that no job has, or a key.
 #[derive(Clone, Copy)]
 pub(crate) enum Suggestion {
-    /// The nearest name that there is. To look for it takes as long as there are earlier jobs.
+    /// The nearest name that there is. To look for it takes as long as there are names.
     Nearest,
     Nothing,
 }

@@ -10,7 +10,7 @@ use Rattle.rvtest_cli.specs.declared.merge.MergeAsked.{MergeAsked}
 use Rattle.rvtest_cli.specs.declared.requests.Asked.TheVariants as asked
 use Rattle.rvtest_cli.specs.declared.run.RunAsked.{RunAsked}
 use Rattle.rvtest_cli.specs.declared.show.ShowAsked.{ShowAsked}
-use Rattle.rv_command.specs.Stops.{IsUnreadStop}
+use Rattle.rv_command.specs.Stops.{IsResultUnreadStop}
 use Rattle.rv_command.specs.Texts.{IsTextAt, optional_text}
 use Rattle.rv_command.specs.declared.stop.Stop.{Stop}
 use Rattle.rv_command.specs.declared.stop.Stop.TheVariants as stop
@@ -45,7 +45,7 @@ put_or_found (Err stop) (Err why) P stopped put = inr (rw put stopped)
 -- a report of two is blamed, of which both were read
 pub diff_stop_at : (known : Option FileContents) (words : DiffAsked) (old : List ℕ) (new : Result (Vec ℕ Global) Stop)
     (why : Stop) → IsTextAt known words.old.now old → IfOk new (λ bytes. IsTextAt known words.new.now bytes.items)
-    → IfErr new (IsUnreadStop known words.new.now) → IsDiffStop words old new why → IsDiffAtStop known words why
+    → IfErr new (IsResultUnreadStop known words.new.now) → IsDiffStop words old new why → IsDiffAtStop known words why
 diff_stop_at known words old (Ok bytes) why read found unread =
     ⊎_elim (λ memory. inl (inl (inl memory)))
     (⊎_elim (λ fault. inl (inr (old, read, fault)))

@@ -4,7 +4,7 @@ use Rattle.std.specs.Borrow.{Bor}
 use Rattle.rv_base.specs.Files.{FileContents}
 use Rattle.rvtest_cli.specs.declared.counts.CountsAsked.{CountsAsked}
 use Rattle.rv_command.specs.Messages.{path_message, path_number_message}
-use Rattle.rv_command.specs.Stops.{IsStop, IsUnreadStop}
+use Rattle.rv_command.specs.Stops.{IsStop, IsResultUnreadStop}
 use Rattle.rv_command.specs.Texts.{IsTextAt, optional_text}
 use Rattle.rv_command.specs.declared.stop.Stop.{Stop}
 use Rattle.rv_command.specs.declared.stop.Stop.TheVariants as stop
@@ -62,7 +62,7 @@ IsGreatSumStop known path before why = (table : CountTable) × (IsTableAt known 
 
 -- the path was not read; or its text is no table; or it has no sum with what was added before
 abbrev pub IsUnaddedStop : Option FileContents → List ℕ → CountTable → Stop → Type 0
-IsUnaddedStop known path before why = IsUnreadStop known path why
+IsUnaddedStop known path before why = IsResultUnreadStop known path why
     ⊎ (((text : List ℕ) × (IsTextAt known path text × IsTableFaultStop path text why))
     ⊎ IsGreatSumStop known path before why)
 

@@ -2,7 +2,7 @@
 use Rattle.std.specs.Prelude.{◌≡◌, ◌⊎◌, ℕ, List, IsSomeAnd, Option, Err}
 use Rattle.rv_base.specs.Files.{FileContents}
 use Rattle.rvtest_cli.specs.declared.run.RunAsked.{RunAsked}
-use Rattle.rv_command.specs.Stops.{IsStop, IsUnreadStop}
+use Rattle.rv_command.specs.Stops.{IsStop, IsListUnreadStop}
 use Rattle.rv_command.specs.Texts.{IsTextAt}
 use Rattle.rv_command.specs.declared.stop.Stop.{Stop}
 use Rattle.rv_command.specs.declared.stop.Stop.TheVariants as stop
@@ -20,7 +20,7 @@ IsKnownFaultStop path list jobs bytes why = (why ≡ stop.OutOfMemory)
 
 -- the path was not read, or what stands there has a fault
 abbrev pub IsNoKnownFileStop : Option FileContents → List ℕ → List ℕ → List Job → Stop → Type 0
-IsNoKnownFileStop known path list jobs why = IsUnreadStop known path why
+IsNoKnownFileStop known path list jobs why = IsListUnreadStop known path why
     ⊎ ((bytes : List ℕ) × (IsTextAt known path bytes × IsKnownFaultStop path list jobs bytes why))
 
 -- words name such a path for the jobs that are known to fail

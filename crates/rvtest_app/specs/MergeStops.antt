@@ -3,7 +3,7 @@ use Rattle.std.specs.Prelude.{◌≡◌, ◌⊎◌, ◌++◌, ◌∷◌, ℕ, Li
 use Rattle.std.specs.Borrow.{Bor}
 use Rattle.rv_base.specs.Files.{FileContents}
 use Rattle.rvtest_cli.specs.declared.merge.MergeAsked.{MergeAsked}
-use Rattle.rv_command.specs.Stops.{IsUnreadStop}
+use Rattle.rv_command.specs.Stops.{IsResultUnreadStop}
 use Rattle.rv_command.specs.Texts.{optional_text}
 use Rattle.rv_command.specs.declared.stop.Stop.{Stop}
 use Rattle.rv_command.specs.declared.stop.Stop.TheVariants as stop
@@ -22,7 +22,7 @@ pub record IsPartUnreadStop (known : Option FileContents) (paths : List (Bor (Li
   pub texts : List (List ℕ)
   pub listed : paths ≡ before ++ path ∷ behind
   pub read : AreTextsAt known before texts
-  pub unread : IsUnreadStop known path.now why
+  pub unread : IsResultUnreadStop known path.now why
 
 -- memory was wanting, or one of the parts was not read
 abbrev pub ArePartsUnread : Option FileContents → List (Bor (List ℕ)) → Stop → Type 0

@@ -3,7 +3,7 @@ use Rattle.std.specs.Prelude.{◌≡◌, ◌⊎◌, ◌++◌, ℕ, Bool, false, 
 use Rattle.rv_base.specs.Files.{FileContents}
 use Rattle.rvtest_cli.specs.declared.run.RunAsked.{RunAsked}
 use Rattle.rv_command.specs.Messages.{path_message}
-use Rattle.rv_command.specs.Stops.{IsStop, IsUnreadStop}
+use Rattle.rv_command.specs.Stops.{IsStop, IsResultUnreadStop}
 use Rattle.rv_command.specs.Texts.{IsTextAt, optional_text}
 use Rattle.rv_command.specs.declared.stop.Stop.{Stop}
 use Rattle.rv_command.specs.declared.stop.Stop.TheVariants as stop
@@ -43,7 +43,7 @@ IsOtherImageStop known path images why = (table : CountTable) × (IsTableAt know
 
 -- the table at a path was not read; or its text is no table; or it has counts of another image
 abbrev pub IsNoTableStop : Option FileContents → List ℕ → List FileImage → Stop → Type 0
-IsNoTableStop known path images why = IsUnreadStop known path why
+IsNoTableStop known path images why = IsResultUnreadStop known path why
     ⊎ (((text : List ℕ) × (IsTextAt known path text × IsTableFaultStop path text why))
     ⊎ IsOtherImageStop known path images why)
 

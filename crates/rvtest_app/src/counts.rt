@@ -16,7 +16,7 @@ use crate::counts_note::sum_note;
 use crate::destinations::Destinations;
 use crate::overwrites::{look_up_files, read_paths_of_words, refuse_overwrite};
 use crate::written_text::write_text;
-use rv_command::{DONE, Stop, path_message, path_number_message, put_message, read_file};
+use rv_command::{DONE, Stop, path_message, path_number_message, put_message, read_result_file};
 use rv_counts::{CountTable, Images, ReadError, SumError, read_table, sum_of_tables, table_text};
 use rv_files::{Inputs, Outputs};
 use rv_rows::Sink;
@@ -95,7 +95,7 @@ fn sum_with_path<D: Inputs>(
     ensures table { IfOk result IsTable }
     ensures stopped { IfErr result (IsUnaddedStop (D.contents inputs.now) path.now before.now) }
 {
-    let text = read_file(inputs, alloc, path)?;
+    let text = read_result_file(inputs, alloc, path)?;
     let table = table_of_text(alloc, path, text.as_slice())?;
     match sum_of_tables(alloc, before, &table) {
         Ok(sum) => Ok(sum),

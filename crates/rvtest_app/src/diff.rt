@@ -15,7 +15,7 @@ use crate::destinations::Destinations;
 use crate::findings::Found;
 use rv_command::{
     DONE, RequestedReport, SOME_FAIL, Stop, cut_off_note, parse_requested_report, put_message,
-    put_results, read_file,
+    put_results, read_result_file,
 };
 use rv_diff::{Compare, Compared, Differing, push_diff, rows_beside};
 use rv_files::{Inputs, Outputs};
@@ -62,8 +62,8 @@ fn diff_of_files<D: Inputs>(
     ensures low { IfOk result (λ noted. noted.found.status ≤ 1) }
     ensures stopped { IfErr result (IsDiffAtStop (D.contents inputs.now) asked.entry) }
 {
-    let old = read_file(inputs, alloc, asked.old)?;
-    let new = read_file(inputs, alloc, asked.new);
+    let old = read_result_file(inputs, alloc, asked.old)?;
+    let new = read_result_file(inputs, alloc, asked.new);
     diff_report_texts(alloc, asked, old.as_slice(), new)
 }
 

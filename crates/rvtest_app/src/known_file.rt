@@ -7,7 +7,7 @@ ghost use Rattle.rv_lists.specs.JobList.{names_of_jobs};
 ghost use Rattle.rvtest_app.specs.KnownFiles.{IsKnownAt, IsKnownFile, known_fault_message, known_fault_text};
 ghost use Rattle.rvtest_app.specs.KnownStops.{IsKnownStop, IsNoKnownFileStop};
 
-use rv_command::{Stop, read_file};
+use rv_command::{Stop, read_list_text};
 use rv_files::Inputs;
 use rv_jobs::{Job, Text};
 use rv_known::{KnownFault, KnownFaultKind, KnownJobs, read_known_jobs};
@@ -41,7 +41,7 @@ fn read_known_file<D: Inputs>(
     ensures known { IfOk result (IsKnownFile (D.contents inputs.now) path.now jobs.now) }
     ensures stopped { IfErr result (IsNoKnownFileStop (D.contents inputs.now) path.now list.now jobs.now) }
 {
-    let text = read_file(inputs, alloc, path)?;
+    let text = read_list_text(inputs, alloc, path)?;
     let names = job_names(alloc, jobs)?;
     match read_known_jobs(alloc, names.as_slice(), text.as_slice())? {
         Ok(jobs) => {

@@ -25,7 +25,7 @@ use crate::overwrites::{look_up_files, read_paths_of_words, refuse_overwrite};
 use crate::puts::put_shown;
 use crate::rules::{report_judge, rows_status};
 use crate::whole_files::put_whole_files;
-use rv_command::{Stop, path_message, path_number_message, read_file, refused_line_message};
+use rv_command::{Stop, path_message, path_number_message, read_result_file, refused_line_message};
 use rv_files::{Inputs, Outputs};
 use rv_fleet::Rows;
 use rv_job_text::push_totals_line;
@@ -150,7 +150,7 @@ fn read_part_texts<D: Inputs>(
 {
     let mut texts = Vec::new(alloc);
     for path in &asked.parts {
-        let text = read_file(inputs, alloc, path)?;
+        let text = read_result_file(inputs, alloc, path)?;
         add_part_text(&mut texts, text)?;
     }
     Ok(texts)

@@ -16,7 +16,7 @@ use crate::counts::{sum_error_stop, table_of_text};
 use crate::crew::requested_crew;
 use crate::host::Host;
 use crate::view::{JobsView, View};
-use rv_command::{Stop, path_message, read_file};
+use rv_command::{Stop, path_message, read_result_file};
 use rv_counts::CountTable;
 use rv_cover::{ImageFile, other_image};
 use rv_coverage::count_places;
@@ -127,7 +127,7 @@ fn read_table_for_images<D: Inputs>(
     ensures of_images { IfOk result (λ table. other_image table (images_of_files images.now) ≡ None) }
     ensures stopped { IfErr result (IsNoTableStop (D.contents inputs.now) path.now (images_of_files images.now)) }
 {
-    let text = read_file(inputs, alloc, path)?;
+    let text = read_result_file(inputs, alloc, path)?;
     let table = table_of_text(alloc, path, text.as_slice())?;
     match other_image(alloc, &table, images)? {
         Some(other) => Err(Stop::of_refusal(other_image_message(alloc, path, other))),

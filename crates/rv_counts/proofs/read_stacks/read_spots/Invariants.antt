@@ -4,7 +4,7 @@ use Rattle.rv_counts.proofs.ReadingStacks.{SpotsSoFar}
 use Rattle.rv_counts.proofs.read_stacks.read_spots.Given as goal
 
 abbrev pub invariant-lines : goal.invariant-lines
-invariant-lines l = SpotsSoFar l.text l.spots.items l.names.items l.front.items l.length
+invariant-lines l = SpotsSoFar l.text l.spots.items l.names l.front.items l.length
 
 abbrev pub decreases-lines : goal.decreases-lines
 decreases-lines l = length l.text - l.length

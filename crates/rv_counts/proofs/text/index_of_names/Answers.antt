@@ -1,0 +1,31 @@
+-- Each name is one more.
+use Rattle.std.proofs.Common.{◌≡◌, ◌∙◌, ◌++◌, ◌+◌, ◌∷◌, [], List, add-one, ap, subst, sym, take}
+use Rattle.std.proofs.Math.Seq.{take-suc}
+use Rattle.rv_counts.specs.declared.table.FunctionName.{FunctionName}
+use Rattle.rv_counts.proofs.NameIndexes.{index_keeps, index_more, no_index, IsIndexOf}
+use Rattle.rv_counts.proofs.text.index_of_names.Goals as goal
+use Rattle.rv_counts.proofs.text.index_of_names.Goals.{then-not-contains_key+in_ok-insert, else-not-contains_key}
+
+pub loop-name-init : goal.loop-name-init
+loop-name-init c = no_index c.new-index.result c.new-index.ensures.empty
+
+pub loop-name-preserved : goal.loop-name-preserved
+loop-name-preserved c =
+    let names = c.args.names.now in
+    let at = c.loop-name.name-index in
+    let earlier = take at names in
+    let name = c.name-item.result in
+    let more : take (at + 1) names ≡ earlier ++ name ∷ [] =
+    ap (λ n. take n names) (add-one at) ∙ take-suc names at name c.loop-name-test.true
+    ∙ ap (λ (n : FunctionName). earlier ++ n ∷ []) (sym c.name-item.is) in
+    subst (λ (ns : List FunctionName). IsIndexOf c.if-not-contains_key.index ns) (sym more)
+    (elim c.if-not-contains_key.branch [
+      | then-not-contains_key+in_ok-insert w ↦
+          rw w.index-is
+          (index_more c.loop-name.index w.insert.new.self earlier name w.as_str.result c.loop-name.invariant
+          (sym c.contains_key.ensures ∙ w.if-not-contains_key.true) w.in_ok-insert.ensures.updates w.as_str.ensures)
+      | else-not-contains_key w ↦
+          rw w.index-is
+          (index_keeps c.loop-name.index earlier name c.loop-name.invariant
+          (sym c.contains_key.ensures ∙ w.if-not-contains_key.false))
+    ])
