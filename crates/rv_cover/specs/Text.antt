@@ -3,7 +3,7 @@ use Rattle.std.specs.Prelude.{◌++◌, ◌-◌, ℕ, List, [], ◌∷◌, codes
 use Rattle.std.specs.Fmt.{decimal}
 use Rattle.std.specs.List.{flat_map}
 use Rattle.rv_elf.specs.Functions.{Named}
-use Rattle.rv_text.specs.Printable.{printable_text}
+use Rattle.rv_text.specs.Printable.{printable_name, printable_text}
 use Rattle.rv_cover.specs.declared.amounts.Amounts.{Amounts}
 use Rattle.rv_cover.specs.declared.amounts.CodeAmounts.{CodeAmounts}
 
@@ -26,9 +26,9 @@ image_line path a = function_columns a ++ code_columns a.code ++ codes "  " ++ p
 
 -- the names of further functions
 abbrev pub further_names : List Named → List ℕ
-further_names fs = flat_map (λ f. codes ", " ++ printable_text f.0) fs
+further_names fs = flat_map (λ f. codes ", " ++ printable_name f.0) fs
 
 -- no line where there are none
 unfoldable pub never_run_line : List Named → List ℕ
 never_run_line [] = []
-never_run_line (f ∷ fs) = codes "never run: " ++ printable_text f.0 ++ further_names fs ++ codes "\n"
+never_run_line (f ∷ fs) = codes "never run: " ++ printable_name f.0 ++ further_names fs ++ codes "\n"

@@ -49,7 +49,7 @@ pub fn push_never_run_line(
     let Some((first, others)) = functions.split_first() else {
         return Ok(());
     };
-    push_spans(bytes, &[Span::Text("never run: "), Span::Shown(first.name)])?;
+    push_spans(bytes, &[Span::Text("never run: "), Span::Name(first.name)])?;
     push_further_names(bytes, others)?;
     push_text(bytes, "\n")
 }
@@ -58,7 +58,7 @@ fn push_further_names(bytes: &mut Vec<u8>, functions: &[Function<'_>]) -> Result
     ensures { OnOk result (bytes.new.items ≡ bytes.old.items ++ further_names (map named functions.now)) }
 {
     for function in functions {
-        push_spans(bytes, &[Span::Text(", "), Span::Shown(function.name)])?;
+        push_spans(bytes, &[Span::Text(", "), Span::Name(function.name)])?;
     }
     Ok(())
 }

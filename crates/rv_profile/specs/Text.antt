@@ -4,7 +4,7 @@ use Rattle.std.specs.Prelude.{Option, Some, None}
 use Rattle.std.specs.Fmt.{decimal}
 use Rattle.std.specs.List.{flat_map}
 use Rattle.rv_cover.specs.Text.{right}
-use Rattle.rv_text.specs.Printable.{printable_text}
+use Rattle.rv_text.specs.Printable.{printable_name, printable_text}
 use Rattle.rv_profile.specs.Profile.{Profiled}
 use Rattle.rv_profile.specs.declared.columns.Columns.{Columns}
 use Rattle.rv_profile.specs.declared.sums.Sums.{Sums}
@@ -59,7 +59,7 @@ steps_line path steps = printable_text path ++ codes ": " ++ decimal steps ++ st
 -- of a function, of so many steps of its image
 unfoldable pub function_line : Columns → ℕ → Profiled → List ℕ
 function_line c steps p = share c.own p.own steps ++ share c.inclusive p.inclusive steps ++ right c.arrivals p.arrivals
-    ++ codes "  " ++ printable_text p.name ++ codes "\n"
+    ++ codes "  " ++ printable_name p.name ++ codes "\n"
 
 abbrev pub function_lines : Columns → ℕ → List Profiled → List ℕ
 function_lines c steps ps = flat_map (function_line c steps) ps

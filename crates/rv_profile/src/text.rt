@@ -85,7 +85,7 @@ pub(crate) fn push_function_line(
         bytes,
         &[
             Span::Text("  "),
-            Span::Shown(function.name.as_bytes()),
+            Span::Name(function.name.as_bytes()),
             Span::Text("\n"),
         ],
     )

@@ -84,6 +84,14 @@ most_shown_characters = 80
 abbrev pub printable_value : List ℕ → List ℕ
 printable_value text = printable_within most_shown_characters 0 text
 
+-- how many characters of a symbol's name are shown at most
+abbrev pub most_characters_of_name : ℕ
+most_characters_of_name = 256
+
+-- the name of a symbol, as it is shown
+abbrev pub printable_name : List ℕ → List ℕ
+printable_name text = printable_within most_characters_of_name 0 text
+
 -- ---- the piece in front: a character that is shown as it is, or one byte
 
 abbrev pub printable_front : List ℕ → List ℕ

@@ -4,7 +4,7 @@ use Rattle.std.specs.Fmt.{decimal}
 use Rattle.rv_text.specs.Words.{word_digits}
 use Rattle.rv_text.specs.declared.spans.Span.{Span}
 use Rattle.rv_text.specs.declared.spans.Span.TheVariants as span
-use Rattle.rv_text.specs.Printable.{printable_text, printable_value}
+use Rattle.rv_text.specs.Printable.{printable_name, printable_text, printable_value}
 
 abbrev pub span_text : Span → List ℕ
 span_text (span.Text text) = text.now
@@ -12,3 +12,4 @@ span_text (span.Number number) = decimal number
 span_text (span.Word word) = word_digits word
 span_text (span.Shown text) = printable_text text.now
 span_text (span.Value value) = printable_value value.now
+span_text (span.Name name) = printable_name name.now

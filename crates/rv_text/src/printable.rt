@@ -3,7 +3,8 @@
 ghost use Rattle.std.specs.Prelude.{◌≡◌, ◌<◌, ◌≤◌, ◌++◌, IfOk, OnOk, length};
 ghost use Rattle.std.specs.Str.{is_utf8};
 ghost use Rattle.rv_text.specs.Printable.{behind_printable_front, escape, front_width, front_character_bytes, printable_front, begins_with_control};
-ghost use Rattle.rv_text.specs.Printable.{begins_with_format, is_format, is_format_if_any, plain_front_len, printable_text, printable_value};
+ghost use Rattle.rv_text.specs.Printable.{begins_with_format, is_format, is_format_if_any, plain_front_len, printable_name, printable_text, printable_value};
+ghost use Rattle.rv_text.specs.Printable.{printable_within};
 
 use crate::slices::{byte_at, char_len, tail_from};
 use std::alloc::AllocError;
@@ -23,13 +24,34 @@ pub fn push_printable_text(bytes: &mut Vec<u8>, text: &[u8]) -> Result<(), Alloc
 /// How many characters of a value are shown at most.
 pub const VALUE_ROOM: usize = 80;
 
+/// How many characters of the name of a symbol are shown at most.
+pub const NAME_ROOM: usize = 256;
+
 /// Appends a value that was met or is expected as it is shown: as [`push_printable_text`] does, but only as far as whole
 /// characters, and `\xNN` of whole bytes, fit into [`VALUE_ROOM`] characters.
 pub fn push_printable_value(bytes: &mut Vec<u8>, value: &[u8]) -> Result<(), AllocError>
     ensures { OnOk result (bytes.new.items ≡ bytes.old.items ++ printable_value value.now) }
 {
-    let mut rest = value;
-    let mut room = VALUE_ROOM;
+    push_printable_within(bytes, VALUE_ROOM, value)
+}
+
+/// Appends the name of a symbol as it is shown: as [`push_printable_value`] does, but within [`NAME_ROOM`] characters.
+pub fn push_printable_name(bytes: &mut Vec<u8>, name: &[u8]) -> Result<(), AllocError>
+    ensures { OnOk result (bytes.new.items ≡ bytes.old.items ++ printable_name name.now) }
+{
+    push_printable_within(bytes, NAME_ROOM, name)
+}
+
+// Appends a text as far as whole characters, and `\xNN` of whole bytes, fit into so many characters.
+fn push_printable_within(
+    bytes: &mut Vec<u8>,
+    characters: usize,
+    text: &[u8],
+) -> Result<(), AllocError>
+    ensures { OnOk result (bytes.new.items ≡ bytes.old.items ++ printable_within characters 0 text.now) }
+{
+    let mut rest = text;
+    let mut room = characters;
     while !rest.is_empty() {
         let width = front_width(rest);
         if room < width {

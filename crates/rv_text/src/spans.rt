@@ -4,7 +4,7 @@ ghost use Rattle.std.specs.Prelude.{◌≡◌, ◌++◌, IfOk, OnOk};
 ghost use Rattle.std.specs.List.{flat_map};
 ghost use Rattle.rv_text.specs.Spans.{span_text};
 
-use crate::printable::{push_printable_text, push_printable_value};
+use crate::printable::{push_printable_name, push_printable_text, push_printable_value};
 use crate::text_and_numbers::{push_number, push_text, push_word_digits};
 use std::alloc::{AllocError, Global};
 
@@ -21,6 +21,8 @@ pub enum Span<'a> {
     Shown(&'a [u8]),
     /// A value, as [`push_printable_value`] shows it.
     Value(&'a [u8]),
+    /// The name of a symbol, as [`push_printable_name`] shows it.
+    Name(&'a [u8]),
 }
 
 /// Appends spans, one behind the other.
@@ -51,5 +53,6 @@ fn push_span(bytes: &mut Vec<u8>, span: Span<'_>) -> Result<(), AllocError>
         Span::Word(word) => push_word_digits(bytes, word),
         Span::Shown(text) => push_printable_text(bytes, text),
         Span::Value(value) => push_printable_value(bytes, value),
+        Span::Name(name) => push_printable_name(bytes, name),
     }
 }

@@ -22,7 +22,7 @@ pub fn push_symbol_in_brackets(
     }
 }
 
-/// Appends a place by the name of a symbol, shown as [`push_printable_text`](crate::printable::push_printable_text) does, and the bytes past it: `main+0x1c`.
+/// Appends a place by the name of a symbol, shown as [`push_printable_name`](crate::printable::push_printable_name) does, and the bytes past it: `main+0x1c`.
 pub fn push_symbol(
     alloc: Global,
     bytes: &mut Vec<u8>,
@@ -51,7 +51,7 @@ fn push_symbol_between<'a>(
         bytes,
         &[
             Span::Text(before),
-            Span::Shown(symbol.name),
+            Span::Name(symbol.name),
             Span::Text("+0x"),
             Span::Text(digits.as_str()),
             Span::Text(behind),

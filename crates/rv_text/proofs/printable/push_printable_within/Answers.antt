@@ -2,7 +2,7 @@ use Rattle.std.proofs.Common.{◌≡◌, ◌-◌, arith, append_assoc, append-ni
 use Rattle.std.proofs.lemmas.Grind.{common_steps}
 use Rattle.rv_text.specs.Printable.{behind_printable_front, front_width, printable_front, printable_within}
 use Rattle.rv_text.proofs.Pieces.{printable_within-empty, printable_within-front, printable_within-full}
-use Rattle.rv_text.proofs.printable.push_printable_value.Goals as goal
+use Rattle.rv_text.proofs.printable.push_printable_within.Goals as goal
 
 pub returns-then-room-width : goal.returns-then-room-width
 returns-then-room-width c =
