@@ -1,5 +1,5 @@
 -- The jobs of a list that a person chooses.
-use Rattle.std.specs.Prelude.{◌≡◌, ℕ, Bool, true, List, [], ◌∷◌, Option, Some, None, is_some, map, not}
+use Rattle.std.specs.Prelude.{◌≡◌, ℕ, Bool, true, List, [], ◌∷◌, Option, Some, None, is_some, length, map, not}
 use Rattle.std.specs.Prelude.{◌&&◌, ◌||◌, false, option_map, unwrap_or}
 use Rattle.std.specs.Borrow.{Bor}
 use Rattle.std.specs.List.{filter, list_any}
@@ -62,6 +62,14 @@ IsReadByDefault regex = (regex_config regex ≡ default_config) × IsReadFromSou
 abbrev pub failed_job_names : Rule → List Row → List (List ℕ)
 failed_job_names rule rows =
     map (λ (row : Row). row.name) (filter (λ (row : Row). not (has_passed rule row)) rows)
+
+-- a row has the name
+abbrev pub has_row_named : List Row → List ℕ → Bool
+has_row_named rows name = list_any (λ (row : Row). bytes_eq row.name name) rows
+
+-- how many jobs have no row
+abbrev pub jobs_without_row : List Job → List Row → ℕ
+jobs_without_row jobs rows = length (filter (λ (job : Job). not (has_row_named rows job.name)) jobs)
 
 -- exact names are asked where there are any
 abbrev pub requested_names : List (Bor (List ℕ)) → Option ChosenNames

@@ -13,15 +13,15 @@ use Rattle.rv_expect.specs.declared.passing.Rule.{Rule}
 use Rattle.rv_lists.specs.declared.job.Job.{Job}
 use Rattle.rv_report.specs.declared.partial.PartialReport.{PartialReport}
 use Rattle.rv_choice.specs.Choice.{ChosenNames, IsReadByDefault, are_emptied, chosen_marks, failed_job_names, is_found_in_names}
-use Rattle.rv_choice.specs.Choice.{left_marks, requested_names}
+use Rattle.rv_choice.specs.Choice.{jobs_without_row, left_marks, requested_names}
 use Rattle.rv_choice.specs.FailedJobNotes.{failed_job_notes}
 use Rattle.rv_choice.specs.UnknownName.{unknown_name}
 
--- by exact names, by a pattern, and among the jobs of these names, which failed in the report at a path; there are no marks
--- exactly where words ask for the jobs that failed in a report and in no other way, and none failed
-pub record AreChosenFrom (path : List ℕ) (failed : ChosenNames) (pattern : Option Re) (words : RunAsked)
+-- by exact names, by a pattern, and among the jobs of these names, which failed in the report at a path, where so many jobs have no
+-- row; there are no marks exactly where words ask for the jobs that failed in a report and in no other way, and none failed
+pub record AreChosenFrom (path : List ℕ) (failed : ChosenNames) (missing : ℕ) (pattern : Option Re) (words : RunAsked)
     (jobs : List Job) (marks : Option (List Bool)) (notes : List ℕ) : Type 0 where
-  pub told : notes ≡ failed_job_notes path jobs failed
+  pub told : notes ≡ failed_job_notes path jobs failed missing
   pub marked : IfSome marks (λ marks. marks
       ≡ chosen_marks (requested_names words.only.items) pattern (Some failed) jobs)
   pub none : (marks ≡ None) ↔ ((failed ≡ []) × (words.only.items ≡ []) × (pattern ≡ None))
@@ -33,7 +33,8 @@ pub record AreChosenFromReport (known : Option FileContents) (path : List ℕ) (
   pub read : IsReportReadAt known words.partial path found
   pub failed : List ℕ
   pub noted : notes ≡ cut_off_note path found ++ failed
-  pub chosen : AreChosenFrom path (failed_job_names rule found.report.rows) pattern words jobs marks failed
+  pub chosen : AreChosenFrom path (failed_job_names rule found.report.rows)
+      (jobs_without_row jobs found.report.rows) pattern words jobs marks failed
 
 -- beside a pattern: from a report where one is asked, else by exact names alone, with nothing said
 abbrev pub AreChosenBeside : Option FileContents → Option (Bor (List ℕ)) → Option Re → RunAsked → Rule → List Job

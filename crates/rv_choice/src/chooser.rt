@@ -5,7 +5,7 @@ ghost use Rattle.std.specs.Prelude.{false, is_some, length, option_map};
 ghost use Rattle.regex.specs.Strings.{regex_pattern, regex_source};
 ghost use Rattle.rv_choice.specs.BadValues.{IsBadPatternText, IsBadPatternStop};
 ghost use Rattle.rv_choice.specs.Choice.{IsReadByDefault, are_emptied, borrowed_names, chosen_marks, failed_job_names, has_mark};
-ghost use Rattle.rv_choice.specs.Choice.{is_found_in_names, left_marks, optional_names, pattern_of, requested_names};
+ghost use Rattle.rv_choice.specs.Choice.{is_found_in_names, jobs_without_row, left_marks, optional_names, pattern_of, requested_names};
 ghost use Rattle.rv_choice.specs.ChoiceStops.{IsChoiceStop, IsEmptiedStop, IsPatternStop, IsRefusedPattern, emptied_choice};
 ghost use Rattle.rv_choice.specs.ChoiceStops.{unmatched_pattern};
 ghost use Rattle.rv_choice.specs.Chosen.{AreChosenBy, AreChosenFrom, AreLeft, AreWanted, IsChoice};
@@ -16,7 +16,7 @@ ghost use Rattle.rv_command.specs.Messages.{cut_off_note};
 ghost use Rattle.rv_command.specs.Stops.{IsRequestedUnreadStop, IsStop};
 
 use crate::bad_value::{bad_value_stop, bad_value_text};
-use crate::failed_jobs::{failed_job_names, failed_job_notes};
+use crate::failed_jobs::{failed_job_names, failed_job_notes, jobs_without_row};
 use crate::marks::{Wanted, chosen_marks, first_unknown_name, left_marks};
 use crate::unknown_name::unknown_name_stop;
 use regex::Regex;
@@ -215,28 +215,30 @@ impl<'x, D: Inputs> Chooser<'x, D> {
         jobs: &[Job],
     ) -> Result<Choice, Stop>
         ensures chosen { IfOk result (λ choice. AreChosenFrom path.now (failed_job_names self.now.rule rows.now)
-            (pattern_of pattern.entry) self.now.asked.now jobs.now
+            (jobs_without_row jobs.now rows.now) (pattern_of pattern.entry) self.now.asked.now jobs.now
             (option_map (λ marks. marks.items) choice.marks) choice.notes.items) }
         ensures memory { IfErr result (λ stop. stop ≡ Stop.OutOfMemory) }
     {
         let failed = failed_job_names(self.alloc, self.rule, rows)?;
-        self.choose_from_failed_names(path, failed.as_slice(), pattern, jobs)
+        let missing = jobs_without_row(jobs, rows);
+        self.choose_from_failed_names(path, failed.as_slice(), missing, pattern, jobs)
     }
 
-    // The same among the jobs of these names, which the report at a path has as failed.
+    // The same among the jobs of these names, which failed in the report at a path, where so many jobs have no row.
     fn choose_from_failed_names(
         &self,
         path: &str,
         failed: &[&str],
+        missing: usize,
         pattern: Option<&Regex>,
         jobs: &[Job],
     ) -> Result<Choice, Stop>
         ensures chosen { IfOk result (λ choice. AreChosenFrom path.now (borrowed_names failed.now)
-            (pattern_of pattern.entry) self.now.asked.now jobs.now
+            missing (pattern_of pattern.entry) self.now.asked.now jobs.now
             (option_map (λ marks. marks.items) choice.marks) choice.notes.items) }
         ensures memory { IfErr result (λ stop. stop ≡ Stop.OutOfMemory) }
     {
-        let notes = failed_job_notes(self.alloc, path, jobs, failed)?;
+        let notes = failed_job_notes(self.alloc, path, jobs, failed, missing)?;
         if failed.is_empty() && self.asked.only.is_empty() && pattern.is_none() {
             return Ok(Choice { marks: None, notes });
         }

@@ -1,11 +1,12 @@
 //! The jobs that failed in a report.
 
 ghost use Rattle.std.specs.Prelude.{◌≡◌, ◌++◌, IfOk, OnOk, map};
-ghost use Rattle.rv_choice.specs.Choice.{borrowed_names, failed_job_names};
-ghost use Rattle.rv_choice.specs.FailedJobNotes.{failed_job_notes, note_of_failed_job, removed_job_note, removed_job_notes};
+ghost use Rattle.rv_choice.specs.Choice.{borrowed_names, failed_job_names, has_row_named, jobs_without_row};
+ghost use Rattle.rv_choice.specs.FailedJobNotes.{failed_job_notes, missing_rows_note, none_failed_note, note_of_failed_job, removed_job_note};
+ghost use Rattle.rv_choice.specs.FailedJobNotes.{removed_job_notes};
 
 use crate::marks::has_job_named;
-use rv_command::path_message;
+use rv_command::{path_message, path_number_message};
 use rv_expect::{Rule, has_passed};
 use rv_jobs::Job;
 use rv_rows::Row;
@@ -29,19 +30,62 @@ pub(crate) fn failed_job_names(
     Ok(names)
 }
 
-/// What is said of the jobs that failed in the report at a path: that there are none, or of which no job has the name any more.
+/// How many jobs have no row.
+pub(crate) fn jobs_without_row(jobs: &[Job], rows: &[Row]) -> usize
+    ensures { result ≡ jobs_without_row jobs.now rows.now }
+{
+    jobs.iter()
+        .filter(|job| !has_row_named(rows, job.name.as_str()))
+        .count()
+}
+
+fn has_row_named(rows: &[Row], name: &str) -> bool
+    ensures { result ≡ has_row_named rows.now name.now }
+{
+    rows.iter().any(|row| row.name.as_str() == name)
+}
+
+/// What is said of the jobs that failed in the report at a path: that there are none, or which of them are no jobs of the list any
+/// more; and how many jobs of the list have no row there.
 pub(crate) fn failed_job_notes(
     alloc: Global,
     path: &str,
     jobs: &[Job],
     names: &[&str],
+    missing: usize,
 ) -> Result<Vec<u8>, AllocError>
-    ensures { IfOk result (λ notes. notes.items ≡ failed_job_notes path.now jobs.now (borrowed_names names.now)) }
+    ensures { IfOk result (λ notes. notes.items ≡ failed_job_notes path.now jobs.now (borrowed_names names.now) missing) }
 {
-    if names.is_empty() {
-        return path_message(alloc, path, "no job failed there");
+    let mut notes = if names.is_empty() {
+        none_failed_note(alloc, path, missing)?
+    } else {
+        removed_job_notes(alloc, path, jobs, names)?
+    };
+    let missing_rows = missing_rows_note(alloc, path, missing)?;
+    notes.extend_from_slice(missing_rows.as_slice())?;
+    Ok(notes)
+}
+
+// Where rows are missing, more jobs may have failed than the report says.
+fn none_failed_note(alloc: Global, path: &str, missing: usize) -> Result<Vec<u8>, AllocError>
+    ensures { IfOk result (λ note. note.items ≡ none_failed_note path.now missing) }
+{
+    if missing == 0 {
+        path_message(alloc, path, "no job failed there")
+    } else {
+        path_message(alloc, path, "no row there is a failure")
     }
-    removed_job_notes(alloc, path, jobs, names)
+}
+
+// How many jobs of the list have no row, if there are any.
+fn missing_rows_note(alloc: Global, path: &str, missing: usize) -> Result<Vec<u8>, AllocError>
+    ensures { IfOk result (λ note. note.items ≡ missing_rows_note path.now missing) }
+{
+    if missing == 0 {
+        return Ok(Vec::new(alloc));
+    }
+    let what = ": jobs of the list without a row there: ";
+    path_number_message(alloc, path, what, missing, "\n")
 }
 
 fn removed_job_notes(
