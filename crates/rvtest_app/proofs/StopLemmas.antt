@@ -47,11 +47,11 @@ pub diff_stop_at : (known : Option FileContents) (words : DiffAsked) (old : List
     (why : Stop) → IsTextAt known words.old.now old → IfOk new (λ bytes. IsTextAt known words.new.now bytes.items)
     → IfErr new (IsResultUnreadStop known words.new.now) → IsDiffStop words old new why → IsDiffAtStop known words why
 diff_stop_at known words old (Ok bytes) why read found unread =
-    ⊎_elim (λ memory. inl (inl (inl memory)))
+    ⊎_elim (λ memory. inl (inl (inl (inl memory))))
     (⊎_elim (λ fault. inl (inr (old, read, fault)))
     (λ is. inr (is.0, (record { bytes = old; found = read; of = is.1 }, inr (bytes.items, found, is.2)))))
 diff_stop_at known words old (Err failed) why read found unread =
-    ⊎_elim (λ memory. inl (inl (inl memory)))
+    ⊎_elim (λ memory. inl (inl (inl (inl memory))))
     (⊎_elim (λ fault. inl (inr (old, read, fault)))
     (λ is. inr (is.0, (record { bytes = old; found = read; of = is.1 }, inl (rw is.2 unread)))))
 
