@@ -7,8 +7,9 @@ ghost use Rattle.rv_counts.specs.Lines.{lacks};
 ghost use Rattle.rv_elf.specs.SymbolSearch.{symbol_at};
 ghost use Rattle.rv_spots.specs.declared.spot.Spot.{Spot as ASpot};
 ghost use Rattle.rv_spots.specs.Sums.{FitsSpot};
-ghost use Rattle.rv_stacks.specs.StackTables.{name_of_function, symbol_name, AreNamesBy};
+ghost use Rattle.rv_stacks.specs.StackTables.{name_in_file, name_of_function, symbol_name, AreNamesBy};
 
+use crate::functions::LAST_ADDRESS;
 use rv_base::Text;
 use rv_counts::{FunctionName, FunctionNames, add_name, name_of};
 use rv_coverage::shown_text;
@@ -70,8 +71,11 @@ fn shown_name(alloc: Global, elf: &ElfFile<'_>, function: u32) -> Result<Text, A
 }
 
 fn symbol_name<'a>(elf: &ElfFile<'a>, function: u32) -> &'a [u8]
-    ensures { result.now ≡ symbol_name (symbol_at elf.now.image.now elf.now.bytes.now function) }
+    ensures { result.now ≡ name_in_file elf.now.image.now elf.now.bytes.now function }
 {
+    if function == LAST_ADDRESS {
+        return b"?";
+    }
     match symbol_at(elf.image, elf.bytes, function) {
         Some(symbol) => symbol.name,
         None => b"?",
