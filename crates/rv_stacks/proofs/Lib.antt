@@ -16,3 +16,4 @@ pub mod NoSums
 pub mod Nodes
 pub mod Growing
 pub mod Flattened
+pub mod RisingNames

@@ -18,7 +18,7 @@ use Rattle.rv_spots.specs.Trees.{arrivals_of, counted_behind, ends_with, path_be
 use Rattle.rv_stacks.specs.StackTables.{AreNamesBy}
 use Rattle.rv_stacks.proofs.Steps.{last_of}
 
-or_with : (b c : Bool) → c ≡ true → (b || c) ≡ true
+pub or_with : (b c : Bool) → c ≡ true → (b || c) ≡ true
 or_with true c h = refl
 or_with false c h = h
 

@@ -23,6 +23,7 @@ use Rattle.rv_jobs.specs.Plans.{Planned}
 use Rattle.rv_machine.specs.State.{State}
 use Rattle.rv_rows.specs.Rows.{image_in, start_in}
 use Rattle.rv_spots.specs.declared.spot.Spot.{Spot}
+use Rattle.rv_spots.specs.Profiles.{is_last_of_some}
 use Rattle.rv_spots.specs.Trees.{ends_with}
 use Rattle.rv_stacks.specs.Stacks as run
 use Rattle.rv_text.specs.Printable.{printable_text}
@@ -47,6 +48,12 @@ pub record AreNamesBy (name : ℕ → List ℕ) (spots : List Spot) (names : Lis
   pub sound : AreNames names
   pub of_spots : AreNamesOf spots names
   pub each : (f : ℕ) → has_name (name_of f names) ≡ true → name_of f names ≡ Some (name f)
+
+-- they are named, of which none has a name from the next function on, and the last has its name
+pub record AreNamedUpTo (name : ℕ → List ℕ) (spots : List Spot) (next : ℕ) (names : List FunctionName) : Type 0 where
+  pub named : AreNamesBy name spots names
+  pub below : AllByRecursion (λ n. n.function < next) names
+  pub last : (f : ℕ) → f + 1 ≡ next → is_last_of_some f spots ≡ true
 
 abbrev pub table_of_spots : List ℕ → List ℕ → List FunctionName → List Spot → CountTable
 table_of_spots path file functions spots = record {
