@@ -1,6 +1,6 @@
 -- From step to step.
-use Rattle.std.proofs.Common.{◌∙◌, ℕ, Bool, List, Result, Ok, Err, sym, ap, subst}
-use Rattle.std.specs.Prelude.{AllocError, IfOk}
+use Rattle.std.proofs.Common.{◌∙◌, ℕ, Bool, List, sym, ap, subst}
+use Rattle.std.proofs.lemmas.Result.{IfOk-weaker}
 use Rattle.rv_calls.specs.declared.frames.Frame.{Frame}
 use Rattle.rv_machine.specs.Machine.{state_of}
 use Rattle.rv_spots.specs.declared.spot.Spot.{Spot}
@@ -37,10 +37,6 @@ steps-preserved c =
           c.steps.invariant.so_far c.steps-test.true step;
     }
 
-mapped : {A : Type 0} (r : Result A AllocError) (P Q : A → Type 0) → IfOk r P → ((x : A) → P x → Q x) → IfOk r Q
-mapped (Ok x) P Q h f = f x h
-mapped (Err e) P Q h f = tt
-
 pub returns-then-not-branch : goal.returns-then-not-branch
 returns-then-not-branch c =
     let function = function_at c.args.elf.now.image.now c.args.elf.now.bytes.now in
@@ -55,9 +51,10 @@ returns-then-not-branch c =
     c.in_ok-next_step.ensures.step in
     let nodes = ended function c.args.budget c.steps.counter start s t frames after old new c.steps.invariant.so_far
     c.steps-test.true step in
-    mapped c.into_spots.result _ _ c.into_spots.ensures
+    IfOk-weaker c.into_spots.result _ _
     (λ (spots : List Spot) (k : AreSpotsOf new.nodes.items spots).
     stacks_of_nodes function c.args.budget start new.nodes.items spots nodes k)
+    c.into_spots.ensures
 
 pub returns : goal.returns
 returns c =
@@ -66,6 +63,7 @@ returns c =
     let walk = c.steps.walk in
     let nodes = used_up function c.args.budget c.steps.counter start (state_of c.steps.machine) c.steps.frames.items walk
     c.steps.invariant.so_far c.steps-test.false in
-    mapped c.into_spots-2.result _ _ c.into_spots-2.ensures
+    IfOk-weaker c.into_spots-2.result _ _
     (λ (spots : List Spot) (k : AreSpotsOf walk.nodes.items spots).
     stacks_of_nodes function c.args.budget start walk.nodes.items spots nodes k)
+    c.into_spots-2.ensures
