@@ -1,14 +1,14 @@
 -- Nodes that grow.
 use Rattle.std.proofs.Common.{◌≡◌, ◌∙◌, ◌==◌, ◌+◌, ◌-◌, ◌<◌, ◌≤◌, ℕ, zero, suc, Bool, true, false, cond, List, [], ◌∷◌, ◌++◌, length, take, get_or, set, refl, sym, ap, subst, arith, length-append, length-set, inl, inr}
 use Rattle.std.proofs.lemmas.Bool.{cases_lt}
-use Rattle.std.proofs.lemmas.List.{get_or_append_left, length-take-le, take-append-le, take_all}
+use Rattle.std.proofs.lemmas.List.{get_or_append_left, take-append-le, take_all}
 use Rattle.std.proofs.Math.Seq.{get_or-append_seam}
 use Rattle.std.specs.Str.{bytes_eq}
 use Rattle.rv_spots.specs.Trees.{ends_with, once_if, steps_if}
 use Rattle.rv_stacks.specs.declared.node.Node.{Node}
 use Rattle.rv_stacks.specs.declared.walk.Walk.{Walk}
 use Rattle.rv_stacks.specs.Nodes.{all_arrivals, all_steps, arrivals_at, own_in, path_below, paths_behind, path_of, paths_of, steps_at, weighed, ArrivesOnce, HasChild, IsChild, KeepsPaths, StepsOnce}
-use Rattle.rv_stacks.specs.Walks.{Arrives, IsTrail, IsWalk, Returns, Steps}
+use Rattle.rv_stacks.specs.Walks.{Arrives, IsTrail, Returns}
 use Rattle.rv_stacks.proofs.Nodes.{first_paths, long_paths, path_with, paths_more, paths_with, weighed_more, weighed_with, IsOfSame}
 
 -- what stands at number 0

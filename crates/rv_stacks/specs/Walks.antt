@@ -7,7 +7,7 @@ use Rattle.rv_spots.specs.Trees.{ends_with, last_path, once_if, HasArrivals, IsT
 use Rattle.rv_stacks.specs.declared.flat.Flat.{Flat}
 use Rattle.rv_stacks.specs.declared.node.Node.{Node}
 use Rattle.rv_stacks.specs.declared.walk.Walk.{Walk}
-use Rattle.rv_stacks.specs.Nodes.{all_arrivals, all_steps, arrivals_at, own_in, path_of, steps_at, IsChild}
+use Rattle.rv_stacks.specs.Nodes.{all_arrivals, all_steps, arrivals_at, own_in, path_of, steps_at}
 
 -- each number is that of a node, whose functions are the first of the path
 pub record IsTrail (nodes : List Node) (path trail : List ℕ) : Type 0 where

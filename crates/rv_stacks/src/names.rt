@@ -88,7 +88,8 @@ fn name_spot(
     names.push(FunctionName {
         function: spot.function,
         name,
-    })
+    })?;
+    Ok(())
 }
 
 // The name of a function as a table has it.

@@ -1,6 +1,5 @@
 -- A function without a name gets its own, behind the others.
-use Rattle.std.proofs.Common.{◌++◌, ◌∷◌, ◌^◌, ◌<◌, List, [], rules, Fits, w32, sym, subst, arith}
-use Rattle.std.proofs.lemmas.Result.{IfOk-weaker}
+use Rattle.std.proofs.Common.{◌+◌, ◌++◌, ◌∷◌, ◌^◌, ◌<◌, List, [], rules, Fits, w32, sym, subst, arith}
 use Rattle.rv_counts.specs.declared.table.FunctionName.{FunctionName}
 use Rattle.rv_stacks.specs.StackTables.{name_of_function, AreNamedUpTo}
 use Rattle.rv_stacks.proofs.RisingNames.{gets_name, stays_named}
@@ -19,8 +18,6 @@ returns-clause-names c = λ spots h rises.
     let f : Fits w32 s.function = search rules in
     let small : s.function < 2 ^ 32 = let k = f.fits in omega (arith, k) in
     let over = c.if-known.false in
-    IfOk-weaker c.push.result _ _
-    (λ u is. subst (λ (ns : List FunctionName). AreNamedUpTo name (spots ++ s ∷ []) (s.function + 1) ns) (sym is)
+    subst (λ (ns : List FunctionName). AreNamedUpTo name (spots ++ s ∷ []) (s.function + 1) ns) (sym c.in_ok-push.ensures.items)
     (gets_name name spots c.args.next c.args.names.now.items s h rises c.in_ok-name.name (omega (arith, over)) small
-    c.in_ok-name.ensures.value c.in_ok-name.ensures.line c.in_ok-name.ensures.text))
-    c.push.ensures.items
+    c.in_ok-name.ensures.value c.in_ok-name.ensures.line c.in_ok-name.ensures.text)

@@ -4,7 +4,7 @@ use Rattle.std.proofs.lemmas.Result.{IfOk-weaker}
 use Rattle.rv_calls.specs.declared.frames.Frame.{Frame}
 use Rattle.rv_machine.specs.Machine.{state_of}
 use Rattle.rv_spots.specs.declared.spot.Spot.{Spot}
-use Rattle.rv_stacks.specs.Stacks.{function_at, AreStacksOf}
+use Rattle.rv_stacks.specs.Stacks.{function_at}
 use Rattle.rv_stacks.specs.Walks.{AreSpotsOf}
 use Rattle.rv_stacks.specs.StackSteps.{BeginsAt, StacksStep}
 use Rattle.rv_stacks.proofs.Counting.{ended, none_so_far, one_more, stacks_of_nodes, used_up, SoFar}
