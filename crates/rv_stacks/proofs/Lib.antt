@@ -13,3 +13,7 @@ pub mod Apart
 pub mod Shards
 pub mod Bounds
 pub mod NoSums
+pub mod Nodes
+pub mod Growing
+pub mod Flattened
+pub mod RisingNames

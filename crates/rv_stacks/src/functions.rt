@@ -2,7 +2,8 @@
 
 ghost use Rattle.std.specs.Prelude.{◌≡◌, IfOk};
 ghost use Rattle.rv_stacks.specs.StackSteps.{AreKnown};
-ghost use Rattle.rv_stacks.specs.Stacks.{function_at, start_of};
+ghost use Rattle.rv_elf.specs.SymbolSearch.{symbol_at};
+ghost use Rattle.rv_stacks.specs.Stacks.{function_at, no_function, start_of};
 
 use rv_elf::symbol_at;
 use rv_trace::ElfFile;
@@ -10,6 +11,9 @@ use std::alloc::{AllocError, Global};
 
 /// How many functions are kept: each of the addresses that share a place drives the other out.
 const PLACES: usize = 4096;
+
+/// At this address no instruction begins, so that no function of code stands there.
+pub(crate) const LAST_ADDRESS: u32 = u32::MAX;
 
 /// The function of an address.
 #[derive(Clone, Copy)]
@@ -48,13 +52,24 @@ pub(crate) fn look_up(known: &mut Vec<Known>, elf: &ElfFile<'_>, address: u32) -
     function
 }
 
-/// Where the symbol of an address stands, or 0 where it has none. Takes the time of a pass over the symbols.
+/// Where the symbol of an address stands, or what stands for none: 0, or the last address where a function can stand at 0. Takes the time
+/// of a pass over the symbols, or of two.
 #[tactic(auto, unfolding(crate::specs::Stacks::function_at))]
 pub fn function_of(elf: &ElfFile<'_>, address: u32) -> u32
     ensures { result ≡ function_at elf.now.image.now elf.now.bytes.now address }
 {
     match symbol_at(elf.image, elf.bytes, address) {
         Some(symbol) => address.saturating_sub(symbol.offset),
+        None => no_function(elf),
+    }
+}
+
+// The function that code without a symbol is told as.
+fn no_function(elf: &ElfFile<'_>) -> u32
+    ensures { result ≡ no_function (symbol_at elf.now.image.now elf.now.bytes.now 0) }
+{
+    match symbol_at(elf.image, elf.bytes, 0) {
+        Some(_) => LAST_ADDRESS,
         None => 0,
     }
 }

@@ -2,14 +2,14 @@
 
 ghost use Rattle.std.specs.Prelude.{◌≡◌, ◌^◌, ◌<◌, OnOk, length};
 ghost use Rattle.rv_calls.specs.Stack.{after_transfer};
-ghost use Rattle.rv_spots.specs.Trees.{all_arrivals};
-ghost use Rattle.rv_spots.specs.Walks.{IsWalk};
+ghost use Rattle.rv_stacks.specs.Nodes.{all_arrivals};
+ghost use Rattle.rv_stacks.specs.Walks.{IsWalk};
 ghost use Rattle.rv_stacks.specs.StackSteps.{AreKnown, Follows, GoesOn, IsAt};
 ghost use Rattle.rv_stacks.specs.Stacks.{function_at};
 
 use crate::functions::{Known, look_up};
+use crate::walk::Walk;
 use rv_calls::{Frame, Transfer, frames_left, pass_control};
-use rv_spots::Walk;
 use rv_trace::ElfFile;
 use std::alloc::AllocError;
 
@@ -23,7 +23,7 @@ pub(crate) fn follow(
 ) -> Result<(), AllocError>
     requires known { AreKnown (function_at elf.now.image.now elf.now.bytes.now) known.old.items }
     requires at { IsAt (function_at elf.now.image.now elf.now.bytes.now) frames.old.items transfer.from walk.old }
-    requires few { all_arrivals walk.old.spots.items < 2 ^ 40 }
+    requires few { all_arrivals walk.old.nodes.items < 2 ^ 40 }
     ensures known { OnOk result (AreKnown (function_at elf.now.image.now elf.now.bytes.now) known.new.items) }
     ensures frames { OnOk result (frames.new.items ≡ after_transfer frames.old.items transfer) }
     ensures walk { OnOk result (Follows (function_at elf.now.image.now elf.now.bytes.now) frames.old.items transfer
@@ -46,7 +46,7 @@ pub(crate) fn follow(
 fn go_on(walk: &mut Walk, depth: usize, function: u32) -> Result<(), AllocError>
     requires walk { IsWalk walk.old }
     requires depth { depth < length walk.old.path.items }
-    requires few { all_arrivals walk.old.spots.items < 2 ^ 63 }
+    requires few { all_arrivals walk.old.nodes.items < 2 ^ 63 }
     ensures { OnOk result (GoesOn depth function walk.old walk.new) }
 {
     if walk.path[depth] == function {

@@ -2,7 +2,7 @@
 use Rattle.std.proofs.Common.{◌≡◌, ◌∙◌, ◌+◌, ◌<◌, ◌≤◌, ◌++◌, ◌∷◌, [], ℕ, List, Result, Ok, Err, OnOk, length, take, ap, subst, arith}
 use Rattle.rv_calls.specs.declared.frames.Frame.{Frame}
 use Rattle.rv_calls.specs.Stack.{after_transfer, depth_left}
-use Rattle.rv_spots.specs.Walks.{Arrives}
+use Rattle.rv_stacks.specs.Walks.{Arrives}
 use Rattle.rv_stacks.specs.Stacks.{function_at}
 use Rattle.rv_stacks.specs.StackSteps.{GoesOn}
 use Rattle.rv_stacks.proofs.Paths.{follows_call, follows_jump, is_call, is_jump}
