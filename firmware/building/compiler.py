@@ -10,7 +10,8 @@ import subprocess
 import threading
 from typing import NamedTuple
 
-from listing.files import Refused, shown
+from listing.files import Refused, shown, text_at
+from listing.flags import expanded
 
 from .digests import digest_of
 from .records import Record, paths_in_words
@@ -19,8 +20,12 @@ from .records import Record, paths_in_words
 VARIABLES = re.compile(r"""(?:GCC_(?!COLORS$|URLS$)|COLLECT_|COMPILER_|AS_|BINUTILS_|CCACHE_|DISTCC_|LC_|LD_|MALLOC_|TARGET_).* | .*_INCLUDE_PATH
     | (?:CPATH | LIBRARY_PATH | LPATH | SOURCE_DATE_EPOCH | LANG | LANGUAGE | DEPENDENCIES_OUTPUT | SUNPRO_DEPENDENCIES | LDEMULATION
     | GNUTARGET | POSIXLY_CORRECT | GLIBC_TUNABLES | QEMU_LD_PREFIX | TZ)""", re.X)
-PROGRAMS = """cc1 cc1plus lto1 lto-wrapper collect2 collect-ld liblto_plugin.so as ld ld.bfd ld.gold real-ld nm strip g++-mapper-server
-specs""".split()
+LINKERS = "ld ld.bfd ld.gold ld.lld ld.mold".split()
+PROGRAMS = """cc1 cc1plus lto1 lto-wrapper collect2 collect-ld liblto_plugin.so as real-ld nm strip g++-mapper-server specs""".split() + LINKERS
+
+# GNU ld's options of a directory that is searched for libraries, and of a library.
+LIBRARY_FOLDER = re.compile(r"-L(.+)?|--?library-path(?:=(.*))?", re.S)
+LIBRARY = re.compile(r"-l(?!ibrary)(.+)?|--?library(?:=(.*))?", re.S)
 
 
 def variables():
@@ -35,11 +40,13 @@ def variables():
 
 
 class Answer(NamedTuple):
-    """What the compiler says for some options: a digest of all that it consists of, and where it searches for headers and libraries."""
+    """What the compiler says for some options: a digest of all that it consists of, where it searches for headers and libraries, and for
+    which libraries."""
 
     digest: str
     headers: list
     libraries: list
+    library_names: list
 
 
 class Compiler:
@@ -60,11 +67,12 @@ class Compiler:
         with self.locks.setdefault(key, threading.Lock()):
             if key not in self.answers:
                 record = self.records.load("compilers", key)
-                if record is None or not record.holds(key):
+                if record is None or not record.holds(key) or record.told["variables"] != values_of(record.told["variables"]):
                     record = self.ask(key, options, language)
                     self.records.save("compilers", key, record)
-                made = digest_of([record.files, record.present, self.path])
-                self.answers[key] = Answer(made, record.told["headers"], record.told["libraries"])
+                told = record.told
+                made = digest_of([record.files, record.present, self.path, told["variables"]])
+                self.answers[key] = Answer(made, told["headers"], told["libraries"], told["names"])
             return self.answers[key]
 
     def ask(self, key, options, language):
@@ -73,14 +81,17 @@ class Compiler:
             told = self.run([*without_inclusions(options), "-v", "-E", "-x", probed(language), os.devnull])
         else:
             told = self.run([*options, "-v", "-###", os.devnull, "-o", "image"])
-        searched = self.run([*(it for it in options if it.startswith(("-B", "-m", "--sysroot"))), "-print-search-dirs"])
+        searched = self.run([*with_values(options, ("-B", "--sysroot"), ("-m",)), "-print-search-dirs"])
         folders = folders_of(told, searched)
         specs = re.findall(r"^Reading specs from (.*)$", told, re.M)
-        files = [shutil.which(it) or it for it in self.words if not it.startswith("-")]
-        files += specs + paths_in_words(options) + programs_in(told)
+        files = [shutil.which(it) or it for it in [*self.words, *wrappers_in(options)] if not it.startswith("-")]
+        files += specs + paths_in_words(options) + programs_in(told) + plugins_in(told)
         record = Record(self.digests, key)
-        record.told = {"headers": headers_of(told), "libraries": folders["libraries"] + linked_from(told)}
-        names = PROGRAMS + [os.path.basename(it) for it in specs] + [name for it in specs for name in self.digests.names_in(it)]
+        linked = linker_words_in(told)
+        record.told = {"headers": headers_of(told), "libraries": folders["libraries"] + values_after(linked, LIBRARY_FOLDER),
+                       "names": values_after(linked, LIBRARY), "variables": values_of(variables_in(specs))}
+        names = [*PROGRAMS, *(f"{target}-{it}" for target in re.findall(r"^Target: (\S+)$", told, re.M) for it in LINKERS)]
+        names += [os.path.basename(it) for it in specs] + [name for it in specs for name in self.digests.names_in(it)]
         record.add_candidates(folders["programs"] + folders["libraries"] + ["", *searched_by_shell()], sorted(set(names)))
         record.add_files(files)
         record.close()
@@ -132,23 +143,60 @@ def headers_of(told):
     return list(dict.fromkeys([it[1:] for it in listed if it.startswith(" ")] + ignored))
 
 
+def with_values(options, apart, joined):
+    """The options of these names, with their values, and those that begin in one of these ways. A value may be the next word."""
+    left = iter(options)
+    return [word for it in left if it.startswith((*apart, *joined)) for word in ([it, next(left, "")] if it in apart else [it])]
+
+
+def wrappers_in(options):
+    """The programs of -wrapper, which run the compiler's own."""
+    return [after.partition(",")[0] for it, after in zip(options, options[1:]) if it == "-wrapper"]
+
+
+def plugins_in(told):
+    """The files of the plugins that options name without a directory."""
+    folders = re.findall(r"(?<=[ '])-iplugindir=([^\s']+)", told)
+    return sorted({os.path.join(folder, f"{name}.so") for folder in folders for name in re.findall(r"(?<=[ '])-fplugin=([^\s/']+)(?=[\s'])", told)})
+
+
+def variables_in(specs):
+    """The variables that files of specs read."""
+    return sorted({name for it in filter(os.path.isfile, specs) for name in re.findall(r"%:getenv\(\s*(\w+)", text_at(it))})
+
+
+def values_of(names):
+    """What these variables are now; None if one is not set."""
+    return {name: os.environ.get(name) for name in names}
+
+
 def programs_in(told):
-    """The programs that it would run, and the plugins that these load."""
-    found = []
+    """The programs that it would run, the plugins that these load, and the compiler itself, if a wrapper named it."""
+    found = [path for it in re.findall(r"^COLLECT_GCC=(.*)$", told, re.M) for path in [shutil.which(it)] if path]
     for line in re.findall(r"^ (\S.*)$", told, re.M):
         words = line.split()
         found += [word.strip('"') for word in words[:1] + words if os.path.isabs(word.strip('"')) and os.path.isfile(word.strip('"'))]
     return found
 
 
-def linked_from(told):
-    """The directories that the linker is told to search."""
+def linker_words_in(told):
+    """The words that the linker is given, with those of its response files."""
     found = []
     for line in re.findall(r"^ (\S*(?:collect2|ld)\S* .*)$", told, re.M):
         try:
-            found += [word[2:] for word in shlex.split(line) if word.startswith("-L") and len(word) > 2]
+            found += expanded(shlex.split(line))[0]
         except ValueError:
             continue
+    return found
+
+
+def values_after(words, option):
+    """The values of the linker's options of this form: each ends its word, or is the next one."""
+    found = []
+    for word, after in zip(words, [*words[1:], ""]):
+        given = option.fullmatch(word)
+        if given:
+            found.append(given[1] or given[2] or after)
     return found
 
 

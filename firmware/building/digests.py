@@ -10,7 +10,7 @@ import stat
 import threading
 import time
 
-from .names import ANY_NAME, CLOCKS, names_in_text
+from .names import ALWAYS, ANY_NAME, CLOCKS, names_in_text
 
 FORMAT = 1
 # A file that changed less than this before it was read may change again without a new time.
@@ -151,7 +151,7 @@ class Digests:
             if (folders, source) not in self.searched:
                 self.searched[folders, source] = self.existing(folders, [*self.names_in(source), *names_below(source, folders)])
             found.append(self.searched[folders, source])
-        clocks = {clock for source in sources for clock in CLOCKS if clock in self.names_in(source)}
+        clocks = {clock for clock in CLOCKS if clock in names or any(clock in self.names_in(it) for it in sources)}
         return found + [reading(clock, sources) for clock in sorted(clocks)]
 
     def existing(self, folders, names):
@@ -180,16 +180,25 @@ def names_below(path, folders):
 
 
 def everything_in(folder):
-    """The paths of all files below a directory, but for hidden ones and what is built."""
-    found = []
-    for inner, folders, files in os.walk(folder):
-        folders[:] = sorted(it for it in folders if not it.startswith(".") and it != "build")
+    """The paths of all files below a directory, also by links, but for those of version control and what a build made."""
+    found, entered = [], set()
+    for inner, folders, files in os.walk(folder, followlinks=True):
+        real = os.path.realpath(inner)
+        folders[:] = sorted(it for it in folders if real not in entered and it not in (".git", ".hg", ".svn") and not is_built(f"{inner}/{it}"))
+        entered.add(real)
         found += [os.path.join(inner, it) for it in sorted(files)]
     return found
 
 
+def is_built(folder):
+    """Whether a build of this kit made a directory."""
+    return any(os.path.isdir(os.path.join(folder, it, ".build")) for it in ("", "cover", "debug", ".arch"))
+
+
 def reading(clock, sources):
-    """What a clock of the preprocessor would say; __TIME__ is never what it was."""
+    """What a clock of the preprocessor would say; __TIME__ is never what it was, nor is what must be compiled each time."""
+    if clock == ALWAYS:
+        return time.time_ns()
     if clock == "__TIMESTAMP__":
         return [os.stat(source).st_mtime_ns for source in sources if os.path.exists(source)]
     if "SOURCE_DATE_EPOCH" in os.environ:

@@ -9,8 +9,12 @@ NAMES = re.compile(
 # A test for a file whose name is put together by macros: every new file may be the one.
 COMPUTED = re.compile(rb"__has_(?:include(?:_next)?|embed)[ \t]*\([ \t]*[^\"< \t]")
 ANY_NAME = "*"
-# The time of the build, which the contents of files say nothing about.
-CLOCKS = {"__DATE__": rb"\b__DATE__\b", "__TIME__": rb"\b__TIME__\b", "__TIMESTAMP__": rb"\b__TIMESTAMP__\b"}
+# A definition that such a name may begin with: then the file may be outside of the directories that are searched.
+ABOVE = re.compile(rb"^[ \t]*#[ \t]*define\b.*\.\./", re.M)
+# The time of the build, which the contents of files say nothing about. "#pragma GCC dependency" compares dates of files.
+ALWAYS = "#pragma GCC dependency"
+CLOCKS = {"__DATE__": rb"\b__DATE__\b", "__TIME__": rb"\b__TIME__\b", "__TIMESTAMP__": rb"\b__TIMESTAMP__\b",
+          ALWAYS: rb"\bGCC[ \t]+dependency\b"}
 
 
 def names_in_text(text):
@@ -23,6 +27,6 @@ def names_in_text(text):
             if name and b"\0" not in name:
                 names.add(name.decode(errors="surrogateescape"))
     if COMPUTED.search(text):
-        names.add(ANY_NAME)
+        names.update([ANY_NAME, *([ALWAYS] if ABOVE.search(text) else [])])
     names.update(clock for clock, pattern in CLOCKS.items() if re.search(pattern, text))
     return sorted(names)

@@ -3,7 +3,7 @@ import os
 from typing import NamedTuple
 
 from listing.files import Refused, shown
-from listing.flags import LANGUAGES, flags_of, inputs_of, words_in
+from listing.flags import LANGUAGES, expanded, flags_of, inputs_of, refuse_unseen, words_in
 
 from .steps import Source
 
@@ -36,12 +36,10 @@ class Kit:
         self.library = variables["LIBC"]
         if self.library not in LIBRARIES:
             raise Refused(f'error: invalid LIBC="{shown(self.library)}": expected "picolibc" or "none"')
-        self.compiler = words_in(variables["CC"], "CC")
-        self.arch = words_in(variables["ARCH"], "ARCH")
-        self.machine = self.arch + words_in(variables["CFLAGS"], "CFLAGS")
+        self.compiler, self.arch, flags, self.link, self.arch_include = (
+            options_in(variables[it], it) for it in ("CC", "ARCH", "CFLAGS", "LINK", "ARCH_INCLUDE"))
+        self.machine = self.arch + flags
         self.linking = [f"-L{self.folder}/", *LINKING]
-        self.link = words_in(variables["LINK"], "LINK")
-        self.arch_include = words_in(variables["ARCH_INCLUDE"], "ARCH_INCLUDE")
 
     def path(self, name):
         """The path of a file of the kit."""
@@ -73,6 +71,13 @@ class Kit:
         source = source_of(test.source, "assembler-with-cpp", compiled_by(options), test.name)
         words = [*options, source, *self.linking, "-T", self.path("arch-test/link.ld")]
         return Plan(test.name, test.place, [source], words, os.path.join(self.images, f"{test.place}.elf"))
+
+
+def options_in(text, name):
+    """The words of one of make's variables, with those of its response files."""
+    words = expanded(words_in(text, name))[0]
+    refuse_unseen(words, name)
+    return words
 
 
 def source_of(path, language, options, label=None):

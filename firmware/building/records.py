@@ -13,7 +13,7 @@ from listing.flags import is_file, response_words
 from .digests import digest_of, write_whole
 
 # Another number makes every image of an earlier kit be built again.
-FORMAT = 1
+FORMAT = 2
 
 
 def paths_in_words(words):
@@ -62,9 +62,9 @@ class Record:
         """Adds a search: these names in each of these directories. Directories of a search are compared as they are spelt."""
         self.searches.append([list(dict.fromkeys(folders)), names, []])
 
-    def add_sources(self, folders, sources):
-        """Adds a search for the names that sources mention, which are read from these again."""
-        self.searches.append([list(dict.fromkeys(folders)), [], sources])
+    def add_sources(self, folders, sources, names):
+        """Adds a search for these names, which options mention, and for those that sources mention, which are read from these again."""
+        self.searches.append([list(dict.fromkeys(folders)), names, sources])
 
     def close(self, output=None):
         """Completes the record, with its output, which was just written."""

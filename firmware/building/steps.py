@@ -7,8 +7,10 @@ import time
 from typing import NamedTuple
 
 from listing.files import Refused, shown
+from listing.flags import expanded
 
 from .digests import digest_of
+from .names import CLOCKS
 from .records import Record, paths_in_words
 from .rules import files_in_linked, files_in_rules
 
@@ -59,7 +61,7 @@ def compile_step(tools, source):
         return output, False
     os.makedirs(os.path.dirname(output), exist_ok=True)
     headers, assembled = f"{output}.headers", f"{output}.assembled"
-    command = [*words, "-MD", "-MF", headers, "-MT", "x", f"-Wa,--MD,{assembled}"]
+    command = [*words, *with_assembly(source.options), "-MD", "-MF", headers, "-MT", "x", f"-Wa,--MD,{assembled}"]
 
     def read():
         files = [source.path]
@@ -71,8 +73,7 @@ def compile_step(tools, source):
         files = list(dict.fromkeys([*files, *filter(os.path.exists, others)]))
         record.add_files([*files, *paths_in_words(source.options)])
         folders = ["", *answer.headers, *assembler_folders(source.options), *(os.path.dirname(it) for it in files)]
-        record.add_sources(folders, files)
-        record.add_candidates(folders, sorted({it for word in source.options if '"' in word or "<" in word for it in quoted_in(word)}))
+        record.add_sources(folders, files, sorted({it for word in source.options for it in [*quoted_in(word), *clocks_in(word)]}))
 
     record = run_recorded(tools, command, output, key, f"CC {source.label}", read, complete)
     for path in (headers, assembled):
@@ -102,9 +103,11 @@ def link_step(tools, words, image, place, label):
         # Scripts are listed as they are named, and found in any of these directories, where each file of the name counts by its contents.
         folders = ["", *answer.libraries]
         named = [it for it in [*files, *others] if not it.startswith(tools.folder)]
-        names = {*named, *map(os.path.basename, named), *(it for word in words for it in library_names(word))}
         scripts = [os.path.join(folder, it) for it in files if not it.endswith((".o", ".a", ".so")) for folder in folders]
-        folders += [it for script in filter(os.path.isfile, scripts) for it in searched_by_script(script)]
+        scripts = list(filter(os.path.isfile, scripts))
+        libraries = [*answer.library_names, *(it for script in scripts for it in libraries_in_script(script))]
+        names = {*named, *map(os.path.basename, named), *(it for name in libraries for it in library_files(name))}
+        folders += [it for script in scripts for it in searched_by_script(script)]
         record.add_candidates(folders, sorted(names))
 
     def read():
@@ -156,11 +159,18 @@ def changed_since(path, instant):
 def run(tools, words, label):
     """Runs the compiler, and reports its command and what it prints in one piece."""
     words = [*tools.compiler.words, *words]
-    done = subprocess.run(words, stdin=subprocess.DEVNULL, stdout=subprocess.PIPE, stderr=subprocess.STDOUT, check=False)
+    # ccache would write no list of the files that the assembler read.
+    environment = {**os.environ, "CCACHE_DISABLE": "1"}
+    done = subprocess.run(words, stdin=subprocess.DEVNULL, stdout=subprocess.PIPE, stderr=subprocess.STDOUT, check=False, env=environment)
     said = done.stdout.decode("utf-8", "surrogateescape")
     tools.report.step(label, shlex.join(words), said)
     if done.returncode:
         raise Failed("" if said.strip() else f"{words[0]}: error: ended with status {done.returncode}")
+
+
+def with_assembly(options):
+    """The option that assembles a source also with -flto, so that the assembler tells which files it reads for it."""
+    return ["-ffat-lto-objects"] if any(it.startswith("-flto") for it in options) else []
 
 
 def read_list(path, parse):
@@ -175,7 +185,7 @@ def read_list(path, parse):
 def assembler_folders(options):
     """The directories that options of the assembler make it search, as -Wa,-Idir or -Wa,-I,dir does."""
     pieces = [it for word in options for it in (word[4:].split(",") if word.startswith("-Wa,") else [])]
-    pieces += [after for word, after in zip(options, options[1:]) if word == "-Xassembler"]
+    pieces = expanded(pieces + [after for word, after in zip(options, options[1:]) if word == "-Xassembler"])[0]
     return [it[2:] or after for it, after in zip(pieces, [*pieces[1:], ""]) if it.startswith("-I")]
 
 
@@ -195,8 +205,18 @@ def members_of_thin(path):
 
 def searched_by_script(path):
     """The directories that a linker script adds to those that are searched."""
+    return re.findall(r'\bSEARCH_DIR\s*\(\s*"?=?([^")]*?)"?\s*\)', script_text(path))
+
+
+def libraries_in_script(path):
+    """The libraries that a linker script names, as INPUT(-lcode) does."""
+    return re.findall(r'(?<=[\s(,"])-l([^\s(),"]+)', script_text(path))
+
+
+def script_text(path):
+    """The text of a linker script."""
     with open(path, encoding="utf-8", errors="surrogateescape") as file:
-        return re.findall(r'\bSEARCH_DIR\s*\(\s*"?=?([^")]*?)"?\s*\)', file.read())
+        return file.read()
 
 
 def quoted_in(word):
@@ -204,8 +224,11 @@ def quoted_in(word):
     return [it for pair in re.findall(r'"([^"]+)"|<([^>]+)>', word) for it in pair if it]
 
 
-def library_names(word):
-    """The names of the files that an option such as -lcode looks for."""
-    if word.startswith("-l:"):
-        return [word[3:]]
-    return [f"lib{word[2:]}.a", f"lib{word[2:]}.so"] if word.startswith("-l") and len(word) > 2 else []
+def clocks_in(word):
+    """The clocks of the preprocessor that an option reads, as -DBUILT=__DATE__ does."""
+    return [it for it in CLOCKS if it in word]
+
+
+def library_files(name):
+    """The names of the files that the option -l with this value looks for."""
+    return [name[1:]] if name.startswith(":") else [f"lib{name}.a", f"lib{name}.so"]

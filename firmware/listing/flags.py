@@ -17,6 +17,8 @@ WITH_VALUE = frozenset("""-I -D -U -A -L -l -T -u -z -e -B -G -x -o -include -im
 # The build itself says what is compiled and where it is written, and asks what was read.
 OURS = re.compile(r"-(?:c|S|E|o.*|M[A-Z]*|###|fsyntax-only|print-.*|dumpspecs|dumpversion|dumpmachine|-help.*|-version)", re.S)
 OURS_WITHIN = re.compile(r"-Wp,.*-M|-Wa,.*--?MD|-W[al],.*(?:--dependency-file|,-o,|^-Wl,-o,)", re.S)
+# Options that make the compiler read files which it does not report: modules of C++, and profiles.
+UNSEEN = re.compile(r"-f(?:modules?-.*|modules|profile-use(?:=.*)?|branch-probabilities|auto-profile(?:=.*)?)", re.S)
 LANGUAGES = {
     ".c": "c", ".i": "cpp-output", ".cc": "c++", ".cpp": "c++", ".cxx": "c++", ".c++": "c++", ".cp": "c++", ".C": "c++", ".CPP": "c++",
     ".ii": "c++-cpp-output", ".S": "assembler-with-cpp", ".sx": "assembler-with-cpp", ".s": "assembler",
@@ -47,6 +49,7 @@ def flags_of(path):
     """The words of a file of flags, with the contents of response files in their place, and the response files that were read."""
     words, files = expanded(words_in(text_at(path), path))
     refuse_ours(words, path)
+    refuse_unseen(words, path)
     return words, files
 
 
@@ -93,6 +96,12 @@ def refuse_ours(words, path):
     for word in words:
         if OURS.fullmatch(word) or OURS_WITHIN.search(word):
             raise Refused(f'{shown(path)}: error: "{shown(word)}" cannot be used: the build itself chooses inputs, outputs and dependency files')
+
+
+def refuse_unseen(words, path):
+    """Refuses options for which the compiler reads files that it does not report."""
+    for word in filter(UNSEEN.fullmatch, words):
+        raise Refused(f'{shown(path)}: error: "{shown(word)}" cannot be used: the compiler does not report which files it reads for it')
 
 
 def inputs_of(words):

@@ -120,7 +120,7 @@ def look_through(folder, files, place, helpers, found):
     for file in files:
         stem, ending = os.path.splitext(file)
         path = os.path.join(folder, file)
-        if os.path.realpath(path) in helpers or KNOWN.fullmatch(file):
+        if os.path.realpath(path) in helpers or KNOWN.fullmatch(file) and (file != f"{DEFAULTS}.keys" or is_file(path)):
             continue
         if ending not in SOURCES or not is_file(path):
             others.append(file)
