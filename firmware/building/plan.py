@@ -13,6 +13,8 @@ LIBRARIES = {
     "none": (["-ffreestanding", "-nostdlib", "-nostartfiles"], "start.S"),
 }
 LINKING = ["-Wl,--build-id=none", "-Wl,-z,max-page-size=4", "-Wl,--no-warn-rwx-segments"]
+# With -flto the linker would drop what only libraries use, such as `stdout`.
+ALONE = "-fno-lto"
 # Options of the linker alone, and those whose value is the next word: a source that tests share is compiled once whatever they are.
 LINKED = ("-Wl,", "-l", "-L", "-T", "-z", "-u", "-nostartfiles", "-nodefaultlibs")
 LINKED_WITH_VALUE = ("-Xlinker", "-T", "-L", "-l", "-z", "-u", "-e")
@@ -55,8 +57,8 @@ class Kit:
         ending = os.path.splitext(test.source)[1]
         sources = [source_of(test.source, LANGUAGES[ending], options, test.name)]
         if LANGUAGES[ending] == "c++":
-            sources.append(source_of(self.path("cplusplus.cc"), "c++", options))
-        machine = compiled_by([*common, *(it for it in own if it.startswith("-m"))])
+            sources.append(source_of(self.path("cplusplus.cc"), "c++", [*options, ALONE]))
+        machine = compiled_by([*common, *(it for it in own if it.startswith("-m")), ALONE])
         sources.append(source_of(self.path(support), LANGUAGES[os.path.splitext(support)[1]], machine))
         words = [*common, *sources, *self.linking, *self.link, "-lgcc"]
         for word, part in inputs:

@@ -170,7 +170,8 @@ def run(tools, words, label):
 
 def with_assembly(options):
     """The option that assembles a source also with -flto, so that the assembler tells which files it reads for it."""
-    return ["-ffat-lto-objects"] if any(it.startswith("-flto") for it in options) else []
+    chosen = [it for it in options if it.startswith(("-flto", "-fno-lto"))]
+    return ["-ffat-lto-objects"] if chosen and chosen[-1] != "-fno-lto" else []
 
 
 def read_list(path, parse):

@@ -10,8 +10,9 @@ from typing import NamedTuple
 
 from listing.files import Refused
 
-NO_BITS = 8
-COMPRESSED = 0x800
+from .sections import Bytes, sections_of
+from .units import folders_of
+
 UNKNOWN = "??"
 
 
@@ -25,55 +26,11 @@ class Row(NamedTuple):
     ends: bool
 
 
-class Bytes:
-    """Bytes that are read from a place on."""
-
-    def __init__(self, data, at=0):
-        self.data, self.at = data, at
-
-    def take(self, form):
-        """A number, by its letter of the module struct."""
-        value, = struct.unpack_from(f"<{form}", self.data, self.at)
-        self.at += struct.calcsize(form)
-        return value
-
-    def leb(self, signed=False):
-        """A LEB128 number."""
-        value = shift = 0
-        more = True
-        while more:
-            byte = self.take("B")
-            value |= (byte & 127) << shift
-            shift += 7
-            more = byte > 127
-        return value - (1 << shift) if signed and byte & 64 else value
-
-    def text(self):
-        """A text that ends in a zero byte."""
-        end = self.data.index(b"\0", self.at)
-        value = self.data[self.at:end].decode(errors="replace")
-        self.at = end + 1
-        return value
-
-
-def sections_of(data):
-    """The bytes of each section that has some, by name."""
-    start, = struct.unpack_from("<I", data, 32)
-    size, count, names = struct.unpack_from("<HHH", data, 46)
-    headers = [struct.unpack_from("<10I", data, start + size * it) for it in range(count)]
-    found = {}
-    for name, kind, flags, _, offset, length, *_ in headers:
-        if kind != NO_BITS:
-            content = data[offset:offset + length]
-            found[Bytes(data, headers[names][4] + name).text()] = zlib.decompress(content[12:]) if flags & COMPRESSED else content
-    return found
-
-
 class Table:
     """A table of lines: its header is read, its program not yet."""
 
-    def __init__(self, data, sections):
-        self.data, self.sections = data, sections
+    def __init__(self, data, sections, folder):
+        self.data, self.sections, self.folder = data, sections, folder
         self.version = data.take("H")
         if not 2 <= self.version <= 5:
             raise ValueError(f"version {self.version}")
@@ -90,8 +47,8 @@ class Table:
         data.at = program
 
     def entries_2(self):
-        """The folders and the files of DWARF 2 to 4, of which the first folder is unnamed and files count from 1."""
-        folders, files = [""], [(UNKNOWN, 0)]
+        """The folders and the files of DWARF 2 to 4, of which the first folder is the unit's and files count from 1."""
+        folders, files = [self.folder], [(UNKNOWN, 0)]
         while name := self.data.text():
             folders.append(name)
         while name := self.data.text():
@@ -202,12 +159,14 @@ def sequences_in(data):
     """The rows of an ELF file's bytes, a list a sequence."""
     sections = sections_of(data)
     lines = Bytes(sections.get(".debug_line", b""))
+    folders = folders_of(sections)
     while lines.at < len(lines.data):
+        folder = folders.get(lines.at, "")
         length = lines.take("I")
         end = lines.at + length
         if end > len(lines.data):
             raise ValueError("a table that is cut off")
-        yield from Program(Table(lines, sections), end).run()
+        yield from Program(Table(lines, sections, folder), end).run()
         lines.at = end
 
 
