@@ -14,6 +14,7 @@ case_one_test_alone() {
     check 'another one' 2 'FAIL uart.rx: exit 3' ONLY=uart.rx
     hides 'broken'
     check 'two' 2 '2 jobs: 1 passed, 1 failed' 'ONLY=ring uart.rx'
+    check 'two ways of choosing' 2 'ONLY cannot be combined with --only' ONLY=ring RUN='--only uart.rx'
     check 'an unknown one' 2 'error: no test "rnig"' ONLY=rnig
     shows 'help: did you mean "ring"?'
     ends 'to be debugged' 0 'rvtest gdb' made debug TESTS=t TEST=ring GDB="true"
@@ -37,6 +38,9 @@ case_strict() {
     CI=true check 'strict in CI' 2 't/a.OUT: error: ignored'
     CI=true check 'not strict in CI' 0 't/a.OUT: warning: ignored' STRICT=0
     rm t/a.OUT
+    ln -s missing t/defaults.keys
+    check 'keys that are a dangling link' 2 't/defaults.keys: error: ignored: a dangling link' STRICT=1
+    rm t/defaults.keys
     exits t/README.c 5
     check 'README.c is a test' 2 'FAIL README: exit 5'
 }
@@ -133,9 +137,11 @@ main:
 # Options that would hide from the build what was read.
 case_refused_options() {
     local option
-    for option in -MMD '-MF x' '-Wp,-MD,x' '-o x' -c -E '-Wl,--dependency-file=x'; do
+    for option in -MMD '-MF x' '-Wp,-MD,x' '-o x' -c -E '-Wl,--dependency-file=x' -fmodules-ts -fprofile-use; do
         exits t/a.c 0
         printf '%s\n' "$option" >t/a.flags
         check "$option" 2 "t/a.flags: error: \"${option%% *}\" cannot be used"
     done
+    rm t/a.flags
+    check 'modules for all tests' 2 'CFLAGS: error: "-fmodules-ts" cannot be used' CFLAGS='-std=c++20 -fmodules-ts'
 }

@@ -26,6 +26,12 @@ def covered(status, *words):
     return made("cover", f"HTML {PAGES}", status, *words)
 
 
+def sources():
+    """The lines of lcov's text that name a source, or count a line of one."""
+    text = pathlib.Path("t/build/cover/cover.info").read_text(encoding="utf-8")
+    return [line for line in text.splitlines() if line[:3] in ("SF:", "DA:")]
+
+
 def targets():
     """make cover: what it calls, and what it leaves; the same of tests that failed, and nothing where rvtest refuses or counts nothing."""
     pathlib.Path("t").mkdir()
@@ -35,9 +41,13 @@ def targets():
         expect("what cover calls", "rvtest run t/build/cover/t.toml --counts t/build/cover/counts\n" in out, True)
         expect("whether cover shows pages", shows, status < 2)
         expect("whether they are there", PAGES.exists(), status < 2)
-    sources = [line for line in pathlib.Path("t/build/cover/cover.info").read_text(encoding="utf-8").splitlines() if line[:3] in ("SF:", "DA:")]
     # All three lines have the first address of main: its li is of line 4, and 2 and 3 begin there.
-    expect("the sources", sources, [f"SF:{pathlib.Path('t/a.c').resolve()}", "DA:2,1", "DA:3,1", "DA:4,1"])
+    counted = [f"SF:{pathlib.Path('t/a.c').resolve()}", "DA:2,1", "DA:3,1", "DA:4,1"]
+    expect("the sources", sources(), counted)
+    for version in (2, 3, 4):
+        expect(f"whether DWARF {version} has pages", covered(0, f"CFLAGS=-Og -gdwarf-{version}")[2], True)
+        expect(f"the sources by DWARF {version}", sources(), counted)
+    covered(0)
     for word, said in (("--stack", "rvtest: error: unrecognized arguments: --stack"), ("--failed r", "counts2lcov: t/build/cover/counts: missing")):
         _, err, shows = covered(0, f"RUN={word}")
         expect(f"whether {word} is refused, by {err!r}", (shows, said in err), (False, True))

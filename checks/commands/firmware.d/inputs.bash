@@ -1,0 +1,187 @@
+# shellcheck shell=bash disable=SC2154 # checks/commands/firmware gives kit and top
+# Further inputs of a build: directories and libraries that only the linker or the assembler is told of, programs that options name,
+# variables that specs read, and dates. Each is stale in the way of rebuilds.bash.
+
+# A test that exits with what the library `code` says, found in second/ until there is one in first/, which is searched before it.
+hides_library() {
+    put t/a.c <<<'int code(void);
+int main(void) { return code(); }'
+    rm -rf first second
+    mkdir first second
+    library 0
+    mv libcode.a second/
+    change() { library 1 && mv libcode.a first/; }
+}
+
+case_stale_folders_of_the_linker() {
+    local options
+    for options in '-Wl,-L,first -Wl,-L,second -lcode' '-Wl,--library-path=first,--library-path=second,--library=code' \
+        '-Xlinker -L -Xlinker first -Xlinker -Lsecond -Xlinker -l -Xlinker code'; do
+        hides_library
+        echo "$options" >t/a.flags
+        stale "a library by $options"
+    done
+    echo '-Lfirst -Lsecond -lcode' >options
+    hides_library
+    echo '-Wl,@options' >t/a.flags
+    stale "a library by a response file of the linker's"
+    hides_library
+    rm t/a.flags
+    stale 'a library by a response file of LINK' LINK='-T default.ld @options'
+    library 1
+    mv libcode.a libother.a
+    library 0
+    echo 'INPUT(-lcode)' >code.ld
+    echo '-L. code.ld' >t/a.flags
+    change() { echo 'INPUT(libother.a)' >libcode.so; }
+    stale 'a shared library in the place of one that a script names'
+}
+
+case_stale_folders_of_the_assembler() {
+    put t/a.S <<<'    .include "code.inc"'
+    mkdir first
+    put second/code.inc <<<'    .globl main
+main: li a0, 0
+    ret'
+    change() { sed 's/a0, 0/a0, 1/' second/code.inc >first/code.inc; }
+    echo '-Ifirst -Isecond' >options
+    echo '-Wa,@options' >t/a.flags
+    stale "a file by a response file of the assembler's"
+    rm first/code.inc t/a.flags
+    echo '-Wa,-Ifirst,-Isecond' >options
+    stale 'a file by a response file of CFLAGS' CFLAGS='-Os @options'
+}
+
+# Programs and a plugin that options name, but by no path.
+case_stale_named_programs() {
+    exits t/a.c CODE
+    mkdir bin
+    wrapper() {
+        put bin/wrapper <<<"#!/bin/sh
+program=\$1
+shift
+case \$program in *cc1) exec \"\$program\" -DCODE=$1 \"\$@\" ;; esac
+exec \"\$program\" \"\$@\""
+        chmod +x bin/wrapper
+    }
+    wrapper 0
+    echo '-wrapper wrapper' >t/a.flags
+    change() { wrapper 1; }
+    PATH=$PWD/bin:$PATH stale 'a -wrapper of PATH'
+    exits t/a.c 0
+    linker() {
+        put bin/ld.lld <<<"#!/bin/sh
+$1
+exec $(command -v riscv64-unknown-elf-ld) \"\$@\""
+        chmod +x bin/ld.lld
+    }
+    linker :
+    echo '-fuse-ld=lld -Bbin/' >t/a.flags
+    change() { linker 'exit 1'; }
+    stale 'a linker of -fuse-ld'
+    mkdir programs
+    rm t/a.flags
+    change() {
+        printf '#!/bin/sh\nexit 1\n' >programs/cc1
+        chmod +x programs/cc1
+    }
+    stale 'a compiler proper appears under -B, whose value is the next word' CFLAGS='-Os -B programs/'
+    plugin() {
+        gcc -shared -fPIC -x c - -o programs/plugin.so <<<"int plugin_is_GPL_compatible;
+int plugin_init(void *it, void *version) { (void)it; (void)version; return $1; }"
+    }
+    if ! command -v gcc >/dev/null; then
+        echo 'a plugin: passed over, since gcc is not installed'
+        return
+    fi
+    plugin 0
+    change() { plugin 1; }
+    stale 'a plugin that has a name and no path' CFLAGS='-Os -iplugindir=programs -fplugin=plugin'
+}
+
+case_stale_variable_of_specs() {
+    exits_by_header code.h
+    put first/code.h <<<'#define CODE 1'
+    put second/code.h <<<'#define CODE 0'
+    put board.specs <<<'*cpp:
++ -I%:getenv(BOARD /.)'
+    echo '-specs=board.specs' >t/a.flags
+    export BOARD=second
+    change() { export BOARD=first; }
+    stale 'a variable that specs read'
+    unset BOARD
+}
+
+# With -flto, the assembler of the link is what reads the file.
+case_stale_file_of_flto() {
+    put t/a.c <<<'#define READ(name) __asm__(".balign 4\n.globl code\ncode: .incbin \"inc/" name ".bin\"");
+READ("code")
+extern unsigned code;
+int main(void) { return code; }'
+    mkdir inc
+    printf '\0\0\0\0' >inc/code.bin
+    echo -flto >t/a.flags
+    change() { printf '\1\0\0\0' >inc/code.bin; }
+    stale '.incbin with -flto'
+}
+
+case_stale_dates() {
+    put t/a.c <<<'int main(void) { return STAMP[0] != 87; }'
+    echo -DSTAMP=__TIMESTAMP__ >t/a.flags
+    touch -d 2020-01-01 t/a.c
+    change() { touch -d 2020-01-02 t/a.c; }
+    stale '__TIMESTAMP__ in an option'
+    put t/a.c <<<'#pragma GCC dependency "table.txt"
+int main(void) { return 0; }'
+    put t/table.txt </dev/null
+    touch -d 2020-01-01 t/table.txt
+    echo -Werror >t/a.flags
+    check 'a file that the source depends on' 0 '1 job: 1 passed, 0 failed'
+    touch -d '1 hour' t/table.txt
+    check 'and that is newer' 2 'current file is older than table.txt'
+}
+
+# Files that __has_include asks for by macros, where a search does not look at first.
+case_stale_hidden_folders() {
+    local folder
+    mkdir -p a/b t
+    echo -Ia/b >t/a.flags
+    for folder in build .hidden; do
+        put t/a.c <<<"#define TEXT(it) #it
+#define NAME(it) TEXT($folder/it.h)
+#if __has_include(NAME(more))
+#include NAME(more)
+#else
+#define CODE 0
+#endif
+int main(void) { return CODE; }"
+        # shellcheck disable=SC2317 # stale calls it
+        change() { put "a/b/$folder/more.h" <<<'#define CODE 1'; }
+        stale "a file in $folder"
+    done
+    sed -i "s|$folder/|../|" t/a.c
+    check 'a file above' 0 '1 job: 1 passed, 0 failed'
+    put a/more.h <<<'#define CODE 1'
+    check 'and it appears' 2 'FAIL a: exit 1'
+}
+
+# ccache knows nothing of what the assembler read: the kit keeps it from answering.
+case_ccache() {
+    mkdir bin
+    put bin/ccache <<'END'
+#!/bin/sh
+case " $* " in *' -c '*) [ -n "$CCACHE_DISABLE" ] || { echo 'ccache answers' >&2; exit 1; } ;; esac
+exec "$@"
+END
+    chmod +x bin/ccache
+    exits t/a.c 0
+    change() { exits t/a.c 1; }
+    stale 'by ccache' CC='bin/ccache riscv64-unknown-elf-gcc'
+}
+
+# The C library refers to what the linker would drop.
+case_flto() {
+    mkdir t
+    cp -r "$kit"/tests/{printf,malloc,shapes,uart}* t/
+    check 'all with -flto' 0 ' passed, 0 failed' CFLAGS='-Os -g -flto'
+}
