@@ -1,4 +1,4 @@
-# shellcheck shell=bash disable=SC2154 # checks/commands/firmware gives kit and top
+# shellcheck shell=bash disable=SC2154,SC2317 # checks/commands/firmware gives kit and top; stale calls each `change`
 # Further inputs of a build: directories and libraries that only the linker or the assembler is told of, programs that options name,
 # variables that specs read, and dates. Each is stale in the way of rebuilds.bash.
 
@@ -155,7 +155,6 @@ case_stale_hidden_folders() {
 #define CODE 0
 #endif
 int main(void) { return CODE; }"
-        # shellcheck disable=SC2317 # stale calls it
         change() { put "a/b/$folder/more.h" <<<'#define CODE 1'; }
         stale "a file in $folder"
     done
