@@ -157,7 +157,8 @@ def wrappers_in(options):
 def plugins_in(told):
     """The files of the plugins that options name without a directory."""
     folders = re.findall(r"(?<=[ '])-iplugindir=([^\s']+)", told)
-    return sorted({os.path.join(folder, f"{name}.so") for folder in folders for name in re.findall(r"(?<=[ '])-fplugin=([^\s/']+)(?=[\s'])", told)})
+    names = re.findall(r"(?<=[ '])-fplugin=([^\s/']+)(?=[\s'])", told)
+    return sorted({os.path.join(folder, f"{name}.so") for folder in folders for name in names})
 
 
 def variables_in(specs):
