@@ -31,7 +31,7 @@ def check_progress(row):
     row.write("list.toml", f"job = [{', '.join(tables)}]\n")
     streams = {"results": "1", "line": "2"}
     given = {
-        "LD_PRELOAD": os.environ["TERMINAL_SHIM"], "CLOCK_STEP": row["step"], "MOST_PUT": row["put"],
+        "LD_PRELOAD": os.environ["TERMINAL_SHIM"], "CLOCK_STEP": row["step"], "MOST_PUT": row["put"], "TERM": "xterm",
         "TERMINALS": "".join(streams[word] for word in row["terminals"].split()),
     }
     words = ["run", "list.toml", "--workers", "1", "--color", row["colors"], *RULES[rule][0]]
@@ -71,6 +71,7 @@ def check_colors(row):
     if row["room"] != "all":
         given["OUT_ROOM"] = row["room"]
     given |= {"LD_PRELOAD": os.environ["TERMINAL_SHIM"], "CLOCK_STEP": "0", "MOST_PUT": row["put"], "TERMINALS": row["terminals"]}
+    given["TERM"] = row["term"] or "xterm"
     words = row["words"].split()
     done = subprocess.run(
         [row.rvtest, *words], cwd=row.folder, env=given, stdin=subprocess.DEVNULL, stdout=subprocess.PIPE,
@@ -82,6 +83,6 @@ def check_colors(row):
 
 
 FORMS = {
-    "colors": Form(check_colors, "words terminals no_color put room status shown"),
+    "colors": Form(check_colors, "words terminals no_color term put room status shown"),
     "progress": Form(check_progress, "step rule terminals put jobs colors shown"),
 }

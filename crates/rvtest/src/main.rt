@@ -22,10 +22,11 @@ fn main(rt: HostRuntime) -> ExitCode {
         inputs: &inputs,
     };
     let files = SystemOutputs::new(&rt, rt.alloc());
+    let is_dumb = is_terminal_dumb(&rt);
     let terminals = Terminals {
         is_out_terminal: rt.stdout().is_terminal(),
-        is_errors_terminal: rt.stderr().is_terminal(),
-        is_out_colored: rt.stdout().is_terminal() && !is_set(&rt, "NO_COLOR"),
+        is_errors_terminal: rt.stderr().is_terminal() && !is_dumb,
+        is_out_colored: rt.stdout().is_terminal() && !is_dumb && !is_set(&rt, "NO_COLOR"),
         progress: rt.stderr(),
     };
     let to = Destinations { files, out, errors };
@@ -38,6 +39,14 @@ fn is_set(rt: &(impl Env + AllocGlobal), name: &str) -> bool {
     match env::var(rt, name) {
         Ok(text) => !text.is_empty(),
         Err(error) => error != VarError::NotPresent,
+    }
+}
+
+// Whether the terminal says that it takes text alone.
+fn is_terminal_dumb(rt: &(impl Env + AllocGlobal)) -> bool {
+    match env::var(rt, "TERM") {
+        Ok(text) => text.as_str() == "dumb",
+        Err(_) => false,
     }
 }
 
