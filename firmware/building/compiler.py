@@ -91,7 +91,7 @@ class Compiler:
         record.told = {"headers": headers_of(told), "libraries": folders["libraries"] + values_after(linked, LIBRARY_FOLDER),
                        "names": values_after(linked, LIBRARY), "variables": values_of(variables_in(specs))}
         names = [*PROGRAMS, *(f"{target}-{it}" for target in re.findall(r"^Target: (\S+)$", told, re.M) for it in LINKERS)]
-        names += [os.path.basename(it) for it in specs] + [name for it in specs for name in self.digests.names_in(it)]
+        names += [os.path.basename(it) for it in specs] + [name for it in specs for name in self.digests.names_in(it)] + asked_for_in(specs)
         record.add_candidates(folders["programs"] + folders["libraries"] + ["", *searched_by_shell()], sorted(set(names)))
         record.add_files(files)
         record.close()
@@ -164,6 +164,12 @@ def plugins_in(told):
 def variables_in(specs):
     """The variables that files of specs read."""
     return sorted({name for it in filter(os.path.isfile, specs) for name in re.findall(r"%:getenv\(\s*(\w+)", text_at(it))})
+
+
+def asked_for_in(specs):
+    """The files that functions of specs ask for, as %:if-exists(/board/start.o) does."""
+    calls = [it for path in filter(os.path.isfile, specs) for it in re.findall(r"%:(?:if-exists|find-file)[\w-]*\(([^()]*)\)", text_at(path))]
+    return [name for call in calls for name in call.split()]
 
 
 def values_of(names):

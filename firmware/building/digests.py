@@ -10,9 +10,22 @@ import stat
 import threading
 import time
 
-from .names import ALWAYS, ANY_NAME, CLOCKS, names_in_text
+from .names import ALWAYS, ANY_NAME, CLOCKS, ONCE, OUTSIDE, names_in_text
 
-FORMAT = 1
+
+def digest_of_kit():
+    """The digest of the scripts that build: those of another kit may make something else of the same files."""
+    found = hashlib.sha256()
+    for folder in ("building", "listing"):
+        path = os.path.join(os.path.dirname(os.path.dirname(os.path.abspath(__file__))), folder)
+        for name in sorted(it for it in os.listdir(path) if it.endswith(".py")):
+            with open(os.path.join(path, name), "rb") as file:
+                found.update(file.read())
+    return found.hexdigest()
+
+
+# What other scripts remembered or made is worth nothing.
+FORMAT = digest_of_kit()
 # A file that changed less than this before it was read may change again without a new time.
 SETTLED_NS = 2_000_000_000
 DIRECTORY, SPECIAL = "directory", "special"
@@ -151,25 +164,35 @@ class Digests:
             if (folders, source) not in self.searched:
                 self.searched[folders, source] = self.existing(folders, [*self.names_in(source), *names_below(source, folders)])
             found.append(self.searched[folders, source])
-        clocks = {clock for clock in CLOCKS if clock in names or any(clock in self.names_in(it) for it in sources)}
-        return found + [reading(clock, sources) for clock in sorted(clocks)]
+        matters = {it for it in (*CLOCKS, ANY_NAME, OUTSIDE, ONCE) if it in names or any(it in self.names_in(source) for source in sources)}
+        clocks = CLOCKS.keys() & (matters | ({ALWAYS} if {ANY_NAME, OUTSIDE} <= matters else set()))
+        twins = self.twins({*sources, *(path for _, paths in found for path in paths)}) if ONCE in matters else []
+        return [digest for digest, _ in found] + twins + [reading(clock, sources) for clock in sorted(clocks)]
+
+    def twins(self, paths):
+        """The files of the same contents, those of the same date together: with `#pragma once`, GCC takes these for one file."""
+        found = {}
+        for path in sorted(paths):
+            if self.of(path) not in (None, DIRECTORY, SPECIAL):
+                found.setdefault(self.of(path), {}).setdefault(self.facts[path][3] // 1_000_000_000, []).append(path)
+        return [sorted(it.values()) for it in found.values() if sum(map(len, it.values())) > 1]
 
     def existing(self, folders, names):
-        """The candidates that there are, with their digests: paths of these names in these directories."""
+        """The candidates that there are, paths of these names in these directories: a digest of all, and the paths."""
         found = {}
-        for name in sorted(set(names) - CLOCKS.keys()):
+        for name in sorted(set(names) - CLOCKS.keys() - {ONCE, OUTSIDE}):
             if name == ANY_NAME:
                 found[name] = [everything_in(folder) for folder in folders if folder and not self.is_of_system(folder)]
                 continue
             for path in (os.path.join(folder, name) for folder in folders):
                 if self.has(path):
                     found[path] = self.of(path)
-        return digest_of(found)
+        return digest_of(found), [it for it in found if it != ANY_NAME]
 
     @staticmethod
     def is_of_system(folder):
         """Whether a directory belongs to installed packages rather than to a project."""
-        return os.path.abspath(folder).startswith("/usr/")
+        return os.path.abspath(folder).startswith("/usr/") and not os.path.abspath(folder).startswith(("/usr/src/", "/usr/local/"))
 
 
 def names_below(path, folders):

@@ -10,10 +10,7 @@ import re
 from listing.files import Refused, text_at
 from listing.flags import is_file, response_words
 
-from .digests import digest_of, write_whole
-
-# Another number makes every image of an earlier kit be built again.
-FORMAT = 2
+from .digests import FORMAT, digest_of, write_whole
 
 
 def paths_in_words(words):

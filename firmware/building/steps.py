@@ -10,7 +10,7 @@ from listing.files import Refused, shown
 from listing.flags import expanded
 
 from .digests import digest_of
-from .names import CLOCKS
+from .names import names_in_option
 from .records import Record, paths_in_words
 from .rules import files_in_linked, files_in_rules
 
@@ -73,7 +73,7 @@ def compile_step(tools, source):
         files = list(dict.fromkeys([*files, *filter(os.path.exists, others)]))
         record.add_files([*files, *paths_in_words(source.options)])
         folders = ["", *answer.headers, *assembler_folders(source.options), *(os.path.dirname(it) for it in files)]
-        record.add_sources(folders, files, sorted({it for word in source.options for it in [*quoted_in(word), *clocks_in(word)]}))
+        record.add_sources(folders, files, sorted({it for word in source.options for it in names_in_option(word)}))
 
     record = run_recorded(tools, command, output, key, f"CC {source.label}", read, complete)
     for path in (headers, assembled):
@@ -94,15 +94,16 @@ def link_step(tools, words, image, place, label):
     if record and record.holds(key, image):
         return False
     os.makedirs(os.path.dirname(image), exist_ok=True)
-    listed = f"{image}.linked"
+    listed, maps = f"{image}.linked", maps_in(words)
     command = [*words, f"-Wl,--dependency-file={listed}"]
 
     def complete(record, files, others):
+        tools.digests.forget(maps, [])
         members = [it for archive in filter(os.path.isfile, files) for it in members_of_thin(archive)]
         record.add_files([*filter(os.path.exists, files), *members, *others])
         # Scripts are listed as they are named, and found in any of these directories, where each file of the name counts by its contents.
         folders = ["", *answer.libraries]
-        named = [it for it in [*files, *others] if not it.startswith(tools.folder)]
+        named = [it for it in [*files, *others] if not it.startswith(tools.folder) and it not in maps]
         scripts = [os.path.join(folder, it) for it in files if not it.endswith((".o", ".a", ".so")) for folder in folders]
         scripts = list(filter(os.path.isfile, scripts))
         libraries = [*answer.library_names, *(it for script in scripts for it in libraries_in_script(script))]
@@ -113,7 +114,7 @@ def link_step(tools, words, image, place, label):
     def read():
         return read_list(listed, files_in_linked), paths_in_words(words)
 
-    record = run_recorded(tools, command, image, key, label, read, complete)
+    record = run_recorded(tools, command, image, key, label, read, complete, maps)
     os.remove(listed)
     if record:
         tools.records.save("images", place, record)
@@ -121,11 +122,11 @@ def link_step(tools, words, image, place, label):
     return True
 
 
-def run_recorded(tools, words, output, key, label, read, complete):
+def run_recorded(tools, words, output, key, label, read, complete, written=()):
     """Runs the compiler until nothing that it read changed meanwhile, and returns the record of the output; none if something always did.
 
     A file whose digest was taken before the compiler began must be the same after it. One that was not looked at before must not have
-    changed since the compiler began, nor may a directory.
+    changed since the compiler began, nor may a directory. Further files that it wrote are part of the output.
     """
     new = f"{output}.new"
     for _ in range(MOST_TRIES):
@@ -137,7 +138,7 @@ def run_recorded(tools, words, output, key, label, read, complete):
         record = Record(tools.digests, key)
         complete(record, *read())
         record.close(new)
-        files = [it for it in record.files if not it.startswith(tools.folder)]
+        files = [it for it in record.files if not it.startswith(tools.folder) and it not in written]
         folders = {folder for search in record.searches for folder in search[0]} - listed
         changed = [it for it in files if changed_since(it, began) or tools.digests.is_outdated(it)]
         changed_folders = [it for it in folders if changed_since(it or ".", began)]
@@ -190,6 +191,12 @@ def assembler_folders(options):
     return [it[2:] or after for it, after in zip(pieces, [*pieces[1:], ""]) if it.startswith("-I")]
 
 
+def maps_in(words):
+    """The files that the linker writes by its option -Map."""
+    text = ",".join(it.removeprefix("-Wl,") for it in words if it != "-Xlinker")
+    return re.findall(r"(?:^|,)--?Map[=,]([^,]+)", text)
+
+
 def members_of_thin(path):
     """The files that a thin archive refers to."""
     with open(path, "rb") as file:
@@ -218,16 +225,6 @@ def script_text(path):
     """The text of a linker script."""
     with open(path, encoding="utf-8", errors="surrogateescape") as file:
         return file.read()
-
-
-def quoted_in(word):
-    """The names in quotes or angle brackets in an option, as in -DHEADER='"a.h"'."""
-    return [it for pair in re.findall(r'"([^"]+)"|<([^>]+)>', word) for it in pair if it]
-
-
-def clocks_in(word):
-    """The clocks of the preprocessor that an option reads, as -DBUILT=__DATE__ does."""
-    return [it for it in CLOCKS if it in word]
 
 
 def library_files(name):

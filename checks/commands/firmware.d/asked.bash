@@ -1,0 +1,135 @@
+# shellcheck shell=bash disable=SC2154,SC2317 # checks/commands/firmware gives kit and top; stale calls each `change`
+# What a build asks for and does not find, dates that matter to the compiler, the kit itself, and two makes at once.
+
+# Files that __has_include asks for in ways other than by a name in quotes behind it, or by one that a search does not see.
+case_stale_asked() {
+    local rest='
+#define CODE 1
+#else
+#define CODE 0
+#endif
+int main(void) { return CODE; }' text='#define TEXT_OF(it) #it
+#define TEXT(it) TEXT_OF(it)
+#if __has_include(TEXT(FOLDER/more.h))' long
+    mkdir -p inc far
+    # asks WHAT SOURCE FILE [OPTION..]
+    asks() {
+        local what=$1 file=$3
+        put t/a.c <<<"$2$rest"
+        echo "-Iinc ${*:4}" >t/a.flags
+        change() { put "$file" </dev/null; }
+        stale "$what"
+        rm "$file"
+    }
+    asks 'by another name' '#define HAS __has_include
+#if HAS("more.h")' inc/more.h
+    asks 'by an option' '#if HAS("more.h")' inc/more.h "'-DHAS(it)=__has_include(it)'"
+    asks 'behind a comment' '#if __has_include /* of
+two lines */ ("more.h")' inc/more.h
+    asks 'a name with a backslash' '#if __has_include("a\b.h")' 'inc/a\b.h'
+    long=$(printf 'd%.0s' {1..200})
+    asks 'a long name' "#if __has_include(\"$long/$long/more.h\")" "inc/$long/$long/more.h"
+    asks_outside "#define FOLDER $PWD/far
+$text" 'a computed name of the root'
+    asks_outside "$text" 'a computed name above, by an option' -DFOLDER=../far
+    put inc/folder.h <<<'#define FOLDER ../far'
+    asks_outside "#include \"folder.h\"
+$text" 'a computed name above, by a header'
+}
+
+# A name outside of the directories that are searched: such a source is compiled each time.
+#   asks_outside SOURCE WHAT [OPTION..]    with the text and the rest of case_stale_asked
+asks_outside() {
+    put t/a.c <<<"$1$rest"
+    echo "-Iinc ${*:3}" >t/a.flags
+    check "$2: as it was" 0 '1 job: 1 passed, 0 failed'
+    put far/more.h </dev/null
+    check "$2: changed" 2 '1 job: 0 passed, 1 failed'
+    rm far/more.h
+}
+
+case_stale_files_of_specs() {
+    exits t/a.c 0
+    put extra.c <<<'__attribute__((constructor)) static void fails(void) { __builtin_trap(); }'
+    echo "-specs=$PWD/board.specs" >t/a.flags
+    printf '*lib:\n+ %%:if-exists(%s/extra.o)\n\n' "$PWD" >board.specs
+    change() { riscv64-unknown-elf-gcc -march=rv32imc -mabi=ilp32 -c extra.c; }
+    stale 'a file that specs ask for'
+}
+
+# GCC takes two files with `#pragma once` for one if their contents and dates are the same.
+case_stale_once() {
+    local once='#pragma once'
+    put t/a.c <<<'#include "../first/it.h"
+#include "../second/it.h"
+int main(void) { return code; }'
+    put first/it.h <<<"$once
+static const int code = 0;"
+    put second/it.h <first/it.h
+    touch -d 2020-01-01 first/it.h second/it.h
+    change() { touch -d 2020-01-02 second/it.h; }
+    stale 'a date under #pragma once'
+    touch -d 2020-01-02 first/it.h
+    check 'both have the other date' 0 '1 job: 1 passed, 0 failed'
+    touch -d 2020-01-03 first/it.h second/it.h
+    check 'and a third one' 0 '1 job: 1 passed, 0 failed'
+    hides 'CC '
+}
+
+# A kit whose scripts compile in another way, though no words of make's are different.
+case_stale_scripts() {
+    put t/a.c <<<'#ifdef CODE
+int main(void) { return CODE; }
+#else
+int main(void) { return 0; }
+#endif'
+    cp -r "$kit" mine
+    local kit=$PWD/mine
+    change() { sed -i 's/command = \[\*words, /&"-DCODE=1", /' mine/building/steps.py; }
+    stale "a script of the kit's"
+}
+
+# The list of an earlier call is not run in the place of one that cannot be written.
+case_list_not_replaced() {
+    exits t/a.c 0
+    check 'as it was' 0 '1 job: 1 passed, 0 failed'
+    echo 1 >t/a.exit
+    mkdir bin
+    printf '#!/bin/sh\nexit 1\n' >bin/mv
+    chmod +x bin/mv
+    PATH=$PWD/bin:$PATH check 'the list cannot be replaced' 2 'Error 1'
+    hides passed
+}
+
+# Another make builds the tests with other options before this one runs them.
+case_two_makes() {
+    put t/a.c <<<'int main(void) { return CODE; }'
+    exits t/b.c 0
+    put other <<END
+#!/bin/sh
+if [ "\$1" = run ]; then
+    make -s -f "$kit/Makefile" RVTEST="$top/rvtest" check TESTS=t CFLAGS="\$FLAGS" ONLY="\$NAMES" >/dev/null || exit 9
+fi
+exec "$top/rvtest" "\$@"
+END
+    chmod +x other
+    FLAGS=-DCODE=0 NAMES='' check 'images of another make' 2 't/build/a.elf: error: another build replaced it' RVTEST="$PWD/other" CFLAGS=-DCODE=1
+    FLAGS=-DCODE=0 NAMES='' check 'the same images' 0 '2 jobs: 2 passed, 0 failed' RVTEST="$PWD/other" CFLAGS=-DCODE=0
+    FLAGS=-O2 NAMES=b check 'images of other tests' 0 '1 job: 1 passed, 0 failed' RVTEST="$PWD/other" CFLAGS=-DCODE=0 ONLY=a
+    [ -z "$(find t/build -name '.run.*')" ] || fail 'marks are left'
+}
+
+# A file that the linker writes does not make it link again, unless it is gone.
+case_maps() {
+    local options
+    exits t/a.c 0
+    for options in -Wl,-Map=a.map -Wl,-Map,a.map '-Xlinker -Map -Xlinker a.map'; do
+        echo "$options" >t/a.flags
+        check "$options" 0 '1 job: 1 passed, 0 failed'
+        check 'nothing changed' 0 '1 job: 1 passed, 0 failed'
+        hides 'LD '
+        rm a.map
+        check 'the map is gone' 0 '1 job: 1 passed, 0 failed'
+        [ -s a.map ] || fail 'there is no map'
+    done
+}
