@@ -116,7 +116,7 @@ END
     FLAGS=-DCODE=0 NAMES='' check 'images of another make' 2 't/build/a.elf: error: another build replaced it' RVTEST="$PWD/other" CFLAGS=-DCODE=1
     FLAGS=-DCODE=0 NAMES='' check 'the same images' 0 '2 jobs: 2 passed, 0 failed' RVTEST="$PWD/other" CFLAGS=-DCODE=0
     FLAGS=-O2 NAMES=b check 'images of other tests' 0 '1 job: 1 passed, 0 failed' RVTEST="$PWD/other" CFLAGS=-DCODE=0 ONLY=a
-    [ -z "$(find t/build -name '.run.*')" ] || fail 'marks are left'
+    ends 'two goals of one make' 0 CALLGRIND made check profile TESTS=t CFLAGS=-DCODE=0
 }
 
 # A file that the linker writes does not make it link again, unless it is gone.
