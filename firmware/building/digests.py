@@ -215,7 +215,7 @@ def everything_in(folder):
 
 def is_built(folder):
     """Whether a build of this kit made a directory."""
-    return any(os.path.isdir(os.path.join(folder, it, ".build")) for it in ("", "cover", "debug", ".arch"))
+    return any(os.path.isfile(os.path.join(folder, it, ".build/lock")) for it in ("", "cover", "debug", ".arch"))
 
 
 def reading(clock, sources):

@@ -29,6 +29,8 @@ two lines */ ("more.h")' inc/more.h
     asks 'a name with a backslash' '#if __has_include("a\b.h")' 'inc/a\b.h'
     long=$(printf 'd%.0s' {1..200})
     asks 'a long name' "#if __has_include(\"$long/$long/more.h\")" "inc/$long/$long/more.h"
+    mkdir -p inc/sub/.build
+    asks "a folder with another tool's .build" "$text" inc/sub/more.h -DFOLDER=sub
     asks_outside "#define FOLDER $PWD/far
 $text" 'a computed name of the root'
     asks_outside "$text" 'a computed name above, by an option' -DFOLDER=../far
