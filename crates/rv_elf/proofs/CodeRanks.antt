@@ -40,6 +40,12 @@ values_rise : (v w p q j k : ℕ) → p < 3 → q < 3
     → 0x1000_0000 * (3 * v + p) + (0x1000_0000 - 1 - j) ≤ 0x1000_0000 * (3 * w + q) + (0x1000_0000 - 1 - k) → v ≤ w
 values_rise v w p q j k x y l = omega arith
 
+not_less : (x : ℕ) → x ≤ x
+not_less x = omega arith
+
+both_le : (x y z : ℕ) → x ≤ y → y ≤ z → x ≤ z
+both_le x y z l m = omega arith
+
 few_kinds : (s : Symbol) → precedence s < 3
 few_kinds s = below_three (is_function s) (is_object s)
 
@@ -60,28 +66,44 @@ module _ (p : Symbol → Bool) (f : ℕ → Symbol) where
 
   first_best : (n : ℕ) → IsBest n None → IsBest (n + 1) (cond (true && p (f n)) (Some (f n)) None)
   first_best n h = elim (p (f n)) as (λ b. p (f n) ≡ b → IsBest (n + 1) (cond b (Some (f n)) None)) [
-      | true ↦ λ e. (n, omega arith, refl, e, λ k within passes. elim (cases_lt k n) [
+    | true ↦ λ e. (
+      n,
+      omega arith,
+      refl,
+      e,
+      λ k within passes. elim (cases_lt k n) [
         | inl before ↦ absurd (let fails = h k before in cc)
         | inr behind ↦ let same : k ≡ n = same_or_below k n within behind in
-            subst (λ m. rank m (f m) ≤ rank n (f n)) (sym same) (omega arith)
-      ])
-      | false ↦ λ e. λ k within. elim (cases_lt k n) [
-        | inl before ↦ h k before
-        | inr behind ↦ ap (λ m. p (f m)) (same_or_below k n within behind) ∙ e
-      ]
-    ] refl
+            subst (λ m. rank m (f m) ≤ rank n (f n)) (sym same) (not_less (rank n (f n)))
+      ],
+    )
+    | false ↦ λ e. λ k within. elim (cases_lt k n) [
+      | inl before ↦ h k before
+      | inr behind ↦ ap (λ m. p (f m)) (same_or_below k n within behind) ∙ e
+    ]
+  ] refl
 
   next_best : (n : ℕ) (s : Symbol) → IsBest n (Some s) → IsBest (n + 1) (cond (is_nearer (f n) s && p (f n)) (Some (f n)) (Some s))
   next_best n s h = elim (is_nearer (f n) s && p (f n)) as (λ b. (is_nearer (f n) s && p (f n)) ≡ b → IsBest (n + 1) (cond b (Some (f n)) (Some s))) [
-      | true ↦ λ e. let parts = and_parts (is_nearer (f n) s) (p (f n)) e in
-          let above = ranks_above (rank_by_steps s) (rank_by_steps (f n)) h.0 n
-          (ltb-true (rank_by_steps s) (rank_by_steps (f n)) (sym (is_ranked (f n) s) ∙ parts.0)) in
-          (n, omega arith, refl, parts.1, λ k within passes. elim (cases_lt k n) [
-            | inl before ↦ let so_far = h.4 k before passes in omega (arith, so_far, above)
+    | true ↦ λ e. let parts = and_parts (is_nearer (f n) s) (p (f n)) e in
+        let above = ranks_above (rank_by_steps s) (rank_by_steps (f n)) h.0 n
+        (ltb-true (rank_by_steps s) (rank_by_steps (f n)) (sym (is_ranked (f n) s) ∙ parts.0)) in (
+          n,
+          omega arith,
+          refl,
+          parts.1,
+          λ k within passes. elim (cases_lt k n) [
+            | inl before ↦ both_le (rank k (f k)) (rank h.0 s) (rank n (f n)) (h.4 k before passes) above
             | inr behind ↦ let same : k ≡ n = same_or_below k n within behind in
-                subst (λ m. rank m (f m) ≤ rank n (f n)) (sym same) (omega arith)
-          ])
-      | false ↦ λ e. (h.0, (let l = h.1 in omega (arith, l)), h.2, h.3, λ k within passes. elim (cases_lt k n) [
+                subst (λ m. rank m (f m) ≤ rank n (f n)) (sym same) (not_less (rank n (f n)))
+          ],
+        )
+    | false ↦ λ e. (
+      h.0,
+      (let l = h.1 in omega (arith, l)),
+      h.2,
+      h.3,
+      λ k within passes. elim (cases_lt k n) [
         | inl before ↦ h.4 k before passes
         | inr behind ↦ let same : k ≡ n = same_or_below k n within behind in
             elim (cases_lt (rank_by_steps s) (rank_by_steps (f n))) [
@@ -92,8 +114,9 @@ module _ (p : Symbol → Bool) (f : ℕ → Symbol) where
               | inr more ↦ subst (λ m. rank m (f m) ≤ rank h.0 s) (sym same)
                   (ranks_first (rank_by_steps (f n)) (rank_by_steps s) h.0 n more (let l = h.1 in omega (arith, l)))
             ]
-      ])
-    ] refl
+      ],
+    )
+  ] refl
 
   one_more_best : (n : ℕ) (o : Option Symbol) → IsBest n o
       → IsBest (n + 1) (cond (option_map_or (is_nearer (f n)) o true && p (f n)) (Some (f n)) o)
@@ -114,8 +137,8 @@ module _ (p : Symbol → Bool) (f : ℕ → Symbol) where
 
   -- where none passes, it is none
   pub none_best : (n : ℕ) (o : Option Symbol) → IsBest n o → ((k : ℕ) → k < n → p (f k) ≡ true → ⊥) → o ≡ None
-  none_best n None h no = refl
-  none_best n (Some s) h no = absurd (no h.0 h.1 (ap p h.2 ∙ h.3))
+  none_best n None h fails = refl
+  none_best n (Some s) h fails = absurd (fails h.0 h.1 (ap p h.2 ∙ h.3))
 
   -- the one that no other has a greater rank than
   pub this_best : (n : ℕ) → n ≤ 0x1000_0000 → (o : Option Symbol) → IsBest n o → (k : ℕ) → k < n → p (f k) ≡ true
@@ -126,7 +149,7 @@ module _ (p : Symbol → Bool) (f : ℕ → Symbol) where
       let under = h.1 in
       let above = h.4 k within passes in
       let below = subst (λ (t : Symbol). rank j t ≤ rank k (f k)) h.2 (best j h.1 (ap p h.2 ∙ h.3)) in
-      let same : k ≡ j = one_index (rank_by_steps (f k)) (rank_by_steps s) k j (omega (arith, within)) (omega (arith, under)) above below in
+      let same : k ≡ j = one_index (rank_by_steps (f k)) (rank_by_steps s) k j (omega (arith, within, few)) (omega (arith, under, few)) above below in
       ap (λ t. Some t) (sym h.2 ∙ sym (ap f same))
 
 -- ---- candidates
@@ -175,7 +198,7 @@ one_segment_between (s ∷ ss) low high addr l m h =
 -- ---- the symbols of a table
 
 carry_le : (x y u v : ℕ) → x ≡ u → y ≡ v → x ≤ y → u ≤ v
-carry_le x y u v e f l = omega arith
+carry_le x y u v e f l = omega (arith, e, f, l)
 
 named_text : (o : Option (List ℕ)) → option_map_or is_source_name o false ≡ true → is_some o ≡ true
 named_text None e = e
@@ -187,7 +210,7 @@ module _ (table strings : List ℕ) where
 
   pub none_yet : (es : List CodeSymbol) → es ≡ [] → AreCodeSymbols table strings 0 es
   none_yet es e = record {
-    sound = subst (λ (l : List CodeSymbol). All (IsCodeSymbol table strings 0) l) (sym e) All-nil;
+    sound = subst (λ (l : List CodeSymbol). All (IsCodeSymbol table strings 0) l) (sym e) (All-nil (IsCodeSymbol table strings 0));
     complete = λ k l h. absurd (omega (arith, l));
   }
 
@@ -316,7 +339,7 @@ module _ (segments : List Segment) (table strings : List ℕ) (addr : ℕ) (es :
         (are_in_one_segment segments symbol.value addr) of_last.code not_above h) none_ranks_above
 
     in_no_segment : are_in_one_segment segments symbol.value addr ≡ false → nearest ≡ None
-    in_no_segment no = none_best passes (symbol_of_index table) (symbol_count table) nearest best (λ k within h.
+    in_no_segment apart = none_best passes (symbol_of_index table) (symbol_count table) nearest best (λ k within h.
         let s = symbol_of_index table k in
         let parts = parts_of_five (may_be_code s) (has_section s) (leb s.value addr) (has_usable_name strings s)
         (are_in_one_segment segments s.value addr) h in
@@ -397,10 +420,10 @@ module _ (found : Option (List ℕ × ℕ)) (strings : List ℕ) (addr : ℕ) (s
   by_name bytes tail o text = h.is ∙ ap (option_map (λ name. (name, addr - s.value))) (sym (ap text_before_zero tail) ∙ text)
 
   value_back : (v : ℕ) → v ≤ addr → (o : Option (List ℕ)) → is_some o ≡ true
-      → Some v ≡ option_map (λ x. addr - x.1) (option_map (λ name. (name, addr - v)) o)
+      → Some v ≡ option_map (λ (x : List ℕ × ℕ). addr - x.1) (option_map (λ name. (name, addr - v)) o)
   value_back v l None some = cc
   value_back v l (Some t) some = ap (λ n. Some n) (let back : v ≡ addr - (addr - v) = omega arith in back)
 
-  pub value_of : Some s.value ≡ option_map (λ x. addr - x.1) found
+  pub value_of : Some s.value ≡ option_map (λ (x : List ℕ × ℕ). addr - x.1) found
   value_of = value_back s.value h.below (text_before_zero (drop s.name strings)) h.named
-      ∙ sym (ap (option_map (λ x. addr - x.1)) h.is)
+      ∙ sym (ap (option_map (λ (x : List ℕ × ℕ). addr - x.1)) h.is)

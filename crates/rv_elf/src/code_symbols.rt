@@ -122,11 +122,7 @@ fn sorted_symbols(
 }
 
 // The symbols of a table that may stand for code, in the order of the table.
-fn code_symbols(
-    alloc: Global,
-    table: &[u8],
-    strings: &[u8],
-) -> Result<Vec<CodeSymbol>, AllocError>
+fn code_symbols(alloc: Global, table: &[u8], strings: &[u8]) -> Result<Vec<CodeSymbol>, AllocError>
     requires { length table.now < 2 ^ 32 }
     ensures { IfOk result (λ symbols. AreCodeSymbols table.now strings.now (symbol_count table.now) symbols.items) }
 {

@@ -4,7 +4,7 @@ use Rattle.rv_stacks.specs.Stacks.{last_address, no_function, start_of}
 
 module _ (address : ℕ) where
   abbrev pub value_of : Option (List ℕ × ℕ) → Option ℕ
-  value_of symbol = option_map (λ s. address - s.1) symbol
+  value_of symbol = option_map (λ (s : List ℕ × ℕ). address - s.1) symbol
 
   pub starts_there : (none : ℕ) (symbol : Option (List ℕ × ℕ)) (value : ℕ) → Some value ≡ value_of symbol
       → value ≡ start_of none address symbol

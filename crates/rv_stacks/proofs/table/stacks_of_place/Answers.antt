@@ -40,10 +40,12 @@ read_as (Err w) image e = cc
 pub new-symbols-requires : goal.new-symbols-requires
 new-symbols-requires c =
     let isa = c.job-job.result.now.isa in
-    record { image = record {
-      isa = isa;
-      is = read_as (image_of isa c.in-Some.bytes.now) c.in-Some-2.image (sym c.in_ok-image.ensures ∙ c.in-Some-2.is);
-    } }
+    record {
+      image = record {
+        isa = isa;
+        is = read_as (image_of isa c.in-Some.bytes.now) c.in-Some-2.image (sym c.in_ok-image.ensures ∙ c.in-Some-2.is);
+      };
+    }
 
 pub returns-in-Some-3 : goal.returns-in-Some-3
 returns-in-Some-3 c =

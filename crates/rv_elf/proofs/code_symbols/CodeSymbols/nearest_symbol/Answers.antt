@@ -9,7 +9,7 @@ use Rattle.rv_elf.specs.SymbolSearch.{are_in_one_segment}
 use Rattle.rv_elf.proofs.CodeRanks.{in_other_segment, in_this_segment, nothing_below}
 use Rattle.rv_elf.proofs.code_symbols.CodeSymbols.nearest_symbol.Goals as goal
 
-none : CodeSymbol
+abbrev none : CodeSymbol
 none = record { rank = 0; value = 0; name = 0 }
 
 pub returns-then-above-eq0 : goal.returns-then-above-eq0
