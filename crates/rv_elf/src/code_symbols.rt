@@ -1,5 +1,5 @@
 //! The symbols of an image's code in the order of their addresses, for many look-ups.
-ghost use Rattle.std.specs.Prelude.{◌≡◌, ◌-◌, ◌^◌, ◌<◌, Some, None, IfOk, IsPermutation, MatchOption, length, option_map};
+ghost use Rattle.std.specs.Prelude.{◌≡◌, ◌-◌, ◌^◌, ◌<◌, Some, None, IfOk, MatchOption, length, option_map};
 ghost use Rattle.std.specs.List.Sorted.{IsNonDecreasingBy};
 ghost use Rattle.rv_elf.specs.CodeSymbols.{code_symbol, is_named_code, symbol_count, AreCodeSymbols, AreNamed, FindSymbols, IsSymbolFor};
 ghost use Rattle.rv_elf.specs.Image.{IsImageOf};
@@ -10,7 +10,7 @@ use crate::symbol_search::{SymbolAt, are_in_one_segment, names_end, text_before_
 use crate::symbols::{SYMBOL_SIZE, Symbol, bytes_from, symbol_and_string_bytes, symbol_entry};
 use std::alloc::{AllocError, Global};
 
-// What is kept of a symbol.
+// What an index keeps of a symbol.
 #[derive(Clone, Copy)]
 struct CodeSymbol {
     // Greater where `symbol_at` prefers the symbol.
@@ -19,12 +19,15 @@ struct CodeSymbol {
     name: u32,
 }
 
-/// The symbols of an image's code, sorted, so that one of an address is found without a pass over the
-/// symbol table.
+/// The symbols of an image's code, sorted by value, so that the symbol of an address is found without a
+/// pass over the symbol table.
 #[derive(Drop)]
 pub struct CodeSymbols<'a> {
+    /// The image that the file was read as.
     pub image: &'a Image,
+    /// The bytes of the file.
     pub bytes: &'a [u8],
+    // The file's string table, empty where the tables are refused.
     strings: &'a [u8],
     symbols: Vec<CodeSymbol>,
     ghost rising: { IsNonDecreasingBy (λ s. s.value) symbols.items },
@@ -32,13 +35,14 @@ pub struct CodeSymbols<'a> {
     ghost finds: { FindSymbols image.now bytes.now strings.now symbols.items },
 }
 
-// More than the symbols of any table, whose size has 32 bits.
+// The size of a table has 32 bits, so that it has fewer symbols.
 const MOST_SYMBOLS: u64 = 0x1000_0000;
 
 impl<'a> CodeSymbols<'a> {
-    /// Sorts the symbols of a file that [`symbol_at`](crate::symbol_at) takes, if
-    /// [`find_symbol`](crate::find_symbol) would not refuse the tables. It takes the time of one pass over
-    /// the table and a sort, and 16 bytes of memory for each of those symbols. No name is read beyond its first byte.
+    /// Sorts the symbols of a file that [`symbol_at`](crate::symbol_at) can return. There are none where
+    /// [`find_symbol`](crate::find_symbol) would refuse the tables. It takes the time of one pass over the
+    /// table, one over the strings and a sort, and memory for 16 bytes a symbol. Of a name it reads the first
+    /// byte.
     pub fn new(
         alloc: Global,
         image: &'a Image,
@@ -65,9 +69,9 @@ impl<'a> CodeSymbols<'a> {
         })
     }
 
-    /// The symbol that an address of the image belongs to, which is that of [`symbol_at`](crate::symbol_at).
-    /// Its time grows with the logarithm of the number of symbols, and with the length of the name that it
-    /// returns. It takes no memory.
+    /// The symbol that an address of the image belongs to: the one that [`symbol_at`](crate::symbol_at)
+    /// returns. Its time grows with the logarithm of the number of symbols, and with the length of the name
+    /// that it returns. It takes no memory.
     pub fn symbol_at(&self, addr: u32) -> Option<SymbolAt<'a>>
         ensures { MatchOption result (symbol_at self.now.image.now self.now.bytes.now addr ≡ None)
             (λ s. symbol_at self.now.image.now self.now.bytes.now addr ≡ Some (s.name.now, s.offset)) }
@@ -79,8 +83,8 @@ impl<'a> CodeSymbols<'a> {
         })
     }
 
-    /// The value of the symbol that an address of the image belongs to. It reads no name, so that its time
-    /// grows only with the logarithm of the number of symbols.
+    /// The value of the symbol that an address of the image belongs to. It reads no name, so its time grows
+    /// only with the logarithm of the number of symbols.
     pub fn symbol_value_at(&self, addr: u32) -> Option<u32>
         ensures { result ≡ option_map (λ s. addr - s.1) (symbol_at self.now.image.now self.now.bytes.now addr) }
     {

@@ -1,5 +1,5 @@
 -- The symbol before the partition point is the answer, where it is in one segment with the address.
-use Rattle.std.proofs.Common.{◌≡◌, ◌∙◌, ◌-◌, ◌<◌, List, get_or, leb, refl, rules, sym, ap, subst, arith}
+use Rattle.std.proofs.Common.{◌∙◌, ◌-◌, ◌<◌, List, get_or, leb, refl, rules, sym, ap, subst, arith}
 use Rattle.std.specs.List.Sorted.{IsNonDecreasingBy}
 use Rattle.std.proofs.lemmas.List.Sorted.{IsPartitionPoint-from_clause, IsPartitionedBy-leb}
 use Rattle.rv_elf.specs.declared.code_symbols.CodeSymbol.{CodeSymbol}
