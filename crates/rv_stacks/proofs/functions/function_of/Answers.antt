@@ -12,9 +12,9 @@ returns-in-Some c =
     starts_there c.args.address (no_function (symbol_at symbols.image.now symbols.bytes.now 0))
     (symbol_at symbols.image.now symbols.bytes.now c.args.address) c.in-Some.value c.in-Some.ensures
 
-pub returns : goal.returns
+pub returns-in-None : goal.returns-in-None
 unfolding function_at
-returns c =
+returns-in-None c =
     let symbols = c.args.symbols.now in
     c.no_function.ensures ∙ sym (starts_nowhere c.args.address (no_function (symbol_at symbols.image.now symbols.bytes.now 0))
     (symbol_at symbols.image.now symbols.bytes.now c.args.address) c.in-None.ensures)

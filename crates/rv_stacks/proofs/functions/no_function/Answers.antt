@@ -7,5 +7,5 @@ pub returns-in-Some : goal.returns-in-Some
 returns-in-Some c =
     some_function 0 (symbol_at c.args.symbols.now.image.now c.args.symbols.now.bytes.now 0) c.in-Some.field-0 c.in-Some.ensures
 
-pub returns : goal.returns
-returns c = none_there 0 (symbol_at c.args.symbols.now.image.now c.args.symbols.now.bytes.now 0) c.in-None.ensures
+pub returns-in-None : goal.returns-in-None
+returns-in-None c = none_there 0 (symbol_at c.args.symbols.now.image.now c.args.symbols.now.bytes.now 0) c.in-None.ensures

@@ -37,8 +37,8 @@ read_as : (r : Result Image ImageError) (image : Image) → result_ok r ≡ Some
 read_as (Ok i) image e = cc
 read_as (Err w) image e = cc
 
-pub new-symbols-requires : goal.new-symbols-requires
-new-symbols-requires c =
+pub new-requires : goal.new-symbols-requires
+new-requires c =
     let isa = c.job-job.result.now.isa in
     record {
       image = record {
