@@ -37,7 +37,7 @@ read_as : (r : Result Image ImageError) (image : Image) → result_ok r ≡ Some
 read_as (Ok i) image e = cc
 read_as (Err w) image e = cc
 
-pub new-requires : goal.new-symbols-requires
+pub new-requires : goal.new-requires
 new-requires c =
     let isa = c.job-job.result.now.isa in
     record {
