@@ -2,6 +2,7 @@ pub mod Counting
 pub mod Paths
 pub mod AddressCounts
 pub mod Steps
+pub mod SymbolValues
 pub mod Going
 pub mod Knowns
 pub mod NamedSpots

@@ -14,9 +14,9 @@ use crate::turns::follow;
 use crate::walk::Walk;
 use rv_calls::{Frame, next_transfer};
 use rv_coverage::{begins_at_end, run_begins_its_end, run_begins_its_steps};
+use rv_elf::CodeSymbols;
 use rv_machine::Machine;
 use rv_spots::Spots;
-use rv_trace::ElfFile;
 use std::alloc::{AllocError, Global};
 
 /// The stacks of a machine's run of at most so many steps, by the functions of a file. It takes the time of that run and more,
@@ -25,17 +25,17 @@ pub fn stacks_of_run(
     alloc: Global,
     machine: Machine,
     budget: u32,
-    elf: &ElfFile<'_>,
+    symbols: &CodeSymbols<'_>,
 ) -> Result<Spots, AllocError>
-    ensures { IfOk result (λ spots. AreStacksOf (function_at elf.now.image.now elf.now.bytes.now) budget
+    ensures { IfOk result (λ spots. AreStacksOf (function_at symbols.now.image.now symbols.now.bytes.now) budget
         (state_of machine) spots) }
 {
     let mut machine = machine;
-    let mut known = known_functions(alloc, elf, machine.pc())?;
+    let mut known = known_functions(alloc, symbols, machine.pc())?;
     let mut frames = Vec::new(alloc);
-    let mut walk = walk_from(alloc, look_up(&mut known, elf, machine.pc()))?;
+    let mut walk = walk_from(alloc, look_up(&mut known, symbols, machine.pc()))?;
     'steps: for _ in 0..budget {
-        if !next_step(&mut machine, elf, &mut known, &mut frames, &mut walk)? {
+        if !next_step(&mut machine, symbols, &mut known, &mut frames, &mut walk)? {
             return walk.into_spots(alloc);
         }
     }
@@ -54,18 +54,18 @@ fn walk_from(alloc: Global, function: u32) -> Result<Walk, AllocError>
 // Counts the next instruction of a machine in its spot, goes with control, and tells whether it completed.
 fn next_step(
     machine: &mut Machine,
-    elf: &ElfFile<'_>,
+    symbols: &CodeSymbols<'_>,
     known: &mut Vec<Known>,
     frames: &mut Vec<Frame>,
     walk: &mut Walk,
 ) -> Result<bool, AllocError>
-    requires known { AreKnown (function_at elf.now.image.now elf.now.bytes.now) known.old.items }
-    requires at { IsAt (function_at elf.now.image.now elf.now.bytes.now) frames.old.items (state_of machine.old).pc
+    requires known { AreKnown (function_at symbols.now.image.now symbols.now.bytes.now) known.old.items }
+    requires at { IsAt (function_at symbols.now.image.now symbols.now.bytes.now) frames.old.items (state_of machine.old).pc
         walk.old }
     requires few { all_arrivals walk.old.nodes.items < 2 ^ 40 }
     requires fewer { all_steps walk.old.nodes.items < 2 ^ 63 }
-    ensures known { IfOk result (λ _. AreKnown (function_at elf.now.image.now elf.now.bytes.now) known.new.items) }
-    ensures step { IfOk result (λ completed. StacksStep (function_at elf.now.image.now elf.now.bytes.now)
+    ensures known { IfOk result (λ _. AreKnown (function_at symbols.now.image.now symbols.now.bytes.now) known.new.items) }
+    ensures step { IfOk result (λ completed. StacksStep (function_at symbols.now.image.now symbols.now.bytes.now)
         (state_of machine.old) frames.old.items walk.old completed
         (state_of machine.new) frames.new.items walk.new) }
 {
@@ -76,7 +76,7 @@ fn next_step(
     };
     run_begins_its_steps();
     count_if(walk, true);
-    follow(elf, known, frames, walk, transfer)?;
+    follow(symbols, known, frames, walk, transfer)?;
     Ok(true)
 }
 

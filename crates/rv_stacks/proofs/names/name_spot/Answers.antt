@@ -8,12 +8,12 @@ use Rattle.rv_stacks.proofs.names.name_spot.Goals as goal
 pub returns-then-known-clause-names : goal.returns-then-known-clause-names
 returns-then-known-clause-names c = λ spots h rises.
     let less = c.if-known.true in
-    stays_named (name_of_function c.args.elf.now.image.now c.args.elf.now.bytes.now) spots c.args.next c.args.names.now.items c.args.spot
+    stays_named (name_of_function c.args.symbols.now.image.now c.args.symbols.now.bytes.now) spots c.args.next c.args.names.now.items c.args.spot
     h rises (omega (arith, less))
 
 pub returns-clause-names : goal.returns-clause-names
 returns-clause-names c = λ spots h rises.
-    let name = name_of_function c.args.elf.now.image.now c.args.elf.now.bytes.now in
+    let name = name_of_function c.args.symbols.now.image.now c.args.symbols.now.bytes.now in
     let s = c.args.spot in
     let f : Fits w32 s.function = search rules in
     let small : s.function < 2 ^ 32 = let k = f.fits in omega (arith, k) in

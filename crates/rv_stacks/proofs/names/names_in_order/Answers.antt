@@ -12,7 +12,7 @@ use Rattle.rv_stacks.proofs.names.names_in_order.Goals as goal
 
 pub loop-spot-init : goal.loop-spot-init
 loop-spot-init c =
-    let name = name_of_function c.args.elf.now.image.now c.args.elf.now.bytes.now in record {
+    let name = name_of_function c.args.symbols.now.image.now c.args.symbols.now.bytes.now in record {
       named = subst (λ (ns : List FunctionName). AreNamesBy name [] ns) (sym c.new-names.ensures.items) (none_named name);
       up_to = subst (λ (ns : List FunctionName). AreNamedUpTo name [] 0 ns) (sym c.new-names.ensures.items) (none_named_yet name);
       rising = λ k low within. omega arith;
@@ -21,7 +21,7 @@ loop-spot-init c =
 
 pub loop-spot-preserved : goal.loop-spot-preserved
 loop-spot-preserved c =
-    let name = name_of_function c.args.elf.now.image.now c.args.elf.now.bytes.now in
+    let name = name_of_function c.args.symbols.now.image.now c.args.symbols.now.bytes.now in
     let spots = c.args.spots.now in
     let i = c.loop-spot.spot-index in
     let nothing : Spot = record { depth = 0; function = 0; arrivals = 0; steps = 0 } in

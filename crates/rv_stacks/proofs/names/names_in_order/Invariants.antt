@@ -7,8 +7,8 @@ use Rattle.rv_stacks.proofs.names.names_in_order.Given as goal
 
 abbrev pub invariant-loop-spot : goal.invariant-loop-spot
 invariant-loop-spot l = record {
-  named : AreNamesBy (name_of_function l.elf.image.now l.elf.bytes.now) (take l.spot-index l.spots) l.names.items;
-  up_to : AreNamedUpTo (name_of_function l.elf.image.now l.elf.bytes.now) (take l.spot-index l.spots) l.next l.names.items;
+  named : AreNamesBy (name_of_function l.symbols.image.now l.symbols.bytes.now) (take l.spot-index l.spots) l.names.items;
+  up_to : AreNamedUpTo (name_of_function l.symbols.image.now l.symbols.bytes.now) (take l.spot-index l.spots) l.next l.names.items;
   rising : (k : ℕ) → l.spot-index ≤ k → k < length l.spots
       → l.next ≤ (get_or l.spots k (record { depth = 0; function = 0; arrivals = 0; steps = 0 })).function + 1;
   fits : AllByRecursion FitsSpot (take l.spot-index l.spots);

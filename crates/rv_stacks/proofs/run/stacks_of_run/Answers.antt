@@ -12,7 +12,7 @@ use Rattle.rv_stacks.proofs.run.stacks_of_run.Goals as goal
 
 pub steps-init : goal.steps-init
 steps-init c =
-    let function = function_at c.args.elf.now.image.now c.args.elf.now.bytes.now in
+    let function = function_at c.args.symbols.now.image.now c.args.symbols.now.bytes.now in
     let s = state_of c.args.machine in
     let walk = c.in_ok-walk.walk in
     let first = subst (λ (f : ℕ). BeginsAt f walk) (c.look_up.ensures.value ∙ ap function c.pc-2.ensures) c.in_ok-walk.ensures in record {
@@ -23,7 +23,7 @@ steps-init c =
 
 pub steps-preserved : goal.steps-preserved
 steps-preserved c =
-    let function = function_at c.args.elf.now.image.now c.args.elf.now.bytes.now in
+    let function = function_at c.args.symbols.now.image.now c.args.symbols.now.bytes.now in
     let s = state_of c.steps.machine in
     let t = state_of c.next_step.new.machine in
     let frames = c.steps.frames.items in
@@ -39,7 +39,7 @@ steps-preserved c =
 
 pub returns-then-not-branch : goal.returns-then-not-branch
 returns-then-not-branch c =
-    let function = function_at c.args.elf.now.image.now c.args.elf.now.bytes.now in
+    let function = function_at c.args.symbols.now.image.now c.args.symbols.now.bytes.now in
     let start = state_of c.args.machine in
     let s = state_of c.steps.machine in
     let t = state_of c.next_step.new.machine in
@@ -58,7 +58,7 @@ returns-then-not-branch c =
 
 pub returns : goal.returns
 returns c =
-    let function = function_at c.args.elf.now.image.now c.args.elf.now.bytes.now in
+    let function = function_at c.args.symbols.now.image.now c.args.symbols.now.bytes.now in
     let start = state_of c.args.machine in
     let walk = c.steps.walk in
     let nodes = used_up function c.args.budget c.steps.counter start (state_of c.steps.machine) c.steps.frames.items walk
