@@ -9,6 +9,7 @@ pub mod Naming
 pub mod Texts
 pub mod Ranking
 pub mod Standing
+pub mod CodeRanks
 pub mod Narrower
 pub mod Coding
 pub mod Public

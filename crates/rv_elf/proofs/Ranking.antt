@@ -106,7 +106,7 @@ module _ {X : Type 0} (rank : X → ℕ) where
 abbrev pub rank_by_steps : Symbol → ℕ
 rank_by_steps s = 3 * s.value + precedence s
 
-below_three : (f o : Bool) → cond f 2 (cond o 1 0) < 3
+pub below_three : (f o : Bool) → cond f 2 (cond o 1 0) < 3
 below_three true o = lit< tt
 below_three false true = lit< tt
 below_three false false = lit< tt
@@ -114,7 +114,7 @@ below_three false false = lit< tt
 ranked_alike : (a b f g : ℕ) → f < 3 → g < 3 → ltb b a || ((a == b) && ltb g f) ≡ ltb (3 * b + g) (3 * a + f)
 ranked_alike a b f g below under = grind (arith, nat_tests)
 
-is_ranked : (s t : Symbol) → is_nearer s t ≡ ltb (rank_by_steps t) (rank_by_steps s)
+pub is_ranked : (s t : Symbol) → is_nearer s t ≡ ltb (rank_by_steps t) (rank_by_steps s)
 is_ranked s t = ranked_alike s.value t.value (precedence s) (precedence t)
     (below_three (is_function s) (is_object s)) (below_three (is_function t) (is_object t))
 

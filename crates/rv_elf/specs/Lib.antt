@@ -7,5 +7,6 @@ pub mod Loading
 pub mod Sections
 pub mod Symbols
 pub mod SymbolSearch
+pub mod CodeSymbols
 pub mod Functions
 pub use Rattle.rv_memory.specs.Regions

@@ -5,11 +5,13 @@
 //! regions of a map, [`unfit_segment`] gives the first segment that does not, and [`load`] places the
 //! bytes of an image into a new bus. [`find_symbol`] gives the value of a symbol, [`symbol_at`] the
 //! symbol that an address of code belongs to, and [`symbol_of_value`] the one that a value is the
-//! address of or points into. Each answer is exactly what the definitions in `specs/` say: they read
+//! address of or points into. [`CodeSymbols`] answers as [`symbol_at`] does, without a pass over the symbol
+//! table for each address. Each answer is exactly what the definitions in `specs/` say: they read
 //! the fields by the offsets of the System V ABI and keep no state from one test to the next. Only
-//! [`read_image`] takes memory.
+//! [`read_image`], [`functions`] and [`CodeSymbols::new`] take memory.
 #![tactic(auto)]
 
+mod code_symbols;
 mod error;
 mod fields;
 mod function;
@@ -21,6 +23,7 @@ mod sections;
 mod symbol_search;
 mod symbols;
 
+pub use code_symbols::CodeSymbols;
 pub use error::ImageError;
 pub use function::{Function, functions};
 pub use image::{Image, Segment, Segments, read_image};

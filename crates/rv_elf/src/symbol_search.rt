@@ -147,8 +147,9 @@ impl Symbol {
             || self.value == other.value && other.precedence() < self.precedence()
     }
 
-    fn precedence(&self) -> u8
-        ensures { result ≡ precedence self.now }
+    pub(crate) fn precedence(&self) -> u8
+        ensures value { result ≡ precedence self.now }
+        ensures few { result ≤ 2 }
     {
         if self.is_function() {
             2
@@ -211,7 +212,7 @@ impl Symbol {
         self.kind == STT_OBJECT
     }
 
-    fn may_be_code(&self) -> bool
+    pub(crate) fn may_be_code(&self) -> bool
         ensures { result ≡ may_be_code self.now }
     {
         self.is_function() || self.kind == STT_NOTYPE
@@ -233,7 +234,7 @@ impl Symbol {
     }
 }
 
-fn are_in_one_segment(segments: &[Segment], one: u32, other: u32) -> bool
+pub(crate) fn are_in_one_segment(segments: &[Segment], one: u32, other: u32) -> bool
     ensures { result ≡ are_in_one_segment segments.now one other }
 {
     segments.iter().any(|segment| segment_holds_address(one, segment)

@@ -1,5 +1,5 @@
 //! The value of a symbol by its name, and the range of a signature.
-ghost use Rattle.std.specs.Prelude.{◌≡◌, ◌+◌, ◌-◌, ◌%◌, ◌<◌, ◌≤◌, Ok, Err, IfOk};
+ghost use Rattle.std.specs.Prelude.{◌≡◌, ◌+◌, ◌-◌, ◌%◌, ◌<◌, ◌≤◌, ◌^◌, Ok, Err, IfOk};
 ghost use Rattle.std.specs.Prelude.{MatchResult, Some, length};
 ghost use Rattle.std.specs.Prelude.{option_map, drop};
 ghost use Rattle.rv_elf.specs.Rows.{accepted};
@@ -80,6 +80,7 @@ pub(crate) fn symbol_and_string_bytes(file: &[u8]) -> Result<(&[u8], &[u8]), Ima
     ensures checked { MatchResult result (λ _. table_check file.now ≡ accepted)
         (λ e. table_check file.now ≡ Err e) }
     ensures there { IfOk result (λ t. symbol_and_string_bytes file.now ≡ Some (t.0.now, t.1.now)) }
+    ensures few { IfOk result (λ t. length t.0.now < 2 ^ 32) }
 {
     if has_bad_section_table(file) {
         return Err(ImageError::SectionTable);

@@ -27,6 +27,18 @@ io_error_text kind.Unsupported = codes "unsupported"
 io_error_text kind.OutOfMemory = codes "out of memory"
 io_error_text _ = codes "not readable"
 
+-- what it said when a write failed
+unfoldable pub write_error_text : ErrorKind → List ℕ
+write_error_text kind.StorageFull = codes "no storage space"
+write_error_text kind.QuotaExceeded = codes "quota exceeded"
+write_error_text kind.FileTooLarge = codes "file too large"
+write_error_text kind.ReadOnlyFilesystem = codes "read-only filesystem or storage medium"
+write_error_text kind.PermissionDenied = codes "no permission"
+write_error_text kind.StaleNetworkFileHandle = codes "stale network file handle"
+write_error_text kind.TimedOut = codes "timed out"
+write_error_text kind.OutOfMemory = codes "out of memory"
+write_error_text _ = codes "write failed"
+
 -- nobody reads the pipe any more
 abbrev pub is_broken_pipe : ErrorKind → Bool
 is_broken_pipe kind.BrokenPipe = true

@@ -5,9 +5,10 @@ ghost use Rattle.std.specs.Io.KnownBytes.{Appends};
 ghost use Rattle.rv_base.specs.Sinks.{AppendsBeginning};
 ghost use Rattle.rv_base.specs.Counts.{one_more};
 
+use crate::last_error::LastError;
 use crate::streams::StreamSink;
 use rv_base::{Sink, SinkFailed};
-use std::io::Write;
+use std::io::{ErrorKind, Write};
 
 /// A file of [`SystemOutputs`](crate::SystemOutputs) that takes bytes. What the world outside took isn't known, so it tells
 /// none.
@@ -38,5 +39,11 @@ impl<W: Write + Drop> Sink for FileSink<W> {
 
     fn failures(&self) -> u64 {
         self.stream.failures()
+    }
+}
+
+impl<W: Write + Drop> LastError for FileSink<W> {
+    fn last_error(&self) -> ErrorKind {
+        self.stream.last_error()
     }
 }

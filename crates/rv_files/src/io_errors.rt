@@ -1,7 +1,7 @@
 //! What people are told of an error of the system's.
 
 ghost use Rattle.std.specs.Prelude.{◌≡◌};
-ghost use Rattle.rv_files.specs.IoErrors.{io_error_text};
+ghost use Rattle.rv_files.specs.IoErrors.{io_error_text, write_error_text};
 
 use std::io::ErrorKind;
 
@@ -31,5 +31,23 @@ pub fn io_error_text(kind: ErrorKind) -> &'static str
         ErrorKind::Unsupported => "unsupported",
         ErrorKind::OutOfMemory => "out of memory",
         _ => "not readable",
+    }
+}
+
+/// What the system said when a write failed.
+#[tactic(auto, unfolding(crate::specs::IoErrors::write_error_text))]
+pub fn write_error_text(kind: ErrorKind) -> &'static str
+    ensures { result.now ≡ write_error_text kind }
+{
+    match kind {
+        ErrorKind::StorageFull => "no storage space",
+        ErrorKind::QuotaExceeded => "quota exceeded",
+        ErrorKind::FileTooLarge => "file too large",
+        ErrorKind::ReadOnlyFilesystem => "read-only filesystem or storage medium",
+        ErrorKind::PermissionDenied => "no permission",
+        ErrorKind::StaleNetworkFileHandle => "stale network file handle",
+        ErrorKind::TimedOut => "timed out",
+        ErrorKind::OutOfMemory => "out of memory",
+        _ => "write failed",
     }
 }

@@ -6,6 +6,7 @@ ghost use Rattle.rv_files.specs.MemoryFiles.{memory_contents, memory_placed};
 use crate::file_error::FileError;
 use crate::input::InputError;
 use crate::inputs::Inputs;
+use crate::last_error::LastError;
 use crate::outputs::Outputs;
 use rv_base::{Sink, SinkFailed, Text};
 use std::alloc::{AllocError, Global};
@@ -76,6 +77,13 @@ impl Sink for MemorySink {
 
     fn failures(&self) -> u64 {
         self.failures
+    }
+}
+
+// Only a growth is refused.
+impl LastError for MemorySink {
+    fn last_error(&self) -> ErrorKind {
+        ErrorKind::OutOfMemory
     }
 }
 

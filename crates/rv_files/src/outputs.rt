@@ -4,6 +4,7 @@ ghost use Rattle.std.specs.Prelude.{◌≡◌, ◌≢◌, ◌∷◌, [], List, �
 ghost use Rattle.rv_files.specs.Placed.{PlacedFile, IsOneMorePlaced};
 
 use crate::file_error::FileError;
+use crate::last_error::LastError;
 use rv_base::{Sink, Text};
 use std::alloc::{AllocError, Global};
 
@@ -13,7 +14,7 @@ pub trait Outputs {
     type Place: Drop;
 
     /// A file that takes bytes.
-    type File: Sink + Drop;
+    type File: Sink + LastError + Drop;
 
     /// A file that the disk has, and that stands not yet in its place.
     type Synced: Drop;

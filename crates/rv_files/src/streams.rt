@@ -5,8 +5,9 @@ ghost use Rattle.std.specs.Io.KnownBytes.{Appends};
 ghost use Rattle.rv_base.specs.Sinks.{AppendsBeginning};
 ghost use Rattle.rv_base.specs.Counts.{one_more};
 
+use crate::last_error::LastError;
 use rv_base::{Sink, SinkFailed};
-use std::io::Write;
+use std::io::{ErrorKind, Write};
 
 /// A stream of the process as a sink: each put is one write and one flush, so nothing is held
 /// back. What the world outside took isn't known, so the sink tells no bytes; of a put that fails,
@@ -15,6 +16,8 @@ use std::io::Write;
 pub struct StreamSink<W: Drop> {
     stream: W,
     failures: u64,
+    // That of the last failure.
+    error: ErrorKind,
 }
 
 impl<W: Write + Drop> StreamSink<W> {
@@ -24,6 +27,7 @@ impl<W: Write + Drop> StreamSink<W> {
         StreamSink {
             stream,
             failures: 0,
+            error: ErrorKind::Other,
         }
     }
 
@@ -33,11 +37,12 @@ impl<W: Write + Drop> StreamSink<W> {
         self.stream
     }
 
-    fn count_failure(&mut self) -> SinkFailed
+    fn count_failure(&mut self, error: ErrorKind) -> SinkFailed
         ensures counted { self.new.failures ≡ one_more self.old.failures }
         ensures same { self.new.stream ≡ self.old.stream }
     {
         self.failures = self.failures.saturating_add(1);
+        self.error = error;
         SinkFailed
     }
 }
@@ -57,16 +62,23 @@ impl<W: Write + Drop> Sink for StreamSink<W> {
         ensures failure { IfErr result (λ _. self.new.failures ≡ one_more self.old.failures) }
     {
         let count = match self.stream.write(bytes) {
-            Ok(0) | Err(_) => return Err(self.count_failure()),
+            Ok(0) => return Err(self.count_failure(ErrorKind::WriteZero)),
             Ok(count) => count,
+            Err(error) => return Err(self.count_failure(error.kind())),
         };
         match self.stream.flush() {
             Ok(()) => Ok(count),
-            Err(_) => Err(self.count_failure()),
+            Err(error) => Err(self.count_failure(error.kind())),
         }
     }
 
     fn failures(&self) -> u64 {
         self.failures
+    }
+}
+
+impl<W: Write + Drop> LastError for StreamSink<W> {
+    fn last_error(&self) -> ErrorKind {
+        self.error
     }
 }

@@ -1,5 +1,5 @@
 -- From step to step of a run whose stacks are counted.
-use Rattle.std.proofs.Common.{◌≡◌, ◌==◌, ◌+◌, ◌-◌, ◌*◌, ◌<◌, ◌≤◌, ◌&&◌, ℕ, suc, Bool, true, false, List, [], ◌∷◌, Result, Ok, Err, refl, sym, ap, arith}
+use Rattle.std.proofs.Common.{◌≡◌, ◌∙◌, ◌==◌, ◌+◌, ◌-◌, ◌*◌, ◌<◌, ◌≤◌, ◌&&◌, ℕ, suc, Bool, true, false, List, [], ◌∷◌, Result, Ok, Err, refl, sym, ap, arith}
 use Rattle.std.proofs.lemmas.Bool.{false≢true}
 use Rattle.std.specs.Str.{bytes_eq}
 use Rattle.rv_calls.specs.declared.frames.Frame.{Frame}
@@ -9,21 +9,24 @@ use Rattle.rv_coverage.specs.Coverage.{behind, begun_steps, completes, fetch_at,
 use Rattle.rv_machine.specs.declared.ending.Ending.{Ending}
 use Rattle.rv_machine.specs.Run.{step_of}
 use Rattle.rv_machine.specs.State.{State}
-use Rattle.rv_spots.specs.declared.walk.Walk.{Walk}
-use Rattle.rv_spots.specs.Trees.{all_arrivals, all_steps, arrivals_at, own_in, steps_at}
+use Rattle.rv_stacks.specs.declared.walk.Walk.{Walk}
+use Rattle.rv_stacks.specs.Nodes.{all_arrivals, all_steps, arrivals_at, own_in, steps_at}
 use Rattle.rv_stacks.specs.Stacks.{arrivals_by, arrivals_in, begun_in_function, path_at, steps_in, AreStacksOf}
-use Rattle.rv_stacks.specs.StackSteps.{BeginsAt, IsAt, StacksStep}
+use Rattle.rv_spots.specs.declared.spot.Spot.{Spot}
+use Rattle.rv_stacks.specs.declared.node.Node.{Node}
+use Rattle.rv_stacks.specs.Walks.{AreSpotsOf}
+use Rattle.rv_stacks.specs.StackSteps.{AreNodesOf, BeginsAt, IsAt, StacksStep}
 
 pub record SoFar (function : ℕ → ℕ) (n i : ℕ) (start s : State) (frames : List Frame) (walk : Walk) : Type 0 where
   pub within : i ≤ n
   pub at : IsAt function frames s.pc walk
-  pub few : all_arrivals walk.spots.items ≤ 2 * i + 1
-  pub fewer : all_steps walk.spots.items ≤ i
-  pub all : all_steps walk.spots.items + begun_steps (n - i) s ≡ begun_steps n start
-  pub own : (f : ℕ) → own_in f walk.spots.items + begun_in_function function f (n - i) s ≡ begun_in_function function f n start
-  pub steps : (path : List ℕ) → steps_at path walk.spots.items + steps_in function path (n - i) frames s
+  pub few : all_arrivals walk.nodes.items ≤ 2 * i + 1
+  pub fewer : all_steps walk.nodes.items ≤ i
+  pub all : all_steps walk.nodes.items + begun_steps (n - i) s ≡ begun_steps n start
+  pub own : (f : ℕ) → own_in f walk.nodes.items + begun_in_function function f (n - i) s ≡ begun_in_function function f n start
+  pub steps : (path : List ℕ) → steps_at path walk.nodes.items + steps_in function path (n - i) frames s
       ≡ steps_in function path n [] start
-  pub arrivals : (path : List ℕ) → arrivals_at path walk.spots.items + arrivals_in function path (n - i) frames s
+  pub arrivals : (path : List ℕ) → arrivals_at path walk.nodes.items + arrivals_in function path (n - i) frames s
       ≡ once_if (bytes_eq (function start.pc ∷ []) path) + arrivals_in function path n [] start
 
 -- ---- one step ahead
@@ -117,7 +120,7 @@ none_so_far function n s walk h =
 
 module _ (function : ℕ → ℕ) (n i : ℕ) (start s t : State) (frames after : List Frame) (old new : Walk)
     (h : SoFar function n i start s frames old) (under : i < n) where
-  few_more : StacksStep function s frames old true t after new → all_steps new.spots.items ≤ i + 1
+  few_more : StacksStep function s frames old true t after new → all_steps new.nodes.items ≤ i + 1
   few_more step =
       let f = h.fewer in
       let a = step.all_steps in
@@ -160,10 +163,8 @@ module _ (function : ℕ → ℕ) (n i : ℕ) (start s t : State) (frames after 
             omega (arith, b, k, d, e, all);
       }
 
-  pub ended : StacksStep function s frames old false t after new → AreStacksOf function n start new.spots.items
+  pub ended : StacksStep function s frames old false t after new → AreNodesOf function n start new.nodes.items
   ended step = record {
-    tree = step.walk.tree;
-    some = step.walk.some;
     steps = λ path.
         let b = step.steps path in
         let k = steps_next function path n i frames s under in
@@ -192,14 +193,24 @@ module _ (function : ℕ → ℕ) (n i : ℕ) (start s t : State) (frames after 
   }
 
 pub used_up : (function : ℕ → ℕ) (n i : ℕ) (start s : State) (frames : List Frame) (walk : Walk)
-    → SoFar function n i start s frames walk → n ≤ i → AreStacksOf function n start walk.spots.items
+    → SoFar function n i start s frames walk → n ≤ i → AreNodesOf function n start walk.nodes.items
 used_up function n i start s frames walk h over = record {
-  tree = h.at.walk.tree;
-  some = h.at.walk.some;
   steps = λ path.
       let k = no_steps function path n i frames s over in let all = h.steps path in omega (arith, k, all);
   arrivals = λ path.
       let k = no_arrivals function path n i frames s over in let all = h.arrivals path in omega (arith, k, all);
   own = λ f. let k = no_own function f n i s over in let all = h.own f in omega (arith, k, all);
   all = (let k = none_begun n i s over in let all = h.all in omega (arith, k, all));
+}
+
+-- the nodes of a run as spots
+pub stacks_of_nodes : (function : ℕ → ℕ) (n : ℕ) (s : State) (nodes : List Node) (spots : List Spot)
+    → AreNodesOf function n s nodes → AreSpotsOf nodes spots → AreStacksOf function n s spots
+stacks_of_nodes function n s nodes spots h k = record {
+  tree = k.tree;
+  some = k.some;
+  steps = λ path. k.steps path ∙ h.steps path;
+  arrivals = λ path. k.arrivals path ∙ h.arrivals path;
+  own = λ f. k.own f ∙ h.own f;
+  all = k.all_steps ∙ h.all;
 }

@@ -5,9 +5,9 @@ use Rattle.std.proofs.lemmas.Bool.Decides.{nat_tests}
 use Rattle.std.proofs.lemmas.List.{get_or_default, take_more}
 use Rattle.std.specs.Str.{bytes_eq}
 use Rattle.rv_coverage.specs.Coverage.{once_if}
-use Rattle.rv_spots.specs.declared.walk.Walk.{Walk}
-use Rattle.rv_spots.specs.Trees.{all_arrivals, all_steps, arrivals_at, own_in, steps_at}
-use Rattle.rv_spots.specs.Walks.{Arrives, Returns}
+use Rattle.rv_stacks.specs.declared.walk.Walk.{Walk}
+use Rattle.rv_stacks.specs.Nodes.{all_arrivals, all_steps, arrivals_at, own_in, steps_at}
+use Rattle.rv_stacks.specs.Walks.{Arrives, Returns}
 use Rattle.rv_stacks.specs.StackSteps.{GoesOn}
 
 equal_test : (x y : ℕ) → x ≡ y → (x == y) ≡ true
@@ -37,13 +37,13 @@ module _ (old new : Walk) (depth function x : ℕ) (within : depth < length old.
         walk = back.walk;
         path = path;
         arrivals = λ at.
-            let moved = ap (arrivals_at at) back.spots in
+            let moved = ap (arrivals_at at) back.nodes in
             let none = ap (λ (b : Bool). once_if (not b && bytes_eq (take depth old.path.items ++ function ∷ []) at)) test in
             omega (arith, moved, none);
-        steps = λ at. ap (steps_at at) back.spots;
-        own = λ f. ap (own_in f) back.spots;
-        few = (let moved = ap all_arrivals back.spots in omega (arith, moved));
-        all_steps = ap all_steps back.spots;
+        steps = λ at. ap (steps_at at) back.nodes;
+        own = λ f. ap (own_in f) back.nodes;
+        few = (let moved = ap all_arrivals back.nodes in omega (arith, moved));
+        all_steps = ap all_steps back.nodes;
       }
 
   pub goes_elsewhere : (x ≡ function → ⊥) → Arrives (take depth old.path.items ++ function ∷ []) old new

@@ -2,6 +2,7 @@ pub mod Counting
 pub mod Paths
 pub mod AddressCounts
 pub mod Steps
+pub mod SymbolValues
 pub mod Going
 pub mod Knowns
 pub mod NamedSpots
@@ -13,3 +14,7 @@ pub mod Apart
 pub mod Shards
 pub mod Bounds
 pub mod NoSums
+pub mod Nodes
+pub mod Growing
+pub mod Flattened
+pub mod RisingNames

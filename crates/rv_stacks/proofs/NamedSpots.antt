@@ -1,9 +1,9 @@
 -- The functions of spots, and their names.
-use Rattle.std.proofs.Common.{Bor, option_map, ◌≡◌, ◌∙◌, ◌==◌, ◌+◌, ◌^◌, ◌<◌, ℕ, Bool, true, false, cond, List, [], ◌∷◌, ◌++◌, Option, Some, None, take, refl, sym, ap, subst, arith, inl, inr}
+use Rattle.std.proofs.Common.{◌≡◌, ◌∙◌, ◌==◌, ◌+◌, ◌^◌, ◌<◌, ℕ, Bool, true, false, cond, List, [], ◌∷◌, ◌++◌, Option, Some, None, take, refl, sym, ap, subst, arith, inl, inr}
 use Rattle.std.proofs.lemmas.Bool.{cases_Bool, eqb-true, false≢true}
 use Rattle.std.specs.Cmp.Lexicographic.{bytes_decides}
 use Rattle.std.specs.List.{AllByRecursion}
-use Rattle.std.specs.Prelude.{◌||◌, is_some}
+use Rattle.std.specs.Prelude.{◌||◌}
 use Rattle.std.specs.Str.{bytes_eq, IsUtf8}
 use Rattle.rv_counts.proofs.Public.{are_more, last_of_more, name_with, not_named}
 use Rattle.rv_counts.specs.declared.table.FunctionName.{FunctionName}
@@ -18,7 +18,7 @@ use Rattle.rv_spots.specs.Trees.{arrivals_of, counted_behind, ends_with, path_be
 use Rattle.rv_stacks.specs.StackTables.{AreNamesBy}
 use Rattle.rv_stacks.proofs.Steps.{last_of}
 
-or_with : (b c : Bool) → c ≡ true → (b || c) ≡ true
+pub or_with : (b c : Bool) → c ≡ true → (b || c) ≡ true
 or_with true c h = refl
 or_with false c h = h
 
@@ -96,12 +96,6 @@ can_stand (s ∷ ss) h some = (
   },
   can_stand ss h.1 some.1,
 )
-
--- a function without a name
-pub unnamed : (r : Option (Bor (List ℕ))) (o : Option (List ℕ)) → option_map (λ (b : Bor (List ℕ)). b.now) r ≡ o
-    → is_some r ≡ false → has_name o ≡ false
-unnamed None o h t = ap has_name (sym h)
-unnamed (Some b) o h t = absurd (false≢true (sym t))
 
 -- ---- functions that a run came to
 

@@ -11,9 +11,10 @@ use Rattle.rv_coverage.specs.Coverage.{completes, fetch_at, is_begun, once_if, S
 use Rattle.rv_machine.specs.declared.ending.Ending.{Ending}
 use Rattle.rv_machine.specs.Run.{Ran, go_on, run_of, step_of}
 use Rattle.rv_machine.specs.State.{State}
-use Rattle.rv_spots.specs.declared.walk.Walk.{Walk}
-use Rattle.rv_spots.specs.Trees.{all_steps, ends_with, own_in, steps_at}
-use Rattle.rv_spots.specs.Walks.{Steps}
+use Rattle.rv_stacks.specs.declared.walk.Walk.{Walk}
+use Rattle.rv_spots.specs.Trees.{ends_with}
+use Rattle.rv_stacks.specs.Nodes.{all_steps, own_in, steps_at}
+use Rattle.rv_stacks.specs.Walks.{Steps}
 use Rattle.rv_stacks.specs.Stacks.{arrivals_by, path_at}
 use Rattle.rv_stacks.specs.StackSteps.{CountsHere, Follows, IsAt, StacksStep}
 
@@ -87,11 +88,11 @@ ended_step function s t frames after begun old new at over is same counts = reco
   state = stays (step_of s) s t over same;
   goes = counts.arrivals;
   steps = λ path. counts.steps path
-      ∙ (λ i. steps_at path old.spots.items + once_if (is i && bytes_eq (at.path i) path));
+      ∙ (λ i. steps_at path old.nodes.items + once_if (is i && bytes_eq (at.path i) path));
   own = λ f. counts.own f
-      ∙ (λ i. own_in f old.spots.items + once_if (is i && (ap (ends_with f) at.path ∙ ends_at function frames s.pc f) i));
+      ∙ (λ i. own_in f old.nodes.items + once_if (is i && (ap (ends_with f) at.path ∙ ends_at function frames s.pc f) i));
   few = (let a = counts.all_arrivals in omega (arith, a));
-  all_steps = counts.all_steps ∙ ap (λ (b : Bool). all_steps old.spots.items + once_if b) is;
+  all_steps = counts.all_steps ∙ ap (λ (b : Bool). all_steps old.nodes.items + once_if b) is;
 }
 
 -- ---- one that completes
@@ -114,9 +115,9 @@ whole_step function s t tr frames after old mid new at steps is begun counts fra
             ∙ ap (λ (n : ℕ). n + arrivals_by function path frames (transfer_of s t)) (counts.arrivals path),
       );
       steps = λ path. goes.steps path ∙ counts.steps path
-          ∙ (λ i. steps_at path old.spots.items + once_if (sym begun i && bytes_eq (at.path i) path));
+          ∙ (λ i. steps_at path old.nodes.items + once_if (sym begun i && bytes_eq (at.path i) path));
       own = λ f. goes.own f ∙ counts.own f
-          ∙ (λ i. own_in f old.spots.items + once_if (sym begun i && (ap (ends_with f) at.path ∙ ends_at function frames s.pc f) i));
+          ∙ (λ i. own_in f old.nodes.items + once_if (sym begun i && (ap (ends_with f) at.path ∙ ends_at function frames s.pc f) i));
       few = (let a = goes.few in let b = counts.all_arrivals in omega (arith, a, b));
-      all_steps = goes.all_steps ∙ counts.all_steps ∙ ap (λ (b : Bool). all_steps old.spots.items + once_if b) (sym begun);
+      all_steps = goes.all_steps ∙ counts.all_steps ∙ ap (λ (b : Bool). all_steps old.nodes.items + once_if b) (sym begun);
     }

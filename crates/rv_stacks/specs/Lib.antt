@@ -1,3 +1,5 @@
 pub mod Stacks
 pub mod StackSteps
 pub mod StackTables
+pub mod Nodes
+pub mod Walks

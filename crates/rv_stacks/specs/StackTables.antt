@@ -1,6 +1,6 @@
 -- The table of the stacks of the jobs of a plan: how often their runs came to each list of functions of their images, and how
 -- many instructions began there. It has no counts of addresses, and no runs.
-use Rattle.std.specs.Prelude.{◌≡◌, ◌==◌, ◌+◌, ◌%◌, ◌^◌, ◌<◌, ◌⊎◌, ℕ, true, List, [], ◌∷◌, ◌++◌, Option, Some, None, codes}
+use Rattle.std.specs.Prelude.{◌≡◌, ◌==◌, ◌+◌, ◌%◌, ◌^◌, ◌<◌, ◌⊎◌, ℕ, true, List, [], ◌∷◌, ◌++◌, Option, Some, None, codes, if◌then◌else◌}
 use Rattle.std.specs.Prelude.{length, map, slice_index_or, Result, Ok, IfErr, IfOk}
 use Rattle.std.specs.Fork.{slice_chunk}
 use Rattle.std.specs.List.{AllByRecursion, filter, sum_by}
@@ -23,6 +23,7 @@ use Rattle.rv_jobs.specs.Plans.{Planned}
 use Rattle.rv_machine.specs.State.{State}
 use Rattle.rv_rows.specs.Rows.{image_in, start_in}
 use Rattle.rv_spots.specs.declared.spot.Spot.{Spot}
+use Rattle.rv_spots.specs.Profiles.{is_last_of_some}
 use Rattle.rv_spots.specs.Trees.{ends_with}
 use Rattle.rv_stacks.specs.Stacks as run
 use Rattle.rv_text.specs.Printable.{printable_text}
@@ -34,15 +35,25 @@ abbrev pub symbol_name : Option (List ℕ × ℕ) → List ℕ
 symbol_name None = codes "?"
 symbol_name (Some symbol) = symbol.0
 
+-- no symbol is looked for at the last address
+abbrev pub name_in_file : Image → List ℕ → ℕ → List ℕ
+name_in_file image file f = if f == run.last_address then codes "?" else symbol_name (symbol_at image file f)
+
 -- the name of a function: that of the symbol where it stands, as it is shown
 unfoldable pub name_of_function : Image → List ℕ → ℕ → List ℕ
-name_of_function image file f = printable_text (symbol_name (symbol_at image file f))
+name_of_function image file f = printable_text (name_in_file image file f)
 
 -- each function that is the last of a spot has its name, and no other one
 pub record AreNamesBy (name : ℕ → List ℕ) (spots : List Spot) (names : List FunctionName) : Type 0 where
   pub sound : AreNames names
   pub of_spots : AreNamesOf spots names
   pub each : (f : ℕ) → has_name (name_of f names) ≡ true → name_of f names ≡ Some (name f)
+
+-- they are named, of which none has a name from the next function on, and the last has its name
+pub record AreNamedUpTo (name : ℕ → List ℕ) (spots : List Spot) (next : ℕ) (names : List FunctionName) : Type 0 where
+  pub named : AreNamesBy name spots names
+  pub below : AllByRecursion (λ n. n.function < next) names
+  pub last : (f : ℕ) → f + 1 ≡ next → is_last_of_some f spots ≡ true
 
 abbrev pub table_of_spots : List ℕ → List ℕ → List FunctionName → List Spot → CountTable
 table_of_spots path file functions spots = record {

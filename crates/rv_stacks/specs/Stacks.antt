@@ -17,14 +17,23 @@ use Rattle.rv_spots.specs.Trees.{all_steps, arrivals_at, own_in, steps_at, HasAr
 
 -- ---- functions
 
--- where the symbol of an address stands, or 0 where it has none
-abbrev pub start_of : ℕ → Option (List ℕ × ℕ) → ℕ
-start_of address None = 0
-start_of address (Some symbol) = address - symbol.1
+-- the last address, at which no instruction begins and so no function of code stands
+abbrev pub last_address : ℕ
+last_address = 0xffff_ffff
+
+-- the function that code without a symbol is told as: 0, or the last address where a function can stand at 0
+abbrev pub no_function : Option (List ℕ × ℕ) → ℕ
+no_function None = 0
+no_function (Some symbol) = last_address
+
+-- where the symbol of an address stands, or what stands for none
+abbrev pub start_of : ℕ → ℕ → Option (List ℕ × ℕ) → ℕ
+start_of none address None = none
+start_of none address (Some symbol) = address - symbol.1
 
 -- the function of an address of code
 unfoldable pub function_at : Image → List ℕ → ℕ → ℕ
-function_at image file address = start_of address (symbol_at image file address)
+function_at image file address = start_of (no_function (symbol_at image file 0)) address (symbol_at image file address)
 
 -- the functions in which the calls were made that have not returned, the outermost first, and that of the pc
 abbrev pub path_at : (ℕ → ℕ) → List Frame → ℕ → List ℕ

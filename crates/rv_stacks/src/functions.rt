@@ -2,14 +2,17 @@
 
 ghost use Rattle.std.specs.Prelude.{◌≡◌, IfOk};
 ghost use Rattle.rv_stacks.specs.StackSteps.{AreKnown};
-ghost use Rattle.rv_stacks.specs.Stacks.{function_at, start_of};
+ghost use Rattle.rv_elf.specs.SymbolSearch.{symbol_at};
+ghost use Rattle.rv_stacks.specs.Stacks.{function_at, no_function, start_of};
 
-use rv_elf::symbol_at;
-use rv_trace::ElfFile;
+use rv_elf::CodeSymbols;
 use std::alloc::{AllocError, Global};
 
 /// How many functions are kept: each of the addresses that share a place drives the other out.
 const PLACES: usize = 4096;
+
+/// At this address no instruction begins, so that no function of code stands there.
+pub(crate) const LAST_ADDRESS: u32 = u32::MAX;
 
 /// The function of an address.
 #[derive(Clone, Copy)]
@@ -21,40 +24,51 @@ pub struct Known {
 /// Functions that are known, of which each look-up may put in another.
 pub(crate) fn known_functions(
     alloc: Global,
-    elf: &ElfFile<'_>,
+    symbols: &CodeSymbols<'_>,
     address: u32,
 ) -> Result<Vec<Known>, AllocError>
-    ensures { IfOk result (λ known. AreKnown (function_at elf.now.image.now elf.now.bytes.now) known.items) }
+    ensures { IfOk result (λ known. AreKnown (function_at symbols.now.image.now symbols.now.bytes.now) known.items) }
 {
-    let function = function_of(elf, address);
+    let function = function_of(symbols, address);
     let mut known = Vec::with_capacity(alloc, PLACES)?;
     known.resize(PLACES, Known { address, function })?;
     Ok(known)
 }
 
 /// The function of an address of code. A known one takes no search.
-pub(crate) fn look_up(known: &mut Vec<Known>, elf: &ElfFile<'_>, address: u32) -> u32
-    requires { AreKnown (function_at elf.now.image.now elf.now.bytes.now) known.old.items }
-    ensures value { result ≡ function_at elf.now.image.now elf.now.bytes.now address }
-    ensures known { AreKnown (function_at elf.now.image.now elf.now.bytes.now) known.new.items }
+pub(crate) fn look_up(known: &mut Vec<Known>, symbols: &CodeSymbols<'_>, address: u32) -> u32
+    requires { AreKnown (function_at symbols.now.image.now symbols.now.bytes.now) known.old.items }
+    ensures value { result ≡ function_at symbols.now.image.now symbols.now.bytes.now address }
+    ensures known { AreKnown (function_at symbols.now.image.now symbols.now.bytes.now) known.new.items }
 {
     let place = address as usize / 2 % known.len();
     let there = known[place];
     if there.address == address {
         return there.function;
     }
-    let function = function_of(elf, address);
+    let function = function_of(symbols, address);
     known[place] = Known { address, function };
     function
 }
 
-/// Where the symbol of an address stands, or 0 where it has none. Takes the time of a pass over the symbols.
+/// Where the symbol of an address stands, or what stands for none: 0, or the last address where a function can stand at 0. Takes the time
+/// of one search of the symbols, or of two.
 #[tactic(auto, unfolding(crate::specs::Stacks::function_at))]
-pub fn function_of(elf: &ElfFile<'_>, address: u32) -> u32
-    ensures { result ≡ function_at elf.now.image.now elf.now.bytes.now address }
+pub fn function_of(symbols: &CodeSymbols<'_>, address: u32) -> u32
+    ensures { result ≡ function_at symbols.now.image.now symbols.now.bytes.now address }
 {
-    match symbol_at(elf.image, elf.bytes, address) {
-        Some(symbol) => address.saturating_sub(symbol.offset),
+    match symbols.symbol_value_at(address) {
+        Some(value) => value,
+        None => no_function(symbols),
+    }
+}
+
+// The function that code without a symbol is told as.
+fn no_function(symbols: &CodeSymbols<'_>) -> u32
+    ensures { result ≡ no_function (symbol_at symbols.now.image.now symbols.now.bytes.now 0) }
+{
+    match symbols.symbol_value_at(0) {
+        Some(_) => LAST_ADDRESS,
         None => 0,
     }
 }

@@ -6,15 +6,19 @@
 //! calls that have not returned are those of `rv_calls`: a spot is the functions in which they were made, and that of the pc.
 #![tactic(auto)]
 
+mod flat;
 mod functions;
 mod job;
 mod law;
 mod names;
+mod node;
 mod places;
 mod run;
 mod table;
 mod turns;
+mod walk;
 
+pub use flat::Flat;
 pub use functions::{Known, function_of};
 pub use job::stacks_of_job;
 pub use law::{
@@ -23,5 +27,7 @@ pub use law::{
     table_without_stacks_is_that_of_counts, tables_with_stacks_of_parts_sum_to_that_of_all,
     tables_with_stacks_of_shards_sum_to_that_of_all,
 };
+pub use node::Node;
 pub use places::{count_places_with_stacks, stacks_of_places};
 pub use run::stacks_of_run;
+pub use walk::Walk;

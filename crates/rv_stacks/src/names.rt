@@ -1,78 +1,113 @@
 //! The names of the functions of spots.
 
-ghost use Rattle.std.specs.Prelude.{◌≡◌, ◌∷◌, ◌++◌, [], IfOk, List, OnOk, true};
+ghost use Rattle.std.specs.Prelude.{◌≡◌, ◌∷◌, ◌++◌, ◌+◌, ◌≤◌, [], IfOk, IsPermutation, List, OnOk, true};
 ghost use Rattle.std.specs.List.{AllByRecursion};
+ghost use Rattle.std.specs.List.Sorted.{IsNonDecreasingBy};
 ghost use Rattle.std.specs.Str.{IsUtf8};
 ghost use Rattle.rv_counts.specs.Lines.{lacks};
 ghost use Rattle.rv_elf.specs.SymbolSearch.{symbol_at};
 ghost use Rattle.rv_spots.specs.declared.spot.Spot.{Spot as ASpot};
 ghost use Rattle.rv_spots.specs.Sums.{FitsSpot};
-ghost use Rattle.rv_stacks.specs.StackTables.{name_of_function, symbol_name, AreNamesBy};
+ghost use Rattle.rv_stacks.specs.StackTables.{name_in_file, name_of_function, symbol_name, AreNamedUpTo, AreNamesBy};
 
+use crate::functions::LAST_ADDRESS;
 use rv_base::Text;
-use rv_counts::{FunctionName, FunctionNames, add_name, name_of};
+use rv_counts::{FunctionName, FunctionNames};
 use rv_coverage::shown_text;
-use rv_elf::symbol_at;
+use rv_elf::CodeSymbols;
 use rv_spots::Spot;
-use rv_trace::ElfFile;
 use std::alloc::{AllocError, Global};
 
-/// The names of the functions of spots, each once. Takes the time of a pass over the symbols for each function.
+/// The names of the functions of spots, each once. Takes the time of a look-up of a symbol for each function and of a sort of the
+/// spots, and memory for a copy of these.
 pub(crate) fn names_of_spots(
     alloc: Global,
-    elf: &ElfFile<'_>,
+    symbols: &CodeSymbols<'_>,
     spots: &[Spot],
 ) -> Result<FunctionNames, AllocError>
-    ensures names { IfOk result (AreNamesBy (name_of_function elf.now.image.now elf.now.bytes.now) spots.now) }
+    ensures names { IfOk result (AreNamesBy (name_of_function symbols.now.image.now symbols.now.bytes.now) spots.now) }
+    ensures fits { IfOk result (λ _. AllByRecursion FitsSpot spots.now) }
+{
+    let sorted = by_function(alloc, spots)?;
+    names_in_order(alloc, symbols, sorted.as_slice())
+}
+
+// Spots by their functions.
+fn by_function(alloc: Global, spots: &[Spot]) -> Result<Vec<Spot>, AllocError>
+    ensures same { IfOk result (λ sorted. IsPermutation spots.now sorted.items) }
+    ensures rising { IfOk result (λ sorted. IsNonDecreasingBy (λ s. s.function) sorted.items) }
+{
+    let mut sorted = Vec::new(alloc);
+    for spot in spots {
+        sorted.push(*spot)?;
+    }
+    sorted.sort_unstable_by_key(|spot| spot.function);
+    Ok(sorted)
+}
+
+// The names of the functions of spots that rise by their functions.
+fn names_in_order(
+    alloc: Global,
+    symbols: &CodeSymbols<'_>,
+    spots: &[Spot],
+) -> Result<FunctionNames, AllocError>
+    requires { IsNonDecreasingBy (λ s. s.function) spots.now }
+    ensures names { IfOk result (AreNamesBy (name_of_function symbols.now.image.now symbols.now.bytes.now) spots.now) }
     ensures fits { IfOk result (λ _. AllByRecursion FitsSpot spots.now) }
 {
     let mut names = Vec::new(alloc);
+    let mut next = 0;
     for spot in spots {
-        name_spot(alloc, elf, &mut names, *spot)?;
+        name_spot(alloc, symbols, &mut names, next, *spot)?;
+        next = spot.function as u64 + 1;
     }
     Ok(FunctionNames::new(names))
 }
 
-// Adds the name of a spot's function, where it has none.
+// Adds the name of a spot's function behind those of lower ones, where it has none. Functions below the next one have theirs.
 fn name_spot(
     alloc: Global,
-    elf: &ElfFile<'_>,
+    symbols: &CodeSymbols<'_>,
     names: &mut Vec<FunctionName>,
+    next: u64,
     spot: Spot,
 ) -> Result<(), AllocError>
     ensures names { (spots : List ASpot)
-        → AreNamesBy (name_of_function elf.now.image.now elf.now.bytes.now) spots names.old.items
-        → OnOk result (AreNamesBy (name_of_function elf.now.image.now elf.now.bytes.now) (spots ++ spot ∷ [])
-        names.new.items) }
+        → AreNamedUpTo (name_of_function symbols.now.image.now symbols.now.bytes.now) spots next names.old.items
+        → next ≤ spot.function + 1
+        → OnOk result (AreNamedUpTo (name_of_function symbols.now.image.now symbols.now.bytes.now) (spots ++ spot ∷ [])
+        (spot.function + 1) names.new.items) }
     ensures fits { FitsSpot spot }
 {
-    if name_of(names.as_slice(), spot.function).is_some() {
+    let known = (spot.function as u64) < next;
+    if known {
         return Ok(());
     }
-    let name = shown_name(alloc, elf, spot.function)?;
-    add_name(
-        names,
-        FunctionName {
-            function: spot.function,
-            name,
-        },
-    )
+    let name = shown_name(alloc, symbols, spot.function)?;
+    names.push(FunctionName {
+        function: spot.function,
+        name,
+    })?;
+    Ok(())
 }
 
 // The name of a function as a table has it.
 #[tactic(auto, unfolding(crate::specs::StackTables::name_of_function))]
-fn shown_name(alloc: Global, elf: &ElfFile<'_>, function: u32) -> Result<Text, AllocError>
-    ensures value { IfOk result (λ text. text ≡ name_of_function elf.now.image.now elf.now.bytes.now function) }
+fn shown_name(alloc: Global, symbols: &CodeSymbols<'_>, function: u32) -> Result<Text, AllocError>
+    ensures value { IfOk result (λ text. text ≡ name_of_function symbols.now.image.now symbols.now.bytes.now function) }
     ensures text { IfOk result IsUtf8 }
     ensures line { IfOk result (λ text. lacks 10 text ≡ true) }
 {
-    shown_text(alloc, symbol_name(elf, function))
+    shown_text(alloc, symbol_name(symbols, function))
 }
 
-fn symbol_name<'a>(elf: &ElfFile<'a>, function: u32) -> &'a [u8]
-    ensures { result.now ≡ symbol_name (symbol_at elf.now.image.now elf.now.bytes.now function) }
+fn symbol_name<'a>(symbols: &CodeSymbols<'a>, function: u32) -> &'a [u8]
+    ensures { result.now ≡ name_in_file symbols.now.image.now symbols.now.bytes.now function }
 {
-    match symbol_at(elf.image, elf.bytes, function) {
+    if function == LAST_ADDRESS {
+        return b"?";
+    }
+    match symbols.symbol_at(function) {
         Some(symbol) => symbol.name,
         None => b"?",
     }

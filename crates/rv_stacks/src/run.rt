@@ -4,18 +4,19 @@ ghost use Rattle.std.specs.Prelude.{◌≡◌, ◌^◌, ◌<◌, false, is_ok, l
 ghost use Rattle.rv_coverage.specs.Coverage.{fetch_at, is_begun};
 ghost use Rattle.rv_machine.specs.Machine.{state_of};
 ghost use Rattle.rv_machine.specs.Run.{step_of};
-ghost use Rattle.rv_spots.specs.Trees.{all_arrivals, all_steps};
-ghost use Rattle.rv_spots.specs.Walks.{IsWalk};
+ghost use Rattle.rv_stacks.specs.Nodes.{all_arrivals, all_steps};
+ghost use Rattle.rv_stacks.specs.Walks.{IsWalk};
 ghost use Rattle.rv_stacks.specs.StackSteps.{AreKnown, BeginsAt, CountsHere, IsAt, StacksStep};
 ghost use Rattle.rv_stacks.specs.Stacks.{AreStacksOf, function_at};
 
 use crate::functions::{Known, known_functions, look_up};
 use crate::turns::follow;
+use crate::walk::Walk;
 use rv_calls::{Frame, next_transfer};
 use rv_coverage::{begins_at_end, run_begins_its_end, run_begins_its_steps};
+use rv_elf::CodeSymbols;
 use rv_machine::Machine;
-use rv_spots::{Spots, Walk};
-use rv_trace::ElfFile;
+use rv_spots::Spots;
 use std::alloc::{AllocError, Global};
 
 /// The stacks of a machine's run of at most so many steps, by the functions of a file. It takes the time of that run and more,
@@ -24,28 +25,28 @@ pub fn stacks_of_run(
     alloc: Global,
     machine: Machine,
     budget: u32,
-    elf: &ElfFile<'_>,
+    symbols: &CodeSymbols<'_>,
 ) -> Result<Spots, AllocError>
-    ensures { IfOk result (λ spots. AreStacksOf (function_at elf.now.image.now elf.now.bytes.now) budget
+    ensures { IfOk result (λ spots. AreStacksOf (function_at symbols.now.image.now symbols.now.bytes.now) budget
         (state_of machine) spots) }
 {
     let mut machine = machine;
-    let mut known = known_functions(alloc, elf, machine.pc())?;
+    let mut known = known_functions(alloc, symbols, machine.pc())?;
     let mut frames = Vec::new(alloc);
-    let mut walk = walk_from(alloc, look_up(&mut known, elf, machine.pc()))?;
+    let mut walk = walk_from(alloc, look_up(&mut known, symbols, machine.pc()))?;
     'steps: for _ in 0..budget {
-        if !next_step(&mut machine, elf, &mut known, &mut frames, &mut walk)? {
-            return Ok(walk.into_spots());
+        if !next_step(&mut machine, symbols, &mut known, &mut frames, &mut walk)? {
+            return walk.into_spots(alloc);
         }
     }
-    Ok(walk.into_spots())
+    walk.into_spots(alloc)
 }
 
 // A walk that came to a function.
 fn walk_from(alloc: Global, function: u32) -> Result<Walk, AllocError>
     ensures { IfOk result (BeginsAt function) }
 {
-    let mut walk = Walk::new(alloc);
+    let mut walk = Walk::new(alloc)?;
     walk.arrive(0, function)?;
     Ok(walk)
 }
@@ -53,18 +54,18 @@ fn walk_from(alloc: Global, function: u32) -> Result<Walk, AllocError>
 // Counts the next instruction of a machine in its spot, goes with control, and tells whether it completed.
 fn next_step(
     machine: &mut Machine,
-    elf: &ElfFile<'_>,
+    symbols: &CodeSymbols<'_>,
     known: &mut Vec<Known>,
     frames: &mut Vec<Frame>,
     walk: &mut Walk,
 ) -> Result<bool, AllocError>
-    requires known { AreKnown (function_at elf.now.image.now elf.now.bytes.now) known.old.items }
-    requires at { IsAt (function_at elf.now.image.now elf.now.bytes.now) frames.old.items (state_of machine.old).pc
+    requires known { AreKnown (function_at symbols.now.image.now symbols.now.bytes.now) known.old.items }
+    requires at { IsAt (function_at symbols.now.image.now symbols.now.bytes.now) frames.old.items (state_of machine.old).pc
         walk.old }
-    requires few { all_arrivals walk.old.spots.items < 2 ^ 40 }
-    requires fewer { all_steps walk.old.spots.items < 2 ^ 63 }
-    ensures known { IfOk result (λ _. AreKnown (function_at elf.now.image.now elf.now.bytes.now) known.new.items) }
-    ensures step { IfOk result (λ completed. StacksStep (function_at elf.now.image.now elf.now.bytes.now)
+    requires few { all_arrivals walk.old.nodes.items < 2 ^ 40 }
+    requires fewer { all_steps walk.old.nodes.items < 2 ^ 63 }
+    ensures known { IfOk result (λ _. AreKnown (function_at symbols.now.image.now symbols.now.bytes.now) known.new.items) }
+    ensures step { IfOk result (λ completed. StacksStep (function_at symbols.now.image.now symbols.now.bytes.now)
         (state_of machine.old) frames.old.items walk.old completed
         (state_of machine.new) frames.new.items walk.new) }
 {
@@ -75,7 +76,7 @@ fn next_step(
     };
     run_begins_its_steps();
     count_if(walk, true);
-    follow(elf, known, frames, walk, transfer)?;
+    follow(symbols, known, frames, walk, transfer)?;
     Ok(true)
 }
 
@@ -83,7 +84,7 @@ fn next_step(
 fn count_if(walk: &mut Walk, begun: bool)
     requires walk { IsWalk walk.old }
     requires some { 0 < length walk.old.path.items }
-    requires few { all_steps walk.old.spots.items < 2 ^ 63 }
+    requires few { all_steps walk.old.nodes.items < 2 ^ 63 }
     ensures { CountsHere begun walk.old walk.new }
 {
     if !begun {

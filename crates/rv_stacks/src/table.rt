@@ -10,9 +10,10 @@ use crate::job::stacks_of_job;
 use crate::names::names_of_spots;
 use rv_counts::{Addresses, CountTable, ImageCounts};
 use rv_coverage::{digest_of, empty_table, image_bytes, image_of_bytes, images_of_one, shown_text};
+use rv_elf::CodeSymbols;
 use rv_jobs::Plan;
 use rv_spots::Spots;
-use rv_trace::{ElfFile, JobImage};
+use rv_trace::JobImage;
 use std::alloc::{AllocError, Global};
 
 /// The table of the stacks of the job at a place, which are those of its run, or none where the job is refused. The job is run
@@ -33,18 +34,14 @@ pub(crate) fn stacks_of_place(
     let Some(image) = image_of_bytes(alloc, job.isa, bytes)? else {
         return Ok(empty_table(alloc));
     };
-    let elf = ElfFile {
-        isa: job.isa,
-        image: &image,
-        bytes,
-    };
+    let symbols = CodeSymbols::new(alloc, &image, bytes)?;
     let job_image = JobImage {
         plan,
         place,
         image: &image,
     };
-    match stacks_of_job(alloc, &job_image, &elf)? {
-        Some(spots) => table_of_spots(alloc, job.image.as_str(), &elf, spots),
+    match stacks_of_job(alloc, &job_image, &symbols)? {
+        Some(spots) => table_of_spots(alloc, job.image.as_str(), &symbols, spots),
         None => Ok(empty_table(alloc)),
     }
 }
@@ -53,16 +50,16 @@ pub(crate) fn stacks_of_place(
 fn table_of_spots(
     alloc: Global,
     path: &str,
-    elf: &ElfFile<'_>,
+    symbols: &CodeSymbols<'_>,
     spots: Spots,
 ) -> Result<CountTable, AllocError>
     requires tree { IsTree spots }
     requires some { HasArrivals spots }
-    ensures { IfOk result (IsTableOfSpots (name_of_function elf.now.image.now elf.now.bytes.now) path.now
-        elf.now.bytes.now spots) }
+    ensures { IfOk result (IsTableOfSpots (name_of_function symbols.now.image.now symbols.now.bytes.now) path.now
+        symbols.now.bytes.now spots) }
 {
-    let functions = names_of_spots(alloc, elf, spots.as_slice())?;
-    let digest = digest_of(alloc, elf.bytes)?;
+    let functions = names_of_spots(alloc, symbols, spots.as_slice())?;
+    let digest = digest_of(alloc, symbols.bytes)?;
     let path = shown_text(alloc, path.as_bytes())?;
     let images = images_of_one(
         alloc,

@@ -2,42 +2,42 @@
 
 ghost use Rattle.std.specs.Prelude.{◌≡◌, ◌^◌, ◌<◌, OnOk, length};
 ghost use Rattle.rv_calls.specs.Stack.{after_transfer};
-ghost use Rattle.rv_spots.specs.Trees.{all_arrivals};
-ghost use Rattle.rv_spots.specs.Walks.{IsWalk};
+ghost use Rattle.rv_stacks.specs.Nodes.{all_arrivals};
+ghost use Rattle.rv_stacks.specs.Walks.{IsWalk};
 ghost use Rattle.rv_stacks.specs.StackSteps.{AreKnown, Follows, GoesOn, IsAt};
 ghost use Rattle.rv_stacks.specs.Stacks.{function_at};
 
 use crate::functions::{Known, look_up};
+use crate::walk::Walk;
 use rv_calls::{Frame, Transfer, frames_left, pass_control};
-use rv_spots::Walk;
-use rv_trace::ElfFile;
+use rv_elf::CodeSymbols;
 use std::alloc::AllocError;
 
 /// Goes with control, and does to frames what the transfer does.
 pub(crate) fn follow(
-    elf: &ElfFile<'_>,
+    symbols: &CodeSymbols<'_>,
     known: &mut Vec<Known>,
     frames: &mut Vec<Frame>,
     walk: &mut Walk,
     transfer: Transfer,
 ) -> Result<(), AllocError>
-    requires known { AreKnown (function_at elf.now.image.now elf.now.bytes.now) known.old.items }
-    requires at { IsAt (function_at elf.now.image.now elf.now.bytes.now) frames.old.items transfer.from walk.old }
-    requires few { all_arrivals walk.old.spots.items < 2 ^ 40 }
-    ensures known { OnOk result (AreKnown (function_at elf.now.image.now elf.now.bytes.now) known.new.items) }
+    requires known { AreKnown (function_at symbols.now.image.now symbols.now.bytes.now) known.old.items }
+    requires at { IsAt (function_at symbols.now.image.now symbols.now.bytes.now) frames.old.items transfer.from walk.old }
+    requires few { all_arrivals walk.old.nodes.items < 2 ^ 40 }
+    ensures known { OnOk result (AreKnown (function_at symbols.now.image.now symbols.now.bytes.now) known.new.items) }
     ensures frames { OnOk result (frames.new.items ≡ after_transfer frames.old.items transfer) }
-    ensures walk { OnOk result (Follows (function_at elf.now.image.now elf.now.bytes.now) frames.old.items transfer
+    ensures walk { OnOk result (Follows (function_at symbols.now.image.now symbols.now.bytes.now) frames.old.items transfer
         walk.old walk.new) }
 {
     let left = frames_left(frames.as_slice(), transfer);
     pass_control(frames, transfer)?;
     if left < frames.len() {
-        let caller = look_up(known, elf, transfer.from);
+        let caller = look_up(known, symbols, transfer.from);
         go_on(walk, left, caller)?;
-        let function = look_up(known, elf, transfer.to);
+        let function = look_up(known, symbols, transfer.to);
         walk.arrive(left + 1, function)
     } else {
-        let function = look_up(known, elf, transfer.to);
+        let function = look_up(known, symbols, transfer.to);
         go_on(walk, left, function)
     }
 }
@@ -46,7 +46,7 @@ pub(crate) fn follow(
 fn go_on(walk: &mut Walk, depth: usize, function: u32) -> Result<(), AllocError>
     requires walk { IsWalk walk.old }
     requires depth { depth < length walk.old.path.items }
-    requires few { all_arrivals walk.old.spots.items < 2 ^ 63 }
+    requires few { all_arrivals walk.old.nodes.items < 2 ^ 63 }
     ensures { OnOk result (GoesOn depth function walk.old walk.new) }
 {
     if walk.path[depth] == function {

@@ -1,10 +1,9 @@
 //! Spots of runs, by the lines of a table: a program, the places of its functions, its budget and its spots.
-use rv_elf::read_image;
+use rv_elf::{CodeSymbols, read_image};
 use rv_isa::Isa;
 use rv_machine::Machine;
 use rv_memory::{Bus, Map, Misaligned, Region};
 use rv_stacks::stacks_of_run;
-use rv_trace::ElfFile;
 use samples::{agree, cell_of, file_bytes, has_lines, hex_of, numbers};
 use std::alloc::Global;
 use std::test::Fail;
@@ -87,13 +86,9 @@ fn file_of(alloc: Global, functions: &str) -> Result<Vec<u8>, Fail> {
 fn told(alloc: Global, row: &str) -> Result<String, Fail> {
     let bytes = file_of(alloc, cell_of(row, 2))?;
     let image = read_image(alloc, bytes.as_slice(), Isa::Imc)?;
-    let elf = ElfFile {
-        isa: Isa::Imc,
-        image: &image,
-        bytes: bytes.as_slice(),
-    };
+    let symbols = CodeSymbols::new(alloc, &image, bytes.as_slice())?;
     let budget = cell_of(row, 1).parse::<u32>()?;
-    let spots = stacks_of_run(alloc, machine_of(alloc, cell_of(row, 3))?, budget, &elf)?;
+    let spots = stacks_of_run(alloc, machine_of(alloc, cell_of(row, 3))?, budget, &symbols)?;
     let mut text = String::new(alloc);
     for spot in spots.as_slice() {
         let comma = if text.is_empty() { "" } else { ", " };

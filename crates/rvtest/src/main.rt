@@ -22,11 +22,12 @@ fn main(rt: HostRuntime) -> ExitCode {
         inputs: &inputs,
     };
     let files = SystemOutputs::new(&rt, rt.alloc());
-    let is_dumb = is_terminal_dumb(&rt);
     let terminals = Terminals {
         is_out_terminal: rt.stdout().is_terminal(),
-        is_errors_terminal: rt.stderr().is_terminal() && !is_dumb,
-        is_out_colored: rt.stdout().is_terminal() && !is_dumb && !is_set(&rt, "NO_COLOR"),
+        is_errors_terminal: rt.stderr().is_terminal() && !is_terminal_dumb(&rt),
+        is_out_colored: rt.stdout().is_terminal()
+            && !is_terminal_dumb(&rt)
+            && !is_set(&rt, "NO_COLOR"),
         progress: rt.stderr(),
     };
     let to = Destinations { files, out, errors };

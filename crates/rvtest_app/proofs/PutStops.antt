@@ -37,7 +37,7 @@ pub file_text_stop : {X : Type 0} (path : List ℕ) (written : Result X WriteErr
     → IfErr answer (IsTextStop (Some path))
 file_text_stop path written (Ok x) stopped = tt
 file_text_stop path (Ok x) (Err why) stopped = elim stopped [ ]
-file_text_stop path (Err write.OutOfMemory) (Err why) stopped = inl stopped
+file_text_stop path (Err write.OutOfMemory) (Err why) stopped = (io.Other, inl stopped)
 file_text_stop path (Err write.Failed) (Err why) stopped = stopped
 
 pub put_of_report : (report junit : Option (List ℕ)) (why : Stop) → IsTextStop report why → IsPutStop report junit why

@@ -1,10 +1,11 @@
 -- Why what a command puts did not go out.
-use Rattle.std.specs.Prelude.{◌≡◌, ◌⊎◌, ℕ, List, IsSomeAnd, Option, Some, None, codes}
+use Rattle.std.specs.Prelude.{◌≡◌, ◌⊎◌, ℕ, List, IsSomeAnd, Option, Some, None}
 use Rattle.std.specs.declared.io.ErrorKind.{ErrorKind}
 use Rattle.rv_command.specs.Messages.{path_message}
 use Rattle.rv_command.specs.Stops.{IsFileErrorStop, IsStop, IsSystemStop}
 use Rattle.rv_command.specs.declared.stop.Stop.{Stop}
 use Rattle.rv_command.specs.declared.stop.Stop.TheVariants as stop
+use Rattle.rv_files.specs.IoErrors.{write_error_text}
 use Rattle.rv_files.specs.declared.file_error.FileError.{FileError}
 use Rattle.rv_report.specs.declared.report.WriteError.{WriteError}
 use Rattle.rv_report.specs.declared.report.WriteError.TheVariants as write
@@ -17,9 +18,12 @@ abbrev pub stop_of_write_error : WriteError → Stop
 stop_of_write_error write.OutOfMemory = stop.OutOfMemory
 stop_of_write_error write.Failed = stop.WriteFailed
 
--- memory was wanting, or the system did not take all that was written to the file for a path
+-- memory was wanting, or the system did not take all that was written to the file for a path, for some reason
+abbrev pub IsWriteStop : List ℕ → ErrorKind → Stop → Type 0
+IsWriteStop path reason why = IsStop 3 (path_message path (write_error_text reason)) why
+
 abbrev pub IsUnwrittenStop : List ℕ → Stop → Type 0
-IsUnwrittenStop path why = IsStop 3 (path_message path (codes "write failed")) why
+IsUnwrittenStop path why = (reason : ErrorKind) × IsWriteStop path reason why
 
 -- why a text did not go to the file for a path
 abbrev pub IsWriteErrorStop : List ℕ → WriteError → Stop → Type 0

@@ -7,17 +7,19 @@ ghost use Rattle.rv_command.specs.Texts.{optional_text};
 ghost use Rattle.rv_expect.specs.Judgement.{judging_of};
 ghost use Rattle.rvtest_app.specs.Outlets.{HasTaken, IsPutInto, file_path_at, has_no_failure, is_out, is_stdout, is_stdout_at};
 ghost use Rattle.rvtest_app.specs.Outlets.{outlet_path, stdout_part, uses_stdout};
-ghost use Rattle.rvtest_app.specs.PutStops.{IsEitherFileStop, IsTextStop, IsUnopenedStop, IsUnwrittenStop, IsWriteErrorStop, stop_of_write_error};
+ghost use Rattle.rvtest_app.specs.PutStops.{IsEitherFileStop, IsTextStop, IsUnopenedStop, IsUnwrittenStop, IsWriteErrorStop, IsWriteStop};
+ghost use Rattle.rvtest_app.specs.PutStops.{stop_of_write_error};
 ghost use Rattle.rv_junit.specs.Junit.{junit_text};
 ghost use Rattle.rv_stream.specs.Streams.{row_text_list};
 ghost use Rattle.rvtest_app.specs.ReportTexts.{report_rest_of, report_text_of};
 
 use crate::report_texts::ReportText;
 use rv_command::{Stop, file_error_stop, path_message};
-use rv_files::Outputs;
+use rv_files::{LastError, Outputs, write_error_text};
 use rv_junit::{PlacedRows, Suite, write_junit};
 use rv_rows::{Sink, Telling, WriteError};
 use std::alloc::Global;
+use std::io::ErrorKind;
 
 /// A file that is written, and the path by which messages name it.
 #[derive(Drop)]
@@ -123,7 +125,7 @@ fn open_file<'a, F: Outputs>(
     }
 }
 
-impl<'a, P: Drop, W: Sink + Drop> Outlets<'a, P, W> {
+impl<'a, P: Drop, W: Sink + LastError + Drop> Outlets<'a, P, W> {
     /// Whether one of them goes to standard output.
     pub(crate) fn use_stdout(&self) -> bool
         ensures { result ≡ uses_stdout self.now }
@@ -132,11 +134,19 @@ impl<'a, P: Drop, W: Sink + Drop> Outlets<'a, P, W> {
     }
 }
 
-impl<'a, P: Drop, W: Sink + Drop> Outlet<'a, P, W> {
+impl<'a, P: Drop, W: Sink + LastError + Drop> Outlet<'a, P, W> {
     fn is_out(&self) -> bool
         ensures { result ≡ is_out self.now }
     {
         matches!(self, Outlet::Out)
+    }
+
+    /// Why the last put that failed did, of its file; of no file, nothing in particular.
+    pub(crate) fn last_error(&self) -> ErrorKind {
+        match self {
+            Outlet::File(file) => file.sink.last_error(),
+            Outlet::Nowhere | Outlet::Out => ErrorKind::Other,
+        }
     }
 
     /// Puts a report. A file that took the rows as they came takes the rest alone.
@@ -159,11 +169,10 @@ impl<'a, P: Drop, W: Sink + Drop> Outlet<'a, P, W> {
         match self {
             Outlet::Nowhere => Ok(()),
             Outlet::Out => stdout_result(report.write(alloc, out)),
-            Outlet::File(file) => file_result(
-                alloc,
-                file.path,
-                report.write_rest(alloc, &mut file.sink),
-            ),
+            Outlet::File(file) => {
+                let written = report.write_rest(alloc, &mut file.sink);
+                file_result(alloc, file.path, file.sink.last_error(), written)
+            }
         }
     }
 
@@ -191,7 +200,7 @@ impl<'a, P: Drop, W: Sink + Drop> Outlet<'a, P, W> {
             Outlet::Out => stdout_result(write_junit(alloc, suite, telling, rows, out)),
             Outlet::File(file) => {
                 let written = write_junit(alloc, suite, telling, rows, &mut file.sink);
-                file_result(alloc, file.path, written)
+                file_result(alloc, file.path, file.sink.last_error(), written)
             }
         }
     }
@@ -210,7 +219,12 @@ fn stdout_result(written: Result<(), WriteError>) -> Result<(), Stop>
 }
 
 // What a text that was written to a file came to.
-fn file_result(alloc: Global, path: &str, written: Result<(), WriteError>) -> Result<(), Stop>
+fn file_result(
+    alloc: Global,
+    path: &str,
+    reason: ErrorKind,
+    written: Result<(), WriteError>,
+) -> Result<(), Stop>
     ensures went { MatchResult written (λ _. IsOk result) (λ _. IsErr result) }
     ensures stopped { IfErr result
         (λ why. MatchResult written (λ _. ⊥) (λ error. IsWriteErrorStop path.now error why)) }
@@ -218,15 +232,21 @@ fn file_result(alloc: Global, path: &str, written: Result<(), WriteError>) -> Re
     match written {
         Ok(()) => Ok(()),
         Err(WriteError::OutOfMemory) => Err(Stop::OutOfMemory),
-        Err(WriteError::Failed) => Err(unwritten_stop(alloc, path)),
+        Err(WriteError::Failed) => Err(unwritten_stop(alloc, path, reason)),
     }
 }
 
-/// The system did not take all that was written to the file for a path.
-pub(crate) fn unwritten_stop(alloc: Global, path: &str) -> Stop
+/// The system did not take all that was written to the file for a path, for a reason.
+pub(crate) fn unwritten_stop(alloc: Global, path: &str, reason: ErrorKind) -> Stop
     ensures { IsUnwrittenStop path.now result }
 {
-    Stop::of_failure(path_message(alloc, path, "write failed"))
+    write_stop(alloc, path, reason)
+}
+
+fn write_stop(alloc: Global, path: &str, reason: ErrorKind) -> Stop
+    ensures { IsWriteStop path.now reason result }
+{
+    Stop::of_failure(path_message(alloc, path, write_error_text(reason)))
 }
 
 /// Neither file is to be there.

@@ -14,7 +14,7 @@ use crate::file_texts::FileTexts;
 use crate::outlets::{Outlets, abandon_outlets};
 use crate::placing::place_outlets;
 use rv_command::{Stop, put_message, put_results};
-use rv_files::Outputs;
+use rv_files::{LastError, Outputs};
 use rv_junit::PlacedRows;
 use rv_rows::{Sink, Telling};
 use std::alloc::Global;
@@ -76,7 +76,7 @@ pub(crate) fn put_files<F: Outputs + Drop, O: Sink + Drop, E: Sink + Drop, T: Te
     }
 }
 
-fn put_texts<P: Drop, W: Sink + Drop, O: Sink, T: Telling>(
+fn put_texts<P: Drop, W: Sink + LastError + Drop, O: Sink, T: Telling>(
     alloc: Global,
     out: &mut O,
     outlets: &mut Outlets<'_, P, W>,

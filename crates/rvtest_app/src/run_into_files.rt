@@ -220,7 +220,7 @@ impl<'x, R: Threads + Wait + Sync + Clock, D: Inputs> ListRun<'x, R, D> {
                     terminals,
                 );
                 let report = outlet_of_rows(file);
-                let ran = rows_beside_file(self.host.alloc, path, ran);
+                let ran = rows_beside_file(self.host.alloc, path, report.last_error(), ran);
                 (to, Outlets { report, junit }, ran)
             }
             report => {

@@ -23,6 +23,7 @@ use rv_job_text::push_run_totals_line;
 use rv_rounds::{FailureLimit, stream_until, stream_until_to_both};
 use rv_stream::{BothError, StreamError, Telling, ToldTo};
 use std::alloc::Global;
+use std::io::ErrorKind;
 use std::sync::Wait;
 use std::thread::Threads;
 
@@ -145,10 +146,11 @@ fn put_totals_line<W: Sink>(
     }
 }
 
-/// What a run came to, where the rows of its report go to the file for a path.
+/// What a run came to, where the rows of its report go to the file for a path, whose last write that failed did so for a reason.
 pub(crate) fn rows_beside_file(
     alloc: Global,
     path: &str,
+    reason: ErrorKind,
     ran: Result<Rows, BothError>,
 ) -> Result<Rows, Stop>
     ensures rows { IfOk result (λ rows. ran ≡ Ok rows) }
@@ -156,7 +158,7 @@ pub(crate) fn rows_beside_file(
 {
     match ran {
         Ok(rows) => Ok(rows),
-        Err(error) => Err(stop_of_both(alloc, path, error)),
+        Err(error) => Err(stop_of_both(alloc, path, reason, error)),
     }
 }
 
@@ -172,12 +174,12 @@ pub(crate) fn rows_without_file(ran: Result<Rows, BothError>) -> Result<Rows, St
 }
 
 // Why a run ends that stopped on its way, where the rows of its report go to the file for a path.
-fn stop_of_both(alloc: Global, path: &str, error: BothError) -> Stop
+fn stop_of_both(alloc: Global, path: &str, reason: ErrorKind, error: BothError) -> Stop
     ensures { IsBothStop path.now error result }
 {
     match error {
         BothError::First(error) => stop_of_stream(error),
-        BothError::Second(StreamError::Failed) => unwritten_stop(alloc, path),
+        BothError::Second(StreamError::Failed) => unwritten_stop(alloc, path, reason),
         BothError::Second(error) => stop_of_stream(error),
     }
 }

@@ -12,7 +12,7 @@ ghost use Rattle.rvtest_app.specs.WrittenTexts.{IsUnwrittenAtStop, IsWrittenAt, 
 use crate::destinations::Destinations;
 use crate::outlets::{OpenFile, Outlet, is_stdout, unwritten_stop};
 use rv_command::{Stop, file_error_stop, put_results};
-use rv_files::Outputs;
+use rv_files::{LastError, Outputs};
 use rv_rows::{Sink, put_all};
 use std::alloc::Global;
 
@@ -92,8 +92,9 @@ pub(crate) fn finish_file<F: Outputs>(
         mut sink,
     } = file;
     if put_all(&mut sink, bytes).is_err() {
+        let reason = sink.last_error();
         files.abandon(place);
-        return Err(unwritten_stop(alloc, path));
+        return Err(unwritten_stop(alloc, path, reason));
     }
     let synced = match files.sync(sink) {
         Ok(synced) => synced,

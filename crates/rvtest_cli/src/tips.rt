@@ -4,6 +4,7 @@
 //! like it, though another was meant.
 
 use clap::Error;
+use rv_text::push_printable_text;
 use std::alloc::{AllocError, Global};
 use strsim::levenshtein;
 
@@ -18,10 +19,10 @@ pub(crate) fn error_text(alloc: Global, error: &Error) -> Result<String, AllocEr
     }
 }
 
-// A text without the tips that lead astray.
+// A text without the tips that lead astray. A word in it may be of any characters, so each line is printed as a text from a file is.
 fn text_without_tips(alloc: Global, told: &str) -> Result<String, AllocError> {
     let written = refused_option(told);
-    let mut text = String::new(alloc);
+    let mut text = Vec::new(alloc);
     let mut is_behind_empty = false;
     for line in told.lines() {
         let is_empty = line.is_empty();
@@ -29,10 +30,10 @@ fn text_without_tips(alloc: Global, told: &str) -> Result<String, AllocError> {
             continue;
         }
         is_behind_empty = is_empty;
-        text.push_str(line)?;
-        text.push_str("\n")?;
+        push_printable_text(&mut text, line.as_bytes())?;
+        text.push(b'\n')?;
     }
-    Ok(text)
+    Ok(String::from_utf8(text).unwrap_or(String::new(alloc)))
 }
 
 // The option that is refused, without its dashes; empty where none is.

@@ -13,7 +13,7 @@ returns-in_ok-stacks_of_run-in-Ok-clause-stacks c d =
     let start = rw c.in-Ok.is at c.in_ok-machine.ensures in
     let jobs = c.args.job.now.plan.now.jobs in
     let place = c.args.job.now.place in
-    let function = function_at c.args.elf.now.image.now c.args.elf.now.bytes.now in
+    let function = function_at c.args.symbols.now.image.now c.args.symbols.now.bytes.now in
     let same = get_or_read jobs place c.job.result.now c.args.job.now.within c.job.ensures.value d in
     let spots = c.in_ok-stacks_of_run-in-Ok.field-0 in
     subst (λ (r : Result State Refusal). AreStacksOfJob function (get_or jobs place d).budget r (Some spots)) (sym (start d))
@@ -35,5 +35,5 @@ returns-in-Err-clause-stacks c d =
     let start = rw c.in-Err.is at c.in_ok-machine.ensures in
     let jobs = c.args.job.now.plan.now.jobs in
     let place = c.args.job.now.place in
-    let function = function_at c.args.elf.now.image.now c.args.elf.now.bytes.now in
+    let function = function_at c.args.symbols.now.image.now c.args.symbols.now.bytes.now in
     subst (λ (r : Result State Refusal). AreStacksOfJob function (get_or jobs place d).budget r None) (sym (start d)) tt

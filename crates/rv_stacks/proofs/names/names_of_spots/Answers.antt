@@ -1,31 +1,24 @@
--- The function of one spot more is named.
-use Rattle.std.proofs.Common.{◌≡◌, ◌+◌, ◌++◌, ◌∷◌, List, [], get_or, sym, subst, take}
-use Rattle.std.proofs.lemmas.List.{take_more}
-use Rattle.std.specs.List.{AllByRecursion}
-use Rattle.rv_counts.specs.declared.table.FunctionName.{FunctionName}
+-- The names of spots in another order are theirs.
+use Rattle.std.proofs.lemmas.Result.{IfOk-weaker}
+use Rattle.std.proofs.Common.{List, sym, subst}
+use Rattle.std.specs.List.Sorted.{IsNonDecreasingBy, IsPermutation}
 use Rattle.rv_spots.specs.declared.spot.Spot.{Spot}
-use Rattle.rv_spots.specs.Sums.{FitsSpot}
-use Rattle.rv_stacks.specs.StackTables.{name_of_function, AreNamesBy}
-use Rattle.rv_stacks.proofs.NamedSpots.{each_push, none_named}
+use Rattle.rv_stacks.specs.StackTables.{name_of_function}
+use Rattle.rv_stacks.proofs.RisingNames.{fit_in_order, named_in_order}
 use Rattle.rv_stacks.proofs.names.names_of_spots.Goals as goal
 
-pub loop-spot-init : goal.loop-spot-init
-loop-spot-init c =
-    let name = name_of_function c.args.elf.now.image.now c.args.elf.now.bytes.now in record {
-      named = subst (λ (ns : List FunctionName). AreNamesBy name [] ns) (sym c.new-names.ensures.items) (none_named name);
-      fits = tt;
-    }
+pub names_in_order-requires : goal.names_in_order-requires
+names_in_order-requires c =
+    subst (λ (ss : List Spot). IsNonDecreasingBy (λ (s : Spot). s.function) ss) (sym c.as_slice.ensures.value) c.in_ok-sorted.ensures.rising
 
-pub loop-spot-preserved : goal.loop-spot-preserved
-loop-spot-preserved c =
-    let name = name_of_function c.args.elf.now.image.now c.args.elf.now.bytes.now in
-    let spots = c.args.spots.now in
-    let i = c.loop-spot.spot-index in
-    let nothing : Spot = record { depth = 0; function = 0; arrivals = 0; steps = 0 } in
-    let more : take (i + 1) spots ≡ take i spots ++ get_or spots i nothing ∷ [] =
-    take_more spots i nothing c.loop-spot-test.true in record {
-      named = subst (λ (ss : List Spot). AreNamesBy name ss c.name_spot.new.names.items) (sym more)
-          (c.in_ok-name_spot.ensures.names (take i spots) c.loop-spot.invariant.named);
-      fits = subst (λ (ss : List Spot). AllByRecursion FitsSpot ss) (sym more)
-          (each_push FitsSpot (take i spots) (get_or spots i nothing) c.loop-spot.invariant.fits c.in_ok-name_spot.ensures.fits);
-    }
+pub returns-clause-names : goal.returns-clause-names
+returns-clause-names c =
+    let same = subst (λ (ss : List Spot). IsPermutation c.args.spots.now ss) (sym c.as_slice.ensures.value) c.in_ok-sorted.ensures.same in
+    IfOk-weaker c.names_in_order.result _ _
+    (λ names h. named_in_order (name_of_function c.args.symbols.now.image.now c.args.symbols.now.bytes.now) _ _ _ same h)
+    c.names_in_order.ensures.names
+
+pub returns-clause-fits : goal.returns-clause-fits
+returns-clause-fits c =
+    let same = subst (λ (ss : List Spot). IsPermutation c.args.spots.now ss) (sym c.as_slice.ensures.value) c.in_ok-sorted.ensures.same in
+    IfOk-weaker c.names_in_order.result _ _ (λ names h. fit_in_order _ _ same h) c.names_in_order.ensures.fits

@@ -7,7 +7,7 @@ use Rattle.rv_stacks.proofs.run.stacks_of_run.Given as goal
 
 abbrev pub invariant-steps : goal.invariant-steps
 invariant-steps l = record {
-  known : AreKnown (function_at l.elf.image.now l.elf.bytes.now) l.known.items;
-  so_far : SoFar (function_at l.elf.image.now l.elf.bytes.now) l.budget l.counter (state_of l.initial.machine)
+  known : AreKnown (function_at l.symbols.image.now l.symbols.bytes.now) l.known.items;
+  so_far : SoFar (function_at l.symbols.image.now l.symbols.bytes.now) l.budget l.counter (state_of l.initial.machine)
       (state_of l.machine) l.frames.items l.walk;
 }

@@ -1,10 +1,12 @@
 -- A refused job has no stacks; else they are those of its run.
-use Rattle.std.proofs.Common.{◌∙◌, ◌∷◌, [], ℕ, Some, Option, List, sym, ap, subst}
+use Rattle.std.proofs.Common.{◌≡◌, ◌∙◌, ◌∷◌, [], ℕ, Some, Option, List, Result, Ok, Err, sym, ap, subst}
 use Rattle.std.proofs.lemmas.List.{get_or_read}
 use Rattle.std.proofs.lemmas.Result.{IfOk-weaker}
 use Rattle.std.specs.Result.{result_ok}
 use Rattle.rv_coverage.proofs.Public.{no_bytes, no_image}
 use Rattle.rv_elf.specs.Image.{image_of}
+use Rattle.rv_elf.specs.declared.error.ImageError.{ImageError}
+use Rattle.rv_elf.specs.declared.image.Image.{Image}
 use Rattle.rv_jobs.specs.declared_job.Job.{Job}
 use Rattle.rv_rows.specs.Rows.{image_if_read, start_in}
 use Rattle.rv_spots.specs.declared.spot.Spot.{Spot}
@@ -31,13 +33,31 @@ returns-in_default-2 c = λ d.
     refused plan.answers job c.empty_table-in_default-2.result c.empty_table-in_default-2.ensures
     (λ s start. no_image job s plan.answers c.in-Some.bytes.now (sym (c.in-Some.ensures d)) none start)
 
+read_as : (r : Result Image ImageError) (image : Image) → result_ok r ≡ Some image → r ≡ Ok image
+read_as (Ok i) image e = cc
+read_as (Err w) image e = cc
+
+pub new-requires : goal.new-requires
+new-requires c =
+    let isa = c.job-job.result.now.isa in
+    record {
+      image = record {
+        isa = isa;
+        is = read_as (image_of isa c.in-Some.bytes.now) c.in-Some-2.image (sym c.in_ok-image.ensures ∙ c.in-Some-2.is);
+      };
+    }
+
 pub returns-in-Some-3 : goal.returns-in-Some-3
 returns-in-Some-3 c =
     let plan = c.args.plan.now in
     let file = c.in-Some.bytes.now in
     let image = c.in-Some-2.image in
     let spots = c.in-Some-3.spots in
-    IfOk-weaker c.table_of_spots.result (IsTableOfSpots (name_of_function image file) c.as_str.result.now file spots)
+    let symbols = c.in_ok-symbols.symbols in
+    let its_image = c.in_ok-symbols.ensures.image in
+    let its_bytes = c.in_ok-symbols.ensures.bytes in
+    IfOk-weaker c.table_of_spots.result
+    (IsTableOfSpots (name_of_function symbols.image.now symbols.bytes.now) c.as_str.result.now symbols.bytes.now spots)
     (λ t. (d : Job) → AreStacksOfJobs plan.answers (job_at plan c.args.place d ∷ []) t)
     (λ t is d.
     let job = job_at plan c.args.place d in
@@ -46,10 +66,16 @@ returns-in-Some-3 c =
     let bytes = sym (c.in-Some.ensures d) in
     let read = ap (image_if_read job.isa) bytes ∙ ap (λ (j : Job). image_if_read j.isa (Some file)) (sym same)
     ∙ sym c.in_ok-image.ensures ∙ c.in-Some-2.is in
+    let of_image = subst (λ (i : Image). IsTableOfSpots (name_of_function i symbols.bytes.now) c.as_str.result.now symbols.bytes.now spots t)
+    its_image is in
+    let of_file = subst (λ (b : List ℕ). IsTableOfSpots (name_of_function image b) c.as_str.result.now b spots t) its_bytes of_image in
+    let stacks = subst (λ (o : Option (List Spot)). AreStacksOfJob (function_at symbols.image.now symbols.bytes.now) job.budget
+    (start_in plan.answers job) o) c.in-Some-3.is (c.in_ok-spots.ensures.stacks d) in
+    let by_image = subst (λ (i : Image). AreStacksOfJob (function_at i symbols.bytes.now) job.budget (start_in plan.answers job) (Some spots))
+    its_image stacks in
     ran plan.answers job file image bytes read spots t
-    (subst (λ (p : List ℕ). IsTableOfSpots (name_of_function image file) p file spots t) path is)
-    (subst (λ (o : Option (List Spot)). AreStacksOfJob (function_at image file) job.budget (start_in plan.answers job) o)
-    c.in-Some-3.is (c.in_ok-spots.ensures.stacks d))
+    (subst (λ (p : List ℕ). IsTableOfSpots (name_of_function image file) p file spots t) path of_file)
+    (subst (λ (b : List ℕ). AreStacksOfJob (function_at image b) job.budget (start_in plan.answers job) (Some spots)) its_bytes by_image)
     (c.in_ok-spots.ensures.budget d))
     c.table_of_spots.ensures
 
@@ -57,7 +83,8 @@ pub returns : goal.returns
 returns c = λ d.
     let plan = c.args.plan.now in
     let job = job_at plan c.args.place d in
-    let function = function_at c.in-Some-2.image c.in-Some.bytes.now in
+    let symbols = c.in_ok-symbols.symbols in
+    let function = function_at symbols.image.now symbols.bytes.now in
     let none = subst (λ (o : Option (List Spot)). AreStacksOfJob function job.budget (start_in plan.answers job) o)
     c.in-None.is (c.in_ok-spots.ensures.stacks d) in
     refused plan.answers job c.empty_table-in-None.result c.empty_table-in-None.ensures

@@ -2,7 +2,7 @@
 use Rattle.std.proofs.Common.{◌≡◌, ◌∙◌, ◌+◌, ◌<◌, ◌≤◌, ◌++◌, ◌∷◌, [], ℕ, List, Result, Ok, Err, OnOk, length, take, ap, subst, arith}
 use Rattle.rv_calls.specs.declared.frames.Frame.{Frame}
 use Rattle.rv_calls.specs.Stack.{after_transfer, depth_left}
-use Rattle.rv_spots.specs.Walks.{Arrives}
+use Rattle.rv_stacks.specs.Walks.{Arrives}
 use Rattle.rv_stacks.specs.Stacks.{function_at}
 use Rattle.rv_stacks.specs.StackSteps.{GoesOn}
 use Rattle.rv_stacks.proofs.Paths.{follows_call, follows_jump, is_call, is_jump}
@@ -14,7 +14,7 @@ mapped (Err x) P Q h f = h
 
 pub returns-in_ok-go_on-clause-walk : goal.returns-in_ok-go_on-clause-walk
 returns-in_ok-go_on-clause-walk c =
-    let function = function_at c.args.elf.now.image.now c.args.elf.now.bytes.now in
+    let function = function_at c.args.symbols.now.image.now c.args.symbols.now.bytes.now in
     let frames = c.args.frames.now.items in
     let t = c.args.transfer in
     let mid = c.go_on.new.walk in
@@ -35,7 +35,7 @@ returns-in_ok-go_on-clause-walk c =
 
 pub returns-else-left-len-clause-walk : goal.returns-else-left-len-clause-walk
 returns-else-left-len-clause-walk c =
-    let function = function_at c.args.elf.now.image.now c.args.elf.now.bytes.now in
+    let function = function_at c.args.symbols.now.image.now c.args.symbols.now.bytes.now in
     let frames = c.args.frames.now.items in
     let t = c.args.transfer in
     let new = c.go_on-else-left-len.new.walk in

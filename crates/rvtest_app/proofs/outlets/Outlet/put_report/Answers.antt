@@ -16,4 +16,4 @@ returns-in-Out-clause-stopped g c = rw c.in-Out.is (stdout_stop c.write.result c
 
 pub returns-in-File-clause-stopped : goal.returns-in-File-clause-stopped
 returns-in-File-clause-stopped g c =
-    rw c.in-File.is (file_text_stop _ c.write_rest.result c.file_result.result c.file_result.ensures.stopped)
+    rw c.in-File.is (file_text_stop _ c.write_rest-written.result c.file_result.result c.file_result.ensures.stopped)

@@ -1,0 +1,71 @@
+-- The symbols of a table that may stand for code, ranked as `nearest_candidate` prefers them.
+use Rattle.std.specs.Prelude.{◌≡◌, ◌≤◌, ◌<◌, ◌==◌, ◌+◌, ◌-◌, ◌*◌, ◌/◌, ℕ, Bool, ◌&&◌, if◌then◌else◌, true, false, List}
+use Rattle.std.specs.Prelude.{length, drop, nat_le, slice_index_or, Option, None, option_map, is_some}
+use Rattle.std.specs.List.{All, Contains}
+use Rattle.std.specs.List.Sorted.{IsPartitionPoint}
+use Rattle.rv_elf.specs.declared.code_symbols.CodeSymbol.{CodeSymbol}
+use Rattle.rv_elf.specs.declared.image.Image.{Image}
+use Rattle.rv_elf.specs.declared.image.Segment.{Segment}
+use Rattle.rv_elf.specs.declared.symbols.Symbol.{Symbol}
+use Rattle.rv_elf.specs.Sections.{symbol_entry, text_before_zero}
+use Rattle.rv_elf.specs.SymbolSearch.{are_in_one_segment, has_section, has_usable_name, may_be_code, precedence, symbol_at}
+
+-- the symbol may stand for the code of some address
+abbrev pub is_named_code : List ℕ → Symbol → Bool
+is_named_code strings s = may_be_code s && (has_section s && has_usable_name strings s)
+
+-- a symbol of a greater value has the greater rank, then one that goes before another, then the first of a table
+abbrev pub rank : ℕ → Symbol → ℕ
+rank index s = 0x1000_0000 * (3 * s.value + precedence s) + (0x1000_0000 - 1 - index)
+
+-- what is kept of the symbol of an index
+abbrev pub code_symbol : ℕ → Symbol → CodeSymbol
+code_symbol index s = record { rank = rank index s; value = s.value; name = s.name }
+
+-- how many symbols a table has
+abbrev pub symbol_count : List ℕ → ℕ
+symbol_count table = length table / 16
+
+abbrev pub symbol_of_index : List ℕ → ℕ → Symbol
+symbol_of_index table k = symbol_entry table (16 * k)
+
+-- it is kept of one of the first n symbols of a table
+pub record IsCodeSymbol (table strings : List ℕ) (n : ℕ) (s : CodeSymbol) : Type 0 where
+  pub index : ℕ
+  pub within : index < n
+  pub code : is_named_code strings (symbol_of_index table index) ≡ true
+  pub is : s ≡ code_symbol index (symbol_of_index table index)
+
+-- they are those of the first n symbols of a table that may stand for code, in some order
+pub record AreCodeSymbols (table strings : List ℕ) (n : ℕ) (symbols : List CodeSymbol) : Type 0 where
+  pub sound : All (IsCodeSymbol table strings n) symbols
+  pub complete : (k : ℕ) → k < n → is_named_code strings (symbol_of_index table k) ≡ true
+      → Contains symbols (code_symbol k (symbol_of_index table k))
+
+-- ---- symbols in the order of their values
+
+-- its name, and how far the address is past its value
+abbrev pub name_and_offset_of : List ℕ → ℕ → CodeSymbol → Option (List ℕ × ℕ)
+name_and_offset_of strings addr s = option_map (λ name. (name, addr - s.value)) (text_before_zero (drop s.name strings))
+
+-- each has a name
+abbrev pub AreNamed : List ℕ → List CodeSymbol → Type 0
+AreNamed strings symbols = All (λ s. is_some (text_before_zero (drop s.name strings)) ≡ true) symbols
+
+-- the symbol stands for an address if both are in one segment
+abbrev pub named_in_segment : List Segment → List ℕ → ℕ → CodeSymbol → Option (List ℕ × ℕ)
+named_in_segment segments strings addr s =
+    if are_in_one_segment segments s.value addr then name_and_offset_of strings addr s else None
+
+-- the symbol of an address is the last of those that are not above it, where both are in one segment
+abbrev pub FindSymbols : Image → List ℕ → List ℕ → List CodeSymbol → Type 0
+FindSymbols image file strings symbols = (addr above : ℕ) (d : CodeSymbol) → above ≤ length symbols
+    → IsPartitionPoint (λ s. nat_le s.value addr ≡ true) (λ s. nat_le s.value addr ≡ false) symbols above
+    → symbol_at image file addr ≡ (if above == 0 then None
+    else named_in_segment image.segments strings addr (slice_index_or symbols (above - 1) d))
+
+-- the symbol found for an address is this one
+pub record IsSymbolFor (found : Option (List ℕ × ℕ)) (strings : List ℕ) (addr : ℕ) (s : CodeSymbol) : Type 0 where
+  pub below : s.value ≤ addr
+  pub is : found ≡ name_and_offset_of strings addr s
+  pub named : is_some (text_before_zero (drop s.name strings)) ≡ true

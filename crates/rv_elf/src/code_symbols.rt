@@ -1,0 +1,163 @@
+//! The symbols of an image's code in the order of their addresses, for many look-ups.
+ghost use Rattle.std.specs.Prelude.{◌≡◌, ◌-◌, ◌^◌, ◌<◌, Some, None, IfOk, MatchOption, length, option_map};
+ghost use Rattle.std.specs.List.Sorted.{IsNonDecreasingBy};
+ghost use Rattle.rv_elf.specs.CodeSymbols.{code_symbol, is_named_code, symbol_count, AreCodeSymbols, AreNamed, FindSymbols, IsSymbolFor};
+ghost use Rattle.rv_elf.specs.Image.{IsImageOf};
+ghost use Rattle.rv_elf.specs.SymbolSearch.{symbol_at, IsNamesEnd};
+
+use crate::image::Image;
+use crate::symbol_search::{SymbolAt, are_in_one_segment, names_end, text_before_zero};
+use crate::symbols::{SYMBOL_SIZE, Symbol, bytes_from, symbol_and_string_bytes, symbol_entry};
+use std::alloc::{AllocError, Global};
+
+// What an index keeps of a symbol.
+#[derive(Clone, Copy)]
+struct CodeSymbol {
+    // Greater where `symbol_at` prefers the symbol.
+    rank: u64,
+    value: u32,
+    name: u32,
+}
+
+/// The symbols of an image's code, sorted by value, so that the symbol of an address is found without a
+/// pass over the symbol table.
+#[derive(Drop)]
+pub struct CodeSymbols<'a> {
+    /// The image that the file was read as.
+    pub image: &'a Image,
+    /// The bytes of the file.
+    pub bytes: &'a [u8],
+    // The file's string table, empty where the tables are refused.
+    strings: &'a [u8],
+    symbols: Vec<CodeSymbol>,
+    ghost rising: { IsNonDecreasingBy (λ s. s.value) symbols.items },
+    ghost named: { AreNamed strings.now symbols.items },
+    ghost finds: { FindSymbols image.now bytes.now strings.now symbols.items },
+}
+
+// The size of a table has 32 bits, so that it has fewer symbols.
+const MOST_SYMBOLS: u64 = 0x1000_0000;
+
+impl<'a> CodeSymbols<'a> {
+    /// Sorts the symbols of a file that [`symbol_at`](crate::symbol_at) can return. There are none where
+    /// [`find_symbol`](crate::find_symbol) would refuse the tables. It takes the time of one pass over the
+    /// table, one over the strings and a sort, and memory for 16 bytes a symbol. Of a name it reads the first
+    /// byte.
+    pub fn new(
+        alloc: Global,
+        image: &'a Image,
+        bytes: &'a [u8],
+    ) -> Result<CodeSymbols<'a>, AllocError>
+        requires image { IsImageOf bytes.now image.now }
+        ensures image { IfOk result (λ symbols. symbols.image.now ≡ image.now) }
+        ensures bytes { IfOk result (λ symbols. symbols.bytes.now ≡ bytes.now) }
+    {
+        let Ok((table, strings)) = symbol_and_string_bytes(bytes) else {
+            return Ok(CodeSymbols {
+                image,
+                bytes,
+                strings: &[],
+                symbols: Vec::new(alloc),
+            });
+        };
+        let symbols = sorted_symbols(alloc, table, strings)?;
+        Ok(CodeSymbols {
+            image,
+            bytes,
+            strings,
+            symbols,
+        })
+    }
+
+    /// The symbol that an address of the image belongs to: the one that [`symbol_at`](crate::symbol_at)
+    /// returns. Its time grows with the logarithm of the number of symbols, and with the length of the name
+    /// that it returns. It takes no memory.
+    pub fn symbol_at(&self, addr: u32) -> Option<SymbolAt<'a>>
+        ensures { MatchOption result (symbol_at self.now.image.now self.now.bytes.now addr ≡ None)
+            (λ s. symbol_at self.now.image.now self.now.bytes.now addr ≡ Some (s.name.now, s.offset)) }
+    {
+        let symbol = self.nearest_symbol(addr)?;
+        Some(SymbolAt {
+            name: text_before_zero(bytes_from(self.strings, symbol.name as usize))?,
+            offset: addr - symbol.value,
+        })
+    }
+
+    /// The value of the symbol that an address of the image belongs to. It reads no name, so its time grows
+    /// only with the logarithm of the number of symbols.
+    pub fn symbol_value_at(&self, addr: u32) -> Option<u32>
+        ensures { result ≡ option_map (λ s. addr - s.1) (symbol_at self.now.image.now self.now.bytes.now addr) }
+    {
+        Some(self.nearest_symbol(addr)?.value)
+    }
+
+    // A segment that holds a lower symbol and the address holds every value between them. So where the
+    // nearest symbol is in no segment with the address, no lower one is.
+    fn nearest_symbol(&self, addr: u32) -> Option<CodeSymbol>
+        ensures { MatchOption result (symbol_at self.now.image.now self.now.bytes.now addr ≡ None)
+            (IsSymbolFor (symbol_at self.now.image.now self.now.bytes.now addr) self.now.strings.now addr) }
+    {
+        let symbols = self.symbols.as_slice();
+        let above = symbols.partition_point(|symbol| symbol.value <= addr);
+        if above == 0 {
+            return None;
+        }
+        let symbol = symbols[above - 1];
+        if !are_in_one_segment(self.image.segments.as_slice(), symbol.value, addr) {
+            return None;
+        }
+        Some(symbol)
+    }
+}
+
+// The symbols of a table that may stand for code, by their ranks.
+fn sorted_symbols(
+    alloc: Global,
+    table: &[u8],
+    strings: &[u8],
+) -> Result<Vec<CodeSymbol>, AllocError>
+    requires { length table.now < 2 ^ 32 }
+    ensures symbols { IfOk result (λ symbols. AreCodeSymbols table.now strings.now (symbol_count table.now) symbols.items) }
+    ensures rising { IfOk result (λ symbols. IsNonDecreasingBy (λ s. s.rank) symbols.items) }
+{
+    let mut symbols = code_symbols(alloc, table, strings)?;
+    symbols.sort_unstable_by_key(|symbol| symbol.rank);
+    Ok(symbols)
+}
+
+// The symbols of a table that may stand for code, in the order of the table.
+fn code_symbols(alloc: Global, table: &[u8], strings: &[u8]) -> Result<Vec<CodeSymbol>, AllocError>
+    requires { length table.now < 2 ^ 32 }
+    ensures { IfOk result (λ symbols. AreCodeSymbols table.now strings.now (symbol_count table.now) symbols.items) }
+{
+    let end = names_end(strings);
+    let mut symbols = Vec::new(alloc);
+    for k in 0..table.len() / SYMBOL_SIZE {
+        let symbol = symbol_entry(table, SYMBOL_SIZE * k);
+        if symbol.is_named_code(strings, end) {
+            symbols.push(symbol.code_symbol(k))?;
+        }
+    }
+    Ok(symbols)
+}
+
+impl Symbol {
+    fn is_named_code(&self, strings: &[u8], end: usize) -> bool
+        requires { IsNamesEnd strings.now end }
+        ensures { result ≡ is_named_code strings.now self.now }
+    {
+        self.may_be_code() && self.has_section() && self.has_usable_name(strings, end)
+    }
+
+    fn code_symbol(&self, index: usize) -> CodeSymbol
+        requires { index < 0x1000_0000 }
+        ensures { result ≡ code_symbol index self.now }
+    {
+        let kind = 3 * u64::from(self.value) + u64::from(self.precedence());
+        CodeSymbol {
+            rank: MOST_SYMBOLS * kind + (MOST_SYMBOLS - 1 - index as u64),
+            value: self.value,
+            name: self.name,
+        }
+    }
+}

@@ -1,0 +1,272 @@
+-- Nodes' counts that move to spots.
+use Rattle.std.proofs.Common.{◌≡◌, ◌∙◌, ◌==◌, ◌+◌, ◌-◌, ◌<◌, ℕ, Bool, true, false, cond, List, [], ◌∷◌, ◌++◌, length, take, get_or, set, refl, sym, ap, subst, arith}
+use Rattle.std.proofs.lemmas.Bool.{and_parts, eqb-true}
+use Rattle.std.proofs.lemmas.List.{take_all}
+use Rattle.std.specs.List.{list_all}
+use Rattle.std.specs.Str.{bytes_eq}
+use Rattle.rv_spots.specs.declared.spot.Spot.{Spot}
+use Rattle.rv_spots.specs.Trees.{arrivals_of, counted_behind, counted_in_all, last_path, path_behind, steps_if, steps_of, HasArrivals, IsTree, StandsBehind}
+use Rattle.rv_spots.specs.Trees as spots
+use Rattle.rv_spots.proofs.Public.{last_parts, stand_of_parts}
+use Rattle.rv_stacks.specs.declared.flat.Flat.{Flat}
+use Rattle.rv_stacks.specs.declared.node.Node.{Node}
+use Rattle.rv_stacks.specs.Nodes.{all_steps, arrivals_at, is_empty, own_in, path_below, path_of, steps_at, weighed, weighed_behind}
+use Rattle.rv_stacks.specs.Walks.{AreSpotsOf, GoesBack, IsFlat, IsNext, IsTrail, Moves}
+use Rattle.rv_stacks.proofs.Growing.{trail_longer, trail_stays}
+use Rattle.rv_stacks.proofs.Nodes.{first_paths, path_with, paths_with, weighed_with, IsOfSame}
+use Rattle.std.proofs.Common.{length-set}
+
+-- ---- a spot more
+
+counted_more : (count : Spot → ℕ) (path front : List ℕ) (ss : List Spot) (s : Spot)
+    → counted_behind count path front (ss ++ s ∷ [])
+    ≡ counted_behind count path front ss + cond (bytes_eq (path_behind (last_path front ss) s) path) (count s) 0
+counted_more count path front [] s = omega arith
+counted_more count path front (x ∷ xs) s =
+    let rest = counted_more count path (path_behind front x) xs s in omega (arith, rest)
+
+sum_more : (count : Spot → ℕ) (ss : List Spot) (s : Spot) → counted_in_all count (ss ++ s ∷ []) ≡ counted_in_all count ss + count s
+sum_more count [] s = omega arith
+sum_more count (x ∷ xs) s = let rest = sum_more count xs s in omega (arith, rest)
+
+some_more : (ss : List Spot) (s : Spot) → HasArrivals ss → 0 < s.arrivals → HasArrivals (ss ++ s ∷ [])
+some_more [] s h k = (k, tt)
+some_more (x ∷ xs) s h k = (h.0, some_more xs s h.1 k)
+
+no_weight : (b : Bool) → ◌≡◌ {A = ℕ} (cond b 0 0) 0
+no_weight true = refl
+no_weight false = refl
+
+-- ---- a node whose counts move
+
+module _ (nodes : List Node) (old new : Flat) (number : ℕ) (node : Node) (depth : ℕ)
+    (h : IsFlat nodes old) (each : (d : ℕ) → IsNext (get_or old.trail.items (length old.path.items) d) old.from number nodes)
+    (is : node ≡ get_or nodes (number - 1) node) (deep : depth ≡ length old.path.items)
+    (path : new.path.items ≡ old.path.items ++ node.function ∷ []) (trail : new.trail.items ≡ old.trail.items ++ number ∷ [])
+    (spot_is : new.spots.items ≡ old.spots.items
+    ++ record { depth = depth; function = node.function; arrivals = node.arrivals; steps = node.steps } ∷ []) where
+  abbrev front : List ℕ
+  front = last_path [] old.spots.items
+
+  abbrev parent : ℕ
+  parent = get_or old.trail.items (length old.path.items) 0
+
+  abbrev spot : Spot
+  spot = record { depth = depth; function = node.function; arrivals = node.arrivals; steps = node.steps }
+
+  abbrev emptied : Node
+  emptied = record { parent = node.parent; function = node.function; arrivals = 0; steps = 0 }
+
+  next : IsNext parent old.from number nodes
+  next = each 0
+
+  some : 0 < number
+  some = let b = next.behind in omega (arith, b)
+
+  one : number - 1 + 1 ≡ number
+  one = let s = some in omega (arith, s)
+
+  same : IsOfSame emptied (get_or nodes (number - 1) node)
+  same = record { parent = ap (λ (x : Node). x.parent) is; function = ap (λ (x : Node). x.function) is }
+
+  of_parent : path_of parent nodes ≡ old.path.items
+  of_parent =
+      let long = h.trail.long in
+      h.trail.paths (length old.path.items) 0 (omega (arith, long)) ∙ take_all (length old.path.items) old.path.items (omega arith)
+
+  of_number : path_of number nodes ≡ old.path.items ++ node.function ∷ []
+  of_number =
+      path_with nodes number some next.within parent node (next.above (number - 1) node one) next.behind
+      ∙ ap (λ (p : List ℕ). p ++ (get_or nodes (number - 1) node).function ∷ []) of_parent
+      ∙ ap (λ (x : Node). old.path.items ++ x.function ∷ []) (sym is)
+
+  of_spot : path_behind front spot ≡ old.path.items ++ node.function ∷ []
+  of_spot =
+      ap (λ (k : ℕ). take k front ++ node.function ∷ []) deep
+      ∙ ap (λ (p : List ℕ). p ++ node.function ∷ []) (sym h.front)
+
+  of_both : path_behind front spot ≡ path_of number nodes
+  of_both = of_spot ∙ sym of_number
+
+  of_last : last_path [] new.spots.items ≡ new.path.items
+  of_last =
+      ap (last_path []) spot_is ∙ last_parts [] old.spots.items (spot ∷ []) ∙ of_spot ∙ sym path
+
+  stands : StandsBehind front spot
+  stands =
+      let within = h.within in record {
+        within = omega (arith, deep, within);
+        rising = λ less.
+            let below = h.rising 0 (omega (arith, deep, less)) in
+            let at = ap (λ (k : ℕ). get_or front k 0) deep in
+            let over = next.rising (number - 1) node one in
+            let own = ap (λ (x : Node). x.function) is in
+            omega (arith, below, at, over, own);
+      }
+
+  arrives : 0 < spot.arrivals
+  arrives =
+      let there = next.some (number - 1) node one in
+      let own = ap (λ (x : Node). x.arrivals) is in
+      omega (arith, there, own)
+
+  flat : IsFlat (set nodes (number - 1) emptied) new
+  flat =
+      let last = ap length of_last in record {
+        tree = subst (λ (ss : List Spot). IsTree ss) (sym spot_is) (stand_of_parts [] old.spots.items (spot ∷ []) h.tree (stands, tt));
+        some = subst (λ (ss : List Spot). HasArrivals ss) (sym spot_is) (some_more old.spots.items spot h.some arrives);
+        trail = subst (λ (p : List ℕ). IsTrail (set nodes (number - 1) emptied) p new.trail.items) (sym path)
+            (subst (λ (t : List ℕ). IsTrail (set nodes (number - 1) emptied) (old.path.items ++ node.function ∷ []) t) (sym trail)
+            (trail_stays nodes (set nodes (number - 1) emptied) (old.path.items ++ node.function ∷ []) (old.trail.items ++ number ∷ [])
+            (trail_longer nodes old.path.items old.trail.items node.function number h.trail next.within of_number)
+            (record {
+              long = length-set nodes (number - 1) emptied;
+              paths = paths_with nodes number some next.within emptied node same;
+            })));
+        within = omega (arith, last);
+        front = sym (take_all (length new.path.items) new.path.items (omega arith))
+            ∙ ap (take (length new.path.items)) (sym of_last);
+        rising = λ d less. absurd (omega (arith, last, less));
+      }
+
+  -- what it weighed is in the spot
+  moved_weight : (w : List ℕ → Node → ℕ) (before more : ℕ) → more ≡ w (path_of number nodes) node
+      → w (path_of number nodes) emptied ≡ 0
+      → before + more + weighed w (set nodes (number - 1) emptied) ≡ before + weighed w nodes
+  moved_weight w before more is_more none =
+      let all = weighed_with nodes number some next.within w emptied node same in
+      let here = ap (w (path_of number nodes)) is in
+      omega (arith, all, here, is_more, none)
+
+  pub moved : Moves nodes old (set nodes (number - 1) (record { parent = node.parent; function = node.function; arrivals = 0; steps = 0 })) new
+  moved = record {
+    flat = flat;
+    arrivals = λ at.
+        let grown = ap (spots.arrivals_at at) spot_is ∙ counted_more arrivals_of at [] old.spots.items spot in
+        let kept = moved_weight (λ p n. cond (bytes_eq p at) n.arrivals 0) (spots.arrivals_at at old.spots.items)
+        (cond (bytes_eq (path_behind front spot) at) spot.arrivals 0)
+        (ap (λ (p : List ℕ). cond (bytes_eq p at) node.arrivals 0) of_both) (no_weight (bytes_eq (path_of number nodes) at)) in
+        omega (arith, grown, kept);
+    steps = λ at.
+        let grown = ap (spots.steps_at at) spot_is ∙ counted_more steps_of at [] old.spots.items spot in
+        let kept = moved_weight (λ p n. cond (bytes_eq p at) n.steps 0) (spots.steps_at at old.spots.items)
+        (cond (bytes_eq (path_behind front spot) at) spot.steps 0)
+        (ap (λ (p : List ℕ). cond (bytes_eq p at) node.steps 0) of_both) (no_weight (bytes_eq (path_of number nodes) at)) in
+        omega (arith, grown, kept);
+    own = λ f.
+        let grown = ap (spots.own_in f) spot_is ∙ sum_more (λ s. steps_if (s.function == f) s.steps) old.spots.items spot in
+        let kept = moved_weight (λ p n. steps_if (n.function == f) n.steps) (spots.own_in f old.spots.items)
+        (steps_if (node.function == f) node.steps) refl (no_weight (node.function == f)) in
+        omega (arith, grown, kept);
+    all_steps = (let grown = ap spots.all_steps spot_is ∙ sum_more steps_of old.spots.items spot in
+        let kept = moved_weight (λ p n. n.steps) (spots.all_steps old.spots.items) node.steps refl refl in
+        omega (arith, grown, kept));
+  }
+
+-- nothing moves on the way back
+pub went_back : (nodes : List Node) (old new : Flat) → GoesBack nodes old new → Moves nodes old nodes new
+went_back nodes old new h = record {
+  flat = h.flat;
+  arrivals = λ path. ap (λ (ss : List Spot). spots.arrivals_at path ss + arrivals_at path nodes) h.spots;
+  steps = λ path. ap (λ (ss : List Spot). spots.steps_at path ss + steps_at path nodes) h.spots;
+  own = λ f. ap (λ (ss : List Spot). spots.own_in f ss + own_in f nodes) h.spots;
+  all_steps = ap (λ (ss : List Spot). spots.all_steps ss + all_steps nodes) h.spots;
+}
+
+-- ---- from the first on
+
+pub no_spot : (nodes : List Node) (flat : Flat) → flat.path.items ≡ [] → flat.trail.items ≡ 0 ∷ [] → flat.spots.items ≡ []
+    → IsFlat nodes flat
+no_spot nodes flat path trail spots_are =
+    let long = ap length path in
+    let one = ap length trail in
+    let none = ap (λ (ss : List Spot). length (last_path [] ss)) spots_are in
+    let first = λ (k d : ℕ) (at : k ≡ 0). ap (λ (xs : List ℕ). get_or xs k d) trail ∙ ap (λ (j : ℕ). get_or (0 ∷ []) j d) at in record {
+      tree = subst (λ (ss : List Spot). IsTree ss) (sym spots_are) tt;
+      some = subst (λ (ss : List Spot). HasArrivals ss) (sym spots_are) tt;
+      trail = record {
+        long = omega (arith, long, one);
+        within = λ k d less. let e = first k d (omega (arith, less, one)) in omega (arith, e);
+        paths = λ k d less.
+            let at : k ≡ 0 = omega (arith, less, one) in
+            ap (λ (n : ℕ). path_of n nodes) (first k d at)
+            ∙ first_paths ([] ∷ []) nodes 0 [] (omega arith)
+            ∙ sym (ap (λ (j : ℕ). take j flat.path.items) at);
+      };
+      within = omega (arith, long);
+      front = path ∙ sym (ap (λ (j : ℕ). take j (last_path [] flat.spots.items)) long);
+      rising = λ d less. absurd (omega (arith, less, none));
+    }
+
+-- what is left of nodes, and what is in spots, is what was counted
+pub record Conserves (start left : List Node) (flat : Flat) : Type 0 where
+  pub standing : IsFlat left flat
+  pub arrivals : (path : List ℕ) → spots.arrivals_at path flat.spots.items + arrivals_at path left ≡ arrivals_at path start
+  pub steps : (path : List ℕ) → spots.steps_at path flat.spots.items + steps_at path left ≡ steps_at path start
+  pub own : (f : ℕ) → spots.own_in f flat.spots.items + own_in f left ≡ own_in f start
+  pub all_steps : spots.all_steps flat.spots.items + all_steps left ≡ all_steps start
+
+pub none_moved : (nodes : List Node) (flat : Flat) → IsFlat nodes flat → flat.spots.items ≡ [] → Conserves nodes nodes flat
+none_moved nodes flat h none = record {
+  standing = h;
+  arrivals = λ path. let e = ap (λ (ss : List Spot). spots.arrivals_at path ss) none in omega (arith, e);
+  steps = λ path. let e = ap (λ (ss : List Spot). spots.steps_at path ss) none in omega (arith, e);
+  own = λ f. let e = ap (λ (ss : List Spot). spots.own_in f ss) none in omega (arith, e);
+  all_steps = (let e = ap (λ (ss : List Spot). spots.all_steps ss) none in omega (arith, e));
+}
+
+pub one_moved : (start before after : List Node) (old new : Flat) → Conserves start before old → Moves before old after new
+    → Conserves start after new
+one_moved start before after old new h m = record {
+  standing = m.flat;
+  arrivals = λ path. m.arrivals path ∙ h.arrivals path;
+  steps = λ path. m.steps path ∙ h.steps path;
+  own = λ f. m.own f ∙ h.own f;
+  all_steps = m.all_steps ∙ h.all_steps;
+}
+
+-- ---- at the end
+
+no_counts : (n : Node) → is_empty n ≡ true → (n.arrivals ≡ 0) × (n.steps ≡ 0)
+no_counts n h =
+    let both = and_parts (n.arrivals == 0) (n.steps == 0) h in
+    (eqb-true n.arrivals 0 both.0, eqb-true n.steps 0 both.1)
+
+empty_weight : (w : List ℕ → Node → ℕ) (ps : List (List ℕ)) (ns : List Node)
+    → ((p : List ℕ) (n : Node) → (n.arrivals ≡ 0) × (n.steps ≡ 0) → w p n ≡ 0) → list_all is_empty ns ≡ true
+    → weighed_behind w ps ns ≡ 0
+empty_weight w ps [] none h = refl
+empty_weight w ps (n ∷ ns) none h =
+    let parts = and_parts (is_empty n) (list_all is_empty ns) h in
+    let here = none (path_below ps n) n (no_counts n parts.0) in
+    let rest = empty_weight w (ps ++ path_below ps n ∷ []) ns none parts.1 in
+    omega (arith, here, rest)
+
+zero_if : (b : Bool) (n : ℕ) → n ≡ 0 → cond b n 0 ≡ 0
+zero_if true n h = h
+zero_if false n h = refl
+
+pub all_moved : (start left : List Node) (flat : Flat) → Conserves start left flat → list_all is_empty left ≡ true
+    → AreSpotsOf start flat.spots.items
+all_moved start left flat h empty = record {
+  tree = h.standing.tree;
+  some = h.standing.some;
+  arrivals = λ path.
+      let all = h.arrivals path in
+      let none = empty_weight (λ p n. cond (bytes_eq p path) n.arrivals 0) ([] ∷ []) left
+      (λ p n e. zero_if (bytes_eq p path) n.arrivals e.0) empty in
+      omega (arith, all, none);
+  steps = λ path.
+      let all = h.steps path in
+      let none = empty_weight (λ p n. cond (bytes_eq p path) n.steps 0) ([] ∷ []) left
+      (λ p n e. zero_if (bytes_eq p path) n.steps e.1) empty in
+      omega (arith, all, none);
+  own = λ f.
+      let all = h.own f in
+      let none = empty_weight (λ p n. steps_if (n.function == f) n.steps) ([] ∷ []) left
+      (λ p n e. zero_if (n.function == f) n.steps e.1) empty in
+      omega (arith, all, none);
+  all_steps = (let all = h.all_steps in
+      let none = empty_weight (λ p n. n.steps) ([] ∷ []) left (λ p n e. e.1) empty in
+      omega (arith, all, none));
+}

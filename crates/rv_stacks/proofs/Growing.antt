@@ -1,0 +1,254 @@
+-- Nodes that grow.
+use Rattle.std.proofs.Common.{◌≡◌, ◌∙◌, ◌==◌, ◌+◌, ◌-◌, ◌<◌, ◌≤◌, ℕ, zero, suc, Bool, true, false, cond, List, [], ◌∷◌, ◌++◌, length, take, get_or, set, refl, sym, ap, subst, arith, length-append, length-set, inl, inr}
+use Rattle.std.proofs.lemmas.Bool.{cases_lt}
+use Rattle.std.proofs.lemmas.List.{get_or_append_left, take-append-le, take_all}
+use Rattle.std.proofs.Math.Seq.{get_or-append_seam}
+use Rattle.std.specs.Str.{bytes_eq}
+use Rattle.rv_spots.specs.Trees.{ends_with, once_if, steps_if}
+use Rattle.rv_stacks.specs.declared.node.Node.{Node}
+use Rattle.rv_stacks.specs.declared.walk.Walk.{Walk}
+use Rattle.rv_stacks.specs.Nodes.{all_arrivals, all_steps, arrivals_at, own_in, path_below, paths_behind, path_of, paths_of, steps_at, weighed, ArrivesOnce, HasChild, IsChild, KeepsPaths, StepsOnce}
+use Rattle.rv_stacks.specs.Walks.{Arrives, IsTrail, Returns}
+use Rattle.rv_stacks.proofs.Nodes.{first_paths, long_paths, path_with, paths_more, paths_with, weighed_more, weighed_with, IsOfSame}
+
+-- what stands at number 0
+abbrev root : List (List ℕ)
+root = [] ∷ []
+
+-- ---- a child
+
+abbrev nothing : Node
+nothing = record { parent = 0; function = 0; arrivals = 0; steps = 0 }
+
+pub found_child : (parent function number : ℕ) (nodes : List Node) → IsChild parent function number nodes
+    → HasChild parent function nodes number nodes
+found_child parent function number nodes h =
+    let behind = h.behind in
+    let some : 0 < number = omega (arith, behind) in
+    let one : number - 1 + 1 ≡ number = omega (arith, some) in record {
+      some = some;
+      within = h.within;
+      longer = omega arith;
+      path = path_with nodes number some h.within parent nothing (h.above (number - 1) nothing one) behind
+          ∙ ap (λ (f : ℕ). path_of parent nodes ++ f ∷ []) (h.own (number - 1) nothing one);
+      paths = λ k less. refl;
+      arrivals = λ path. refl;
+      steps = λ path. refl;
+      own = λ f. refl;
+      all_arrivals = refl;
+      all_steps = refl;
+    }
+
+no_weight : (b : Bool) → ◌≡◌ {A = ℕ} (cond b 0 0) 0
+no_weight true = refl
+no_weight false = refl
+
+module _ (parent function : ℕ) (nodes : List Node) (within : parent < length nodes + 1) where
+  abbrev fresh : Node
+  fresh = record { parent = parent; function = function; arrivals = 0; steps = 0 }
+
+  abbrev grown : List Node
+  grown = nodes ++ fresh ∷ []
+
+  same_weight : (w : List ℕ → Node → ℕ) → ((p : List ℕ) → w p fresh ≡ 0) → weighed w grown ≡ weighed w nodes
+  same_weight w none =
+      let more = weighed_more w ([] ∷ []) nodes fresh in
+      let zero = none (path_below (paths_of nodes) fresh) in
+      omega (arith, more, zero)
+
+  pub made_child : (number : ℕ) → number ≡ length nodes + 1
+      → HasChild parent function nodes number (nodes ++ record { parent = parent; function = function; arrivals = 0; steps = 0 } ∷ [])
+  made_child number is =
+      let one = length-append nodes (fresh ∷ []) in
+      let long = long_paths ([] ∷ []) nodes in
+      let at : number ≡ length (paths_of nodes) = omega (arith, is, long) in record {
+        some = omega (arith, is);
+        within = omega (arith, is, one);
+        longer = omega (arith, one);
+        path = ap (λ (k : ℕ). path_of k grown) at
+            ∙ ap (λ (ps : List (List ℕ)). get_or ps (length (paths_of nodes)) []) (paths_more ([] ∷ []) nodes fresh)
+            ∙ get_or-append_seam (paths_of nodes) (path_below (paths_of nodes) fresh) [] [];
+        paths = λ k less.
+            ap (λ (ps : List (List ℕ)). get_or ps k []) (paths_more ([] ∷ []) nodes fresh)
+            ∙ get_or_append_left (paths_of nodes) (path_below (paths_of nodes) fresh ∷ []) [] k (omega (arith, less, long));
+        arrivals = λ path. same_weight (λ p n. cond (bytes_eq p path) n.arrivals 0) (λ p. no_weight (bytes_eq p path));
+        steps = λ path. same_weight (λ p n. cond (bytes_eq p path) n.steps 0) (λ p. no_weight (bytes_eq p path));
+        own = λ f. same_weight (λ p n. steps_if (n.function == f) n.steps) (λ p. no_weight (function == f));
+        all_arrivals = same_weight (λ p n. n.arrivals) (λ p. refl);
+        all_steps = same_weight (λ p n. n.steps) (λ p. refl);
+      }
+
+-- ---- one more in a node
+
+sum_if : (t : Bool) (n m : ℕ) → cond t (n + m) 0 ≡ cond t n 0 + cond t m 0
+sum_if true n m = refl
+sum_if false n m = omega arith
+
+pub last_of : (f : ℕ) (xs : List ℕ) (x : ℕ) → ends_with f (xs ++ x ∷ []) ≡ (x == f)
+last_of f [] x = refl
+last_of f (y ∷ []) x = refl
+last_of f (y ∷ z ∷ zs) x = last_of f (z ∷ zs) x
+
+-- the functions of a node end with its own
+ends_at : (ps : List (List ℕ)) (ns : List Node) (place : ℕ) (d : Node) (f : ℕ) → place < length ns
+    → ends_with f (get_or (paths_behind ps ns) (length ps + place) []) ≡ ((get_or ns place d).function == f)
+ends_at ps [] place d f within = absurd (omega (arith, within))
+ends_at ps (m ∷ ms) zero d f within =
+    let longer = ps ++ path_below ps m ∷ [] in
+    let one = length-append ps (path_below ps m ∷ []) in
+    let at : length ps + 0 ≡ length ps = omega arith in
+    ap (λ (k : ℕ). ends_with f (get_or (paths_behind longer ms) k [])) at
+    ∙ ap (ends_with f) (first_paths longer ms (length ps) [] (omega (arith, one))
+    ∙ get_or-append_seam ps (path_below ps m) [] [])
+    ∙ last_of f (get_or ps m.parent []) m.function
+ends_at ps (m ∷ ms) (suc place) d f within =
+    let longer = ps ++ path_below ps m ∷ [] in
+    let one = length-append ps (path_below ps m ∷ []) in
+    let at : length ps + suc place ≡ length longer + place = omega (arith, one) in
+    ap (λ (k : ℕ). ends_with f (get_or (paths_behind longer ms) k [])) at
+    ∙ ends_at longer ms place d f (omega (arith, within))
+
+module _ (nodes : List Node) (number : ℕ) (some : 0 < number) (within : number < length nodes + 1) (old : Node)
+    (is : old ≡ get_or nodes (number - 1) old) where
+  same_of : (n : Node) → n.parent ≡ old.parent → n.function ≡ old.function → IsOfSame n (get_or nodes (number - 1) old)
+  same_of n above own = record {
+    parent = above ∙ ap (λ (x : Node). x.parent) is;
+    function = own ∙ ap (λ (x : Node). x.function) is;
+  }
+
+  kept : (n : Node) → n.parent ≡ old.parent → n.function ≡ old.function → KeepsPaths nodes (set nodes (number - 1) n)
+  kept n above own = record {
+    long = length-set nodes (number - 1) n;
+    paths = paths_with nodes number some within n old (same_of n above own);
+  }
+
+  -- so much more
+  more : (w : List ℕ → Node → ℕ) (n : Node) (m : ℕ) → n.parent ≡ old.parent → n.function ≡ old.function
+      → w (path_of number nodes) n ≡ w (path_of number nodes) old + m
+      → weighed w (set nodes (number - 1) n) ≡ weighed w nodes + m
+  more w n m above own grows =
+      let all = weighed_with nodes number some within w n old (same_of n above own) in
+      let here = ap (w (path_of number nodes)) is in
+      omega (arith, all, here, grows)
+
+  same : (w : List ℕ → Node → ℕ) (n : Node) → n.parent ≡ old.parent → n.function ≡ old.function
+      → w (path_of number nodes) n ≡ w (path_of number nodes) old → weighed w (set nodes (number - 1) n) ≡ weighed w nodes
+  same w n above own stays =
+      let all = more w n 0 above own (omega (arith, stays)) in omega (arith, all)
+
+  ends_here : (f : ℕ) → ends_with f (path_of number nodes) ≡ (old.function == f)
+  ends_here f =
+      let at : number ≡ length root + (number - 1) = omega (arith, some) in
+      ap (λ (k : ℕ). ends_with f (path_of k nodes)) at
+      ∙ ends_at root nodes (number - 1) old f (omega (arith, some, within))
+      ∙ ap (λ (x : Node). x.function == f) (sym is)
+
+  pub arrived_once : ArrivesOnce number nodes
+      (set nodes (number - 1) (record { parent = old.parent; function = old.function; arrivals = old.arrivals + 1; steps = old.steps }))
+  arrived_once =
+      let n : Node = record { parent = old.parent; function = old.function; arrivals = old.arrivals + 1; steps = old.steps } in record {
+        kept = kept n refl refl;
+        arrivals = λ path. more (λ p x. cond (bytes_eq p path) x.arrivals 0) n (once_if (bytes_eq (path_of number nodes) path)) refl refl
+            (sum_if (bytes_eq (path_of number nodes) path) old.arrivals 1);
+        steps = λ path. same (λ p x. cond (bytes_eq p path) x.steps 0) n refl refl refl;
+        own = λ f. same (λ p x. steps_if (x.function == f) x.steps) n refl refl refl;
+        all_arrivals = more (λ p x. x.arrivals) n 1 refl refl refl;
+        all_steps = same (λ p x. x.steps) n refl refl refl;
+      }
+
+  pub stepped_once : StepsOnce number nodes
+      (set nodes (number - 1) (record { parent = old.parent; function = old.function; arrivals = old.arrivals; steps = old.steps + 1 }))
+  stepped_once =
+      let n : Node = record { parent = old.parent; function = old.function; arrivals = old.arrivals; steps = old.steps + 1 } in record {
+        kept = kept n refl refl;
+        arrivals = λ path. same (λ p x. cond (bytes_eq p path) x.arrivals 0) n refl refl refl;
+        steps = λ path. more (λ p x. cond (bytes_eq p path) x.steps 0) n (once_if (bytes_eq (path_of number nodes) path)) refl refl
+            (sum_if (bytes_eq (path_of number nodes) path) old.steps 1);
+        own = λ f. more (λ p x. steps_if (x.function == f) x.steps) n (once_if (old.function == f)) refl refl
+            (sum_if (old.function == f) old.steps 1)
+            ∙ ap (λ (b : Bool). own_in f nodes + once_if b) (sym (ends_here f));
+        all_arrivals = same (λ p x. x.arrivals) n refl refl refl;
+        all_steps = more (λ p x. x.steps) n 1 refl refl refl;
+      }
+
+-- ---- trails
+
+-- nodes that keep the functions of the first
+pub trail_kept : (old new : List Node) (path trail : List ℕ) → IsTrail old path trail → length old ≤ length new
+    → ((k : ℕ) → k < length old + 1 → path_of k new ≡ path_of k old) → IsTrail new path trail
+trail_kept old new path trail h longer paths = record {
+  long = h.long;
+  within = λ k d less. let there = h.within k d less in omega (arith, there, longer);
+  paths = λ k d less. paths (get_or trail k d) (h.within k d less) ∙ h.paths k d less;
+}
+
+pub trail_stays : (old new : List Node) (path trail : List ℕ) → IsTrail old path trail → KeepsPaths old new → IsTrail new path trail
+trail_stays old new path trail h keeps =
+    let same = keeps.long in
+    trail_kept old new path trail h (omega (arith, same)) (λ k less. ap (λ (ps : List (List ℕ)). get_or ps k []) keeps.paths)
+
+-- a node more
+pub trail_longer : (nodes : List Node) (path trail : List ℕ) (function number : ℕ) → IsTrail nodes path trail
+    → number < length nodes + 1 → path_of number nodes ≡ path ++ function ∷ []
+    → IsTrail nodes (path ++ function ∷ []) (trail ++ number ∷ [])
+trail_longer nodes path trail function number h within here =
+    let long = h.long in
+    let one = length-append path (function ∷ []) in
+    let two = length-append trail (number ∷ []) in
+    let at = λ (k d : ℕ) (less : k < length trail). get_or_append_left trail (number ∷ []) d k less in
+    let end = λ (k d : ℕ) (is : k ≡ length trail). ap (λ (n : ℕ). get_or (trail ++ number ∷ []) n d) is
+    ∙ get_or-append_seam trail number [] d in record {
+      long = omega (arith, long, one, two);
+      within = λ k d less. elim (cases_lt k (length trail)) [
+        | inl low ↦ let e = at k d low in let b = h.within k d low in omega (arith, e, b)
+        | inr high ↦ let e = end k d (omega (arith, less, two, high)) in omega (arith, e, within)
+      ];
+      paths = λ k d less. elim (cases_lt k (length trail)) [
+        | inl low ↦ ap (λ (n : ℕ). path_of n nodes) (at k d low) ∙ h.paths k d low
+            ∙ sym (take-append-le k path (function ∷ []) (omega (arith, low, long)))
+        | inr high ↦ ap (λ (n : ℕ). path_of n nodes) (end k d (omega (arith, less, two, high))) ∙ here
+            ∙ sym (take_all k (path ++ function ∷ []) (omega (arith, one, long, high)))
+      ];
+    }
+
+-- ---- a walk
+
+-- the node where a walk is
+pub some_number : (w : Walk) (number : ℕ) → path_of number w.nodes.items ≡ w.path.items → 0 < length w.path.items → 0 < number
+some_number w zero here some =
+    let first = first_paths root w.nodes.items 0 [] (omega arith) in
+    let none = ap length (sym first ∙ here) in
+    absurd (omega (arith, none, some))
+some_number w (suc number) here some = omega arith
+
+pub arrived : (old mid new : Walk) (parent depth function number : ℕ) (made : List Node) → Returns depth old mid
+    → path_of parent mid.nodes.items ≡ mid.path.items
+    → HasChild parent function mid.nodes.items number made → ArrivesOnce number made new.nodes.items
+    → new.path.items ≡ mid.path.items ++ function ∷ [] → new.trail.items ≡ mid.trail.items ++ number ∷ []
+    → Arrives (take depth old.path.items ++ function ∷ []) old new
+arrived old mid new parent depth function number made back here child once path trail =
+    let own = function ∷ [] in
+    let there : path_of number made ≡ mid.path.items ++ own = child.path ∙ ap (λ (p : List ℕ). p ++ own) here in
+    let now : path_of number made ≡ take depth old.path.items ++ own = there ∙ ap (λ (p : List ℕ). p ++ own) back.path in
+    let kept_trail = trail_kept mid.nodes.items made mid.path.items mid.trail.items back.walk.trail child.longer child.paths in
+    let grown_trail = trail_stays made new.nodes.items (mid.path.items ++ own) (mid.trail.items ++ number ∷ [])
+    (trail_longer made mid.path.items mid.trail.items function number kept_trail child.within there) once.kept in record {
+      walk = record {
+        trail = subst (λ (p : List ℕ). IsTrail new.nodes.items p new.trail.items) (sym path)
+            (subst (λ (t : List ℕ). IsTrail new.nodes.items (mid.path.items ++ own) t) (sym trail) grown_trail);
+      };
+      path = path ∙ ap (λ (p : List ℕ). p ++ own) back.path;
+      arrivals = λ at.
+          let a = once.arrivals at in
+          let b = child.arrivals at in
+          let c = ap (arrivals_at at) back.nodes in
+          let d = ap (λ (p : List ℕ). once_if (bytes_eq p at)) now in
+          omega (arith, a, b, c, d);
+      steps = λ at. once.steps at ∙ child.steps at ∙ ap (steps_at at) back.nodes;
+      own = λ f. once.own f ∙ child.own f ∙ ap (own_in f) back.nodes;
+      all_arrivals = (let a = once.all_arrivals in
+          let b = child.all_arrivals in
+          let c = ap all_arrivals back.nodes in
+          omega (arith, a, b, c));
+      all_steps = once.all_steps ∙ child.all_steps ∙ ap all_steps back.nodes;
+    }

@@ -1,0 +1,98 @@
+-- Nodes: lists of functions of which each called the next, each by the number of the node that has all but its last function.
+use Rattle.std.specs.Prelude.{◌≡◌, ◌==◌, ◌+◌, ◌<◌, ◌≤◌, ◌&&◌, ℕ, Bool, if◌then◌else◌, List, [], ◌∷◌, ◌++◌, length, slice_index_or}
+use Rattle.std.specs.Str.{bytes_eq}
+use Rattle.rv_spots.specs.Trees.{ends_with, once_if, steps_if}
+use Rattle.rv_stacks.specs.declared.node.Node.{Node}
+
+-- ---- of which functions a node is
+
+-- those of the node above it, and its own
+abbrev pub path_below : List (List ℕ) → Node → List ℕ
+path_below paths n = slice_index_or paths n.parent [] ++ n.function ∷ []
+
+abbrev pub paths_behind : List (List ℕ) → List Node → List (List ℕ)
+paths_behind paths [] = paths
+paths_behind paths (n ∷ ns) = paths_behind (paths ++ path_below paths n ∷ []) ns
+
+-- those of each node by its number, from 1 on; 0 is that of no function
+abbrev pub paths_of : List Node → List (List ℕ)
+paths_of nodes = paths_behind ([] ∷ []) nodes
+
+abbrev pub path_of : ℕ → List Node → List ℕ
+path_of number nodes = slice_index_or (paths_of nodes) number []
+
+-- ---- what is counted
+
+-- the sum over the nodes
+abbrev pub weighed_behind : (List ℕ → Node → ℕ) → List (List ℕ) → List Node → ℕ
+weighed_behind weight paths [] = 0
+weighed_behind weight paths (n ∷ ns) =
+    weight (path_below paths n) n + weighed_behind weight (paths ++ path_below paths n ∷ []) ns
+
+abbrev pub weighed : (List ℕ → Node → ℕ) → List Node → ℕ
+weighed weight nodes = weighed_behind weight ([] ∷ []) nodes
+
+-- how often a run came to a list of functions, and how many instructions began in it
+abbrev pub arrivals_at : List ℕ → List Node → ℕ
+arrivals_at path nodes = weighed (λ p n. if bytes_eq p path then n.arrivals else 0) nodes
+
+abbrev pub steps_at : List ℕ → List Node → ℕ
+steps_at path nodes = weighed (λ p n. if bytes_eq p path then n.steps else 0) nodes
+
+-- how many began in a function itself: in the nodes of which it is the last
+abbrev pub own_in : ℕ → List Node → ℕ
+own_in function nodes = weighed (λ p n. steps_if (n.function == function) n.steps) nodes
+
+abbrev pub all_arrivals : List Node → ℕ
+all_arrivals nodes = weighed (λ p n. n.arrivals) nodes
+
+abbrev pub all_steps : List Node → ℕ
+all_steps nodes = weighed (λ p n. n.steps) nodes
+
+-- nothing is counted in it
+abbrev pub is_empty : Node → Bool
+is_empty n = (n.arrivals == 0) && (n.steps == 0)
+
+-- ---- a node below another
+
+-- the node of a number is the one by a function below another, which is in front of it
+pub record IsChild (parent function number : ℕ) (nodes : List Node) : Type 0 where
+  pub behind : parent < number
+  pub within : number < length nodes + 1
+  pub above : (k : ℕ) (d : Node) → k + 1 ≡ number → (slice_index_or nodes k d).parent ≡ parent
+  pub own : (k : ℕ) (d : Node) → k + 1 ≡ number → (slice_index_or nodes k d).function ≡ function
+
+-- it is among the new ones; nothing else is another
+pub record HasChild (parent function : ℕ) (old : List Node) (number : ℕ) (new : List Node) : Type 0 where
+  pub some : 0 < number
+  pub within : number < length new + 1
+  pub longer : length old ≤ length new
+  pub path : path_of number new ≡ path_of parent old ++ function ∷ []
+  pub paths : (k : ℕ) → k < length old + 1 → path_of k new ≡ path_of k old
+  pub arrivals : (path : List ℕ) → arrivals_at path new ≡ arrivals_at path old
+  pub steps : (path : List ℕ) → steps_at path new ≡ steps_at path old
+  pub own : (f : ℕ) → own_in f new ≡ own_in f old
+  pub all_arrivals : all_arrivals new ≡ all_arrivals old
+  pub all_steps : all_steps new ≡ all_steps old
+
+-- ---- one more in a node
+
+pub record KeepsPaths (old new : List Node) : Type 0 where
+  pub long : length new ≡ length old
+  pub paths : paths_of new ≡ paths_of old
+
+pub record ArrivesOnce (number : ℕ) (old new : List Node) : Type 0 where
+  pub kept : KeepsPaths old new
+  pub arrivals : (path : List ℕ) → arrivals_at path new ≡ arrivals_at path old + once_if (bytes_eq (path_of number old) path)
+  pub steps : (path : List ℕ) → steps_at path new ≡ steps_at path old
+  pub own : (f : ℕ) → own_in f new ≡ own_in f old
+  pub all_arrivals : all_arrivals new ≡ all_arrivals old + 1
+  pub all_steps : all_steps new ≡ all_steps old
+
+pub record StepsOnce (number : ℕ) (old new : List Node) : Type 0 where
+  pub kept : KeepsPaths old new
+  pub arrivals : (path : List ℕ) → arrivals_at path new ≡ arrivals_at path old
+  pub steps : (path : List ℕ) → steps_at path new ≡ steps_at path old + once_if (bytes_eq (path_of number old) path)
+  pub own : (f : ℕ) → own_in f new ≡ own_in f old + once_if (ends_with f (path_of number old))
+  pub all_arrivals : all_arrivals new ≡ all_arrivals old
+  pub all_steps : all_steps new ≡ all_steps old + 1

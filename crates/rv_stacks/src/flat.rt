@@ -1,0 +1,155 @@
+//! Nodes as spots in preorder.
+
+ghost use Rattle.std.specs.Prelude.{◌≡◌, [], ℕ, List, IfOk, IfSome, OnOk, length, slice_index_or, true};
+ghost use Rattle.std.specs.List.{list_all};
+ghost use Rattle.rv_stacks.specs.declared.node.Node.{Node as ANode};
+ghost use Rattle.rv_stacks.specs.Nodes.{is_empty};
+ghost use Rattle.rv_stacks.specs.Walks.{AreSpotsOf, GoesBack, IsFlat, IsNext, Moves};
+
+use crate::node::{Node, key_of};
+use rv_spots::{Spot, Spots};
+use std::alloc::{AllocError, Global};
+use std::collections::BTreeMap;
+
+/// Spots to which nodes' counts are moved, and the node up to which that is done.
+#[derive(Drop)]
+pub struct Flat {
+    /// The functions of that node.
+    pub path: Vec<u32>,
+    /// 0, and the numbers of the nodes of the first of them.
+    pub trail: Vec<usize>,
+    pub spots: Vec<Spot>,
+    /// Up to which function that of a child may not be.
+    pub from: u64,
+}
+
+/// The nodes as spots. Takes memory for the spots alone.
+pub(crate) fn spots_of_nodes(
+    alloc: Global,
+    nodes: Vec<Node>,
+    numbers: &BTreeMap<u64, usize>,
+) -> Result<Spots, AllocError>
+    ensures { IfOk result (AreSpotsOf nodes.items) }
+{
+    let mut left = nodes;
+    let mut flat = Flat::new(alloc)?;
+    // Each node is come to once, and left once.
+    'turns: for _ in 0..left.len().saturating_mul(2) {
+        flat.turn(&mut left, numbers)?;
+    }
+    if are_empty(left.as_slice()) {
+        return Ok(Spots::new(flat.spots));
+    }
+    // Out of memory: never so. Each node hangs below one that is come to, and is met from there, so that none is left; no clause says so.
+    Err(AllocError)
+}
+
+fn are_empty(nodes: &[Node]) -> bool
+    ensures { result ≡ list_all is_empty nodes.now }
+{
+    nodes.iter().all(is_empty)
+}
+
+fn is_empty(node: &Node) -> bool
+    ensures { result ≡ is_empty node.now }
+{
+    node.arrivals == 0 && node.steps == 0
+}
+
+impl Flat {
+    fn new(alloc: Global) -> Result<Flat, AllocError>
+        ensures { IfOk result (λ flat. (nodes : List ANode) → IsFlat nodes flat × (flat.spots.items ≡ [])) }
+    {
+        let mut trail = Vec::new(alloc);
+        trail.push(0)?;
+        Ok(Flat {
+            path: Vec::new(alloc),
+            trail,
+            spots: Vec::new(alloc),
+            from: 0,
+        })
+    }
+
+    // Comes to the next node below the one where it is, or goes back to the one above that.
+    fn turn(
+        &mut self,
+        left: &mut Vec<Node>,
+        numbers: &BTreeMap<u64, usize>,
+    ) -> Result<(), AllocError>
+        requires { IsFlat left.old.items self.old }
+        ensures { OnOk result (Moves left.old.items self.old left.new.items self.new) }
+    {
+        let parent = self.trail[self.trail.len() - 1];
+        match next_child(left.as_slice(), numbers, parent, self.from) {
+            Some(number) => self.move_in(left, number),
+            None => {
+                self.go_back();
+                Ok(())
+            }
+        }
+    }
+
+    // Moves the counts of a node below the one where it is, and comes to it.
+    fn move_in(&mut self, left: &mut Vec<Node>, number: usize) -> Result<(), AllocError>
+        requires flat { IsFlat left.old.items self.old }
+        requires next { (d : ℕ) → IsNext (slice_index_or self.old.trail.items (length self.old.path.items) d) self.old.from number
+            left.old.items }
+        ensures { OnOk result (Moves left.old.items self.old left.new.items self.new) }
+    {
+        let node = left[number - 1];
+        self.spots.push(Spot {
+            depth: self.path.len(),
+            function: node.function,
+            arrivals: node.arrivals,
+            steps: node.steps,
+        })?;
+        self.path.push(node.function)?;
+        self.trail.push(number)?;
+        self.from = 0;
+        left[number - 1] = Node {
+            parent: node.parent,
+            function: node.function,
+            arrivals: 0,
+            steps: 0,
+        };
+        Ok(())
+    }
+
+    // Leaves the node where it is for the one above.
+    fn go_back(&mut self)
+        ensures { (nodes : List ANode) → IsFlat nodes self.old → GoesBack nodes self.old self.new }
+    {
+        let Some(function) = self.path.pop() else {
+            return;
+        };
+        self.trail.truncate(self.path.len() + 1);
+        self.from = u64::from(function) + 1;
+    }
+}
+
+// The next node below another, from a function on, that a run came to. What `numbers` says is looked at.
+fn next_child(
+    nodes: &[Node],
+    numbers: &BTreeMap<u64, usize>,
+    parent: usize,
+    from: u64,
+) -> Option<usize>
+    ensures { IfSome result (λ number. IsNext parent from number nodes.now) }
+{
+    let number = *numbers.range(key_of(parent, from)..).next()?.1;
+    if is_next(nodes, parent, from, number) {
+        Some(number)
+    } else {
+        None
+    }
+}
+
+fn is_next(nodes: &[Node], parent: usize, from: u64, number: usize) -> bool
+    ensures { result ≡ true → IsNext parent from number nodes.now }
+{
+    if number <= parent || nodes.len() < number {
+        return false;
+    }
+    let node = nodes[number - 1];
+    node.parent == parent && from <= u64::from(node.function) && node.arrivals != 0
+}
