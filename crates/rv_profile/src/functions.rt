@@ -7,10 +7,11 @@ ghost use Rattle.rv_profile.specs.Profile.{IsProfileOf, profiled, profiles_of};
 
 use crate::function::{FunctionProfile, profile_of_function};
 use crate::image_stacks::ImageStacks;
+use rv_spots::SpotIndex;
 use std::alloc::{AllocError, Global};
 
 /// The functions of an image by its stacks: those with the most steps of their own first, and of those with as many the one at the lower
-/// address. Takes the time of a pass over the spots for each of them.
+/// address. Takes the time to sort the spots and the functions.
 pub(crate) fn functions_by_own_steps<'t>(
     alloc: Global,
     stacks: ImageStacks<'t>,
@@ -33,9 +34,10 @@ fn functions_of_stacks<'t>(
     requires few { are_few (sums_of stacks.spots.now) ≡ true }
     ensures { IfOk result (λ found. profiles_of found.items ≡ map (profiled stacks.entry.spots.now) stacks.entry.names.now) }
 {
+    let index = SpotIndex::new(alloc, stacks.spots)?;
     let mut functions = Vec::new(alloc);
     for named in stacks.names {
-        functions.push(profile_of_function(stacks.spots, named))?;
+        functions.push(profile_of_function(&index, named))?;
     }
     Ok(functions)
 }

@@ -6,6 +6,8 @@ pub mod Counted
 pub mod Trails
 pub mod Merged
 pub mod Profiled
+pub mod Descended
+pub mod ByFunction
 pub mod Functions
 pub mod Walked
 pub mod Unique

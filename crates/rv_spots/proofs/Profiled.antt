@@ -1,13 +1,16 @@
--- Where a function stands first, from spot to spot.
-use Rattle.std.proofs.Common.{◌≡◌, ◌∙◌, ◌==◌, ◌+◌, ◌<◌, ◌≤◌, ◌||◌, ℕ, zero, suc, Bool, true, false, cond, List, [], ◌∷◌, ◌++◌, length, take, drop, get_or, Option, Some, None, is_some, refl, sym, ap, subst, arith, inl, inr, length-append}
-use Rattle.std.proofs.lemmas.Bool.{cases_lt, or_parts}
-use Rattle.std.proofs.lemmas.List.{drop_more, take_more, take-append-drop, take-take, take-append-le, take_at, length-take-le, get_or_append_left, get_or-take}
+-- Where a function stands first, and what its subtrees tell of it.
+use Rattle.std.proofs.Common.{◌≡◌, ◌∙◌, ◌==◌, ◌+◌, ◌<◌, ◌≤◌, ◌||◌, ℕ, zero, suc, Bool, true, false, cond, List, [], ◌∷◌, ◌++◌, length, take, drop, get_or, Option, Some, None, is_some, refl, sym, ap, subst, arith, inl, inr, length-append, leb}
+use Rattle.std.specs.List.{sum_by}
+use Rattle.std.proofs.lemmas.List.Sums.{sum_by-cons}
+use Rattle.std.proofs.lemmas.Bool.{cases_lt, le-leb, lt-leb, or_parts}
+use Rattle.std.proofs.lemmas.List.{drop_more, take-take, take-append-le, take_at, length-take-le, get_or_append_left, get_or-take}
 use Rattle.std.proofs.Math.Seq.{get_or-append_seam}
 use Rattle.rv_spots.specs.declared.spot.Spot.{Spot}
-use Rattle.rv_spots.specs.Profiles.{has_function, inclusive_behind, kept_depth, outermost_behind}
-use Rattle.rv_spots.specs.Trees.{all_steps, counted_in_all, last_path, path_behind, path_of_first, steps_if, steps_of, IsTree, StandsBehind}
+use Rattle.rv_spots.specs.declared.subtree.Subtree.{Subtree}
+use Rattle.rv_spots.specs.Profiles.{has_function, inclusive_behind}
+use Rattle.rv_spots.specs.Subtrees.{below, of_function, subtree, subtrees_from, subtrees_of_function}
+use Rattle.rv_spots.specs.Trees.{all_steps, counted_in_all, path_behind, steps_if, IsTree, StandBehind, StandsBehind}
 use Rattle.rv_spots.proofs.Tests.{equal_by, equal_test, less_test, not_less_test}
-use Rattle.rv_spots.proofs.Parts.{path_with, stand_parts, sum_parts}
 
 -- ---- which lists have a function
 
@@ -86,111 +89,168 @@ gone : (f : ℕ) (front : List ℕ) (s : Spot) (depth : ℕ) → FirstAt f front
 gone f front s depth h low =
     ap (has_function f) (sym (take-take s.depth depth front low)) ∙ none_first f s.depth (take depth front) h.first
 
-from_some : (f : ℕ) (front : List ℕ) (s : Spot) (depth : ℕ) → StandsBehind front s → FirstAt f front depth
-    → IsOutermost f (path_behind front s) (kept_depth depth s f)
-from_some f front s depth stands h =
-    let P : Bool → Type 0 = λ b. IsOutermost f (path_behind front s) (cond b (Some depth) (cond (s.function == f) (Some s.depth) None)) in
+-- ---- the steps of the outermost subtrees
+
+-- of subtrees of one function by their places: of each that does not begin in the one counted before it
+abbrev pub inclusive_from : ℕ → List Subtree → ℕ
+inclusive_from end [] = 0
+inclusive_from end (t ∷ ts) = cond (leb end t.place) (t.inclusive + inclusive_from t.end ts) (inclusive_from end ts)
+
+-- what is left of the subtree of a spot that is so deep, where it ends, and the steps there
+abbrev EndsAt : Option ℕ → ℕ → List Spot → ℕ → Type 0
+EndsAt None place ss end = end ≤ place
+EndsAt (Some depth) place ss end = end ≡ place + length (below depth ss)
+
+abbrev steps_left : Option ℕ → List Spot → ℕ
+steps_left None ss = 0
+steps_left (Some depth) ss = all_steps (below depth ss)
+
+-- the subtrees tell all steps but those that are left
+abbrev Tells : ℕ → ℕ → List ℕ → List Spot → Type 0
+Tells f place front ss = (o : Option ℕ) (end : ℕ) → IsOutermost f front o → EndsAt o place ss end
+    → inclusive_behind f front ss ≡ steps_left o ss + inclusive_from end (of_function f (subtrees_from place ss))
+
+of_first : (f place : ℕ) (s : Spot) (ss : List Spot) (b : Bool) → (s.function == f) ≡ b → of_function f (subtrees_from place (s ∷ ss))
+    ≡ cond b (subtree place s ss ∷ of_function f (subtrees_from (place + 1) ss)) (of_function f (subtrees_from (place + 1) ss))
+of_first f place s ss b is =
+    ap (λ (t : Bool). cond t (subtree place s ss ∷ of_function f (subtrees_from (place + 1) ss)) (of_function f (subtrees_from (place + 1) ss))) is
+
+-- none of the functions in front counts the spot
+first_outside : (f place end : ℕ) (front : List ℕ) (s : Spot) (ss : List Spot) → StandsBehind front s
+    → has_function f (take s.depth front) ≡ false → end ≤ place → Tells f (place + 1) (path_behind front s) ss
+    → (b : Bool) → (s.function == f) ≡ b
+    → inclusive_behind f front (s ∷ ss) ≡ inclusive_from end (of_function f (subtrees_from place (s ∷ ss)))
+first_outside f place end front s ss stands none past rest false is =
+    let outermost = last_decides f front s stands none false is in
+    let here = ap (λ (b : Bool). steps_if b s.steps) (tells f (path_behind front s) None outermost) in
+    let more = rest None end outermost (omega (arith, past)) in
+    let of = ap (inclusive_from end) (of_first f place s ss false is) in
+    omega (arith, here, more, of)
+first_outside f place end front s ss stands none past rest true is =
+    let outermost = last_decides f front s stands none true is in
+    let here = ap (λ (b : Bool). steps_if b s.steps) (tells f (path_behind front s) (Some s.depth) outermost) in
+    let more = rest (Some s.depth) (subtree place s ss).end outermost refl in
+    let of = ap (inclusive_from end) (of_first f place s ss true is) in
+    let t = subtree place s ss in
+    let ts = of_function f (subtrees_from (place + 1) ss) in
+    let counts = ap (λ (b : Bool). cond b (t.inclusive + inclusive_from t.end ts) (inclusive_from end ts)) (le-leb end place past) in
+    omega (arith, here, more, of, counts)
+
+-- the spot is below one that was counted with it
+first_inside : (f place end depth : ℕ) (front : List ℕ) (s : Spot) (ss : List Spot) → StandsBehind front s → FirstAt f front depth
+    → depth < s.depth → end ≡ place + length (s ∷ below depth ss) → Tells f (place + 1) (path_behind front s) ss
+    → (b : Bool) → (s.function == f) ≡ b → inclusive_behind f front (s ∷ ss)
+    ≡ all_steps (s ∷ below depth ss) + inclusive_from end (of_function f (subtrees_from place (s ∷ ss)))
+first_inside f place end depth front s ss stands h deep ends rest b is =
+    let outermost = kept_there f front s depth stands h deep in
+    let here = ap (λ (t : Bool). steps_if t s.steps) (tells f (path_behind front s) (Some depth) outermost) in
+    let more = rest (Some depth) end outermost (omega (arith, ends)) in
+    let of = ap (inclusive_from end) (of_first f place s ss b is) ∙ skipped b in
+    omega (arith, here, more, of)
+  where
+    t : Subtree
+    t = subtree place s ss
+    ts : List Subtree
+    ts = of_function f (subtrees_from (place + 1) ss)
+    begun : leb end place ≡ false
+    begun = lt-leb end place (omega (arith, ends))
+    skipped : (b : Bool) → inclusive_from end (cond b (t ∷ ts) ts) ≡ inclusive_from end ts
+    skipped true = ap (λ (c : Bool). cond c (t.inclusive + inclusive_from t.end ts) (inclusive_from end ts)) begun
+    skipped false = refl
+
+told_from : (f place : ℕ) (front : List ℕ) (ss : List Spot) → StandBehind front ss → Tells f place front ss
+told_from f place front [] stand None end h ends = refl
+told_from f place front [] stand (Some depth) end h ends = refl
+told_from f place front (s ∷ ss) stand None end h ends =
+    let all = first_outside f place end front s ss stand.0 (none_first f s.depth front h) ends
+    (told_from f (place + 1) (path_behind front s) ss stand.1) (s.function == f) refl in
+    omega (arith, all)
+told_from f place front (s ∷ ss) stand (Some depth) end h ends =
+    let rest = told_from f (place + 1) (path_behind front s) ss stand.1 in
+    let P : Bool → Type 0 = λ b. end ≡ place + length (cond b (s ∷ below depth ss) []) → inclusive_behind f front (s ∷ ss)
+    ≡ all_steps (cond b (s ∷ below depth ss) []) + inclusive_from end (of_function f (subtrees_from place (s ∷ ss))) in
     elim (cases_lt depth s.depth) [
-      | inl deep ↦ let test = less_test depth s.depth deep in
-          subst P (sym test) (kept_there f front s depth stands h deep)
-      | inr low ↦ let test = not_less_test depth s.depth low in
-          subst P (sym test) (last_decides f front s stands (gone f front s depth h low) (s.function == f) refl)
+      | inl deep ↦ subst P (sym (less_test depth s.depth deep))
+          (λ e. first_inside f place end depth front s ss stand.0 h deep e rest (s.function == f) refl) ends
+      | inr low ↦ subst P (sym (not_less_test depth s.depth low))
+          (λ e. let all = first_outside f place end front s ss stand.0 (gone f front s depth h low) (omega (arith, e)) rest
+          (s.function == f) refl in
+          omega (arith, all)) ends
     ]
 
-pub next_outermost : (f : ℕ) (front : List ℕ) (s : Spot) (o : Option ℕ) → StandsBehind front s → IsOutermost f front o
-    → IsOutermost f (path_behind front s) (outermost_behind o s f)
-next_outermost f front s None stands h =
-    last_decides f front s stands (none_first f s.depth front h) (s.function == f) refl
-next_outermost f front s (Some depth) stands h = from_some f front s depth stands h
+pub inclusive_told : (f : ℕ) (spots : List Spot) → IsTree spots
+    → inclusive_behind f [] spots ≡ inclusive_from 0 (subtrees_of_function f spots)
+inclusive_told f spots tree = let all = told_from f 0 [] spots tree None 0 refl (omega arith) in omega (arith, all)
 
--- ---- one spot more
+-- ---- what is counted in the spots of a function themselves
 
-inclusive_parts : (f : ℕ) (front : List ℕ) (xs ys : List Spot) → inclusive_behind f front (xs ++ ys)
-    ≡ inclusive_behind f front xs + inclusive_behind f (last_path front xs) ys
-inclusive_parts f front [] ys = omega arith
-inclusive_parts f front (s ∷ ss) ys = let h = inclusive_parts f (path_behind front s) ss ys in omega (arith, h)
+one_more : (f place : ℕ) (count : Spot → ℕ) (field : Subtree → ℕ) (s : Spot) (ss : List Spot) → field (subtree place s ss) ≡ count s
+    → counted_in_all (λ (s : Spot). steps_if (s.function == f) (count s)) ss ≡ sum_by field (of_function f (subtrees_from (place + 1) ss))
+    → (b : Bool) → (s.function == f) ≡ b → counted_in_all (λ (s : Spot). steps_if (s.function == f) (count s)) (s ∷ ss)
+    ≡ sum_by field (of_function f (subtrees_from place (s ∷ ss)))
+one_more f place count field s ss own rest true is =
+    let counts = ap (λ (b : Bool). steps_if b (count s)) is in
+    let of = ap (sum_by field) (of_first f place s ss true is)
+    ∙ sum_by-cons field (subtree place s ss) (of_function f (subtrees_from (place + 1) ss)) in
+    omega (arith, rest, counts, of, own)
+one_more f place count field s ss own rest false is =
+    let counts = ap (λ (b : Bool). steps_if b (count s)) is in
+    let of = ap (sum_by field) (of_first f place s ss false is) in
+    omega (arith, rest, counts, of)
 
-pub inclusive_more : (f : ℕ) (xs : List Spot) (s : Spot) (o : Option ℕ)
-    → IsOutermost f (path_behind (last_path [] xs) s) o → inclusive_behind f [] (xs ++ s ∷ [])
-    ≡ inclusive_behind f [] xs + steps_if (is_some o) s.steps
-inclusive_more f xs s o h =
-    let parts = inclusive_parts f [] xs (s ∷ []) in
-    let here = ap (λ (b : Bool). steps_if b s.steps) (tells f (path_behind (last_path [] xs) s) o h) in
-    omega (arith, parts, here)
+pub told_of_each : (f place : ℕ) (count : Spot → ℕ) (field : Subtree → ℕ)
+    → ((k : ℕ) (s : Spot) (ss : List Spot) → field (subtree k s ss) ≡ count s) → (ss : List Spot)
+    → counted_in_all (λ (s : Spot). steps_if (s.function == f) (count s)) ss ≡ sum_by field (of_function f (subtrees_from place ss))
+told_of_each f place count field same [] = refl
+told_of_each f place count field same (s ∷ ss) =
+    one_more f place count field s ss (same place s ss) (told_of_each f (place + 1) count field same ss) (s.function == f) refl
+
+-- ---- from subtree to subtree
+
+pub sum_step : (field : Subtree → ℕ) (run all : List Subtree) (k : ℕ) (d : Subtree) → run ≡ all → k < length run
+    → sum_by field (drop k all) ≡ field (get_or run k d) + sum_by field (drop (k + 1) all)
+sum_step field run all k d is within =
+    ap (λ (ts : List Subtree). sum_by field (drop k ts)) (sym is)
+    ∙ ap (sum_by field) (drop_more run k d within)
+    ∙ sum_by-cons field (get_or run k d) (drop (k + 1) run)
+    ∙ ap (λ (ts : List Subtree). field (get_or run k d) + sum_by field (drop (k + 1) ts)) is
+
+inclusive_step : (run all : List Subtree) (k end : ℕ) (d : Subtree) (b : Bool) → run ≡ all → k < length run
+    → leb end (get_or run k d).place ≡ b → inclusive_from end (drop k all)
+    ≡ cond b ((get_or run k d).inclusive + inclusive_from (get_or run k d).end (drop (k + 1) all)) (inclusive_from end (drop (k + 1) all))
+inclusive_step run all k end d b is within test =
+    let t = get_or run k d in
+    ap (λ (ts : List Subtree). inclusive_from end (drop k ts)) (sym is)
+    ∙ ap (inclusive_from end) (drop_more run k d within)
+    ∙ (λ i. cond (test i) (t.inclusive + inclusive_from t.end (drop (k + 1) run)) (inclusive_from end (drop (k + 1) run)))
+    ∙ ap (λ (ts : List Subtree). cond b (t.inclusive + inclusive_from t.end (drop (k + 1) ts)) (inclusive_from end (drop (k + 1) ts))) is
+
+pub inclusive_counts : (run all : List Subtree) (k end : ℕ) (d : Subtree) → run ≡ all → k < length run → end ≤ (get_or run k d).place
+    → inclusive_from end (drop k all) ≡ (get_or run k d).inclusive + inclusive_from (get_or run k d).end (drop (k + 1) all)
+inclusive_counts run all k end d is within past =
+    inclusive_step run all k end d true is within (le-leb end (get_or run k d).place past)
+
+pub inclusive_skips : (run all : List Subtree) (k end : ℕ) (d : Subtree) → run ≡ all → k < length run → (get_or run k d).place < end
+    → inclusive_from end (drop k all) ≡ inclusive_from end (drop (k + 1) all)
+inclusive_skips run all k end d is within inside =
+    inclusive_step run all k end d false is within (lt-leb end (get_or run k d).place inside)
 
 -- ---- sums that fit
-
-pub counted_more : (count : Spot → ℕ) (spots : List Spot) (k : ℕ) (d : Spot) → k < length spots
-    → counted_in_all count (take (k + 1) spots) ≡ counted_in_all count (take k spots) + count (get_or spots k d)
-counted_more count spots k d within =
-    let more = ap (counted_in_all count) (take_more spots k d within) in
-    let parts = sum_parts count (take k spots) (get_or spots k d ∷ []) in
-    omega (arith, more, parts)
-
--- a sum over the first spots of what each has at most
-at_most : (some all : Spot → ℕ) → ((s : Spot) → some s ≤ all s) → (spots : List Spot)
-    → counted_in_all some spots ≤ counted_in_all all spots
-at_most some all h [] = omega arith
-at_most some all h (s ∷ ss) = let here = h s in let rest = at_most some all h ss in omega (arith, here, rest)
-
-first_at_most : (count : Spot → ℕ) (spots : List Spot) (k : ℕ) → counted_in_all count (take k spots) ≤ counted_in_all count spots
-first_at_most count spots k =
-    let parts = sum_parts count (take k spots) (drop k spots) in
-    let whole = ap (counted_in_all count) (take-append-drop k spots) in
-    omega (arith, parts, whole)
 
 if_at_most : (b : Bool) (n : ℕ) → steps_if b n ≤ n
 if_at_most true n = omega arith
 if_at_most false n = omega arith
 
--- of an own function or of its arrivals
-pub own_fits : (f : ℕ) (count : Spot → ℕ) (spots : List Spot) (k : ℕ)
-    → counted_in_all (λ (s : Spot). steps_if (s.function == f) (count s)) (take k spots) ≤ counted_in_all count spots
-own_fits f count spots k =
-    let a = at_most (λ (s : Spot). steps_if (s.function == f) (count s)) count (λ s. if_at_most (s.function == f) (count s)) (take k spots) in
-    let b = first_at_most count spots k in
-    omega (arith, a, b)
+-- of the spots of a function
+pub own_fits : (f : ℕ) (count : Spot → ℕ) (spots : List Spot)
+    → counted_in_all (λ (s : Spot). steps_if (s.function == f) (count s)) spots ≤ counted_in_all count spots
+own_fits f count [] = omega arith
+own_fits f count (s ∷ ss) =
+    let here = if_at_most (s.function == f) (count s) in let rest = own_fits f count ss in omega (arith, here, rest)
 
-inclusive_at_most : (f : ℕ) (front : List ℕ) (spots : List Spot) → inclusive_behind f front spots ≤ all_steps spots
-inclusive_at_most f front [] = omega arith
-inclusive_at_most f front (s ∷ ss) =
+pub inclusive_fits : (f : ℕ) (front : List ℕ) (spots : List Spot) → inclusive_behind f front spots ≤ all_steps spots
+inclusive_fits f front [] = omega arith
+inclusive_fits f front (s ∷ ss) =
     let here = if_at_most (has_function f (path_behind front s)) s.steps in
-    let rest = inclusive_at_most f (path_behind front s) ss in
+    let rest = inclusive_fits f (path_behind front s) ss in
     omega (arith, here, rest)
-
-pub inclusive_fits : (f : ℕ) (spots : List Spot) (k : ℕ) → inclusive_behind f [] (take k spots) ≤ all_steps spots
-inclusive_fits f spots k =
-    let a = inclusive_at_most f [] (take k spots) in let b = first_at_most steps_of spots k in omega (arith, a, b)
-
--- ---- the spot at a place
-
-stands_there : (spots : List Spot) (k : ℕ) (d : Spot) → IsTree spots → k < length spots
-    → StandsBehind (path_of_first k spots) (get_or spots k d)
-stands_there spots k d tree within =
-    (stand_parts [] (take k spots) (get_or spots k d ∷ drop (k + 1) spots)
-    (subst (λ (zs : List Spot). IsTree zs)
-    (sym (take-append-drop k spots) ∙ ap (λ (zs : List Spot). take k spots ++ zs) (drop_more spots k d within)) tree)).1.0
-
-pub inclusive_next : (f : ℕ) (spots : List Spot) (k : ℕ) (d : Spot) (o : Option ℕ) → k < length spots
-    → IsOutermost f (path_of_first (k + 1) spots) o → inclusive_behind f [] (take (k + 1) spots)
-    ≡ inclusive_behind f [] (take k spots) + steps_if (is_some o) (get_or spots k d).steps
-inclusive_next f spots k d o within h =
-    ap (inclusive_behind f []) (take_more spots k d within)
-    ∙ inclusive_more f (take k spots) (get_or spots k d) o
-    (subst (λ (path : List ℕ). IsOutermost f path o) (path_with spots k d within) h)
-
-pub outermost_next : (f : ℕ) (spots : List Spot) (k : ℕ) (d : Spot) (o : Option ℕ) → IsTree spots → k < length spots
-    → IsOutermost f (path_of_first k spots) o → IsOutermost f (path_of_first (k + 1) spots) (outermost_behind o (get_or spots k d) f)
-outermost_next f spots k d o tree within h =
-    subst (λ (path : List ℕ). IsOutermost f path (outermost_behind o (get_or spots k d) f)) (sym (path_with spots k d within))
-    (next_outermost f (path_of_first k spots) (get_or spots k d) o (stands_there spots k d tree within) h)
-
--- as the code finds it: where the function stands first, whether it does, and what is added for that
-pub inclusive_step : (f : ℕ) (spots : List Spot) (k : ℕ) (d : Spot) (o next : Option ℕ) (there : Bool) (more : ℕ) → IsTree spots
-    → k < length spots → IsOutermost f (path_of_first k spots) o → next ≡ outermost_behind o (get_or spots k d) f
-    → there ≡ is_some next → more ≡ steps_if there (get_or spots k d).steps
-    → inclusive_behind f [] (take (k + 1) spots) ≡ inclusive_behind f [] (take k spots) + more
-inclusive_step f spots k d o next there more tree within h next_is there_is more_is =
-    inclusive_next f spots k d (outermost_behind o (get_or spots k d) f) within (outermost_next f spots k d o tree within h)
-    ∙ ap (λ (n : ℕ). inclusive_behind f [] (take k spots) + n)
-    (sym (more_is ∙ ap (λ (b : Bool). steps_if b (get_or spots k d).steps) (there_is ∙ ap (λ (x : Option ℕ). is_some x) next_is)))

@@ -2,3 +2,4 @@ pub mod Trees
 pub mod Walks
 pub mod Sums
 pub mod Profiles
+pub mod Subtrees

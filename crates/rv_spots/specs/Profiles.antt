@@ -1,5 +1,5 @@
 -- What a run did in each function, by its spots.
-use Rattle.std.specs.Prelude.{◌≡◌, ◌==◌, ◌+◌, ℕ, Bool, nat_lt, if◌then◌else◌, List, [], ◌∷◌, ◌++◌, Option, Some, None}
+use Rattle.std.specs.Prelude.{◌≡◌, ◌==◌, ◌+◌, ℕ, Bool, if◌then◌else◌, List, [], ◌∷◌, ◌++◌}
 use Rattle.std.specs.List.{list_any}
 use Rattle.rv_spots.specs.declared.profile.FunctionSteps.{FunctionSteps}
 use Rattle.rv_spots.specs.declared.spot.Spot.{Spot}
@@ -23,15 +23,6 @@ pub record IsStepsOf (function : ℕ) (spots : List Spot) (found : FunctionSteps
   pub own : found.own ≡ own_in function spots
   pub inclusive : found.inclusive ≡ inclusive_behind function [] spots
   pub arrivals : found.arrivals ≡ arrivals_in function spots
-
--- at which depth the function stands first among those of a spot, from where it stands among those of the one in front
-abbrev pub kept_depth : ℕ → Spot → ℕ → Option ℕ
-kept_depth depth s function = if nat_lt depth s.depth then Some depth
-    else if s.function == function then Some s.depth else None
-
-abbrev pub outermost_behind : Option ℕ → Spot → ℕ → Option ℕ
-outermost_behind None s function = if s.function == function then Some s.depth else None
-outermost_behind (Some depth) s function = kept_depth depth s function
 
 -- ---- the functions of spots
 

@@ -1,5 +1,6 @@
 -- Spots in preorder: of which functions each is, and what is counted in a list of functions.
 use Rattle.std.specs.Prelude.{◌≡◌, ◌==◌, ◌+◌, ◌<◌, ◌≤◌, ℕ, suc, Bool, false, ◌&&◌, ◌||◌, nat_lt, if◌then◌else◌, List, [], ◌∷◌, ◌++◌, length, take, drop, slice_index_or}
+use Rattle.std.specs.Coded.{×_prop, Unit-prop, le_prop}
 use Rattle.std.specs.Str.{bytes_eq}
 use Rattle.rv_spots.specs.declared.spot.Spot.{Spot}
 
@@ -79,6 +80,17 @@ StandBehind front (s ∷ ss) = StandsBehind front s × StandBehind (path_behind 
 -- so each list of functions stands once, the lower function first, and behind the list without its last function
 abbrev pub IsTree : List Spot → Type 0
 IsTree spots = StandBehind [] spots
+
+-- and they stand so in one way
+StandsBehind-prop : (front : List ℕ) (s : Spot) → IsProp (StandsBehind front s)
+StandsBehind-prop front s h k = λ i. record {
+  within = le_prop h.within k.within i;
+  rising = λ low. le_prop (h.rising low) (k.rising low) i;
+}
+
+pub StandBehind-prop : (front : List ℕ) (spots : List Spot) → IsProp (StandBehind front spots)
+StandBehind-prop front [] = Unit-prop
+StandBehind-prop front (s ∷ ss) = ×_prop (StandsBehind-prop front s) (StandBehind-prop (path_behind front s) ss)
 
 -- a run came to each of them
 abbrev pub HasArrivals : List Spot → Type 0

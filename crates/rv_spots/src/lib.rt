@@ -6,14 +6,17 @@
 
 mod counting;
 mod growth;
+mod index;
 mod law;
 mod profile;
 mod spot;
+mod subtree;
 mod sum;
 mod walk;
 
+pub use index::SpotIndex;
 pub use law::{one_tree_has_these_counts, own_steps_sum_to_all};
-pub use profile::{FunctionSteps, functions_of, steps_of_function};
+pub use profile::{FunctionSteps, functions_of};
 pub use spot::{Spot, Spots};
 pub use sum::{SpotSumError, sum_of_spots};
 pub use walk::Walk;

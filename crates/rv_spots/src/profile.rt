@@ -1,8 +1,7 @@
 //! What a run did in each function.
 
-ghost use Rattle.std.specs.Prelude.{◌≡◌, ◌^◌, ◌<◌, IfOk, OnOk};
-ghost use Rattle.rv_spots.specs.Profiles.{outermost_behind, with_function, AreFunctionsOf, IsStepsOf};
-ghost use Rattle.rv_spots.specs.Trees.{all_arrivals, all_steps, steps_if, IsTree};
+ghost use Rattle.std.specs.Prelude.{◌≡◌, IfOk, OnOk};
+ghost use Rattle.rv_spots.specs.Profiles.{with_function, AreFunctionsOf};
 
 use crate::spot::Spot;
 use std::alloc::{AllocError, Global};
@@ -16,30 +15,6 @@ pub struct FunctionSteps {
     pub inclusive: u64,
     /// By calls and jumps.
     pub arrivals: u64,
-}
-
-/// Those of one function. Takes the time of one pass over the spots.
-pub fn steps_of_function(spots: &[Spot], function: u32) -> FunctionSteps
-    requires tree { IsTree spots.now }
-    requires steps { all_steps spots.now < 2 ^ 64 }
-    requires arrivals { all_arrivals spots.now < 2 ^ 64 }
-    ensures { IsStepsOf function spots.now result }
-{
-    let mut found = FunctionSteps {
-        own: 0,
-        inclusive: 0,
-        arrivals: 0,
-    };
-    let mut outermost = None;
-    for spot in spots {
-        outermost = outermost_behind(outermost, *spot, function);
-        found = FunctionSteps {
-            own: found.own + steps_if(spot.function == function, spot.steps),
-            inclusive: found.inclusive + steps_if(outermost.is_some(), spot.steps),
-            arrivals: found.arrivals + steps_if(spot.function == function, spot.arrivals),
-        };
-    }
-    found
 }
 
 /// The functions of spots, each once, in the order in which they come.
@@ -62,21 +37,4 @@ fn add_function(functions: &mut Vec<u32>, function: u32) -> Result<(), AllocErro
     }
     functions.push(function)?;
     Ok(())
-}
-
-fn steps_if(test: bool, steps: u64) -> u64
-    ensures { result ≡ steps_if test steps }
-{
-    if test { steps } else { 0 }
-}
-
-// At which depth a function stands first among those of a spot, from where it stands among those of the one in front.
-fn outermost_behind(outermost: Option<usize>, spot: Spot, function: u32) -> Option<usize>
-    ensures { result ≡ outermost_behind outermost spot function }
-{
-    match outermost {
-        Some(depth) if depth < spot.depth => Some(depth),
-        _ if spot.function == function => Some(spot.depth),
-        _ => None,
-    }
 }
