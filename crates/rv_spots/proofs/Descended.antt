@@ -1,7 +1,7 @@
 -- What is below a spot, from child to child.
 use Rattle.std.proofs.Common.{◌≡◌, ◌∙◌, ◌+◌, ◌-◌, ◌<◌, ◌≤◌, ℕ, zero, suc, Bool, true, false, cond, List, [], ◌∷◌, ◌++◌, length, take, drop, get_or, refl, sym, ap, subst, arith, length-append, drop-drop}
 use Rattle.std.specs.Prelude.{nat_lt, reverse}
-use Rattle.std.proofs.lemmas.List.{drop_all, drop_more, get_or-drop, get_or-reverse, length-drop, length-reverse, reverse-append, take-append-drop}
+use Rattle.std.proofs.lemmas.List.{drop_more, get_or-drop, get_or-reverse, length-drop, length-reverse, take-append-drop}
 use Rattle.rv_spots.specs.declared.spot.Spot.{Spot}
 use Rattle.rv_spots.specs.declared.subtree.Subtree.{Subtree}
 use Rattle.rv_spots.specs.Subtrees.{below, subtree, subtrees_from}
@@ -11,7 +11,7 @@ use Rattle.rv_spots.proofs.Tests.{less_by, less_test, not_less_test}
 
 -- ---- what is below
 
-not_deeper : (depth : ℕ) (s : Spot) (ss : List Spot) → s.depth ≤ depth → below depth (s ∷ ss) ≡ []
+deeper : (depth : ℕ) (s : Spot) (ss : List Spot) → s.depth ≤ depth → below depth (s ∷ ss) ≡ []
 not_deeper depth s ss low = ap (λ (b : Bool). cond b (s ∷ below depth ss) []) (not_less_test depth s.depth low)
 
 deeper : (depth : ℕ) (s : Spot) (ss : List Spot) → depth < s.depth → below depth (s ∷ ss) ≡ s ∷ below depth ss
@@ -99,23 +99,6 @@ child_within spots place end behind far within is =
 pub child_further : (end : ℕ) (s : Spot) (ss : List Spot) (child : Subtree) → child ≡ subtree end s ss → end < child.end
 child_further end s ss child is = let ends = ap (λ (t : Subtree). t.end) is in omega (arith, ends)
 
-pub none_behind : (spots : List Spot) (place : ℕ) (ts : List Subtree) → length spots ≤ place → ts ≡ []
-    → reverse ts ≡ subtrees_from place (drop place spots)
-none_behind spots place ts past none = ap reverse none ∙ sym (ap (subtrees_from place) (drop_all place spots past))
-
-pub all_turned : (spots : List Spot) (place : ℕ) (ts : List Subtree) → place ≡ 0 → reverse ts ≡ subtrees_from place (drop place spots)
-    → reverse ts ≡ subtrees_from 0 spots
-all_turned spots place ts first is = is ∙ ap (λ (n : ℕ). subtrees_from n (drop n spots)) first
-
--- one more in front
-pub one_in_front : (place next : ℕ) (spots : List Spot) (ts : List Subtree) (t : Subtree) → next ≡ place + 1
-    → t ∷ subtrees_from (place + 1) (drop (place + 1) spots) ≡ subtrees_from place (drop place spots)
-    → reverse ts ≡ subtrees_from next (drop next spots) → reverse (ts ++ t ∷ []) ≡ subtrees_from place (drop place spots)
-one_in_front place next spots ts t same is rest =
-    reverse-append ts (t ∷ [])
-    ∙ ap (λ (us : List Subtree). t ∷ us) (rest ∙ ap (λ (n : ℕ). subtrees_from n (drop n spots)) same)
-    ∙ is
-
 -- ---- from child to child
 
 -- all below the spot of a place that stands in front of another place is counted
@@ -124,14 +107,6 @@ pub record Descended (spots : List Spot) (place : ℕ) (s : Spot) (end inclusive
   pub within : end ≤ length spots
   pub ends : end + length (below s.depth (drop end spots)) ≡ place + 1 + length (below s.depth (drop (place + 1) spots))
   pub steps : inclusive + all_steps (below s.depth (drop end spots)) ≡ s.steps + all_steps (below s.depth (drop (place + 1) spots))
-
-pub none_yet : (spots : List Spot) (place : ℕ) (s : Spot) → place < length spots → Descended spots place s (place + 1) s.steps
-none_yet spots place s within = record {
-  behind = omega arith;
-  within = omega (arith, within);
-  ends = refl;
-  steps = refl;
-}
 
 -- a child, and all behind it
 split : (depth end : ℕ) (spots : List Spot) (e : Spot) → end < length spots → depth < (get_or spots end e).depth
@@ -179,41 +154,6 @@ child_fits spots place s end inclusive e child h within deep is =
     let steps = (one_child spots place s end inclusive e child h within deep is).steps in
     let few = below_fits s.depth (drop (place + 1) spots) in
     omega (arith, steps, few)
-
-pub at_the_end : (depth end : ℕ) (spots : List Spot) → length spots ≤ end → below depth (drop end spots) ≡ []
-at_the_end depth end spots past = ap (below depth) (drop_all end spots past)
-
-pub at_another : (depth end : ℕ) (spots : List Spot) (e : Spot) → end < length spots → (get_or spots end e).depth ≤ depth
-    → below depth (drop end spots) ≡ []
-at_another depth end spots e within low =
-    ap (below depth) (drop_more spots end e within) ∙ not_deeper depth (get_or spots end e) (drop (end + 1) spots) low
-
--- so this is the subtree
-abbrev pub ended : ℕ → Spot → ℕ → ℕ → Subtree
-ended place s end inclusive = record {
-  function = s.function;
-  place = place;
-  end = end;
-  own = s.steps;
-  inclusive = inclusive;
-  arrivals = s.arrivals;
-}
-
-pub all_below : (spots : List Spot) (place end inclusive : ℕ) (e : Spot) → place < length spots
-    → Descended spots place (get_or spots place e) end inclusive → below (get_or spots place e).depth (drop end spots) ≡ []
-    → ended place (get_or spots place e) end inclusive ∷ subtrees_from (place + 1) (drop (place + 1) spots)
-    ≡ subtrees_from place (drop place spots)
-all_below spots place end inclusive e within h none =
-    let s = get_or spots place e in
-    let rest = drop (place + 1) spots in
-    let ends = h.ends in
-    let steps = h.steps in
-    let nothing = ap length none in
-    let no_steps = ap all_steps none in
-    let ends_is : end ≡ place + 1 + length (below s.depth rest) = omega (arith, ends, nothing) in
-    let steps_is : inclusive ≡ s.steps + all_steps (below s.depth rest) = omega (arith, steps, no_steps) in
-    (λ i. ended place s (ends_is i) (steps_is i) ∷ subtrees_from (place + 1) rest)
-    ∙ ap (subtrees_from place) (sym (drop_more spots place e within))
 
 -- ---- steps that fit
 

@@ -150,10 +150,13 @@ first_inside f place end depth front s ss stands h deep ends rest b is =
   where
     t : Subtree
     t = subtree place s ss
+
     ts : List Subtree
     ts = of_function f (subtrees_from (place + 1) ss)
+
     begun : leb end place ≡ false
     begun = lt-leb end place (omega (arith, ends))
+
     skipped : (b : Bool) → inclusive_from end (cond b (t ∷ ts) ts) ≡ inclusive_from end ts
     skipped true = ap (λ (c : Bool). cond c (t.inclusive + inclusive_from t.end ts) (inclusive_from end ts)) begun
     skipped false = refl
@@ -215,25 +218,15 @@ sum_step field run all k d is within =
     ∙ sum_by-cons field (get_or run k d) (drop (k + 1) run)
     ∙ ap (λ (ts : List Subtree). field (get_or run k d) + sum_by field (drop (k + 1) ts)) is
 
-inclusive_step : (run all : List Subtree) (k end : ℕ) (d : Subtree) (b : Bool) → run ≡ all → k < length run
-    → leb end (get_or run k d).place ≡ b → inclusive_from end (drop k all)
-    ≡ cond b ((get_or run k d).inclusive + inclusive_from (get_or run k d).end (drop (k + 1) all)) (inclusive_from end (drop (k + 1) all))
-inclusive_step run all k end d b is within test =
+pub inclusive_step : (run all : List Subtree) (k end : ℕ) (d : Subtree) → run ≡ all → k < length run → end ≤ (get_or run k d).place
+    → inclusive_from end (drop k all) ≡ (get_or run k d).inclusive + inclusive_from (get_or run k d).end (drop (k + 1) all)
+inclusive_step run all k end d is within past =
     let t = get_or run k d in
+    let rest = drop (k + 1) run in
     ap (λ (ts : List Subtree). inclusive_from end (drop k ts)) (sym is)
     ∙ ap (inclusive_from end) (drop_more run k d within)
-    ∙ (λ i. cond (test i) (t.inclusive + inclusive_from t.end (drop (k + 1) run)) (inclusive_from end (drop (k + 1) run)))
-    ∙ ap (λ (ts : List Subtree). cond b (t.inclusive + inclusive_from t.end (drop (k + 1) ts)) (inclusive_from end (drop (k + 1) ts))) is
-
-pub inclusive_counts : (run all : List Subtree) (k end : ℕ) (d : Subtree) → run ≡ all → k < length run → end ≤ (get_or run k d).place
-    → inclusive_from end (drop k all) ≡ (get_or run k d).inclusive + inclusive_from (get_or run k d).end (drop (k + 1) all)
-inclusive_counts run all k end d is within past =
-    inclusive_step run all k end d true is within (le-leb end (get_or run k d).place past)
-
-pub inclusive_skips : (run all : List Subtree) (k end : ℕ) (d : Subtree) → run ≡ all → k < length run → (get_or run k d).place < end
-    → inclusive_from end (drop k all) ≡ inclusive_from end (drop (k + 1) all)
-inclusive_skips run all k end d is within inside =
-    inclusive_step run all k end d false is within (lt-leb end (get_or run k d).place inside)
+    ∙ ap (λ (b : Bool). cond b (t.inclusive + inclusive_from t.end rest) (inclusive_from end rest)) (le-leb end t.place past)
+    ∙ ap (λ (ts : List Subtree). t.inclusive + inclusive_from t.end (drop (k + 1) ts)) is
 
 -- ---- sums that fit
 

@@ -1,8 +1,7 @@
 -- A child's subtree is that of the spot where the one in front of it ends.
-use Rattle.std.proofs.Common.{◌≡◌, ◌+◌, ◌-◌, drop, get_or, length, arith}
+use Rattle.std.proofs.Common.{◌+◌, ◌-◌, drop, get_or, length, arith}
 use Rattle.rv_spots.specs.declared.spot.Spot.{Spot}
 use Rattle.rv_spots.specs.declared.subtree.Subtree.{Subtree}
-use Rattle.rv_spots.specs.Subtrees.{subtree}
 use Rattle.rv_spots.proofs.Descended.{child_fits, child_further, child_is, child_within, one_child, one_of_all}
 use Rattle.rv_spots.proofs.subtree.subtree_at.Goals as goal
 

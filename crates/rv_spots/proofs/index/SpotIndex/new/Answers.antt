@@ -2,7 +2,6 @@
 use Rattle.std.proofs.Common.{◌≡◌, ◌∙◌, ap, rules}
 use Rattle.std.proofs.lemmas.Fn.{always_returns_same}
 use Rattle.std.proofs.lemmas.List.Sorted.{IsNonDecreasingBy-from_sort_by_key}
-use Rattle.rv_spots.specs.declared.subtree.Subtree.{Subtree}
 use Rattle.rv_spots.specs.Subtrees.{of_function}
 use Rattle.rv_spots.proofs.ByFunction.{each_stays, key_of}
 use Rattle.rv_spots.proofs.index.SpotIndex.new.Goals as goal

@@ -1,10 +1,9 @@
 -- From subtree to subtree.
-use Rattle.std.proofs.Common.{◌≡◌, ◌+◌, ◌<◌, ◌≤◌, [], arith, refl}
-use Rattle.rv_spots.specs.declared.spot.Spot.{Spot}
+use Rattle.std.proofs.Common.{[], arith, refl}
 use Rattle.rv_spots.specs.declared.subtree.Subtree.{Subtree}
 use Rattle.rv_spots.specs.Subtrees.{subtrees_of_function}
 use Rattle.rv_spots.specs.Trees.{arrivals_of, steps_of}
-use Rattle.rv_spots.proofs.Profiled.{inclusive_counts, inclusive_fits, inclusive_told, own_fits, sum_step, told_of_each}
+use Rattle.rv_spots.proofs.Profiled.{inclusive_fits, inclusive_step, inclusive_told, own_fits, sum_step, told_of_each}
 use Rattle.rv_spots.proofs.index.SpotIndex.steps_of.Goals as goal
 
 -- what is read where there is none
@@ -50,7 +49,7 @@ overflow_add-found-then-end-subtree c =
     let f = c.args.function in
     let self = c.args.self.now in
     let spots = self.spots.now in
-    let step = inclusive_counts c.subtrees_of_function-subtree-items.result.now (subtrees_of_function f spots)
+    let step = inclusive_step c.subtrees_of_function-subtree-items.result.now (subtrees_of_function f spots)
     c.loop-subtree.subtree-index c.loop-subtree.end none c.subtrees_of_function-subtree-items.ensures c.loop-subtree-test.true
     c.if-end-subtree.true in
     let so_far = c.loop-subtree.invariant.inclusive in
