@@ -7,12 +7,9 @@ use Rattle.rv_spots.specs.declared.subtree.Subtree.{Subtree}
 use Rattle.rv_spots.specs.Subtrees.{below, subtree, subtrees_from}
 use Rattle.rv_spots.specs.Trees.{all_steps, steps_of}
 use Rattle.rv_spots.proofs.Parts.{sum_parts}
-use Rattle.rv_spots.proofs.Tests.{less_by, less_test, not_less_test}
+use Rattle.rv_spots.proofs.Tests.{less_by, less_test}
 
 -- ---- what is below
-
-deeper : (depth : ℕ) (s : Spot) (ss : List Spot) → s.depth ≤ depth → below depth (s ∷ ss) ≡ []
-not_deeper depth s ss low = ap (λ (b : Bool). cond b (s ∷ below depth ss) []) (not_less_test depth s.depth low)
 
 deeper : (depth : ℕ) (s : Spot) (ss : List Spot) → depth < s.depth → below depth (s ∷ ss) ≡ s ∷ below depth ss
 deeper depth s ss deep = ap (λ (b : Bool). cond b (s ∷ below depth ss) []) (less_test depth s.depth deep)
