@@ -1,4 +1,3 @@
 pub mod Coverage
 pub mod Blocks
-pub mod Tallies
 pub mod JobTables
