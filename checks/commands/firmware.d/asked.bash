@@ -96,11 +96,11 @@ case_list_not_replaced() {
     exits t/a.c 0
     check 'as it was' 0 '1 job: 1 passed, 0 failed'
     echo 1 >t/a.exit
-    mkdir bin
-    printf '#!/bin/sh\nexit 1\n' >bin/mv
-    chmod +x bin/mv
-    PATH=$PWD/bin:$PATH check 'the list cannot be replaced' 2 'Error 1'
+    rm t/build/t.toml
+    mkdir -p t/build/t.toml/inner
+    check 'the list cannot be replaced' 2 't/build/t.toml: error: '
     hides passed
+    [ -z "$(find t/build -name '*.new')" ] || fail "a new list is left: $(find t/build -name '*.new')"
 }
 
 # Another make builds the tests with other options before this one runs them.
@@ -119,6 +119,45 @@ END
     FLAGS=-DCODE=0 NAMES='' check 'the same images' 0 '2 jobs: 2 passed, 0 failed' RVTEST="$PWD/other" CFLAGS=-DCODE=0
     FLAGS=-O2 NAMES=b check 'images of other tests' 0 '1 job: 1 passed, 0 failed' RVTEST="$PWD/other" CFLAGS=-DCODE=0 ONLY=a
     ends 'two goals of one make' 0 CALLGRIND made check profile TESTS=t CFLAGS=-DCODE=0
+}
+
+# A program in the place of rvtest that runs another make first.
+#   before WORD..    words that the shell reads again
+before() {
+    put other <<END
+#!/bin/sh
+if [ "\$1" = run ] || [ "\$1" = accept ]; then
+    $* >/dev/null || exit 9
+fi
+exec "$top/rvtest" "\$@"
+END
+    chmod +x other
+}
+
+# Another make writes a list with other memory before this one runs its own.
+case_two_lists() {
+    local all='[{ base = 0x8000_0000, size = 0x10_0000 }]'
+    put t/a.c <<<'int main(void) { *(volatile int *)main = 0; return 0; }'
+    check 'a store to code' 2 'FAIL a: fault store-access'
+    before make -s -f "$kit/Makefile" RVTEST="$top/rvtest" list TESTS=t "REGION='$all'"
+    check 'the list of another make' 2 't/build/t.toml: error: another build replaced it' RVTEST="$PWD/other"
+    check 'the same list' 0 '1 job: 1 passed, 0 failed' RVTEST="$PWD/other" REGION="$all"
+    : >t/a.out
+    ends 'accepted by the list of another make' 2 't/build/t.toml: error: another build replaced it' made accept TESTS=t RVTEST="$PWD/other"
+    ends 'two goals side by side' 0 CALLGRIND made -j2 check profile TESTS=t REGION="$all"
+}
+
+# Makes in containers of their own may have the same number.
+case_two_makes_of_one_number() {
+    local contained='unshare --user --map-root-user --pid --fork'
+    if ! $contained true 2>/dev/null; then
+        echo 'two makes of one number: passed over, since this user may not make containers'
+        return
+    fi
+    put t/a.c <<<'int main(void) { return CODE; }'
+    before $contained make -s -f "$kit/Makefile" RVTEST="$top/rvtest" check TESTS=t CFLAGS=-DCODE=0
+    ends 'images of another container' 2 't/build/a.elf: error: another build replaced it' \
+        $contained make --no-print-directory -f "$kit/Makefile" RVTEST="$PWD/other" check TESTS=t CFLAGS=-DCODE=1
 }
 
 # A file that the linker writes does not make it link again, unless it is gone.
