@@ -1,6 +1,7 @@
 """The small files beside a test: what each may contain, and the errors for one that contains something else."""
 import os
 import re
+import stat
 import unicodedata
 
 WORD = 2**32
@@ -29,11 +30,15 @@ def escape_of(sign):
 
 
 def content_of(path):
-    """A file's bytes, or None if there is no such file."""
+    """A file's bytes, or None if there is no such file. A link without a target is refused: whoever made it expects that it says something."""
     try:
+        if not stat.S_ISREG(mode := os.stat(path).st_mode) and not stat.S_ISDIR(mode):
+            raise Refused(f"{shown(path)}: error: expected a regular file")
         with open(path, "rb") as file:
             return file.read()
     except FileNotFoundError:
+        if os.path.islink(path):
+            raise Refused(f'{shown(path)}: error: a dangling link: there is no file "{shown(os.readlink(path))}"') from None
         return None
     except OSError as error:
         raise Refused(f"{shown(path)}: error: {error.strerror}") from None

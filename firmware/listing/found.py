@@ -100,8 +100,14 @@ def folders_in(folder, ignored):
             yield from folders_in(path, ignored)
 
 
+def own_path(path):
+    """The path of a file itself, however the folder that has it is spelt: a link and the file that it refers to are two."""
+    return os.path.join(os.path.realpath(os.path.dirname(path)), os.path.basename(path))
+
+
 def helpers_of(folders):
-    """The real paths of the files that options of tests name, such as a further source: they are not tests of their own."""
+    """The files that options of tests name, such as a further source: they are not tests of their own. A link to one, or a file that one
+    is a link to, is a test nevertheless: nobody named it."""
     helpers = set()
     for folder, files in folders:
         for path in (os.path.join(folder, it) for it in files if it.endswith(".flags")):
@@ -109,7 +115,7 @@ def helpers_of(folders):
                 words, responses = flags_of(path)
             except Refused:
                 continue  # The test is refused for it.
-            helpers.update(os.path.realpath(it) for it in [*words, *responses] if is_file(it))
+            helpers.update(own_path(it) for it in [*words, *responses] if is_file(it))
     return helpers
 
 
@@ -120,7 +126,7 @@ def look_through(folder, files, place, helpers, found):
     for file in files:
         stem, ending = os.path.splitext(file)
         path = os.path.join(folder, file)
-        if os.path.realpath(path) in helpers or KNOWN.fullmatch(file) and (file != f"{DEFAULTS}.keys" or is_file(path)):
+        if own_path(path) in helpers or KNOWN.fullmatch(file):
             continue
         if ending not in SOURCES or not is_file(path):
             others.append(file)
@@ -158,7 +164,7 @@ def place_other(folder, file, stems, found):
     """Reports a file that is not a source. One that belongs to a missing test is wrong: most often its name is misspelt."""
     stem, _, kind = file.rpartition(".")
     path = os.path.join(folder, file)
-    if not stem or kind not in BESIDE or not (os.path.exists(path)):
+    if not stem or kind not in BESIDE:
         found.ignored.append(Ignored(path, *why_ignored(path, file, stems)))
     elif stem not in stems:
         found.faults.append(f"{shown(path)}: error: {why_astray(os.path.join(folder, stem))}")
@@ -193,7 +199,7 @@ def cases_of(test, ignored):
     for file in files_in(folder):
         stem, _, kind = file.rpartition(".")
         path = f"{folder}/{file}"
-        if stem and kind in BESIDE_CASE and is_file(path):
+        if stem and kind in BESIDE_CASE:
             names.add(stem)
         elif kind == "flags":
             raise Refused(f"{shown(path)}: error: all cases share one image: expected options in {shown(test.stem)}.flags")

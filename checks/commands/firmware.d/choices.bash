@@ -39,10 +39,54 @@ case_strict() {
     CI=true check 'not strict in CI' 0 't/a.OUT: warning: ignored' STRICT=0
     rm t/a.OUT
     ln -s missing t/defaults.keys
-    check 'keys that are a dangling link' 2 't/defaults.keys: error: ignored: a dangling link' STRICT=1
+    check 'keys that are a dangling link' 2 't/defaults.keys: error: a dangling link'
     rm t/defaults.keys
     exits t/README.c 5
     check 'README.c is a test' 2 'FAIL README: exit 5'
+}
+
+# A link that has no target says nothing, though somebody made it to say something: its test fails, also where nothing is strict.
+case_dangling_links() {
+    local kind
+    exits t/b.c 0
+    for kind in in out exit end budget signature keys flags; do
+        exits t/a.c 0
+        ln -s "../gold/a.$kind" "t/a.$kind"
+        check "a dangling .$kind" 2 "t/a.$kind: error: a dangling link: there is no file \"../gold/a.$kind\""
+        shows '2 jobs: 1 passed, 1 failed'
+        ends "a dangling .$kind, accepted" 2 "t/a.$kind: error: a dangling link" made accept TESTS=t
+        rm "t/a.$kind"
+    done
+    put t/a.cases/one.exit <<<0
+    ln -s ../../gold/one.out t/a.cases/one.out
+    check 'a dangling file of a case' 2 't/a.cases/one.out: error: a dangling link'
+    ends 'a dangling file of a case, accepted' 2 't/a.cases/one.out: error: a dangling link' made accept TESTS=t
+    mkdir gold
+    : >gold/one.out
+    check 'and it is there' 0 '2 jobs: 2 passed, 0 failed'
+    ends 'and it is accepted' 0 '0 files written' made accept TESTS=t
+}
+
+# A link to a helper is a test, and so is a helper's target: only the file that the options name is none.
+case_linked_helpers() {
+    put src/crc.c <<<'int crc(void) { return 0; }
+__attribute__((weak)) int main(void) { return 5; }'
+    mkdir -p t
+    ln -s ../src/crc.c t/crc.c
+    put t/b.c <<<'int crc(void);
+int main(void) { return crc(); }'
+    check 'a test that is a link' 2 'FAIL crc: exit 5'
+    echo src/crc.c >t/b.flags
+    check 'its target is a helper' 2 'FAIL crc: exit 5' STRICT=1
+    shows '2 jobs: 1 passed, 1 failed'
+    echo t/crc.c >t/b.flags
+    check 'it is a helper itself' 0 '1 job: 1 passed, 0 failed' STRICT=1
+    ln -s t tests
+    echo "$PWD/tests/../t/crc.c" >t/b.flags
+    check 'and by another path' 0 '1 job: 1 passed, 0 failed' STRICT=1
+    ln -s ../t/crc.c src/link.c
+    echo src/link.c >t/b.flags
+    check 'a link to it is a helper' 2 'FAIL crc: exit 5' STRICT=1
 }
 
 # Faults that rvtest finds, in the files that they come from.
