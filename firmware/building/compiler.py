@@ -2,6 +2,7 @@
 
 GCC is asked anew whenever one of these changes, or another one could now be found in its place.
 """
+import contextlib
 import os
 import re
 import shlex
@@ -23,8 +24,12 @@ VARIABLES = re.compile(r"""(?:GCC_(?!COLORS$|URLS$)|COLLECT_|COMPILER_|AS_|BINUT
 LINKERS = "ld ld.bfd ld.gold ld.lld ld.mold".split()
 PROGRAMS = """cc1 cc1plus lto1 lto-wrapper collect2 collect-ld liblto_plugin.so as real-ld nm strip g++-mapper-server specs""".split() + LINKERS
 
+# Names of its linker and of its assembler.
+LINKING = re.compile(r"(?:.*-)?(?:collect2|ld(?:\..*)?)")
+ASSEMBLING = re.compile(r"(?:.*-)?as")
 # GNU ld's options of a directory that is searched for libraries, and of a library.
 LIBRARY_FOLDER = re.compile(r"-L(.+)?|--?library-path(?:=(.*))?", re.S)
+ASSEMBLER_FOLDER = re.compile(r"-I(.+)?()", re.S)
 LIBRARY = re.compile(r"-l(?!ibrary)(.+)?|--?library(?:=(.*))?", re.S)
 
 
@@ -40,13 +45,15 @@ def variables():
 
 
 class Answer(NamedTuple):
-    """What the compiler says for some options: a digest of all that it consists of, where it searches for headers and libraries, and for
-    which libraries."""
+    """What the compiler says for some options: a digest of all that it consists of, where it searches for headers and libraries, for which
+    libraries, where its assembler searches, and which words it gives to its programs, those of its specs among them."""
 
     digest: str
     headers: list
     libraries: list
     library_names: list
+    assembler: list
+    words: list
 
 
 class Compiler:
@@ -72,24 +79,26 @@ class Compiler:
                     self.records.save("compilers", key, record)
                 told = record.told
                 made = digest_of([record.files, record.present, self.path, told["variables"]])
-                self.answers[key] = Answer(made, told["headers"], told["libraries"], told["names"])
+                self.answers[key] = Answer(made, told["headers"], told["libraries"], told["names"], told["assembler"], told["words"])
             return self.answers[key]
 
     def ask(self, key, options, language):
         """Asks it, and records each program and file of specs that it names, and each directory in which it looked for them."""
+        given = [*self.words, *options]
+        told = self.run([*given, "-v", "-###", *(["-c", "-x", language] if language else []), os.devnull, "-o", os.devnull])
+        passed = words_passed(told)
         if language:
-            told = self.run([*without_inclusions(options), "-v", "-E", "-x", probed(language), os.devnull])
-        else:
-            told = self.run([*options, "-v", "-###", os.devnull, "-o", "image"])
-        searched = self.run([*with_values(options, ("-B", "--sysroot"), ("-m",)), "-print-search-dirs"])
+            told += self.run([*without_inclusions(given), "-v", "-E", "-x", probed(language), os.devnull])
+        searched = self.run([*self.words, *with_values(options, ("-B", "--sysroot"), ("-m",)), "-print-search-dirs"])
         folders = folders_of(told, searched)
-        specs = re.findall(r"^Reading specs from (.*)$", told, re.M)
-        files = [shutil.which(it) or it for it in [*self.words, *wrappers_in(options)] if not it.startswith("-")]
-        files += specs + paths_in_words(options) + programs_in(told) + plugins_in(told)
+        specs = list(dict.fromkeys(re.findall(r"^Reading specs from (.*)$", told, re.M)))
+        files = [shutil.which(it) or it for it in [*self.words, *wrappers_in(given)] if not it.startswith("-")]
+        files += specs + paths_in_words([*given, *passed]) + programs_in(told) + plugins_in(told)
         record = Record(self.digests, key)
-        linked = linker_words_in(told)
+        linked = words_of_program(told, LINKING)
         record.told = {"headers": headers_of(told), "libraries": folders["libraries"] + values_after(linked, LIBRARY_FOLDER),
-                       "names": values_after(linked, LIBRARY), "variables": values_of(variables_in(specs))}
+                       "names": values_after(linked, LIBRARY), "variables": values_of(variables_in(specs)), "words": passed,
+                       "assembler": values_after(words_of_program(told, ASSEMBLING), ASSEMBLER_FOLDER)}
         names = [*PROGRAMS, *(f"{target}-{it}" for target in re.findall(r"^Target: (\S+)$", told, re.M) for it in LINKERS)]
         names += [os.path.basename(it) for it in specs] + [name for it in specs for name in self.digests.names_in(it)] + asked_for_in(specs)
         record.add_candidates(folders["programs"] + folders["libraries"] + ["", *searched_by_shell()], sorted(set(names)))
@@ -97,11 +106,10 @@ class Compiler:
         record.close()
         return record
 
-    def run(self, words):
+    @staticmethod
+    def run(words):
         """What the compiler prints; when it fails, so does whatever the words belong to."""
-        done = subprocess.run(
-            [*self.words, *words], stdin=subprocess.DEVNULL, capture_output=True, check=False, env={**os.environ, "LC_ALL": "C"}
-        )
+        done = subprocess.run(words, stdin=subprocess.DEVNULL, capture_output=True, check=False, env={**os.environ, "LC_ALL": "C"})
         if done.returncode:
             text = "\n".join(it for it in done.stderr.decode("utf-8", "surrogateescape").splitlines() if re.search("error|warning", it))
             raise Refused(f"{text}\n{help_for(text)}".rstrip())
@@ -186,15 +194,22 @@ def programs_in(told):
     return found
 
 
-def linker_words_in(told):
-    """The words that the linker is given, with those of its response files."""
-    found = []
-    for line in re.findall(r"^ (\S*(?:collect2|ld)\S* .*)$", told, re.M):
-        try:
-            found += expanded(shlex.split(line))[0]
-        except ValueError:
-            continue
-    return found
+def commands_in(told):
+    """The commands that it says it would run, each a list of words."""
+    for line in re.findall(r"^ (\S.*)$", told, re.M):
+        with contextlib.suppress(ValueError):
+            yield shlex.split(line)
+
+
+def words_passed(told):
+    """The words that it gives to its programs, those that options, specs and itself add alike."""
+    return [word for command in commands_in(told) for word in command]
+
+
+def words_of_program(told, name):
+    """The words that a program of this name is given, perhaps by a wrapper, with those of its response files."""
+    found = [it for it in commands_in(told) if any(name.fullmatch(os.path.basename(word)) for word in it)]
+    return [word for command in found for word in expanded(command)[0]]
 
 
 def values_after(words, option):

@@ -29,6 +29,8 @@ FORMAT = digest_of_kit()
 # A file that changed less than this before it was read may change again without a new time.
 SETTLED_NS = 2_000_000_000
 DIRECTORY, SPECIAL = "directory", "special"
+# In a directory of this name GCC tries each file as a precompiled header.
+PRECOMPILED = ".gch"
 
 
 def digest_of_text(text):
@@ -47,6 +49,11 @@ def write_whole(path, text):
     with open(new, "w", encoding="utf-8", errors="surrogateescape") as file:
         file.write(text)
     os.replace(new, path)
+
+
+def has_contents(digest):
+    """Whether a digest is that of a file that can be read."""
+    return digest is not None and not digest.startswith((DIRECTORY, SPECIAL))
 
 
 def facts_of(status):
@@ -82,7 +89,7 @@ class Digests:
             write_whole(self.path, json.dumps({"format": FORMAT, "files": kept, "names": names}))
 
     def of(self, path):
-        """The digest of a file's contents; DIRECTORY, SPECIAL or None for what has no contents."""
+        """The digest of a file's contents; one that begins with DIRECTORY or SPECIAL, or None, for what has no contents."""
         if path not in self.seen:
             self.seen[path] = self.look_up(path)
         return self.seen[path]
@@ -97,7 +104,7 @@ class Digests:
         try:
             status = os.stat(path)
             if not stat.S_ISREG(status.st_mode):
-                return DIRECTORY if stat.S_ISDIR(status.st_mode) else SPECIAL
+                return self.of_directory(path) if stat.S_ISDIR(status.st_mode) else SPECIAL
             facts = self.facts[path] = facts_of(status)
             entry = self.files.get(path)
             if entry and entry[:-1] == facts:
@@ -105,6 +112,13 @@ class Digests:
             return self.read(path, facts)
         except (OSError, ValueError):
             return None
+
+    def of_directory(self, path):
+        """What a compiler may read by the name of a directory alone: the files of one of precompiled headers, and nothing else."""
+        if not path.endswith(PRECOMPILED):
+            return DIRECTORY
+        inner = [os.path.join(path, it) for it in sorted(os.listdir(path))]
+        return f"{DIRECTORY} {digest_of([[it, self.of(it) if os.path.isfile(it) else None] for it in inner])}"
 
     def is_outdated(self, path):
         """Whether a file is not the one any more whose digest this build has."""
@@ -135,7 +149,7 @@ class Digests:
     def names_in(self, path):
         """The names in a file that may be those of headers or of other files that it includes."""
         digest = self.of(path)
-        if digest is None or digest in (DIRECTORY, SPECIAL):
+        if not has_contents(digest):
             return []
         if digest not in self.names:
             with open(path, "rb") as file:
@@ -158,22 +172,23 @@ class Digests:
         return name in self.listing(folder)
 
     def present(self, folders, names, sources):
-        """What there is now of these names, and of those that these sources mention, in each of the directories."""
+        """What there is now of these names, and of those that these sources mention, in each of the directories, and the paths of it."""
         found = [self.existing(folders, names)]
         for source in sources:
             if (folders, source) not in self.searched:
-                self.searched[folders, source] = self.existing(folders, [*self.names_in(source), *names_below(source, folders)])
+                self.searched[folders, source] = self.existing(folders, with_precompiled(self.names_in(source)) + names_below(source, folders))
             found.append(self.searched[folders, source])
         matters = {it for it in (*CLOCKS, ANY_NAME, OUTSIDE, ONCE) if it in names or any(it in self.names_in(source) for source in sources)}
         clocks = CLOCKS.keys() & (matters | ({ALWAYS} if {ANY_NAME, OUTSIDE} <= matters else set()))
-        twins = self.twins({*sources, *(path for _, paths in found for path in paths)}) if ONCE in matters else []
-        return [digest for digest, _ in found] + twins + [reading(clock, sources) for clock in sorted(clocks)]
+        paths = {path for _, inner in found for path in inner}
+        twins = self.twins({*sources, *paths}) if ONCE in matters else []
+        return [digest for digest, _ in found] + twins + [reading(clock, sources) for clock in sorted(clocks)], paths
 
     def twins(self, paths):
         """The files of the same contents, those of the same date together: with `#pragma once`, GCC takes these for one file."""
         found = {}
         for path in sorted(paths):
-            if self.of(path) not in (None, DIRECTORY, SPECIAL):
+            if has_contents(self.of(path)):
                 found.setdefault(self.of(path), {}).setdefault(self.facts[path][3] // 1_000_000_000, []).append(path)
         return [sorted(it.values()) for it in found.values() if sum(map(len, it.values())) > 1]
 
@@ -199,7 +214,12 @@ def names_below(path, folders):
     """The names by which a path can be found in these directories, and the name of its precompiled header."""
     names = {path[len(folder):].lstrip("/") for folder in folders if folder and path.startswith(folder.rstrip("/") + "/")}
     names.add(os.path.basename(path))
-    return sorted(names | {f"{name}.gch" for name in names})
+    return with_precompiled(names)
+
+
+def with_precompiled(names):
+    """These names, and those of the headers' precompiled forms: where GCC takes one of these, it reports neither it nor the header."""
+    return sorted({*names, *(f"{name}{PRECOMPILED}" for name in names)})
 
 
 def everything_in(folder):
@@ -226,4 +246,9 @@ def reading(clock, sources):
         return [os.stat(source).st_mtime_ns for source in sources if os.path.exists(source)]
     if "SOURCE_DATE_EPOCH" in os.environ:
         return os.environ["SOURCE_DATE_EPOCH"]
-    return time.strftime("%F") if clock == "__DATE__" else time.time_ns()
+    return today() if clock == "__DATE__" else time.time_ns()
+
+
+def today():
+    """The day of __DATE__."""
+    return time.strftime("%F")

@@ -25,6 +25,12 @@ CLOCKS = {"__DATE__": rb"\b__DATE__\b", "__TIME__": rb"\b__TIME__\b", "__TIMESTA
           ALWAYS: rb"\bGCC[ \t]+dependency\b"}
 
 
+def names_in_options(words):
+    """The names in options that may be those of headers: in -include code.h and -DHEADER='"a.h"', and those of what matters."""
+    included = {after for word, after in zip(words, words[1:]) if word in ("-include", "-imacros")}
+    return included.union(*map(names_in_option, words))
+
+
 def names_in_option(word):
     """The names in an option that may be those of headers, as in -DHEADER='"a.h"', and those of what matters, as in names_in_text."""
     names = {it for pair in re.findall(r'"([^"]+)"|<([^>]+)>', word) for it in pair if it} | {it for it in CLOCKS if it in word}

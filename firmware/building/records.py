@@ -48,7 +48,7 @@ class Record:
 
     def __init__(self, digests, key):
         self.digests, self.key = digests, key
-        self.files, self.searches, self.present, self.output, self.told = {}, [], None, None, {}
+        self.files, self.searches, self.present, self.output, self.told, self.candidates = {}, [], None, None, {}, set()
 
     def add_files(self, paths):
         """Adds the files that were read."""
@@ -69,8 +69,10 @@ class Record:
         self.present = self.found()
 
     def found(self):
-        """A digest of what there is of all that was searched for."""
-        return digest_of([self.digests.present(tuple(folders), names, sources) for folders, names, sources in self.searches])
+        """A digest of what there is of all that was searched for, whose paths are then the candidates."""
+        found = [self.digests.present(tuple(folders), names, sources) for folders, names, sources in self.searches]
+        self.candidates = {path for _, paths in found for path in paths}
+        return digest_of([it for it, _ in found])
 
     def holds(self, key, output=None):
         """Whether all is as it was. The output must be the very bytes, whatever its date."""

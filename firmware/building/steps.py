@@ -7,16 +7,20 @@ import time
 from typing import NamedTuple
 
 from listing.files import Refused, shown
-from listing.flags import expanded
 
-from .digests import digest_of
-from .names import names_in_option
+from .digests import DIRECTORY, digest_of, today, with_precompiled
+from .names import names_in_options
 from .records import Record, paths_in_words
 from .rules import files_in_linked, files_in_rules
+from .scripts import folders_in_script, is_script, library_files, names_in_script, text_of_script
 
 # The resolution of the clock of file systems: what changed less than this before a compiler began may have changed after it.
 TICK_NS = 20_000_000
 MOST_TRIES = 3
+# With -flto, wherever it comes from, a source is assembled at once by this option, so that the assembler tells which files it reads for it.
+ASSEMBLED = "-ffat-lto-objects"
+# The symbol of an object of GCC that was not.
+SLIM = b"\0__gnu_lto_slim\0"
 # Sources of these languages are not preprocessed, so that there is no list of headers.
 WITHOUT_HEADERS = ("assembler", "cpp-output", "c++-cpp-output")
 
@@ -61,9 +65,11 @@ def compile_step(tools, source):
         return output, False
     os.makedirs(os.path.dirname(output), exist_ok=True)
     headers, assembled = f"{output}.headers", f"{output}.assembled"
-    command = [*words, *with_assembly(source.options), "-MD", "-MF", headers, "-MT", "x", f"-Wa,--MD,{assembled}"]
+    command = [*words, ASSEMBLED, "-MD", "-MF", headers, "-MT", "x", f"-Wa,--MD,{assembled}"]
+    given = [*tools.compiler.words, *source.options]
 
     def read():
+        refuse_unassembled(f"{output}.new", source.path)
         files = [source.path]
         if source.language not in WITHOUT_HEADERS:
             files += read_list(headers, files_in_rules)
@@ -71,9 +77,9 @@ def compile_step(tools, source):
 
     def complete(record, files, others):
         files = list(dict.fromkeys([*files, *filter(os.path.exists, others)]))
-        record.add_files([*files, *paths_in_words(source.options)])
-        folders = ["", *answer.headers, *assembler_folders(source.options), *(os.path.dirname(it) for it in files)]
-        record.add_sources(folders, files, sorted({it for word in source.options for it in names_in_option(word)}))
+        record.add_files([*files, *paths_in_words(given)])
+        folders = ["", *answer.headers, *answer.assembler, *(os.path.dirname(it) for it in files)]
+        record.add_sources(folders, files, with_precompiled(names_in_options([*given, *answer.words])))
 
     record = run_recorded(tools, command, output, key, f"CC {source.label}", read, complete)
     for path in (headers, assembled):
@@ -94,7 +100,8 @@ def link_step(tools, words, image, place, label):
     if record and record.holds(key, image):
         return False
     os.makedirs(os.path.dirname(image), exist_ok=True)
-    listed, maps = f"{image}.linked", maps_in(words)
+    listed, given = f"{image}.linked", [*tools.compiler.words, *words]
+    maps = maps_in(given)
     command = [*words, f"-Wl,--dependency-file={listed}"]
 
     def complete(record, files, others):
@@ -104,15 +111,15 @@ def link_step(tools, words, image, place, label):
         # Scripts are listed as they are named, and found in any of these directories, where each file of the name counts by its contents.
         folders = ["", *answer.libraries]
         named = [it for it in [*files, *others] if not it.startswith(tools.folder) and it not in maps]
-        scripts = [os.path.join(folder, it) for it in files if not it.endswith((".o", ".a", ".so")) for folder in folders]
-        scripts = list(filter(os.path.isfile, scripts))
-        libraries = [*answer.library_names, *(it for script in scripts for it in libraries_in_script(script))]
-        names = {*named, *map(os.path.basename, named), *(it for name in libraries for it in library_files(name))}
-        folders += [it for script in scripts for it in searched_by_script(script)]
+        scripts = [path for it in files for path in (os.path.join(folder, it) for folder in folders) if os.path.isfile(path) and is_script(path)]
+        texts = [text_of_script(it) for it in scripts]
+        libraries = [it for name in answer.library_names for it in library_files(name)]
+        names = {*named, *map(os.path.basename, named), *libraries, *(it for text in texts for it in names_in_script(text))}
+        folders += [os.path.dirname(it) for it in scripts] + [it for text in texts for it in folders_in_script(text)]
         record.add_candidates(folders, sorted(names))
 
     def read():
-        return read_list(listed, files_in_linked), paths_in_words(words)
+        return read_list(listed, files_in_linked), paths_in_words(given)
 
     record = run_recorded(tools, command, image, key, label, read, complete, maps)
     os.remove(listed)
@@ -126,11 +133,12 @@ def run_recorded(tools, words, output, key, label, read, complete, written=()):
     """Runs the compiler until nothing that it read changed meanwhile, and returns the record of the output; none if something always did.
 
     A file whose digest was taken before the compiler began must be the same after it. One that was not looked at before must not have
-    changed since the compiler began, nor may a directory. Further files that it wrote are part of the output.
+    changed since the compiler began, nor may a directory, nor what a search found there. Further files that it wrote are part of the
+    output. The day, which a source may ask for, must be the same, too.
     """
     new = f"{output}.new"
     for _ in range(MOST_TRIES):
-        began, listed = time.time_ns() - TICK_NS, set(tools.digests.listings)
+        began, day, listed = time.time_ns() - TICK_NS, today(), set(tools.digests.listings)
         run(tools, [*words, "-o", new], label)
         label = None
         if not os.path.isfile(new):
@@ -138,11 +146,12 @@ def run_recorded(tools, words, output, key, label, read, complete, written=()):
         record = Record(tools.digests, key)
         complete(record, *read())
         record.close(new)
-        files = [it for it in record.files if not it.startswith(tools.folder) and it not in written]
+        candidates = [it for it in record.candidates if tools.digests.of(it) != DIRECTORY]
+        files = [it for it in {*record.files, *candidates} if not it.startswith(tools.folder) and it not in written]
         folders = {folder for search in record.searches for folder in search[0]} - listed
         changed = [it for it in files if changed_since(it, began) or tools.digests.is_outdated(it)]
         changed_folders = [it for it in folders if changed_since(it or ".", began)]
-        if not changed and not changed_folders:
+        if not changed and not changed_folders and day == today():
             return record
         time.sleep(TICK_NS / 1e9)
         tools.digests.forget(changed, changed_folders)
@@ -169,10 +178,12 @@ def run(tools, words, label):
         raise Failed("" if said.strip() else f"{words[0]}: error: ended with status {done.returncode}")
 
 
-def with_assembly(options):
-    """The option that assembles a source also with -flto, so that the assembler tells which files it reads for it."""
-    chosen = [it for it in options if it.startswith(("-flto", "-fno-lto"))]
-    return ["-ffat-lto-objects"] if chosen and chosen[-1] != "-fno-lto" else []
+def refuse_unassembled(path, source):
+    """Refuses an object that has nothing but what the linker compiles later: no assembler has told yet which files it reads for it."""
+    with open(path, "rb") as file:
+        if SLIM in file.read():
+            raise Failed(f"{shown(source)}: error: the compiler wrote an object without code, so it is not known which files the assembler reads\n"
+                         "help: remove -fno-fat-lto-objects from the compiler's specs")
 
 
 def read_list(path, parse):
@@ -182,13 +193,6 @@ def read_list(path, parse):
             return parse(file.read())
     except (OSError, ValueError) as error:
         raise Refused(f"{shown(path)}: error: cannot tell which files were read: {error}") from None
-
-
-def assembler_folders(options):
-    """The directories that options of the assembler make it search, as -Wa,-Idir or -Wa,-I,dir does."""
-    pieces = [it for word in options for it in (word[4:].split(",") if word.startswith("-Wa,") else [])]
-    pieces = expanded(pieces + [after for word, after in zip(options, options[1:]) if word == "-Xassembler"])[0]
-    return [it[2:] or after for it, after in zip(pieces, [*pieces[1:], ""]) if it.startswith("-I")]
 
 
 def maps_in(words):
@@ -209,24 +213,3 @@ def members_of_thin(path):
             data = file.read((int(head[48:58]) + 1) // 2 * 2)
             names = data if head.startswith(b"//") else names
     return [os.path.join(os.path.dirname(path), it) for it in names.decode(errors="surrogateescape").split("/\n") if it.strip()]
-
-
-def searched_by_script(path):
-    """The directories that a linker script adds to those that are searched."""
-    return re.findall(r'\bSEARCH_DIR\s*\(\s*"?=?([^")]*?)"?\s*\)', script_text(path))
-
-
-def libraries_in_script(path):
-    """The libraries that a linker script names, as INPUT(-lcode) does."""
-    return re.findall(r'(?<=[\s(,"])-l([^\s(),"]+)', script_text(path))
-
-
-def script_text(path):
-    """The text of a linker script."""
-    with open(path, encoding="utf-8", errors="surrogateescape") as file:
-        return file.read()
-
-
-def library_files(name):
-    """The names of the files that the option -l with this value looks for."""
-    return [name[1:]] if name.startswith(":") else [f"lib{name}.a", f"lib{name}.so"]

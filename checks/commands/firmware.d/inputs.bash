@@ -112,7 +112,42 @@ case_stale_variable_of_specs() {
     unset BOARD
 }
 
-# With -flto, the assembler of the link is what reads the file.
+# Words of CC are words like those of CFLAGS, and so are those that specs add.
+case_stale_words_of_cc() {
+    local compiler=riscv64-unknown-elf-gcc
+    put t/a.c <<<'extern char code[];
+int main(void) { return (int)code; }'
+    echo '--defsym=code=0' >symbols
+    change() { echo '--defsym=code=1' >symbols; }
+    stale "a response file of the linker's in CC" CC="$compiler -Wl,@symbols"
+    echo '--defsym=code=0' >symbols
+    printf '*link:\n+ @symbols\n\n' >board.specs
+    stale "a response file of the linker's in specs of CC" CC="$compiler -specs=board.specs"
+    check 'a map by CC' 0 '1 job: 1 passed, 0 failed' CC="$compiler -Wl,-Map=a.map -Wl,--defsym=code=0"
+    check 'and nothing changed' 0 '1 job: 1 passed, 0 failed' CC="$compiler -Wl,-Map=a.map -Wl,--defsym=code=0"
+    hides 'LD '
+    rm t/a.c
+    put t/a.S <<<'    .include "code.inc"'
+    mkdir first
+    put second/code.inc <<<'    .globl main
+main: li a0, 0
+    ret'
+    change() { sed 's/a0, 0/a0, 1/' second/code.inc >first/code.inc; }
+    stale 'a file of the assembler by CC' CC="$compiler -Wa,-Ifirst,-Isecond"
+    rm first/code.inc
+    printf '*asm:\n+ -Ifirst -Isecond\n\n' >board.specs
+    stale 'a file of the assembler by specs' CFLAGS='-Os -specs=board.specs'
+    rm t/a.S
+    put t/a.c <<<'int main(void) { return STAMP[0] != 87; }'
+    touch -d 2020-01-01 t/a.c
+    change() { touch -d 2020-01-02 t/a.c; }
+    stale '__TIMESTAMP__ in CC' CC="$compiler -DSTAMP=__TIMESTAMP__"
+    touch -d 2020-01-01 t/a.c
+    printf '*cpp:\n+ -DSTAMP=__TIMESTAMP__\n\n' >board.specs
+    stale '__TIMESTAMP__ in specs' CFLAGS='-Os -specs=board.specs'
+}
+
+# With -flto, the assembler of the link is what reads the file, wherever the option comes from.
 case_stale_file_of_flto() {
     put t/a.c <<<'#define READ(name) __asm__(".balign 4\n.globl code\ncode: .incbin \"inc/" name ".bin\"");
 READ("code")
@@ -123,6 +158,77 @@ int main(void) { return code; }'
     echo -flto >t/a.flags
     change() { printf '\1\0\0\0' >inc/code.bin; }
     stale '.incbin with -flto'
+    rm t/a.flags
+    printf '\0\0\0\0' >inc/code.bin
+    stale '.incbin with -flto of CC' CC='riscv64-unknown-elf-gcc -flto'
+    printf '\0\0\0\0' >inc/code.bin
+    printf '*cc1:\n+ -flto\n\n' >lto.specs
+    stale '.incbin with -flto of specs' CFLAGS='-Os -specs=lto.specs'
+    printf '*cc1_options:\n+ -flto -fno-fat-lto-objects\n\n' >lto.specs
+    check 'specs that leave the code to the linker' 2 't/a.c: error: the compiler wrote an object without code' CFLAGS='-Os -specs=lto.specs'
+}
+
+# What the linker takes for a script, whatever its name ends in, and where the names in it are searched.
+case_stale_names_in_scripts() {
+    local name
+    put t/a.c <<<'int code(void);
+int main(void) { return code(); }'
+    mkdir -p lib first/sub second/sub
+    library 1
+    mv libcode.a libother.a
+    cp code.o other.o
+    library 0
+    echo 'INPUT(-lcode)' >libboard.a
+    echo '-L. -lboard' >t/a.flags
+    change() { echo 'INPUT(libother.a)' >libcode.so; }
+    stale 'a library of a script that is named like an archive'
+    rm libboard.a libcode.so
+    for name in libboard.a libboard.so board.o; do
+        echo 'GROUP ( /* the board */ AS_NEEDED ( sub/code.o ) )' >"lib/$name"
+        cp code.o second/sub/
+        echo "-Lfirst -Lsecond lib/$name" >t/a.flags
+        change() { cp other.o first/sub/code.o; }
+        stale "an object in a folder by $name"
+        rm first/sub/code.o second/sub/code.o "lib/$name"
+    done
+    echo 'INPUT("code.o")' >lib/libboard.a
+    echo '-Llib -lboard' >t/a.flags
+    change() { cp other.o lib/code.o; }
+    stale "an object in the script's own folder"
+}
+
+# GCC tries each file of a directory a.h.gch.
+case_stale_precompiled_headers() {
+    precompiled() {
+        put other.h <<<"#define CODE $1"
+        riscv64-unknown-elf-gcc -march=rv32imc -mabi=ilp32 -Os -g --specs=picolibc.specs -x c-header other.h -o "$2"
+    }
+    put t/a.c <<<'#include "a.h"
+int main(void) { return CODE; }'
+    put t/a.h <<<'#define CODE 0'
+    mkdir t/a.h.gch
+    change() { precompiled 1 t/a.h.gch/c; }
+    stale 'a precompiled header appears in a directory'
+    precompiled 0 t/a.h.gch/c
+    stale 'a precompiled header in a directory changes'
+    rm -r t/a.h.gch
+    precompiled 0 t/a.h.gch
+    change() { precompiled 1 t/a.h.gch; }
+    stale 'a precompiled header changes'
+    rm t/a.h.gch
+    put t/a.c <<<'int main(void) { return CODE; }'
+    mkdir folder
+    echo '-Ifolder -include code.h' >t/a.flags
+    precompiled 0 folder/code.h.gch
+    change() { precompiled 1 folder/code.h.gch; }
+    stale 'a precompiled header of -include changes'
+    put t/a.c <<<'#define NAME "b.h"
+#include NAME
+int main(void) { return CODE; }'
+    echo '-Ifolder' >t/a.flags
+    precompiled 0 folder/b.h.gch
+    change() { precompiled 1 folder/b.h.gch; }
+    stale 'a precompiled header whose name is a macro'
 }
 
 case_stale_dates() {
@@ -139,6 +245,35 @@ int main(void) { return 0; }'
     check 'a file that the source depends on' 0 '1 job: 1 passed, 0 failed'
     touch -d '1 hour' t/table.txt
     check 'and that is newer' 2 'current file is older than table.txt'
+}
+
+# A compiler that begins on one day and ends on the next one, as a clock says that is this case's own.
+case_stale_midnight() {
+    put clock/sitecustomize.py <<END
+import time
+real = time.strftime
+time.strftime = lambda form, *given: open("$PWD/day").read().strip() if form == "%F" else real(form, *given)
+END
+    put compiler <<'END'
+#!/bin/sh
+# Seconds of 1970-01-01 and -02.
+case $(cat day) in 1970-01-01) export SOURCE_DATE_EPOCH=0 ;; *) export SOURCE_DATE_EPOCH=90000 ;; esac
+case " $* " in *' -c t/a.c '*) [ ! -e evening ] || { rm evening; echo 1970-01-02 >day; } ;; esac
+exec riscv64-unknown-elf-gcc "$@"
+END
+    chmod +x compiler
+    put t/a.c <<<'int main(void) { return __DATE__[5] != 49; }'
+    echo 1970-01-01 >day
+    export PYTHONPATH=$PWD/clock
+    check 'on the first day' 0 '1 job: 1 passed, 0 failed' CC="$PWD/compiler"
+    check 'and still' 0 '1 job: 1 passed, 0 failed' CC="$PWD/compiler"
+    hides 'CC '
+    echo '#define MORE' >>t/a.c
+    : >evening
+    made check TESTS=t CC="$PWD/compiler" >out 2>&1 || true
+    [ "$(<day)" = 1970-01-02 ] || fail "midnight has not come: $(<out)"
+    check 'on the second day' 2 'FAIL a: exit 1' CC="$PWD/compiler"
+    unset PYTHONPATH
 }
 
 # Files that __has_include asks for by macros, where a search does not look at first.

@@ -274,8 +274,8 @@ case_stale_by_fresh_eyes() {
 int main(void) { return CODE; }'
     put t/a.h <<<'#define CODE 0'
     change() {
-        put a.h <<<'#define CODE 1'
-        riscv64-unknown-elf-gcc -march=rv32imc -mabi=ilp32 -Os -g --specs=picolibc.specs -x c-header a.h -o t/a.h.gch
+        put other.h <<<'#define CODE 1'
+        riscv64-unknown-elf-gcc -march=rv32imc -mabi=ilp32 -Os -g --specs=picolibc.specs -x c-header other.h -o t/a.h.gch
     }
     stale 'a precompiled header appears'
 }
