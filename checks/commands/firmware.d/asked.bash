@@ -149,15 +149,15 @@ case_two_lists() {
 
 # Makes in containers of their own may have the same number.
 case_two_makes_of_one_number() {
-    local contained='unshare --user --map-root-user --pid --fork'
-    if ! $contained true 2>/dev/null; then
+    local contained=(unshare --user --map-root-user --pid --fork)
+    if ! "${contained[@]}" true 2>/dev/null; then
         echo 'two makes of one number: passed over, since this user may not make containers'
         return
     fi
     put t/a.c <<<'int main(void) { return CODE; }'
-    before $contained make -s -f "$kit/Makefile" RVTEST="$top/rvtest" check TESTS=t CFLAGS=-DCODE=0
+    before "${contained[@]}" make -s -f "$kit/Makefile" RVTEST="$top/rvtest" check TESTS=t CFLAGS=-DCODE=0
     ends 'images of another container' 2 't/build/a.elf: error: another build replaced it' \
-        $contained make --no-print-directory -f "$kit/Makefile" RVTEST="$PWD/other" check TESTS=t CFLAGS=-DCODE=1
+        "${contained[@]}" make --no-print-directory -f "$kit/Makefile" RVTEST="$PWD/other" check TESTS=t CFLAGS=-DCODE=1
 }
 
 # A file that the linker writes does not make it link again, unless it is gone.
