@@ -80,9 +80,9 @@ impl Sink for MemorySink {
     }
 }
 
-// Only a growth is refused.
 impl LastError for MemorySink {
     fn last_error(&self) -> ErrorKind {
+        // Out of memory: nothing but a growth is refused here.
         ErrorKind::OutOfMemory
     }
 }
