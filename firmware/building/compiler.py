@@ -109,7 +109,9 @@ class Compiler:
     @staticmethod
     def run(words):
         """What the compiler prints; when it fails, so does whatever the words belong to."""
-        done = subprocess.run(words, stdin=subprocess.DEVNULL, capture_output=True, check=False, env={**os.environ, "LC_ALL": "C"})
+        # ccache must not answer in the compiler's place.
+        environment = {**os.environ, "LC_ALL": "C", "CCACHE_DISABLE": "1"}
+        done = subprocess.run(words, stdin=subprocess.DEVNULL, capture_output=True, check=False, env=environment)
         if done.returncode:
             text = "\n".join(it for it in done.stderr.decode("utf-8", "surrogateescape").splitlines() if re.search("error|warning", it))
             raise Refused(f"{text}\n{help_for(text)}".rstrip())
