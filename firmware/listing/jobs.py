@@ -42,7 +42,13 @@ def jobs_of(test, top, image, region, ignored):
 def folders_down_to(test, top):
     """The folders whose defaults apply to a test, the farthest first."""
     parts = os.path.dirname(test.place).split(os.sep)
-    return [os.path.join(top, *parts[:count]) for count in range(len(parts) + 1) if count == 0 or parts[0]]
+    return folders_above(top) + [os.path.join(top, *parts[:count]) for count in range(len(parts) + 1) if count == 0 or parts[0]]
+
+
+def folders_above(top):
+    """The folders above the tests, however their path is spelt, from the current directory on; none if they are outside of it."""
+    parts = os.path.relpath(os.path.realpath(top)).split(os.sep)
+    return [os.path.join("", *parts[:count]) for count in range(len(parts))] if parts[0] not in (os.curdir, os.pardir) else []
 
 
 def put_all(keys, stem):

@@ -25,6 +25,33 @@ budget = 6_000'
     check 'for all but where a nearer one is' 2 '4 jobs: 2 passed, 2 failed'
 }
 
+# A test has the same keys whichever folder is TESTS, and however that is spelt; nothing is read above the current directory.
+case_defaults_above() {
+    exits t/uart/b.c 3
+    exits t/uart/rx/c.c 3
+    put t/defaults.keys <<<'isa = "rv32i"'
+    echo 'expect_exit = 3' >t/uart/defaults.keys
+    ln -s t/uart link
+    local tests
+    for tests in t t/uart t/uart/ ./t/uart/rx "$PWD/t/uart" t/uart/rx/../. link; do
+        ends "the keys of t, TESTS=$tests" 2 '0 passed' made check "TESTS=$tests"
+        shows 'fault illegal'
+    done
+    echo 'isa = "rv32imc"' | tee t/uart/rx/defaults.keys >defaults.keys
+    ends 'a nearer file' 0 '1 job: 1 passed, 0 failed' made check TESTS=t/uart/rx
+    ends 'but not for others' 2 '2 jobs: 1 passed, 1 failed' made check TESTS=t/uart
+    rm t/defaults.keys
+    echo 'isa = "rv32i"' >defaults.keys
+    ends 'a file of the current directory' 2 '2 jobs: 1 passed, 1 failed' made check TESTS=t/uart
+    echo 'isa = "rv3"' >defaults.keys
+    ends 'one that is wrong' 2 'defaults.keys:1: error: ' made check TESTS=t/uart
+    shows '2 jobs: 1 passed, 1 failed'
+    mkdir other
+    ends 'above the current directory' 0 '2 jobs: 2 passed, 0 failed' made -C other check TESTS=../t/uart
+    ends 'above the current directory, which has the tests' 0 '2 jobs: 2 passed, 0 failed' made -C t check TESTS=uart
+    ends 'the current directory itself' 0 '2 jobs: 2 passed, 0 failed' made -C t/uart check TESTS=.
+}
+
 case_cases() {
     put t/echo.c <<<'#include "rvfleet.h"
 int main(void) { int sum = 0; for (unsigned it = CONSOLE; it != SCRIPT_END; it = CONSOLE) { CONSOLE = it; sum++; } return sum; }'
