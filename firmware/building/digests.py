@@ -10,6 +10,8 @@ import stat
 import threading
 import time
 
+from listing.files import named
+
 from .names import ALWAYS, ANY_NAME, CLOCKS, ONCE, OUTSIDE, names_in_text
 
 
@@ -46,7 +48,7 @@ def digest_of(value):
 def write_whole(path, text):
     """Replaces a file in one step, so that a reader sees the old contents or the new ones, however this process ends."""
     new = f"{path}.{os.getpid()}.{threading.get_ident()}.new"
-    with open(new, "w", encoding="utf-8", errors="surrogateescape") as file:
+    with named(path), open(new, "w", encoding="utf-8", errors="surrogateescape") as file:
         file.write(text)
     os.replace(new, path)
 

@@ -5,7 +5,7 @@ import json
 import os
 import time
 
-from listing.files import shown
+from listing.files import named, shown
 
 from .digests import facts_of, write_whole
 
@@ -49,7 +49,7 @@ def write_marked(path, text, mark):
         state = state_if_same(path, text.encode())
         if state is None:
             new = f"{path}.{os.getpid()}.new"
-            with open(new, "wb") as file:
+            with named(path), open(new, "wb") as file:
                 file.write(text.encode())
                 file.flush()
                 replace(new, path)

@@ -5,7 +5,7 @@ import re
 import sys
 import threading
 
-from listing.files import Refused, shown
+from listing.files import Refused, shown, text_of_error
 
 from .steps import Failed, compile_step, link_step
 
@@ -75,5 +75,5 @@ class Pool:
         except (Failed, Refused, OSError) as error:
             if os.path.lexists(plan.image):
                 os.remove(plan.image)
-            self.tools.report.error(str(error))
+            self.tools.report.error(text_of_error(error) if isinstance(error, OSError) else str(error))
             return False

@@ -1,4 +1,5 @@
 """The small files beside a test: what each may contain, and the errors for one that contains something else."""
+import contextlib
 import os
 import re
 import stat
@@ -27,6 +28,24 @@ def escape_of(sign):
     if 0xdc80 <= code <= 0xdcff:
         return f"\\x{code - 0xdc00:02x}"
     return f"\\x{code:02x}" if code < 0x80 else f"\\u{{{code:x}}}"
+
+
+def text_of_error(error):
+    """What the system says is wrong with a file."""
+    path = error.filename2 or error.filename
+    named = f"{shown(os.fsdecode(path))}: " if isinstance(path, (str, bytes)) else ""
+    return f"{named}error: {error.strerror or error}"
+
+
+@contextlib.contextmanager
+def named(path):
+    """Errors within are about this file, unless they name one: those of writes name none."""
+    try:
+        yield
+    except OSError as error:
+        if error.filename is None:
+            error.filename = path
+        raise
 
 
 def content_of(path):

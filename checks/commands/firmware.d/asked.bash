@@ -103,6 +103,47 @@ case_list_not_replaced() {
     [ -z "$(find t/build -name '*.new')" ] || fail "a new list is left: $(find t/build -name '*.new')"
 }
 
+# What the system says of a file of the build folder is told in one line, with the file's name.
+case_system_errors() {
+    local file
+    # tells WHAT TEXT [WORD..]
+    tells() {
+        check "$1" 2 "$2" "${@:3}"
+        hides Traceback
+        hides passed
+        [ "$(grep -vc '^make' err)" = 1 ] || fail "it is told in more than one line: $(<err)"
+    }
+    exits t/a.c 0
+    for file in .build/lock .build/digests.json .marks/lock; do
+        mkdir -p "t/build/$file/inner"
+        tells "a folder in the place of $file" "t/build/$file: error: Is a directory"
+        rm -r "t/build/$file"
+    done
+    for file in .build .marks; do
+        rm -rf "t/build/$file"
+        : >"t/build/$file"
+        tells "a file in the place of $file" "t/build/$file: error: File exists"
+        rm "t/build/$file"
+    done
+    # The file system is full when these files are written; the system names no file then.
+    put full/sitecustomize.py <<<'import builtins, os
+real = builtins.open
+def opened(path, mode="r", *words, **more):
+    return real("/dev/full" if "w" in mode and os.environ["FULL"] in str(path) else path, mode, *words, **more)
+builtins.open = opened'
+    rm -r t/build
+    FULL=digests.json. PYTHONPATH=$PWD/full tells 'no space for digests' 't/build/.build/digests.json: error: No space left on device'
+    rm -r t/build
+    FULL=t.toml. PYTHONPATH=$PWD/full tells 'no space for the list' 't/build/t.toml: error: No space left on device'
+    rm -r t/build
+    FULL=images/a.json. PYTHONPATH=$PWD/full check 'no space for a record' 2 't/build/.build/images/a.json: error: No space left on device'
+    shows '1 job: 0 passed, 1 failed'
+    if [ "$(id -u)" != 0 ]; then
+        chmod a-w t/build/.build/lock
+        tells "another user's lock" 't/build/.build/lock: error: Permission denied'
+    fi
+}
+
 # Another make builds the tests with other options before this one runs them.
 case_two_makes() {
     put t/a.c <<<'int main(void) { return CODE; }'
