@@ -162,6 +162,69 @@ END
     ends 'two goals of one make' 0 CALLGRIND made check profile TESTS=t CFLAGS=-DCODE=0
 }
 
+# Waits until a command succeeds, for at most ten seconds.
+until_it() {
+    local left
+    for left in {100..0}; do
+        ! "$@" 2>/dev/null || return 0
+        sleep 0.1
+    done
+    fail "it did not come: $* ($left tries left): $(tail -n 5 first second 2>/dev/null)"
+}
+
+# What is being built is not removed, and a build that waited while the folder was removed has the lock of the new folder.
+case_clean_waits() {
+    local build clean
+    exits t/a.c 0
+    put slow <<'END'
+#!/bin/sh
+: >begun
+while [ -e hold ]; do sleep 0.1; done
+exec riscv64-unknown-elf-gcc "$@"
+END
+    chmod +x slow
+    : >hold
+    made check TESTS=t CC="$PWD/slow" >first 2>&1 &
+    build=$!
+    until_it [ -e begun ]
+    made clean TESTS=t >second 2>&1 &
+    clean=$!
+    until_it grep -q 'waiting for another build in t/build/.build' second
+    flock -n t/build/.build/lock true && fail 'the folder is not locked while it is built'
+    rm hold
+    wait "$clean" || fail "make clean: status $?: $(<second)"
+    wait "$build" || true
+    ! grep Traceback first second || fail 'a traceback is shown'
+
+    rm -f begun
+    mkdir -p t/build/.build
+    : >hold
+    exec 9>t/build/.build/lock
+    flock 9
+    made check TESTS=t CC="$PWD/slow" >first 2>&1 9>&- &
+    build=$!
+    until_it grep -q 'waiting for another build in t/build/.build' first
+    rm -r t/build
+    exec 9>&-
+    until_it [ -e begun ]
+    [ -e t/build/.build/lock ] || fail 'a build has no lock in its folder'
+    flock -n t/build/.build/lock true && fail 'a build does not have the lock of its folder'
+    rm hold
+    wait "$build" || fail "status $?: $(<first)"
+    grep '1 job: 1 passed, 0 failed' first
+
+    ends 'the images of other goals' 0 CALLGRIND made profile TESTS=t
+    ends 'to be debugged' 0 'rvtest gdb' made debug TESTS=t TEST=a GDB=true
+    mkdir -p outside t/build/inner
+    echo kept >outside/file
+    ln -s ../../outside t/build/link
+    ends 'cleaned' 0 'CLEAN t/build' made clean TESTS=t
+    [ "$(ls -A t)" = a.c ] || fail "something is left: $(find t)"
+    [ "$(<outside/file)" = kept ] || fail 'more is removed than what was built'
+    ends 'cleaned again' 0 'CLEAN t/build' made clean TESTS=t
+    check 'and built' 0 '1 job: 1 passed, 0 failed'
+}
+
 # A program in the place of rvtest that runs another make first.
 #   before WORD..    words that the shell reads again
 before() {

@@ -142,7 +142,8 @@ case_names_are_words() {
             *)
                 ends "TESTS=$name" 0 '1 job: 1 passed, 0 failed' made check "TESTS=$name"
                 ends "TESTS=$name, listed" 0 'LIST ' made list "TESTS=$name"
-                ends "TESTS=$name, cleaned" 0 'rm -rf' made clean "TESTS=$name"
+                ends "TESTS=$name, cleaned" 0 '' made clean "TESTS=$name"
+                [ ! -e "$name/build" ] || fail "TESTS=$name: it is not cleaned"
                 ;;
         esac
     done
