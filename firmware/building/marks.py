@@ -81,4 +81,9 @@ def error_of(mark):
         replaced = [path for path, state in states_in(mark).items() if state != state_of(path)]
     except FileNotFoundError:
         replaced = [mark]
-    return f"{shown(replaced[0])}: error: another build replaced it meanwhile: run make again" if replaced else ""
+    return text_of_replaced(replaced[0]) if replaced else ""
+
+
+def text_of_replaced(path):
+    """What to say of a file that is not the one which was built."""
+    return f"{shown(path)}: error: another build replaced it meanwhile: run make again"

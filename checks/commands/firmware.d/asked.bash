@@ -213,6 +213,16 @@ END
     wait "$build" || fail "status $?: $(<first)"
     grep '1 job: 1 passed, 0 failed' first
 
+    put cleaning <<END
+#!/bin/sh
+[ "\$1" != list ] || make -s -f "$kit/Makefile" clean TESTS=t >&2
+exec "$top/rvtest" "\$@"
+END
+    chmod +x cleaning
+    check 'cleaned before the list is written' 2 'error: another build replaced it meanwhile' RVTEST="$PWD/cleaning"
+    sed -i 's/!= list/!= run/' cleaning
+    check 'cleaned before the run' 2 'error: another build replaced it meanwhile' RVTEST="$PWD/cleaning"
+
     ends 'the images of other goals' 0 CALLGRIND made profile TESTS=t
     ends 'to be debugged' 0 'rvtest gdb' made debug TESTS=t TEST=a GDB=true
     mkdir -p outside t/build/inner
