@@ -19,6 +19,8 @@ TICK_NS = 20_000_000
 MOST_TRIES = 3
 # With -flto, wherever it comes from, a source is assembled at once by this option, so that the assembler tells which files it reads for it.
 ASSEMBLED = "-ffat-lto-objects"
+# By this option, headers of the system are listed, and looked for, by the paths that they were found by, whose links may be switched.
+AS_FOUND = "-fno-canonical-system-headers"
 # The symbol of an object of GCC that was not.
 SLIM = b"\0__gnu_lto_slim\0"
 # Sources of these languages are not preprocessed, so that there is no list of headers.
@@ -65,7 +67,7 @@ def compile_step(tools, source):
         return output, False
     os.makedirs(os.path.dirname(output), exist_ok=True)
     headers, assembled = f"{output}.headers", f"{output}.assembled"
-    command = [*words, ASSEMBLED, "-MD", "-MF", headers, "-MT", "x", f"-Wa,--MD,{assembled}"]
+    command = [*words, ASSEMBLED, AS_FOUND, "-MD", "-MF", headers, "-MT", "x", f"-Wa,--MD,{assembled}"]
     given = [*tools.compiler.words, *source.options]
 
     def read():

@@ -37,6 +37,37 @@ case_stale_folders_of_the_linker() {
     stale 'a shared library in the place of one that a script names'
 }
 
+# Two versions of an SDK, and a link to one of them, by which the system's headers are found. What is included by name differs alone.
+case_stale_switched_links() {
+    local version
+    for version in 1.2 1.3; do put "sdk/$version/include/hal/gpio.h" <<<'#include "regs.h"'; done
+    put sdk/1.2/include/hal/regs.h <<<'#define CODE 0'
+    put sdk/1.3/include/hal/regs.h <<<'#define CODE 1'
+    exits_by_header hal/gpio.h
+    ln -s 1.2 sdk/current
+    change() { ln -sfn 1.3 sdk/current; }
+    echo "-isystem $PWD/sdk/current/include" >t/a.flags
+    stale 'a link above a directory of -isystem'
+    mkdir board
+    ln -s ../sdk/1.2/include/hal board/hal
+    change() { ln -sfn ../sdk/1.3/include/hal board/hal; }
+    echo "-isystem $PWD/board" >t/a.flags
+    stale 'a link in a directory of -isystem'
+    ln -sfn ../sdk/1.2/include/hal board/hal
+    export C_INCLUDE_PATH=$PWD/board
+    rm t/a.flags
+    stale 'a link in a directory of C_INCLUDE_PATH'
+    unset C_INCLUDE_PATH
+    put once/code.h <<<'#pragma once
+enum { CODE };'
+    ln -s once twice
+    put t/a.c <<<'#include <once/code.h>
+#include <twice/code.h>
+int main(void) { return CODE; }'
+    echo "-isystem $PWD" >t/a.flags
+    check '#pragma once by two paths' 0 '1 job: 1 passed, 0 failed'
+}
+
 case_stale_folders_of_the_assembler() {
     put t/a.S <<<'    .include "code.inc"'
     mkdir first
