@@ -212,9 +212,21 @@ class Digests:
 
 def names_below(path, folders):
     """The names by which a path can be found in these directories, and the name of its precompiled header."""
-    names = {path[len(folder):].lstrip("/") for folder in folders if folder and path.startswith(folder.rstrip("/") + "/")}
-    names.add(os.path.basename(path))
-    return with_precompiled(names)
+    plain, names = plain_path(path), {os.path.basename(path)}
+    for folder in filter(None, folders):
+        above = plain_path(f"{folder}/").rstrip("/")
+        if not above and not folder.startswith("/"):
+            # The directory that make runs in.
+            names.add(plain)
+        elif plain.startswith(f"{above}/"):
+            names.add(plain[len(above) + 1:])
+    return with_precompiled({it for it in names if not os.path.isabs(it)})
+
+
+def plain_path(path):
+    """A path without `./` and doubled slashes, which GCC leaves out of its lists in part. What `..` leads to depends on links: it stays."""
+    absolute = "/" if path.startswith("/") else ""
+    return absolute + "/".join(it for it in path.split("/") if it not in ("", "."))
 
 
 def with_precompiled(names):

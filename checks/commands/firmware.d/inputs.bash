@@ -68,6 +68,24 @@ int main(void) { return CODE; }'
     check '#pragma once by two paths' 0 '1 job: 1 passed, 0 failed'
 }
 
+# A header whose name macros put together, found below a folder that is spelt in one way or another.
+case_stale_shadows_of_computed_names() {
+    local folder
+    put t/a.c <<<'#define TEXT_(it) #it
+#define TEXT(it) TEXT_(it)
+#include TEXT(boards/BOARD.h)
+int main(void) { return CODE; }'
+    put base/boards/esp.h <<<'#define CODE 0'
+    put boards/esp.h <<<'#define CODE 0'
+    change() { put override/boards/esp.h <<<'#define CODE 1'; }
+    for folder in . ./ ./base .//base/ ././base base/. base// "$PWD" "$PWD/./base" base/../base; do
+        rm -rf override
+        mkdir -p override/boards
+        echo "-I./override -I$folder -DBOARD=esp" >t/a.flags
+        stale "a header shadows one that -I$folder has"
+    done
+}
+
 case_stale_folders_of_the_assembler() {
     put t/a.S <<<'    .include "code.inc"'
     mkdir first
