@@ -2,6 +2,7 @@
 
 Digests are remembered between builds for files whose status has not changed since. The status includes the time of the last change of
 the inode, which no program can set. A status is remembered only once it is older than the resolution of the clock of any file system.
+On a file system that is mounted read-only it says nothing, since another image may be mounted in its place: all files there are read anew.
 """
 import hashlib
 import json
@@ -61,6 +62,11 @@ def facts_of(status):
     return [status.st_dev, status.st_ino, status.st_size, status.st_mtime_ns, status.st_ctime_ns]
 
 
+def is_read_only(path):
+    """Whether a file is on something that is mounted read-only, as an image is."""
+    return bool(os.statvfs(path).f_flag & os.ST_RDONLY)
+
+
 class Digests:
     """What is known about files: digests of their contents, names of headers in them, and which names a directory has."""
 
@@ -107,7 +113,7 @@ class Digests:
                 return self.of_directory(path) if stat.S_ISDIR(status.st_mode) else SPECIAL
             facts = self.facts[path] = facts_of(status)
             entry = self.files.get(path)
-            if entry and entry[:-1] == facts:
+            if entry and entry[:-1] == facts and not is_read_only(path):
                 return entry[-1]
             return self.read(path, facts)
         except (OSError, ValueError):

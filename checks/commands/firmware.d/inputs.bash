@@ -158,6 +158,33 @@ int b(void) { return 0; }'
     done
 }
 
+# Images of an SDK, mounted in turn, with files of the same inodes, sizes and dates.
+case_stale_mounted_images() {
+    local code
+    mkdir mounted
+    for code in 0 1; do
+        put "$code/code.h" <<<"#define CODE $code"
+        truncate -s 4M "$code.img"
+        if ! mke2fs -q -t ext4 -O ^has_journal -d "$code" "$code.img"; then
+            echo 'images: passed over, since they cannot be made'
+            return
+        fi
+        for date in atime ctime mtime crtime; do
+            debugfs -w -R "sif /code.h $date 20200101000000" "$code.img" 2>/dev/null
+            debugfs -w -R "sif /code.h ${date}_extra 0" "$code.img" 2>/dev/null
+        done
+    done
+    if ! mount -o loop,ro 0.img mounted; then
+        echo 'images: passed over, since they cannot be mounted'
+        return
+    fi
+    trap "umount '$PWD/mounted'" EXIT
+    exits_by_header code.h
+    echo '-isystem mounted' >t/a.flags
+    change() { umount mounted && mount -o loop,ro 1.img mounted; }
+    stale 'a header of another image'
+}
+
 # Paths are bytes, which a locale of Latin-1 does not decode as UTF-8.
 case_stale_names_in_latin_1() {
     mkdir loc
