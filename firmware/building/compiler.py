@@ -15,7 +15,7 @@ from listing.files import Refused, shown, text_at
 from listing.flags import expanded
 
 from .digests import digest_of
-from .records import Record, paths_in_words
+from .records import UNREAD, Record, paths_in_words
 
 # The variables that GCC, binutils, their loader and the usual wrappers read. TMPDIR and colours change no output.
 VARIABLES = re.compile(r"""(?:GCC_(?!COLORS$|URLS$)|COLLECT_|COMPILER_|AS_|BINUTILS_|CCACHE_|DISTCC_|LC_|LD_|MALLOC_|TARGET_).* | .*_INCLUDE_PATH
@@ -45,10 +45,11 @@ def variables():
 
 
 class Answer(NamedTuple):
-    """What the compiler says for some options: a digest of all that it consists of, where it searches for headers and libraries, for which
+    """What the compiler says for some options: a digest of all that it consists of, whether it is all here, where it searches for headers and libraries, for which
     libraries, where its assembler searches, and which words it gives to its programs, those of its specs among them."""
 
     digest: str
+    here: bool
     headers: list
     libraries: list
     library_names: list
@@ -79,7 +80,8 @@ class Compiler:
                     self.records.save("compilers", key, record)
                 told = record.told
                 made = digest_of([record.files, record.present, self.path, told["variables"]])
-                self.answers[key] = Answer(made, told["headers"], told["libraries"], told["names"], told["assembler"], told["words"])
+                here = UNREAD not in record.files.values()
+                self.answers[key] = Answer(made, here, told["headers"], told["libraries"], told["names"], told["assembler"], told["words"])
             return self.answers[key]
 
     def ask(self, key, options, language):
@@ -93,7 +95,7 @@ class Compiler:
         folders = folders_of(told, searched)
         specs = list(dict.fromkeys(re.findall(r"^Reading specs from (.*)$", told, re.M)))
         files = [shutil.which(it) or it for it in [*self.words, *wrappers_in(given)] if not it.startswith("-")]
-        files += specs + paths_in_words([*given, *passed]) + programs_in(told) + plugins_in(told)
+        files += paths_in_words([*given, *passed]) + programs_in(told) + plugins_in(told)
         record = Record(self.digests, key)
         linked = words_of_program(told, LINKING)
         record.told = {"headers": headers_of(told), "libraries": folders["libraries"] + values_after(linked, LIBRARY_FOLDER),
@@ -103,6 +105,7 @@ class Compiler:
         names += [os.path.basename(it) for it in specs] + [name for it in specs for name in self.digests.names_in(it)] + asked_for_in(specs)
         record.add_candidates(folders["programs"] + folders["libraries"] + ["", *searched_by_shell()], sorted(set(names)))
         record.add_files(files)
+        record.add_listed(specs + programs_run(told))
         record.close()
         return record
 
@@ -115,7 +118,7 @@ class Compiler:
         if done.returncode:
             text = "\n".join(it for it in done.stderr.decode("utf-8", "surrogateescape").splitlines() if re.search("error|warning", it))
             raise Refused(f"{text}\n{help_for(text)}".rstrip())
-        return (done.stdout + done.stderr).decode("utf-8", "surrogateescape")
+        return os.fsdecode(done.stdout + done.stderr)
 
 
 def help_for(text):
@@ -194,6 +197,12 @@ def programs_in(told):
         words = line.split()
         found += [word.strip('"') for word in words[:1] + words if os.path.isabs(word.strip('"')) and os.path.isfile(word.strip('"'))]
     return found
+
+
+def programs_run(told):
+    """The programs that it would run, which a compiler in a container has there."""
+    told = re.sub(r'^#include "\.\.\." search starts here:$.*?^End of search list\.$', "", told, flags=re.M | re.S)
+    return sorted({command[0] for command in commands_in(told) if os.path.isabs(command[0])})
 
 
 def commands_in(told):

@@ -2,6 +2,7 @@
 
 Digests are remembered between builds for files whose status has not changed since. The status includes the time of the last change of
 the inode, which no program can set. A status is remembered only once it is older than the resolution of the clock of any file system.
+On a file system that is mounted read-only it says nothing, since another image may be mounted in its place: all files there are read anew.
 """
 import hashlib
 import json
@@ -63,6 +64,11 @@ def facts_of(status):
     return [status.st_dev, status.st_ino, status.st_size, status.st_mtime_ns, status.st_ctime_ns]
 
 
+def is_read_only(path):
+    """Whether a file is on something that is mounted read-only, as an image is."""
+    return bool(os.statvfs(path).f_flag & os.ST_RDONLY)
+
+
 class Digests:
     """What is known about files: digests of their contents, names of headers in them, and which names a directory has."""
 
@@ -109,7 +115,7 @@ class Digests:
                 return self.of_directory(path) if stat.S_ISDIR(status.st_mode) else SPECIAL
             facts = self.facts[path] = facts_of(status)
             entry = self.files.get(path)
-            if entry and entry[:-1] == facts:
+            if entry and entry[:-1] == facts and not is_read_only(path):
                 return entry[-1]
             return self.read(path, facts)
         except (OSError, ValueError):
@@ -214,9 +220,21 @@ class Digests:
 
 def names_below(path, folders):
     """The names by which a path can be found in these directories, and the name of its precompiled header."""
-    names = {path[len(folder):].lstrip("/") for folder in folders if folder and path.startswith(folder.rstrip("/") + "/")}
-    names.add(os.path.basename(path))
-    return with_precompiled(names)
+    plain, names = plain_path(path), {os.path.basename(path)}
+    for folder in filter(None, folders):
+        above = plain_path(f"{folder}/").rstrip("/")
+        if not above and not folder.startswith("/"):
+            # The directory that make runs in.
+            names.add(plain)
+        elif plain.startswith(f"{above}/"):
+            names.add(plain[len(above) + 1:])
+    return with_precompiled({it for it in names if not os.path.isabs(it)})
+
+
+def plain_path(path):
+    """A path without `./` and doubled slashes, which GCC leaves out of its lists in part. What `..` leads to depends on links: it stays."""
+    absolute = "/" if path.startswith("/") else ""
+    return absolute + "/".join(it for it in path.split("/") if it not in ("", "."))
 
 
 def with_precompiled(names):

@@ -1,4 +1,5 @@
 """Which names of files a source mentions: what it may include, now or once such a file exists."""
+import os
 import re
 
 # Lines that can bring in a file: directives of the preprocessor and the assembler, and macros that these may use.
@@ -46,8 +47,8 @@ def names_in_text(text):
         for groups in NAMES.findall(line):
             name = next(filter(None, groups)).strip()
             if name and b"\0" not in name:
-                names.add(name.decode(errors="surrogateescape"))
-    names.update((quoted or angled).decode(errors="surrogateescape") for quoted, angled in ASKED.findall(text))
+                names.add(os.fsdecode(name))
+    names.update(os.fsdecode(quoted or angled) for quoted, angled in ASKED.findall(text))
     found = {ANY_NAME: COMPUTED.search(IF_DEFINED.sub(b"", text)), OUTSIDE: ABOVE.search(text), ONCE: PRAGMA_ONCE.search(text)}
     names.update(name for name, match in found.items() if match)
     names.update(clock for clock, pattern in CLOCKS.items() if re.search(pattern, text))

@@ -10,7 +10,11 @@ import re
 from listing.files import Refused, text_at
 from listing.flags import is_file, response_words
 
-from .digests import FORMAT, digest_of, write_whole
+from .digests import FORMAT, SPECIAL, digest_of, has_contents, write_whole
+
+# In the place of the digest of a file that was read, but that is not here, or may not be read here, as with a compiler in a container.
+# No file has this digest, so that its record never holds.
+UNREAD = "unread"
 
 
 def paths_in_words(words):
@@ -54,6 +58,12 @@ class Record:
         """Adds the files that were read."""
         for path in paths:
             self.files[path] = self.digests.of(path)
+
+    def add_listed(self, paths):
+        """Adds the files that a program says it read. Of what it calls a file and is none here, nothing is known."""
+        for path in paths:
+            digest = self.digests.of(path)
+            self.files[path] = digest if has_contents(digest) or digest == SPECIAL else UNREAD
 
     def add_candidates(self, folders, names):
         """Adds a search: these names in each of these directories. Directories of a search are compared as they are spelt."""

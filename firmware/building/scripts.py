@@ -1,4 +1,5 @@
 """Linker scripts: which files are scripts, which names these look for, and where they make the linker search."""
+import os
 import re
 
 # What the linker reads as something else begins with one of these: ELF, archives, thin ones, and bitcode.
@@ -16,8 +17,8 @@ def is_script(path):
 
 def text_of_script(path):
     """The text of a linker script, as it is and without comments: a pattern of files may look like the beginning of one."""
-    with open(path, encoding="utf-8", errors="surrogateescape") as file:
-        text = file.read()
+    with open(path, "rb") as file:
+        text = os.fsdecode(file.read())
     return f"{text}\n{COMMENTS.sub(' ', text)}"
 
 

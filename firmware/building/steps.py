@@ -19,8 +19,13 @@ TICK_NS = 20_000_000
 MOST_TRIES = 3
 # With -flto, wherever it comes from, a source is assembled at once by this option, so that the assembler tells which files it reads for it.
 ASSEMBLED = "-ffat-lto-objects"
+# By this option, headers of the system are listed, and looked for, by the paths that they were found by, whose links may be switched.
+AS_FOUND = "-fno-canonical-system-headers"
 # The symbol of an object of GCC that was not.
 SLIM = b"\0__gnu_lto_slim\0"
+# A file that a compiler made for the next program, and removed.
+TEMPORARY = re.compile(r"(?:.*/)?cc[A-Za-z0-9]{6}\.(?:s|o|.*\.o|res)", re.S)
+NAMED = re.compile(rb'(?:\.file[ \t]+|^[ \t]*#[ \t]*(?:line[ \t]+)?\d+[ \t]+)"([^"\n]*)"', re.M)
 # Sources of these languages are not preprocessed, so that there is no list of headers.
 WITHOUT_HEADERS = ("assembler", "cpp-output", "c++-cpp-output")
 
@@ -61,11 +66,11 @@ def compile_step(tools, source):
     stem = re.sub(r"[^A-Za-z0-9._-]", "_", os.path.splitext(os.path.basename(source.path))[0])
     output = os.path.join(tools.folder, "objects", key, f"{stem}.o")
     record = tools.records.load("objects", os.path.join(key, "record"))
-    if record and record.holds(key, output):
+    if record and answer.here and record.holds(key, output):
         return output, False
     os.makedirs(os.path.dirname(output), exist_ok=True)
     headers, assembled = f"{output}.headers", f"{output}.assembled"
-    command = [*words, ASSEMBLED, "-MD", "-MF", headers, "-MT", "x", f"-Wa,--MD,{assembled}"]
+    command = [*words, ASSEMBLED, AS_FOUND, "-MD", "-MF", headers, "-MT", "x", f"-Wa,--MD,{assembled}"]
     given = [*tools.compiler.words, *source.options]
 
     def read():
@@ -76,8 +81,9 @@ def compile_step(tools, source):
         return files, read_list(assembled, files_in_rules)
 
     def complete(record, files, others):
-        files = list(dict.fromkeys([*files, *filter(os.path.exists, others)]))
-        record.add_files([*files, *paths_in_words(given)])
+        files = list(dict.fromkeys([*files, *read_by_assembler(others, files)]))
+        record.add_files(paths_in_words(given))
+        record.add_listed(files)
         folders = ["", *answer.headers, *answer.assembler, *(os.path.dirname(it) for it in files)]
         record.add_sources(folders, files, with_precompiled(names_in_options([*given, *answer.words])))
 
@@ -97,7 +103,7 @@ def link_step(tools, words, image, place, label):
     answer = tools.compiler.about([it for it in words if not it.endswith(".o")])
     key = key_of(tools, words, answer)
     record = tools.records.load("images", place)
-    if record and record.holds(key, image):
+    if record and answer.here and record.holds(key, image):
         return False
     os.makedirs(os.path.dirname(image), exist_ok=True)
     listed, given = f"{image}.linked", [*tools.compiler.words, *words]
@@ -107,9 +113,11 @@ def link_step(tools, words, image, place, label):
     def complete(record, files, others):
         tools.digests.forget(maps, [])
         members = [it for archive in filter(os.path.isfile, files) for it in members_of_thin(archive)]
-        record.add_files([*filter(os.path.exists, files), *members, *others])
+        record.add_files(others)
         # Scripts are listed as they are named, and found in any of these directories, where each file of the name counts by its contents.
         folders = ["", *answer.libraries]
+        here = {it for it in files if any(os.path.isfile(os.path.join(folder, it)) for folder in folders)}
+        record.add_listed([*(it for it in files if os.path.exists(it) or it not in here and not TEMPORARY.fullmatch(it)), *members])
         named = [it for it in [*files, *others] if not it.startswith(tools.folder) and it not in maps]
         scripts = [path for it in files for path in (os.path.join(folder, it) for folder in folders) if os.path.isfile(path) and is_script(path)]
         texts = [text_of_script(it) for it in scripts]
@@ -189,10 +197,24 @@ def refuse_unassembled(path, source):
 def read_list(path, parse):
     """The files in a list that the compiler wrote."""
     try:
-        with open(path, encoding="utf-8", errors="surrogateescape") as file:
-            return parse(file.read())
+        with open(path, "rb") as file:
+            return parse(os.fsdecode(file.read()))
     except (OSError, ValueError) as error:
         raise Refused(f"{shown(path)}: error: cannot tell which files were read: {error}") from None
+
+
+def read_by_assembler(listed, files):
+    """The files that the assembler read, of those that it lists: these, and what compilers call the source that they made its input of."""
+    absent = [it for it in listed if not os.path.exists(it) and not TEMPORARY.fullmatch(it)]
+    named = {*files[:1], *(name for it in filter(os.path.isfile, [*files, *listed]) for name in names_of_lines(it))} if absent else set()
+    named |= {os.path.basename(it) for it in named}
+    return [it for it in listed if os.path.exists(it) or it in absent and it not in named]
+
+
+def names_of_lines(path):
+    """The names of files in .file and in markers of lines, as preprocessed sources have them: debug information is all that they are for."""
+    with open(path, "rb") as file:
+        return {os.fsdecode(it) for it in NAMED.findall(file.read())}
 
 
 def maps_in(words):
@@ -212,4 +234,4 @@ def members_of_thin(path):
                 continue
             data = file.read((int(head[48:58]) + 1) // 2 * 2)
             names = data if head.startswith(b"//") else names
-    return [os.path.join(os.path.dirname(path), it) for it in names.decode(errors="surrogateescape").split("/\n") if it.strip()]
+    return [os.path.join(os.path.dirname(path), it) for it in os.fsdecode(names).split("/\n") if it.strip()]

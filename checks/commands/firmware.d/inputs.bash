@@ -37,6 +37,177 @@ case_stale_folders_of_the_linker() {
     stale 'a shared library in the place of one that a script names'
 }
 
+# Two versions of an SDK, and a link to one of them, by which the system's headers are found. What is included by name differs alone.
+case_stale_switched_links() {
+    local version
+    for version in 1.2 1.3; do put "sdk/$version/include/hal/gpio.h" <<<'#include "regs.h"'; done
+    put sdk/1.2/include/hal/regs.h <<<'#define CODE 0'
+    put sdk/1.3/include/hal/regs.h <<<'#define CODE 1'
+    exits_by_header hal/gpio.h
+    ln -s 1.2 sdk/current
+    change() { ln -sfn 1.3 sdk/current; }
+    echo "-isystem $PWD/sdk/current/include" >t/a.flags
+    stale 'a link above a directory of -isystem'
+    mkdir board
+    ln -s ../sdk/1.2/include/hal board/hal
+    change() { ln -sfn ../sdk/1.3/include/hal board/hal; }
+    echo "-isystem $PWD/board" >t/a.flags
+    stale 'a link in a directory of -isystem'
+    ln -sfn ../sdk/1.2/include/hal board/hal
+    export C_INCLUDE_PATH=$PWD/board
+    rm t/a.flags
+    stale 'a link in a directory of C_INCLUDE_PATH'
+    unset C_INCLUDE_PATH
+    put once/code.h <<<'#pragma once
+enum { CODE };'
+    ln -s once twice
+    put t/a.c <<<'#include <once/code.h>
+#include <twice/code.h>
+int main(void) { return CODE; }'
+    echo "-isystem $PWD" >t/a.flags
+    check '#pragma once by two paths' 0 '1 job: 1 passed, 0 failed'
+}
+
+# A header whose name macros put together, found below a folder that is spelt in one way or another.
+case_stale_shadows_of_computed_names() {
+    local folder
+    put t/a.c <<<'#define TEXT_(it) #it
+#define TEXT(it) TEXT_(it)
+#include TEXT(boards/BOARD.h)
+int main(void) { return CODE; }'
+    put base/boards/esp.h <<<'#define CODE 0'
+    put boards/esp.h <<<'#define CODE 0'
+    change() { put override/boards/esp.h <<<'#define CODE 1'; }
+    for folder in . ./ ./base .//base/ ././base base/. base// "$PWD" "$PWD/./base" base/../base; do
+        rm -rf override
+        mkdir -p override/boards
+        echo "-I./override -I$folder -DBOARD=esp" >t/a.flags
+        stale "a header shadows one that -I$folder has"
+    done
+}
+
+# A compiler that reads files which are not here, as one in a container does: what went into the output is not known, so it is made again.
+# Files here that the compiler calls by another name are no such files: those that an assembler's input names, and temporary ones.
+case_stale_files_elsewhere() {
+    mkdir -p image/include image/lib
+    put image/include/code.h <<<'#define CODE 0'
+    # The words name opt/, which is image/ to the compiler alone, as are the files that it lists.
+    put docked <<END
+#!/bin/sh
+for word; do
+    shift
+    set -- "\$@" "\$(printf %s "\$word" | sed 's|$PWD/opt|$PWD/image|g')"
+done
+said=\$(riscv64-unknown-elf-gcc "\$@" 2>&1)
+status=\$?
+[ -z "\$said" ] || echo "\$said" | sed 's|$PWD/image|$PWD/opt|g'
+for word; do
+    word=\${word#-Wa,--MD,}
+    word=\${word#-Wl,--dependency-file=}
+    case \$word in *.headers | *.assembled | *.linked) [ ! -e "\$word" ] || sed -i 's|$PWD/image|$PWD/opt|g' "\$word" ;; esac
+done
+exit \$status
+END
+    chmod +x docked
+    elsewhere() {
+        local what=$1
+        check "$what: as it was" 0 '1 job: 1 passed, 0 failed' CC="$PWD/docked"
+        check "$what: nothing changed here" 0 '1 job: 1 passed, 0 failed' CC="$PWD/docked"
+        change
+        check "$what: changed" 2 '1 job: 0 passed, 1 failed' CC="$PWD/docked"
+    }
+    exits_by_header code.h
+    echo "-isystem $PWD/opt/include" >t/a.flags
+    change() { put image/include/code.h <<<'#define CODE 1'; }
+    elsewhere 'a header'
+    put t/a.c <<'END'
+__asm__(".balign 4\n.globl code\ncode: .incbin \"code.bin\"");
+extern unsigned code;
+int main(void) { return code; }
+END
+    printf '\0\0\0\0' >image/lib/code.bin
+    echo "-Wa,-I$PWD/opt/lib" >t/a.flags
+    change() { printf '\1\0\0\0' >image/lib/code.bin; }
+    elsewhere 'a file of the assembler'
+    put t/a.c <<<'int code(void);
+int main(void) { return code(); }'
+    library 0
+    mv libcode.a image/lib/
+    echo "-L$PWD/opt/lib -lcode" >t/a.flags
+    change() { library 1 && mv libcode.a image/lib/; }
+    elsewhere 'a library'
+}
+
+# Names that the assembler lists, and that are none of files which it reads.
+case_names_of_lines() {
+    local option
+    put t/a.S <<<'    .file "made/of/this.c"
+    .globl main
+main: li a0, 0
+    ret'
+    put t/b.c <<<'int b(void);
+int main(void) { return b(); }'
+    put code/b.i <<<'# 1 "elsewhere/b.c"
+int b(void) { return 0; }'
+    echo code/b.i >t/b.flags
+    for option in -Os '-Os -pipe' '-Os -g -flto'; do
+        check "with $option" 0 '2 jobs: 2 passed, 0 failed' CFLAGS="$option"
+        check 'and nothing changed' 0 '2 jobs: 2 passed, 0 failed' CFLAGS="$option"
+        hides 'CC '
+        hides 'LD '
+    done
+}
+
+# Images of an SDK, mounted in turn, with files of the same inodes, sizes and dates.
+case_stale_mounted_images() {
+    local code
+    mkdir mounted
+    for code in 0 1; do
+        put "$code/code.h" <<<"#define CODE $code"
+        truncate -s 4M "$code.img"
+        if ! mke2fs -q -t ext4 -O ^has_journal -d "$code" "$code.img"; then
+            echo 'images: passed over, since they cannot be made'
+            return
+        fi
+        for date in atime ctime mtime crtime; do
+            debugfs -w -R "sif /code.h $date 20200101000000" "$code.img" 2>/dev/null
+            debugfs -w -R "sif /code.h ${date}_extra 0" "$code.img" 2>/dev/null
+        done
+    done
+    if ! mount -o loop,ro 0.img mounted; then
+        echo 'images: passed over, since they cannot be mounted'
+        return
+    fi
+    trap "umount '$PWD/mounted'" EXIT
+    exits_by_header code.h
+    echo '-isystem mounted' >t/a.flags
+    change() { umount mounted && mount -o loop,ro 1.img mounted; }
+    stale 'a header of another image'
+}
+
+# Paths are bytes, which a locale of Latin-1 does not decode as UTF-8.
+case_stale_names_in_latin_1() {
+    mkdir loc
+    if ! localedef -i de_DE -f ISO-8859-1 loc/de_DE.ISO-8859-1; then
+        echo 'a locale of Latin-1: passed over, since it cannot be made'
+        return
+    fi
+    export LOCPATH=$PWD/loc LC_ALL=de_DE.ISO-8859-1 2>/dev/null
+    put geräte/uart.h <<<'#define CODE 0'
+    put t/a.c <<<'#include "../geräte/uart.h"
+int main(void) { return CODE; }'
+    change() { put geräte/uart.h <<<'#define CODE 1'; }
+    stale 'a header by a name with an umlaut'
+    put geräte/uart.inc <<<'    .globl main
+main: li a0, 0
+    ret'
+    rm t/a.c
+    put t/a.S <<<'    .include "geräte/uart.inc"'
+    change() { sed -i 's/a0, 0/a0, 1/' geräte/uart.inc; }
+    stale 'a file of the assembler by a name with an umlaut'
+    unset LOCPATH LC_ALL
+}
+
 case_stale_folders_of_the_assembler() {
     put t/a.S <<<'    .include "code.inc"'
     mkdir first
