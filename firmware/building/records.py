@@ -15,6 +15,8 @@ from .digests import FORMAT, SPECIAL, digest_of, has_contents, write_whole
 # In the place of the digest of a file that was read, but that is not here, or may not be read here, as with a compiler in a container.
 # No file has this digest, so that its record never holds.
 UNREAD = "unread"
+# Options of the assembler and the compiler that name a file which is written: a listing, as -adhlns=a.lst, or what the compiler did.
+WRITTEN = re.compile(r"(?:-a[a-z]*|-fdump-[\w-]+|-fopt-info[\w-]*)=.*", re.S)
 
 
 def paths_in_words(words):
@@ -41,7 +43,8 @@ def words_of_response(path):
 
 
 def pieces_of(word):
-    """The parts of a word that may be paths."""
+    """The parts of a word that may be paths of files to read."""
+    word = ",".join(it for it in word.split(",") if not WRITTEN.fullmatch(it))
     pieces = [word, *word.split(",")]
     pieces += [it.partition("=")[2] for it in pieces if "=" in it]
     return [it for it in pieces + [re.sub("^-{1,2}[A-Za-z]", "", it) for it in pieces if it.startswith("-")] if it]

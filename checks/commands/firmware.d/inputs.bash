@@ -158,6 +158,31 @@ int b(void) { return 0; }'
     done
 }
 
+# Files that options name, but that are written and not read.
+case_listings() {
+    local option
+    exits t/a.c 0
+    exits t/b.c 0
+    for option in -Wa,-adhlns=a.lst -Wa,-L,-al=a.lst '-Xassembler -ahls=a.lst' -Wa,@options -fdump-tree-optimized=a.lst; do
+        rm -f a.lst
+        echo '-alh=a.lst' >options
+        echo "$option" >t/a.flags
+        check "with $option" 0 '2 jobs: 2 passed, 0 failed'
+        [ -s a.lst ] || fail 'there is no listing'
+        check 'and nothing changed' 0 '2 jobs: 2 passed, 0 failed'
+        hides 'CC '
+        hides 'LD '
+    done
+    rm t/a.flags
+    check 'one listing for all' 0 '2 jobs: 2 passed, 0 failed' CFLAGS='-Os -Wa,-al=a.lst'
+    check 'and nothing changed' 0 '2 jobs: 2 passed, 0 failed' CFLAGS='-Os -Wa,-al=a.lst'
+    hides 'CC '
+    printf '*asm:\n+ -al=a.lst\n\n' >board.specs
+    check 'a listing by specs' 0 '2 jobs: 2 passed, 0 failed' CFLAGS='-Os -specs=board.specs'
+    check 'and nothing changed' 0 '2 jobs: 2 passed, 0 failed' CFLAGS='-Os -specs=board.specs'
+    hides 'CC '
+}
+
 # Images of an SDK, mounted in turn, with files of the same inodes, sizes and dates.
 case_stale_mounted_images() {
     local code
