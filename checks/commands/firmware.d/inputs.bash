@@ -203,7 +203,7 @@ case_stale_mounted_images() {
         echo 'images: passed over, since they cannot be mounted'
         return
     fi
-    trap "umount '$PWD/mounted'" EXIT
+    trap 'umount mounted' EXIT
     exits_by_header code.h
     echo '-isystem mounted' >t/a.flags
     change() { umount mounted && mount -o loop,ro 1.img mounted; }
