@@ -45,8 +45,8 @@ def variables():
 
 
 class Answer(NamedTuple):
-    """What the compiler says for some options: a digest of all that it consists of, whether it is all here, where it searches for headers and libraries, for which
-    libraries, where its assembler searches, and which words it gives to its programs, those of its specs among them."""
+    """What the compiler says for some options: a digest of all that it consists of, whether it is all here, where it searches for headers
+    and libraries, for which libraries, where its assembler searches, and which words it gives to its programs, those of its specs too."""
 
     digest: str
     here: bool
