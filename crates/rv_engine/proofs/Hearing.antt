@@ -4,7 +4,10 @@ use Rattle.std.proofs.lemmas.Bool.{cases_lt}
 use Rattle.std.proofs.lemmas.Grind.{div_ceil_times}
 use Rattle.std.proofs.lemmas.List.{get_or_append_left, length-append}
 use Rattle.std.proofs.Math.Seq.{get_or-append_seam}
-use Rattle.rv_engine.specs.Results.{AreMade, Hears, HearsSome, HearsUpTo, IsPiece, piece_count}
+use Rattle.std.specs.Prelude.{Option, Some, None}
+use Rattle.rv_engine.specs.declared.in_order.End.{End}
+use Rattle.rv_engine.specs.declared.in_order.End.TheVariants.{OutOfMemory, Stopped}
+use Rattle.rv_engine.specs.Results.{AreMade, Hears, HearsSome, HearsUpTo, HeardUntil, IsPiece, piece_count}
 
 module _ {H : Type 0} (is_result : ℕ → H → Type 0) (jobs : ℕ) where
   -- nothing yet
@@ -88,3 +91,11 @@ all_pieces jobs group piece some past =
     let all : jobs ≤ piece_count jobs group * group = (div_ceil_times jobs group some).0 in
     let more : piece_count jobs group * group ≤ piece * group = mul-le-mul_right group past in
     omega (arith, all, more)
+
+-- however a run ended, the first jobs are heard
+pub until_some : {H : Type 0} (is_result : ℕ → H → Type 0) (jobs group : ℕ) (has_heard : List H → Type 0) (stops : Type 0) (next : ℕ)
+    (ended : Option End) → HeardUntil is_result jobs group has_heard stops next ended → HearsSome is_result jobs has_heard
+until_some is_result jobs group has_heard stops next None heard =
+    heard_some is_result jobs has_heard (min (next * group) jobs) heard
+until_some is_result jobs group has_heard stops next (Some Stopped) heard = heard.0
+until_some is_result jobs group has_heard stops next (Some OutOfMemory) heard = heard

@@ -2,9 +2,7 @@
 use Rattle.std.specs.Prelude.{◌≡◌, ◌+◌, ◌-◌, ◌*◌, ◌<◌, ◌≤◌, ℕ, List, length, min, Option, Some, None, IfSome, slice_index_or, Vec}
 use Rattle.std.specs.Prelude.{Result, Ok, Err}
 use Rattle.std.specs.Int.{div_ceil}
-use Rattle.std.specs.List.{All}
 use Rattle.std.specs.declared.alloc.Global.{Global}
-use Rattle.rv_claims.specs.Passes.{PassView, SharedDraw}
 use Rattle.rv_engine.specs.declared.engine.RunError.{RunError}
 use Rattle.rv_engine.specs.declared.in_order.End.{End}
 use Rattle.rv_engine.specs.declared.in_order.End.TheVariants.{OutOfMemory, Stopped}
@@ -76,7 +74,3 @@ HeardBy is_result jobs group has_heard stops next Stop = HearsSome is_result job
 -- what a work makes of jobs is what a run speaks of
 abbrev pub AreMade : {H : Type 0} → (ℕ → H → Type 0) → (ℕ → H → Type 0) → Type 0
 AreMade {H} is_made is_result = (number : ℕ) (made : H) → is_made number made → is_result number made
-
--- threads may draw the pieces of jobs by these passes
-abbrev pub CanWork : ℕ → ℕ → SharedDraw → List PassView → Type 0
-CanWork jobs group draw passes = (draw.pieces ≡ piece_count jobs group) × All (λ pass. pass.draw ≡ draw) passes

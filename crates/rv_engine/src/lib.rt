@@ -10,7 +10,9 @@ mod engine;
 mod in_order;
 mod listener;
 mod piece;
+mod threads;
 mod work;
+mod workbench;
 mod worker;
 
 pub use crew::Crew;
@@ -18,3 +20,4 @@ pub use engine::{RunError, run_jobs};
 pub use in_order::Heard;
 pub use listener::{Flow, Listener};
 pub use work::Work;
+pub use workbench::Workbench;

@@ -5,6 +5,7 @@ ghost use Rattle.rv_jobs.specs.Limits.{most_group, most_jobs};
 ghost use Rattle.rv_engine.specs.Results.{IsPiece, piece_count};
 
 use crate::work::Work;
+use crate::workbench::Workbench;
 use std::alloc::{AllocError, Global};
 
 /// How many pieces jobs are run in: groups of them, in order. The last piece may have fewer.
@@ -18,13 +19,13 @@ pub(crate) fn piece_count(jobs: usize, group: u32) -> u64
 }
 
 /// The results of the jobs of a piece.
-pub(crate) fn make_piece<W: Work>(
+pub(crate) fn make_piece<H: Drop, W: Work<H>>(
     alloc: Global,
     work: &W,
     group: u32,
     piece: u64,
-    bench: &mut W::Bench,
-) -> Result<Vec<W::Made>, AllocError>
+    bench: &mut Workbench,
+) -> Result<Vec<H>, AllocError>
     requires group { (0 < group) × (group ≤ most_group) }
     requires piece { piece < piece_count (W.jobs work.now) group }
     requires bench { W.is_bench work.now bench.old }
