@@ -5,6 +5,7 @@
 //! order, for every crew, or of the jobs up to the one where it said stop; after an error it has heard of the first jobs.
 #![tactic(auto)]
 
+mod both;
 mod crew;
 mod engine;
 mod in_order;
@@ -15,6 +16,7 @@ mod work;
 mod workbench;
 mod worker;
 
+pub use both::Both;
 pub use crew::Crew;
 pub use engine::{RunError, run_jobs};
 pub use in_order::Heard;
