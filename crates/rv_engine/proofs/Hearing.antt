@@ -7,7 +7,7 @@ use Rattle.std.proofs.Math.Seq.{get_or-append_seam}
 use Rattle.std.specs.Prelude.{Option, Some, None}
 use Rattle.rv_engine.specs.declared.in_order.End.{End}
 use Rattle.rv_engine.specs.declared.in_order.End.TheVariants.{OutOfMemory, Stopped}
-use Rattle.rv_engine.specs.Results.{AreMade, Hears, HearsSome, HearsUpTo, HeardUntil, IsPiece, piece_count}
+use Rattle.rv_engine.specs.Results.{AreMade, Hears, HearsSome, HeardUntil, IsPiece, piece_count}
 
 module _ {H : Type 0} (is_result : ℕ → H → Type 0) (jobs : ℕ) where
   -- nothing yet
@@ -71,7 +71,7 @@ module _ {H : Type 0} (is_result : ℕ → H → Type 0) (jobs : ℕ) where
 
     -- all results of a piece
     pub piece_heard : (has_heard : List H → Type 0) (i : ℕ) → i ≡ length results
-        → Hears is_result jobs has_heard (min (piece * group) jobs + i) → HearsUpTo is_result jobs group has_heard (piece + 1)
+        → Hears is_result jobs has_heard (min (piece * group) jobs + i) → Hears is_result jobs has_heard (min ((piece + 1) * group) jobs)
     piece_heard has_heard i end heard =
         let count = are.count in
         heard_as has_heard (min (piece * group) jobs + i) (min ((piece + 1) * group) jobs) (omega (arith, end, count, next_piece))
@@ -96,6 +96,6 @@ all_pieces jobs group piece some past =
 pub until_some : {H : Type 0} (is_result : ℕ → H → Type 0) (jobs group : ℕ) (has_heard : List H → Type 0) (stops : Type 0) (next : ℕ)
     (ended : Option End) → HeardUntil is_result jobs group has_heard stops next ended → HearsSome is_result jobs has_heard
 until_some is_result jobs group has_heard stops next None heard =
-    heard_some is_result jobs has_heard (min (next * group) jobs) heard
+    heard_some is_result jobs has_heard (min (next * group) jobs) heard.0
 until_some is_result jobs group has_heard stops next (Some Stopped) heard = heard.0
 until_some is_result jobs group has_heard stops next (Some OutOfMemory) heard = heard

@@ -1,5 +1,5 @@
 -- Texts that go out: one text more.
-use Rattle.std.proofs.Common.{◌≡◌, ◌∙◌, ◌∷◌, ◌++◌, ℕ, List, [], Bool, true, false, map, Option, ap, sym, subst, append_assoc, append-nil}
+use Rattle.std.proofs.Common.{◌≡◌, ◌∙◌, ◌∷◌, ◌++◌, ℕ, List, [], Bool, true, false, map, Option, ap, sym, refl, append_assoc, append-nil}
 use Rattle.std.specs.Io.KnownBytes.{Appends}
 use Rattle.std.specs.List.{concat}
 use Rattle.std.proofs.KnownBytes.{Appends-trans}
@@ -40,16 +40,7 @@ module _ (before now : Option (List ℕ)) (failures_before failures : ℕ) (text
   )
   sent_part after more true count none sent begun once = cc (none)
 
-  -- nothing more goes out
-  pub sent_none : (more : List ℕ) (failed : Bool) → failed ≡ true → AreSent before now failures_before failures failed text
-      → AreSent before now failures_before failures failed (text ++ more)
-  sent_none more false is sent = cc (is)
-  sent_none more true is sent = (
-    record {
-      part = sent.0.part;
-      rest = sent.0.rest ++ more;
-      whole = ap (λ l. l ++ more) sent.0.whole ∙ append_assoc sent.0.part sent.0.rest more;
-      appended = sent.0.appended;
-    },
-    sent.1,
-  )
+-- no put failed so far
+pub none_failed : (failed : Bool) → (failed ≡ true → ⊥) → failed ≡ false
+none_failed false never = refl
+none_failed true never = absurd (never refl)

@@ -30,7 +30,7 @@ pub record HearsSome {H : Type 0} (is_result : ℕ → H → Type 0) (jobs : ℕ
 
 -- behind a run: it heard of all jobs, or said stop, or there was an error
 abbrev pub HeardRun : {H : Type 0} → (ℕ → H → Type 0) → ℕ → (List H → Type 0) → Type 0 → Result Flow RunError → Type 0
-HeardRun is_result jobs has_heard stops (Ok GoOn) = Hears is_result jobs has_heard jobs
+HeardRun is_result jobs has_heard stops (Ok GoOn) = Hears is_result jobs has_heard jobs × (stops → ⊥)
 HeardRun is_result jobs has_heard stops (Ok Stop) = HearsSome is_result jobs has_heard × stops
 HeardRun is_result jobs has_heard stops (Err error) = HearsSome is_result jobs has_heard
 
@@ -50,13 +50,13 @@ abbrev pub AreEarly : {H : Type 0} → (ℕ → H → Type 0) → ℕ → ℕ �
 AreEarly is_result jobs group early = (k : ℕ)
     → IfSome (slice_index_or early k None) (λ results. IsPiece is_result jobs group k results.items)
 
--- a listener has heard of the jobs of the pieces before one
-abbrev pub HearsUpTo : {H : Type 0} → (ℕ → H → Type 0) → ℕ → ℕ → (List H → Type 0) → ℕ → Type 0
-HearsUpTo is_result jobs group has_heard piece = Hears is_result jobs has_heard (min (piece * group) jobs)
+-- a listener has heard of the jobs of the pieces before one, and goes on
+abbrev pub HearsUpTo : {H : Type 0} → (ℕ → H → Type 0) → ℕ → ℕ → (List H → Type 0) → Type 0 → ℕ → Type 0
+HearsUpTo is_result jobs group has_heard stops piece = Hears is_result jobs has_heard (min (piece * group) jobs) × (stops → ⊥)
 
 -- the same where nothing ended the run, and else of the first jobs
 abbrev pub HeardUntil : {H : Type 0} → (ℕ → H → Type 0) → ℕ → ℕ → (List H → Type 0) → Type 0 → ℕ → Option End → Type 0
-HeardUntil is_result jobs group has_heard stops next None = HearsUpTo is_result jobs group has_heard next
+HeardUntil is_result jobs group has_heard stops next None = HearsUpTo is_result jobs group has_heard stops next
 HeardUntil is_result jobs group has_heard stops next (Some Stopped) = HearsSome is_result jobs has_heard × stops
 HeardUntil is_result jobs group has_heard stops next (Some OutOfMemory) = HearsSome is_result jobs has_heard
 
@@ -68,7 +68,7 @@ pub record IsInOrder {H : Type 0} (is_result : ℕ → H → Type 0) (jobs group
 
 -- what a listener has heard in front of a piece, or before that where it said stop
 abbrev pub HeardBy : {H : Type 0} → (ℕ → H → Type 0) → ℕ → ℕ → (List H → Type 0) → Type 0 → ℕ → Flow → Type 0
-HeardBy is_result jobs group has_heard stops next GoOn = HearsUpTo is_result jobs group has_heard next
+HeardBy is_result jobs group has_heard stops next GoOn = HearsUpTo is_result jobs group has_heard stops next
 HeardBy is_result jobs group has_heard stops next Stop = HearsSome is_result jobs has_heard × stops
 
 -- what a work makes of jobs is what a run speaks of

@@ -46,7 +46,8 @@ pub fn run_jobs<
     W: Work<H> + Sync,
     L: Listener<H> + Drop + Send,
 >(crew: &Crew<'_, R>, work: &W, listener: L) -> (L, Result<Flow, RunError>)
-    requires { L.has_heard listener [] }
+    requires heard { L.has_heard listener [] }
+    requires goes { L.stops listener → ⊥ }
     ensures { HeardRun (W.is_made work.now) (W.jobs work.now) (L.has_heard result.0) (L.stops result.0) result.1 }
 {
     run_in_order::<Brand, H, R, W, L>(crew, work, listener)
@@ -64,6 +65,7 @@ fn run_in_order<
     requires jobs { J.jobs ≡ W.jobs work.now }
     requires group { J.group ≡ crew.now.group }
     requires heard { L.has_heard listener [] }
+    requires goes { L.stops listener → ⊥ }
     ensures { HeardRun J.is_result J.jobs (L.has_heard result.0) (L.stops result.0) result.1 }
 {
     let pieces = piece_count(work.jobs(), crew.group);
@@ -123,7 +125,7 @@ fn hear_from<J: Heard<H>, H: Drop, R, W: Work<H>, L: Listener<H>>(
     requires jobs { J.jobs ≡ W.jobs work.now }
     requires group { J.group ≡ crew.now.group }
     requires early { AreEarly J.is_result J.jobs J.group early.items }
-    requires heard { HearsUpTo J.is_result J.jobs J.group (L.has_heard listener.old) next }
+    requires heard { HearsUpTo J.is_result J.jobs J.group (L.has_heard listener.old) (L.stops listener.old) next }
     ensures { HeardRun J.is_result J.jobs (L.has_heard listener.new) (L.stops listener.new) result }
 {
     let mut early = early;

@@ -59,6 +59,7 @@ impl<J: Heard<H>, H: Drop, L: Listener<H> + Drop> Model for InOrder<J, H, L> {
 impl<J: Heard<H>, H: Drop, L: Listener<H> + Drop> InOrder<J, H, L> {
     pub(crate) fn new(listener: L, early: Vec<Option<Vec<H>>>) -> InOrder<J, H, L>
         requires heard { L.has_heard listener [] }
+        requires goes { L.stops listener → ⊥ }
         requires none { (k : ℕ) → slice_index_or early.items k None ≡ None }
     {
         InOrder {
@@ -145,7 +146,7 @@ fn hear_due<J: Heard<H>, H: Drop, L: Listener<H>>(
     from: usize,
 ) -> HeardPieces
     requires early { AreEarly J.is_result J.jobs J.group early.old.items }
-    requires heard { HearsUpTo J.is_result J.jobs J.group (L.has_heard listener.old) from }
+    requires heard { HearsUpTo J.is_result J.jobs J.group (L.has_heard listener.old) (L.stops listener.old) from }
     ensures early { AreEarly J.is_result J.jobs J.group early.new.items }
     ensures heard { HeardBy J.is_result J.jobs J.group (L.has_heard listener.new) (L.stops listener.new) result.next result.flow }
 {
@@ -175,7 +176,7 @@ pub(crate) fn hear_piece<J: Heard<H>, H, L: Listener<H>>(
     results: &[H],
 ) -> Flow
     requires results { IsPiece J.is_result J.jobs J.group piece results.now }
-    requires heard { HearsUpTo J.is_result J.jobs J.group (L.has_heard listener.old) piece }
+    requires heard { HearsUpTo J.is_result J.jobs J.group (L.has_heard listener.old) (L.stops listener.old) piece }
     ensures { HeardBy J.is_result J.jobs J.group (L.has_heard listener.new) (L.stops listener.new) (piece + 1) result }
 {
     for made in results {

@@ -10,7 +10,7 @@ pub enum Flow {
 /// Hears the results of jobs, one after another in the order of the jobs, under a lock of the run.
 pub trait Listener<H> {
     ghost use Rattle.std.specs.Prelude.{◌≡◌, ◌∷◌, ◌++◌, [], List};
-    ghost use Rattle.rv_engine.specs.declared.listener.Flow.TheVariants.{Stop};
+    ghost use Rattle.rv_engine.specs.declared.listener.Flow.TheVariants.{GoOn, Stop};
 
     // What is so of it once it has heard these results.
     ghost has_heard: { Self → List H → Type 0 };
@@ -20,6 +20,8 @@ pub trait Listener<H> {
 
     /// Hears the result of the next job, and answers whether to go on. After a stop it hears no more.
     fn hear(&mut self, made: &H) -> Flow
+        requires goes { stops self.old → ⊥ }
         ensures heard { (results : List H) → has_heard self.old results → has_heard self.new (results ++ made.now ∷ []) }
+        ensures goes { result ≡ GoOn → stops self.new → ⊥ }
         ensures stops { result ≡ Stop → stops self.new };
 }

@@ -56,9 +56,6 @@ impl<H: HasText, W: Sink + Drop> Listener<H> for Texts<W> {
     ghost stops = { λ s. s.failed ≡ true };
 
     fn hear(&mut self, made: &H) -> Flow {
-        if self.failed {
-            return Flow::Stop;
-        }
         match put_all(&mut self.out, made.text()) {
             Ok(()) => Flow::GoOn,
             Err(_) => {
