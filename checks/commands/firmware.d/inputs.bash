@@ -234,13 +234,18 @@ main: li a0, 0
     unset LOCPATH LC_ALL
 }
 
-case_stale_folders_of_the_assembler() {
+# A test that includes a file of the folder second, and the change that puts another one into the folder first.
+include_from_second() {
     put t/a.S <<<'    .include "code.inc"'
     mkdir first
     put second/code.inc <<<'    .globl main
 main: li a0, 0
     ret'
     change() { sed 's/a0, 0/a0, 1/' second/code.inc >first/code.inc; }
+}
+
+case_stale_folders_of_the_assembler() {
+    include_from_second
     echo '-Ifirst -Isecond' >options
     echo '-Wa,@options' >t/a.flags
     stale "a file by a response file of the assembler's"
@@ -324,12 +329,7 @@ int main(void) { return (int)code; }'
     check 'and nothing changed' 0 '1 job: 1 passed, 0 failed' CC="$compiler -Wl,-Map=a.map -Wl,--defsym=code=0"
     hides 'LD '
     rm t/a.c
-    put t/a.S <<<'    .include "code.inc"'
-    mkdir first
-    put second/code.inc <<<'    .globl main
-main: li a0, 0
-    ret'
-    change() { sed 's/a0, 0/a0, 1/' second/code.inc >first/code.inc; }
+    include_from_second
     stale 'a file of the assembler by CC' CC="$compiler -Wa,-Ifirst,-Isecond"
     rm first/code.inc
     printf '*asm:\n+ -Ifirst -Isecond\n\n' >board.specs
