@@ -9,6 +9,8 @@ pub mod Blocks
 pub mod Finding
 pub mod Evens
 pub mod Counting
+pub mod Lookups
+pub mod Sorted
 pub mod Starts
 pub mod Lines
 pub mod OfJobs

@@ -1,3 +1,4 @@
 pub mod Coverage
 pub mod Blocks
+pub mod Tallies
 pub mod JobTables

@@ -43,6 +43,14 @@ code that is known, and another behind FENCE.I | imc | 99 | \
     8000000c 1 0, 80000010 1 0, 80000014 1 0, 8000001c 1 0, 80000020 1 0
 counts come in the order of addresses | imc | 9 | 00c0006f X 00000013 ff5ff06f | \
     80000000 1 0, 80000004 1 0, 80000008 1 0, 8000000c 1 0, 80000010 1 0
+loop that is entered at its condition | imc | 999 | 0c800293 00c0006f fff28293 00000013 00000013 fe029ae3 X | \
+    80000000 1 0, 80000004 1 0, 80000008 200 0, 8000000c 200 0, 80000010 201 0, 80000014 201 200, 80000018 1 0, 8000001c 1 0
+the budget ends in the body of such a loop | imc | 701 | 0c800293 00c0006f fff28293 00000013 00000013 fe029ae3 X | \
+    80000000 1 0, 80000004 1 0, 80000008 175 0, 8000000c 174 0, 80000010 175 0, 80000014 175 175
+two such loops, the one above first | imc | 9999 | 0240006f 12c00293 00c0006f fff28293 00000013 00000013 fe029ae3 X \
+    0c800293 00c0006f fff28293 00000013 00000013 fe029ae3 fc9ff06f | 80000000 1 0, 80000004 1 0, 80000008 1 0, \
+    8000000c 300 0, 80000010 300 0, 80000014 301 0, 80000018 301 300, 8000001c 1 0, 80000020 1 0, 80000024 1 0, \
+    80000028 1 0, 8000002c 200 0, 80000030 200 0, 80000034 201 0, 80000038 201 200, 8000003c 1 0
 ";
 
 fn machine_of(alloc: Global, isa: Isa, program: &str) -> Result<Machine, Fail> {
@@ -85,7 +93,7 @@ fn check(alloc: Global, row: &str) -> Result<(), Fail> {
 
 #[test]
 fn runs_are_counted(rt: HostRuntime) -> Result<(), Fail> {
-    has_lines(RUNS, 23)?;
+    has_lines(RUNS, 26)?;
     for row in RUNS.lines() {
         check(rt.alloc(), row)?;
     }
