@@ -1,15 +1,15 @@
 //! Nodes as spots in preorder.
 
-ghost use Rattle.std.specs.Prelude.{◌≡◌, [], ℕ, List, IfOk, IfSome, OnOk, length, slice_index_or, true};
+ghost use Rattle.std.specs.Prelude.{◌≡◌, [], ℕ, List, IfOk, OnOk, length, slice_index_or};
 ghost use Rattle.std.specs.List.{list_all};
 ghost use Rattle.rv_stacks.specs.declared.node.Node.{Node as ANode};
 ghost use Rattle.rv_stacks.specs.Nodes.{is_empty};
 ghost use Rattle.rv_stacks.specs.Walks.{AreSpotsOf, GoesBack, IsFlat, IsNext, Moves};
 
-use crate::node::{Node, key_of};
+use crate::children::Children;
+use crate::node::Node;
 use rv_spots::{Spot, Spots};
 use std::alloc::{AllocError, Global};
-use std::collections::BTreeMap;
 
 /// Spots to which nodes' counts are moved, and the node up to which that is done.
 #[derive(Drop)]
@@ -27,7 +27,7 @@ pub struct Flat {
 pub(crate) fn spots_of_nodes(
     alloc: Global,
     nodes: Vec<Node>,
-    numbers: &BTreeMap<u64, usize>,
+    children: &Children,
 ) -> Result<Spots, AllocError>
     ensures { IfOk result (AreSpotsOf nodes.items) }
 {
@@ -35,7 +35,7 @@ pub(crate) fn spots_of_nodes(
     let mut flat = Flat::new(alloc)?;
     // Each node is come to once, and left once.
     'turns: for _ in 0..left.len().saturating_mul(2) {
-        flat.turn(&mut left, numbers)?;
+        flat.turn(&mut left, children)?;
     }
     if are_empty(left.as_slice()) {
         return Ok(Spots::new(flat.spots));
@@ -71,16 +71,12 @@ impl Flat {
     }
 
     // Comes to the next node below the one where it is, or goes back to the one above that.
-    fn turn(
-        &mut self,
-        left: &mut Vec<Node>,
-        numbers: &BTreeMap<u64, usize>,
-    ) -> Result<(), AllocError>
+    fn turn(&mut self, left: &mut Vec<Node>, children: &Children) -> Result<(), AllocError>
         requires { IsFlat left.old.items self.old }
         ensures { OnOk result (Moves left.old.items self.old left.new.items self.new) }
     {
         let parent = self.trail[self.trail.len() - 1];
-        match next_child(left.as_slice(), numbers, parent, self.from) {
+        match children.next(left.as_slice(), parent, self.from) {
             Some(number) => self.move_in(left, number),
             None => {
                 self.go_back();
@@ -125,31 +121,4 @@ impl Flat {
         self.trail.truncate(self.path.len() + 1);
         self.from = u64::from(function) + 1;
     }
-}
-
-// The next node below another, from a function on, that a run came to. What `numbers` says is looked at.
-fn next_child(
-    nodes: &[Node],
-    numbers: &BTreeMap<u64, usize>,
-    parent: usize,
-    from: u64,
-) -> Option<usize>
-    ensures { IfSome result (λ number. IsNext parent from number nodes.now) }
-{
-    let number = *numbers.range(key_of(parent, from)..).next()?.1;
-    if is_next(nodes, parent, from, number) {
-        Some(number)
-    } else {
-        None
-    }
-}
-
-fn is_next(nodes: &[Node], parent: usize, from: u64, number: usize) -> bool
-    ensures { result ≡ true → IsNext parent from number nodes.now }
-{
-    if number <= parent || nodes.len() < number {
-        return false;
-    }
-    let node = nodes[number - 1];
-    node.parent == parent && from <= u64::from(node.function) && node.arrivals != 0
 }

@@ -6,6 +6,7 @@
 //! calls that have not returned are those of `rv_calls`: a spot is the functions in which they were made, and that of the pc.
 #![tactic(auto)]
 
+mod children;
 mod flat;
 mod functions;
 mod job;
@@ -18,6 +19,7 @@ mod table;
 mod turns;
 mod walk;
 
+pub use children::Children;
 pub use flat::Flat;
 pub use functions::{Known, function_of};
 pub use job::stacks_of_job;

@@ -4,11 +4,11 @@ ghost use Rattle.std.specs.Prelude.{◌≡◌, ◌∷◌, ◌++◌, ◌+◌, ◌
 ghost use Rattle.rv_stacks.specs.Nodes.{all_arrivals, all_steps, paths_of};
 ghost use Rattle.rv_stacks.specs.Walks.{Arrives, AreSpotsOf, IsWalk, Returns, Steps};
 
+use crate::children::Children;
 use crate::flat::spots_of_nodes;
 use crate::node::{Node, count_arrival, count_step, number_of_child};
 use rv_spots::Spots;
 use std::alloc::{AllocError, Global};
-use std::collections::BTreeMap;
 
 /// Nodes that grow, and the one where a run is.
 #[derive(Drop)]
@@ -18,8 +18,8 @@ pub struct Walk {
     /// 0, and the numbers of the nodes of the first of them.
     pub trail: Vec<usize>,
     pub nodes: Vec<Node>,
-    /// The numbers of nodes, each by the node above it and its function.
-    pub numbers: BTreeMap<u64, usize>,
+    /// Where the nodes below each are found.
+    pub children: Children,
 }
 
 impl Walk {
@@ -35,7 +35,7 @@ impl Walk {
             path: Vec::new(alloc),
             trail,
             nodes: Vec::new(alloc),
-            numbers: BTreeMap::new(alloc),
+            children: Children::new(alloc)?,
         })
     }
 
@@ -48,7 +48,7 @@ impl Walk {
     {
         self.return_to(depth);
         let parent = self.last_number();
-        let number = number_of_child(&mut self.nodes, &mut self.numbers, parent, function)?;
+        let number = number_of_child(&mut self.nodes, &mut self.children, parent, function)?;
         count_arrival(&mut self.nodes, number);
         self.path.push(function)?;
         self.trail.push(number)?;
@@ -80,7 +80,7 @@ impl Walk {
     pub fn into_spots(self, alloc: Global) -> Result<Spots, AllocError>
         ensures { IfOk result (AreSpotsOf self.nodes.items) }
     {
-        spots_of_nodes(alloc, self.nodes, &self.numbers)
+        spots_of_nodes(alloc, self.nodes, &self.children)
     }
 
     // The number of the node where it is, or 0.
