@@ -79,8 +79,8 @@ class Result(unittest.TestResult):
             print(f"{case.id()}: {result.passed} cases, {case.shortDescription()}", flush=True)
 
     def __str__(self):
-        skipped = f", {len(self.skipped)} skipped" if self.skipped else ""
-        return f"{self.passed} passed, {self.failed} failed{skipped}"
+        reasons = "".join(f"skipped: {case.id()}: {reason}\n" for case, reason in self.skipped)
+        return f"{reasons}{self.passed} passed, {self.failed} failed" + (f", {len(self.skipped)} skipped" if self.skipped else "")
 
 
 class ParallelSuite(unittest.TestSuite):
