@@ -46,7 +46,7 @@ class Row(unittest.TestCase):
         return f"{self.table}:{self.number}"
 
     def __str__(self):
-        return f"checks/tables/{self.table}.txt:{self.line}: {self.id()}"
+        return f"checks/tables/{self.table}.txt:{self.line}"
 
     def shortDescription(self):
         return f"{short(self.title)}\n  row: {short(self.text)}"
