@@ -89,7 +89,7 @@ def check_accepted(row):
         in_check = int(bool(told))
         row.wants([*words, "--check"], in_check, body + lines(last_line(told, True)), said)
         if files_in(row.folder) != before:
-            raise ValueError("--check has changed a file")
+            row.fail("--check changed a file")
         row.wants(words, status, body + lines(last_line(told, False)), said)
         row.wants(words, status, left_of(told) + lines(last_line(left_of(told), False)), said)
     check_files(row, before)
@@ -99,14 +99,11 @@ def check_files(row, before):
     """What is there then: files by their words, and the list with no other lines than these."""
     for word in words_in(row["then"]):
         if not is_there(row.folder, word):
-            raise ValueError(f"not so: {word}")
+            row.fail(f"not true after the call: {word}")
     left = [path for path in files_in(row.folder) if path not in before and str(path).endswith(".new")]
-    if left:
-        raise ValueError(f"left there: {left}")
+    row.assertEqual([], left, "files that were left behind")
     old, new = before[row.folder.joinpath("list.toml").relative_to(row.folder)], (row.folder / "list.toml").read_bytes()
-    found = new_lines(old.decode(), new.decode())
-    if found != lines_in(row["lines"]):
-        raise ValueError(f"the list has these lines: {found}")
+    row.assertEqual(lines_in(row["lines"]), new_lines(old.decode(), new.decode()), "the new lines of the list")
 
 
 FORMS = {"accepted": Form(check_accepted, "jobs list there words status told said then lines")}

@@ -63,8 +63,7 @@ def check_words(row):
     row.wants(words.split(), int(row["status"]), out, lines(*lines_in(row["said"])), shape)
     for name, last in (file.split(": ") for file in lines_in(row["files"])):
         found = (row.folder / name).read_text(encoding="utf-8").splitlines()[-1]
-        if found != last:
-            raise ValueError(f"{name} ends with {found}, and not with {last}")
+        row.assertEqual(last, found, f"the last line of {name}")
 
 
 def check_full_disk(row):
@@ -76,8 +75,7 @@ def check_full_disk(row):
     if (status, said) != (3, wanted):
         row.fails(words, (3, b"", wanted), (status, b"", said))
     for name in row["not_there"].split():
-        if (row.folder / name).exists():
-            raise ValueError(f"{name} is there")
+        row.assertFalse((row.folder / name).exists(), f"{name} exists")
 
 
 # ---- words that are refused, and help
@@ -86,7 +84,7 @@ def check_misused(row):
     """With what the refusal of words begins, and what it says among other things."""
     words, begin, others = row["words"].split(), row["begins"], lines_in(row["has"])
     row.write("list.toml", job("a", "a.elf", 9))
-    status, out, said = row.run(words)
+    status, out, said = row.start(words)
     told = said.decode()
     framed = told.startswith(f"error: {begin}") and told.endswith("\n\nFor more information, try '--help'.\n")
     if (status, out) != (2, b"") or not framed or not all(other in told for other in others):
@@ -131,13 +129,12 @@ def check_into(row):
     if (found := (row.folder / "report").read_bytes()) != then:
         row.fails(words, (0, then, b"report"), (0, found, b"report"))
     if row["whole"]:
-        row.run(["run", "list.toml", "--quiet", "--report", "whole"])
+        row.start(["run", "list.toml", "--quiet", "--report", "whole"])
         if (whole := (row.folder / "whole").read_bytes()) != found:
             row.fails(words, (0, whole, b"whole"), (0, found, b"report"))
     junit = row.folder / "junit.xml"
     cases = re.findall('<testcase classname="list" name="([^"]*)"', junit.read_text(encoding="utf-8")) if junit.exists() else []
-    if cases != row["junit"].split():
-        raise ValueError(f"junit.xml has {' '.join(cases) or 'no job'}, and not {row['junit'] or 'none'}")
+    row.assertEqual(row["junit"].split(), cases, "the jobs of junit.xml")
 
 
 # ---- known failures
@@ -154,8 +151,7 @@ def check_known(row):
     words = ["run", "list.toml", "--known", "known.txt", "--junit", "j.xml", *row["words"].split()]
     row.wants(words, int(row["status"]), lines(*lines_in(row["shown"])), lines(*lines_in(row["said"])))
     for part in lines_in(row["junit"]):
-        if part not in (row.folder / "j.xml").read_text(encoding="utf-8"):
-            raise ValueError(f"j.xml has no {part}")
+        row.assertIn(part, (row.folder / "j.xml").read_text(encoding="utf-8"))
 
 
 # ---- runs that end behind a failure
@@ -168,8 +164,8 @@ def check_stopped(row):
     for crew in ([], ["--workers", "1"], ["--workers", "2", "--group", "3"]):
         words = ["run", "list.toml", "--report", "report", *row["words"].split(), *crew]
         row.wants(words, int(row["status"]), lines(*lines_in(row["shown"])), "")
-        if (last := (row.folder / "report").read_text(encoding="utf-8").splitlines()[-1]) != row["last"]:
-            raise ValueError(f"{' '.join(crew)}: the report ends with {last}, and not with {row['last']}")
+        last = (row.folder / "report").read_text(encoding="utf-8").splitlines()[-1]
+        row.assertEqual(row["last"], last, f"the last line of the report, with {' '.join(crew) or 'no option'}")
 
 
 # ---- sums of counts
@@ -182,8 +178,7 @@ def check_added(row):
     row.wants(row["words"].split(), int(row["status"]), row["shown"], lines(*lines_in(row["told"])))
     out = row.folder / "out"
     found = out.read_text(encoding="utf-8") if out.exists() else ""
-    if found != row["out"]:
-        raise ValueError(f"out has {found!r}, and not {row['out']!r}")
+    row.assertEqual(row["out"], found, "the file out")
 
 
 # ---- counts
@@ -193,13 +188,12 @@ def check_counted(row):
     write_counted_jobs(row)
     words = ["run", "list.toml", *row["words"].split()]
     plain, report = ([], []) if "--budget" in words else (["--report", "plain"], ["--report", "report"])
-    status, shown, told = row.run([*(word for word in words if word != "--stacks"), *plain])
+    status, shown, told = row.start([*(word for word in words if word != "--stacks"), *plain])
     row.wants([*words, *report, "--counts", "counts"], int(row["status"]), shown, told)
     if report and (row.folder / "report").read_bytes() != (row.folder / "plain").read_bytes():
-        raise ValueError("the report is another one than without --counts")
+        row.fail("--counts changed the report")
     found = (row.folder / "counts").read_text(encoding="utf-8")
-    if found != (wanted := table_of_counts(row, lines_in(row["counts"]))):
-        raise ValueError(f"the table is {found!r}, and not {wanted!r}")
+    row.assertEqual(table_of_counts(row, lines_in(row["counts"])), found, "the table of counts")
     row.wants([*words, "--counts", "-"], int(row["status"]), found, told + shown)
 
 
@@ -247,7 +241,7 @@ def check_covered(row):
         words += ["--counts", "table"]
     row.wants(["cover", "list.toml", *words], int(row["status"]), lines(*lines_in(row["shown"])), said, squeezed)
     if not row["table"]:
-        row.run(["run", "list.toml", *(word for word in words if word != "--csv"), "--counts", "counts"])
+        row.start(["run", "list.toml", *(word for word in words if word != "--csv"), "--counts", "counts"])
         row.wants(["cover", "list.toml", *words, "--counts", "counts"], int(row["status"]), lines(*lines_in(row["shown"])), said, squeezed)
 
 
@@ -262,7 +256,7 @@ def check_profiled(row):
         words += ["--counts", "table"]
     row.wants(["profile", "list.toml", *words], int(row["status"]), shown, said, squeezed)
     if not row["table"]:
-        row.run(["run", "list.toml", *words_of_run(words), "--counts", "counts", "--stacks"])
+        row.start(["run", "list.toml", *words_of_run(words), "--counts", "counts", "--stacks"])
         if (row.folder / "counts").exists() and "spot " in (row.folder / "counts").read_text(encoding="utf-8"):
             row.wants(["profile", "list.toml", *words, "--counts", "counts"], int(row["status"]), shown, said, squeezed)
 

@@ -31,8 +31,8 @@ FORMS = {
 
 def rows_of(path, rvtest, work):
     """The rows of a file, numbered from 1."""
-    found = []
-    for number, row in enumerate(rows_of_file(path, FORMS[path.stem].columns.split()), 1):
+    form, found = FORMS[path.stem], []
+    for number, row in enumerate(rows_of_file(path, form.columns.split()), 1):
         folder = work / f"{path.stem}-{number}"
-        found.append(Row(path.stem, row.title, number, row.number, row.text, row.asks, rvtest, folder))
+        found.append(Row(form, path.stem, row.title, number, row.number, row.text, row.asks, rvtest, folder))
     return found

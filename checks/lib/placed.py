@@ -65,14 +65,12 @@ def check_place(row):
     elif told == "full":
         # Standard output is full: the report is not put in its place.
         status, said = row.run_onto_full_disk(words)
-        if status != 3:
-            raise ValueError(f"status {status}, {said}")
+        row.assertEqual(3, status, said)
     else:
         # A run ends where its report's file takes no more, so its last line is not shown.
         row.wants(words, 3, "", lines(f"rvtest: {path}: {told}"))
     for word in row["then"].split():
-        if not is_there(row.folder, word):
-            raise ValueError(f"not so: {word}")
+        row.assertTrue(is_there(row.folder, word), f"not true after the run: {word}")
 
 
 # Images that exit by codes 0 and 5.
@@ -92,7 +90,7 @@ def check_root(row):
     row.write("shelf/kept", images.image(ENDS["two"]))
     words = ["run", "list.toml", "--verbose", *(["--root", folder] if folder else [])]
     wanted = {"one": "PASS a: exit 0 after 2 steps", "two": "FAIL a: exit 5 after 2 steps"}
-    status, out, said = row.run(words)
+    status, out, said = row.start(words)
     line = out.decode().partition("\n")[0]
     is_told = line == wanted.get(told) or (line.startswith("FAIL a: refused image-unreadable: ") and line.endswith(f": {told}"))
     note = MISSING.format(f"{folder} (--root)" if folder else HERE) if told == "missing" and not path.startswith("/") else ""
@@ -130,17 +128,16 @@ def check_overwrite(row):
     row.write("g.out", "")
     row.write("k", "")
     for words, status in MADE.items():
-        if row.run(words.split())[0] != status:
-            raise ValueError(f"{words} failed")
+        row.assertEqual(status, row.start(words.split())[0], f"the status of {words}")
     for word in row["there"].split():
         put_there(row.folder, word)
     words, before = row["words"].split(), everything_in(row.folder)
-    status, out, said = row.run(words)
+    status, out, said = row.start(words)
     wanted = (2, b"", raw(f"rvtest: {row['told']}\n")) if row["told"] else (0, out, b"")
     if wanted != (status, out, said):
         row.fails(words, wanted, (status, out, said))
     if row["told"] and before != everything_in(row.folder):
-        raise ValueError(f"{' '.join(words)} changed a file that it refused to write")
+        row.fail(f"{' '.join(words)} changed a file that it refused to write")
 
 
 FORMS = {

@@ -14,7 +14,7 @@ EXPORT = re.compile(r"pub use ([\w:]+?)(?:::\{([^}]*)\}|::(\w+));")
 KINDS = ("struct", "enum", "trait", "fn")
 
 
-class Missing(Exception):
+class Missing(AssertionError):
     """An item that a crate does not export, or not as it is promised."""
 
 

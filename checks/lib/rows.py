@@ -1,10 +1,14 @@
-"""What the forms of rows share: a row with its folder, the run that it asks for, and lines of what is told."""
+"""What the forms of rows share: a row as a test case with its folder, the run that it asks for, and lines of what is told."""
 import dataclasses
 import os
 import pathlib
 import re
+import shlex
+import shutil
 import subprocess
+import unittest
 
+from outcomes import outcome, short, unequal
 from tables import raw
 
 # The user whom file modes bind: another one, where this is root.
@@ -20,17 +24,10 @@ class Form:
     columns: str
 
 
-class Wrong(Exception):
-    """A command whose status, output and errors are not those that a row wants."""
-
-    def __init__(self, command, wanted, found):
-        super().__init__(command)
-        self.command, self.wanted, self.found = command, wanted, found
-
-
-@dataclasses.dataclass
-class Row:
-    """A row of a table: its number in the file, its line's number and text, and its cells, for each time that it is asked."""
+@dataclasses.dataclass(eq=False)
+class Row(unittest.TestCase):
+    """A row of a table as a test case: its number in the file, its line's number and text, and its cells, for each time that it is asked."""
+    form: Form
     table: str
     title: str
     number: int
@@ -40,6 +37,34 @@ class Row:
     rvtest: str
     folder: pathlib.Path
 
+    def __post_init__(self):
+        super().__init__()
+
+    # ---- what unittest calls; the id selects the row on the command line
+
+    def id(self):
+        return f"{self.table}:{self.number}"
+
+    def __str__(self):
+        return f"checks/tables/{self.table}.txt:{self.line}"
+
+    def shortDescription(self):
+        return f"{short(self.title)}\n  row: {short(self.text)}"
+
+    def setUp(self):
+        self.folder.mkdir()
+        self.addCleanup(shutil.rmtree, self.folder, ignore_errors=True)
+
+    def runTest(self):
+        self.form.check(self)
+
+    def assertMultiLineEqual(self, first, second, msg=None):
+        """Compares an expected and an actual text. The difference that unittest would show takes minutes for long ones."""
+        if first != second:
+            self.fail(unequal(msg or "a text", first, second))
+
+    # ---- what forms call
+
     def __getitem__(self, column):
         """The cell of a column, which is empty where the table has none of the name."""
         return self.asks[0].get(column, "")
@@ -48,7 +73,7 @@ class Row:
         """Makes a file."""
         (self.folder / name).write_bytes(as_bytes(data))
 
-    def run(self, words, out=subprocess.PIPE):
+    def start(self, words, out=subprocess.PIPE):
         """Runs the program: its status, its output where that is not a file, and what it says beside that."""
         # To become another user takes longer than most runs, so that is done beside the file that nobody may read alone.
         user = USER if (self.folder / "secret").exists() else {}
@@ -60,20 +85,21 @@ class Row:
     def run_onto_full_disk(self, words):
         """Runs the program with a standard output that takes no byte: its status, and what it says beside that."""
         with open("/dev/full", "wb") as full:
-            status, _, said = self.run(words, full)
+            status, _, said = self.start(words, full)
         return status, said
 
     def wants(self, words, status, out, errors="", shape=bytes):
         """Runs the program, and compares its output in a shape, what it says beside that, and its status."""
-        ended, shown, said = self.run(words)
+        ended, shown, said = self.start(words)
         found = ended, shape(shown), said
         wanted = status, as_bytes(out), as_bytes(errors)
         if found != wanted:
             self.fails(words, wanted, found)
 
     def fails(self, words, wanted, found):
-        """Says what a run was to come to, and what it came to."""
-        raise Wrong([os.path.basename(self.rvtest), *words], wanted, found)
+        """Fails with the expected and the actual status, output and errors of a run."""
+        command = shlex.join([os.path.basename(self.rvtest), *words])
+        self.fail(unequal(f"ran: {short(command)}", outcome(*wanted), outcome(*found)))
 
 
 def as_bytes(data):

@@ -114,7 +114,7 @@ def wants_whole_rows(row, beginning):
     """Of a beginning of a report the whole rows are taken, as those of a choice."""
     ends = [found.end() for found in ROW_END.finditer(beginning)]
     row.write("choice", beginning[:ends[-1] if ends else 0] + f"part {len(ends)} of 4096\n".encode())
-    status, shown, _ = row.run(["show", "choice"])
+    status, shown, _ = row.start(["show", "choice"])
     row.wants(["show", "report", "--partial"], status, shown, cut_off_note("report", len(ends)))
 
 
@@ -202,7 +202,7 @@ def wants_suite(row, report, words, written, text):
     begin = lines('<?xml version="1.0" encoding="UTF-8"?>', "<testsuites>") + f'<testsuite name="{written}" '
     end = lines("</testsuite>", "</testsuites>")
     status = 0 if 'failures="0" errors="0"' in text else 1
-    _, shown, _ = row.run(["show", report, *words])
+    _, shown, _ = row.start(["show", report, *words])
     row.wants(["show", report, *words, "--junit", "-"], status, begin + lines(text) + end, shown.decode())
 
 

@@ -1,13 +1,5 @@
-"""Chooses checks and rows, runs them side by side, and says what failed.
-
-    checks/run [-k WORD] [CHECK | TABLE | TABLE:ROW]..
-
-Without words all checks run that need no proof; -k WORD chooses those checks and rows whose name, title or text has the word.
-A row's number is the one that a failure prints. The status is 1 where something failed, 2 for words that are refused, and 3 where
-there is no program.
-"""
-import concurrent.futures
-import dataclasses
+"""Run the checks that need no proof: commands of checks/commands, and rows of checks/tables."""
+import argparse
 import os
 import pathlib
 import re
@@ -15,115 +7,92 @@ import shutil
 import subprocess
 import sys
 import tempfile
-import time
 
-import failures
 import progress
+from cases import TOP, Command, ParallelSuite, Result
 from forms import FORMS, TABLES, rows_of
 from tables import Malformed
 
-TOP = pathlib.Path(__file__).resolve().parents[2]
-COMMANDS = TOP / "checks/commands"
-# The checks that are scripts, the longest first: their words, and whether they run the programs.
+# The commands that need no proof, the longest first, with their words, and whether they run the programs.
 SCRIPTS = {
-    "runner": ([], True),
-    "growths": (["--quick"], True),
-    "merge": ([], True),
-    "accepts": (["200"], True),
-    "client": ([], True),
-    "gdb_sessions": ([], True),
-    "launch": ([], False),
-    "streams": ([], True),
-    "docs": ([], True),
-    "lint": ([], False),
-    "ci": ([], False),
-    "grammar": ([], False),
-    "memory": ([], False),
-    "doors": ([], False),
-    "kit_counts": ([], False),
-    "kit_lists": ([], True),
-    "samples": ([], False),
-    "version": ([], False),
-    "pages": ([], True),
-    "completions": ([], True),
-    "worked": ([], True),
+    "runner": ("runner", True),
+    "growths": ("growths --quick", True),
+    "merge": ("merge", True),
+    "accepts": ("accepts 200", True),
+    "client": ("client.py", True),
+    "gdb_sessions": ("gdb_sessions.py", True),
+    "launch": ("launch", False),
+    "streams": ("streams", True),
+    "docs": ("docs.py", True),
+    "lint": ("lint.py", False),
+    "ci": ("ci.py", False),
+    "grammar": ("grammar.py", False),
+    "memory": ("memory.py", False),
+    "doors": ("doors", False),
+    "kit_counts": ("kit_counts.py", False),
+    "kit_lists": ("kit_lists.py", True),
+    "samples": ("samples.py", False),
+    "version": ("version", False),
+    "pages": ("pages", True),
+    "completions": ("completions.py", True),
+    "worked": ("worked", True),
 }
-# How many failures are told at length.
-MOST_TOLD = 20
-
-
-@dataclasses.dataclass
-class Chosen:
-    """What is to run: names of scripts, and rows."""
-    scripts: list
-    rows: list
-
-    def needs_programs(self):
-        return bool(self.rows) or any(SCRIPTS[name][1] for name in self.scripts)
-
-
-class Refused(Exception):
-    """Why words are refused."""
 
 
 class NoShim(Exception):
     """Why there is no shim."""
 
 
-# ---- choosing
+# ---- selecting cases
 
-def words_of(arguments):
-    """The word of -k, or nothing, and the names."""
-    word, names, rest = "", [], list(arguments)
-    while rest:
-        first = rest.pop(0)
-        if first == "-k":
-            if not rest or not rest[0]:
-                raise Refused("-k wants a word")
-            word = rest.pop(0)
-        elif first.startswith("-"):
-            raise Refused(f"there is no option '{first}': checks/run [-k WORD] [CHECK | TABLE | TABLE:ROW]..")
-        else:
-            names.append(first)
-    return word, names
+def command_line():
+    """The parser of the command line."""
+    parser = argparse.ArgumentParser(
+        prog="checks/run", usage="%(prog)s [-h] [-k WORD] [CHECK | TABLE | TABLE:ROW]...", description=__doc__, allow_abbrev=False,
+        epilog=f"By default everything runs. Checks: {', '.join(SCRIPTS)}. Tables: {', '.join(sorted(FORMS))}.",
+    )
+    parser.add_argument("-k", metavar="WORD", help="run only the checks and rows whose name, title or text contains this word")
+    parser.add_argument("names", metavar="NAME", nargs="*", help="run this check, the rows of this table, or one row of it (repeatable)")
+    return parser
 
 
-def title_of(name):
-    """What a script says of itself: the lines behind its first, up to the end of its comment."""
-    text = (COMMANDS / name).read_text(encoding="utf-8")
-    found = re.match(r'#!.*\n((?:#.*\n)+|""".*?""")', text, re.S)
-    return found[1] if found else ""
+def cases_named(name, tables, reject):
+    """The cases that a name selects, of all tables' rows by the tables' names."""
+    if name in SCRIPTS:
+        return [Command(name, SCRIPTS[name][0])]
+    table, colon, number = name.partition(":")
+    rows = {row.id(): row for row in tables.get(table, [])}
+    if not rows:
+        reject(f'unknown name "{name}": expected a check ({", ".join(SCRIPTS)}) or a table ({", ".join(tables)})')
+    if colon and name not in rows:
+        reject(f'unknown row "{number}" of {table}: expected 1 to {len(rows)}')
+    return [rows[name]] if colon else rows.values()
 
 
-def chosen_of(word, names, tables):
-    """What words choose, of all tables' rows by their names."""
-    scripts, rows = [], []
-    for name in names or [*SCRIPTS, *tables]:
-        table, sign, number = name.partition(":")
-        if name in SCRIPTS:
-            scripts.append(name)
-        elif table not in tables:
-            raise Refused(f"there is no check and no table '{name}'; the checks are {', '.join(SCRIPTS)}; the tables are {', '.join(tables)}")
-        elif not sign:
-            rows += tables[table]
-        elif number.isascii() and number.isdigit() and 1 <= int(number) <= len(tables[table]):
-            rows.append(tables[table][int(number) - 1])
-        else:
-            raise Refused(f"there is no row '{number}' of {table}: its rows are 1 to {len(tables[table])}")
-    if word:
-        low = word.lower()
-        scripts = [name for name in scripts if low in f"{name} {title_of(name)}".lower()]
-        rows = [row for row in rows if low in f"{row.table} {row.title} {row.text}".lower()]
-        if not scripts and not rows:
-            raise Refused(f"no check and no row has '{word}' in its name, its title or its text")
-    return Chosen(list(dict.fromkeys(scripts)), list({row.folder: row for row in rows}.values()))
+def text_of(case):
+    """What -k searches: the name of a case with the title and the text of a row, or with the comment at the top of a command."""
+    if not isinstance(case, Command):
+        return f"{case.id()} {case.title} {case.text}"
+    found = re.match(r'#!.*\n((?:#.*\n)+|""".*?""")', (TOP / str(case)).read_text(encoding="utf-8"), re.S)
+    return f"{case.id()} {found[1] if found else ''}"
+
+
+def selected(words, tables, reject):
+    """The cases that the words of the command line select, each once. Wrong words are rejected."""
+    cases = {case.id(): case for name in words.names or [*SCRIPTS, *tables] for case in cases_named(name, tables, reject)}
+    if words.k is None:
+        return cases.values()
+    found = [case for case in cases.values() if words.k.lower() in text_of(case).lower()]
+    if not words.k or not found:
+        reject(f'no check and no row contains "{words.k}" in its name, title or text' if words.k else "argument -k: expected a word")
+    return found
 
 
 def tables_of(folder):
     """The rows of each table's file, whose runs have their folders in this one."""
     files = {path.stem: path for path in sorted(TABLES.glob("*.txt"))}
     for name in FORMS.keys() ^ files.keys():
-        raise Malformed(f"checks/tables/{name}.txt: {'no form has the name of this file' if name in files else 'this file is not there'}")
+        raise Malformed(f"checks/tables/{name}.txt: {'no form has the name of this file' if name in files else 'No such file'}")
     return {name: rows_of(path, str(folder / "rvtest"), folder) for name, path in files.items()}
 
 
@@ -158,82 +127,30 @@ def take_shim(folder):
     os.environ["TERMINAL_SHIM"] = str(path)
 
 
-# ---- running
+# ---- running them
 
-def run_script(name):
-    """Runs a check that is a script: how many cases passed, 0 or 1 that failed, and what is said of it."""
-    began = time.monotonic()
-    done = subprocess.run(
-        [COMMANDS / name, *SCRIPTS[name][0]], cwd=TOP, stdin=subprocess.DEVNULL, capture_output=True, check=False
-    )
-    out = done.stdout.decode("utf-8", "backslashreplace").splitlines()
-    took = f"{time.monotonic() - began:.0f} s"
-    if done.returncode == 0:
-        return len(out), 0, [f"{name}: {len(out)} cases, {took}"]
-    said = done.stderr.decode("utf-8", "backslashreplace").splitlines()
-    return 0, 1, [*out[-5:], *said[-60:], f"{name}: FAILED, status {done.returncode}, {took}; again: checks/run {name}"]
-
-
-def run_row(row):
-    """Runs a row: whether it passed, and what is said of it where it did not."""
-    row.folder.mkdir()
+def run(parser, folder):
+    """Runs what the command line selects, with the programs and the rows' folders in a folder, and returns the status."""
+    words, result = parser.parse_intermixed_args(), Result()
     try:
-        FORMS[row.table].check(row)
-    except Exception as wrong:
-        # A row that its check cannot read fails as well as one that is answered otherwise.
-        return 0, 1, list(failures.told(row, wrong))
-    finally:
-        shutil.rmtree(row.folder, ignore_errors=True)
-    return 1, 0, []
-
-
-def run_all(chosen, processors):
-    """Runs what is chosen, and says what failed, and how each check that is a script ended: how many cases passed, and how many not."""
-    began, passed, failed, rows_failed = time.monotonic(), 0, 0, 0
-    pool = concurrent.futures.ThreadPoolExecutor(processors)
-    try:
-        scripts = {pool.submit(run_script, name) for name in chosen.scripts}
-        rows = [pool.submit(run_row, row) for row in chosen.rows]
-        for ended in concurrent.futures.as_completed([*scripts, *rows]):
-            good, bad, said = ended.result()
-            passed, failed = passed + good, failed + bad
-            rows_failed += bad if ended not in scripts else 0
-            if ended in scripts or rows_failed <= MOST_TOLD:
-                print(*said, sep="\n", end="\n" if said else "", flush=True)
-    finally:
-        pool.shutdown(cancel_futures=True)
-    if rows_failed > MOST_TOLD:
-        print(f"{rows_failed - MOST_TOLD} rows more failed")
-    if chosen.rows:
-        print(f"tables: {len(chosen.rows)} rows, {rows_failed} failed, {time.monotonic() - began:.0f} s")
-    return passed, failed
+        cases = selected(words, tables_of(folder), parser.error)
+        if any(not isinstance(case, Command) or SCRIPTS[case.name][1] for case in cases) and not take_programs(folder):
+            return 3
+        if any(getattr(case, "table", None) in progress.FORMS for case in cases):
+            take_shim(folder)
+        ParallelSuite(cases).run(result)
+    except (Malformed, NoShim) as wrong:
+        print(f"checks/run: {wrong}", file=sys.stderr)
+        result.failed += 1
+    print(result)
+    return 1 if result.failed else 0
 
 
 def main():
-    work = tempfile.TemporaryDirectory()
-    os.chmod(work.name, 0o755)
     os.umask(0o022)
-    folder = pathlib.Path(work.name)
-    if {"-h", "--help"} & {*sys.argv[1:]}:
-        print(f"{__doc__.strip()}\n\nChecks: {', '.join(SCRIPTS)}.\nTables: {', '.join(sorted(FORMS))}.")
-        return 0
-    with work:
-        try:
-            word, names = words_of(sys.argv[1:])
-            chosen = chosen_of(word, names, tables_of(folder))
-            if chosen.needs_programs() and not take_programs(folder):
-                return 3
-            if any(row.table in progress.FORMS for row in chosen.rows):
-                take_shim(folder)
-            passed, failed = run_all(chosen, len(os.sched_getaffinity(0)))
-        except Refused as refused:
-            print(f"checks/run: {refused}", file=sys.stderr)
-            return 2
-        except (Malformed, NoShim) as wrong:
-            print(f"checks/run: {wrong}", file=sys.stderr)
-            passed, failed = 0, 1
-        print(f"{passed} passed, {failed} failed")
-        return 1 if failed else 0
+    with tempfile.TemporaryDirectory() as folder:
+        os.chmod(folder, 0o755)
+        return run(command_line(), pathlib.Path(folder))
 
 
 if __name__ == "__main__":

@@ -1,4 +1,4 @@
-"""What the cases of checks/commands/kit_counts share."""
+"""What the cases of checks/commands/kit_counts.py share."""
 import pathlib
 import subprocess
 

@@ -1,7 +1,7 @@
 #!/usr/bin/env python3
 """Whether the pages are true of the sources, as far as a script can tell.
 
-    checks/commands/docs [--no-run] [PAGE..]     all pages, or these alone; --no-run leaves out the commands
+    checks/commands/docs.py [--no-run] [PAGE..]     all pages, or these alone; --no-run leaves out the commands
 
 Of each page (*.md) it asks that
   - paths in backticks exist, and links with their anchors resolve; NAME, CRATE and the like stand for any name, and what a build leaves in
@@ -445,7 +445,7 @@ def main():
         for line in review.wrong:
             print(line, file=sys.stderr)
     for name in missing:
-        print(f"checks/commands/docs: there is no {name}", file=sys.stderr)
+        print(f"checks/commands/docs.py: there is no {name}", file=sys.stderr)
     return 1 if missing or any(review.wrong for review in reviews) else 0
 
 

@@ -1,7 +1,7 @@
 #!/usr/bin/env python3
-"""checks/commands/client: a client of `rvtest gdb` that asks at random, over jobs of which each ends in another way.
+"""checks/commands/client.py: a client of `rvtest gdb` that asks at random, over jobs of which each ends in another way.
 
-    checks/commands/client [ROUNDS [SEED]]      absent: 250 requests a job, and the seed 1
+    checks/commands/client.py [ROUNDS [SEED]]      absent: 250 requests a job, and the seed 1
 
 Every answer must be what client.d/definition.py says: it has each state of the run in a list, by client.d/model.py, which reads the
 instruction set's manual and shares nothing with the simulator. Requests go out cut anywhere, and several at once. And 0x03, which is
@@ -235,7 +235,7 @@ def positive(word):
 
 
 def words():
-    parser = argparse.ArgumentParser(prog="checks/commands/client", allow_abbrev=False)
+    parser = argparse.ArgumentParser(prog="checks/commands/client.py", allow_abbrev=False)
     parser.add_argument("rounds", nargs="?", type=positive, default=ROUNDS, metavar="ROUNDS")
     parser.add_argument("seed", nargs="?", type=positive, default=1, metavar="SEED")
     return parser.parse_args()
@@ -260,7 +260,7 @@ def main():
                 count = talk(random.Random(f"{seed} {name}"), jobs, name, run, rounds)
                 print(f"{name}: {count} requests over {len(run[0]) - 1} steps, which end by {run[1]}")
         except Wrong as wrong:
-            print(f"checks/commands/client: seed {seed}: {wrong}", file=sys.stderr)
+            print(f"checks/commands/client.py: seed {seed}: {wrong}", file=sys.stderr)
             return 1
     return 0
 

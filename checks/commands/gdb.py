@@ -1,7 +1,7 @@
 #!/usr/bin/env python3
-"""checks/commands/gdb: sessions of gdb-multiarch with `rvtest gdb`, over firmware that is built here by the kit.
+"""checks/commands/gdb.py: sessions of gdb-multiarch with `rvtest gdb`, over firmware that is built here by the kit.
 
-    checks/commands/gdb [SESSION..]      the sessions of these names in gdb.d; absent: all, gdb that is killed, a terminal in its place, make debug
+    checks/commands/gdb.py [SESSION..]      the sessions of these names in gdb.d; absent: all, gdb that is killed, a terminal in its place, make debug
 
 A session is a file: its first line has the job and the compiler's word; `alone` leaves the image to the program, `extended` and `mi` are
 ways to call gdb. `> COMMAND` is what gdb is told, and every other line must be among those that gdb prints, each behind the one before.
@@ -211,7 +211,7 @@ def main():
     names = sys.argv[1:]
     sessions = sorted(it for it in HERE.glob("*.session") if not names or it.stem in names)
     if names and len(sessions) != len(names):
-        print(f"checks/commands/gdb: {HERE} has not all of these: {' '.join(names)}", file=sys.stderr)
+        print(f"checks/commands/gdb.py: {HERE} has not all of these: {' '.join(names)}", file=sys.stderr)
         return 2
     with tempfile.TemporaryDirectory() as folder:
         folder = pathlib.Path(folder)
@@ -227,7 +227,7 @@ def main():
                 print(f"terminal: {refuse_terminal(lists['-O0'])}")
                 print(f"make debug: {debug_target(lists['-O0'].parents[1])}")
         except Wrong as wrong:
-            print(f"checks/commands/gdb: {wrong}", file=sys.stderr)
+            print(f"checks/commands/gdb.py: {wrong}", file=sys.stderr)
             return 1
     return 0
 

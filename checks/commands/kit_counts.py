@@ -1,8 +1,8 @@
 #!/usr/bin/env python3
-"""checks/commands/kit_counts: tries the firmware kit's counts2lcov and counts2, with their readers of tables of counts and of DWARF lines, and make
+"""checks/commands/kit_counts.py: tries the firmware kit's counts2lcov and counts2, with their readers of tables of counts and of DWARF lines, and make
 cover and profile.
 
-    checks/commands/kit_counts
+    checks/commands/kit_counts.py
 
 What they must say is not theirs: pages of kit_counts.d were counted by hand; rows of lines are those of readelf; tables are summed and
 refused as added.txt of checks/tables has it of `rvtest counts`. What needs Debian's gcc-riscv64-unknown-elf, or its lcov, is passed over
@@ -148,7 +148,7 @@ def main():
             try:
                 print(f"{case.__name__}: {case()}", flush=True)
             except Wrong as wrong:
-                print(f"checks/commands/kit_counts: {case.__name__}: {wrong}", file=sys.stderr)
+                print(f"checks/commands/kit_counts.py: {case.__name__}: {wrong}", file=sys.stderr)
                 return 1
     return 0
 

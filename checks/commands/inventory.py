@@ -1,8 +1,8 @@
 #!/usr/bin/env python3
 """What the repository promises and tries, as sorted lines, so that a move or a rename loses nothing.
 
-    checks/commands/inventory write FILE
-    checks/commands/inventory compare OLD NEW [--names FILE]
+    checks/commands/inventory.py write FILE
+    checks/commands/inventory.py compare OLD NEW [--names FILE]
 
 `write` writes one line for each
   function     public, or of a trait: its path, its types, and the name and text of each clause
@@ -239,7 +239,7 @@ def read(file):
 
 def arguments():
     """What the command line says."""
-    parser = argparse.ArgumentParser(prog="checks/commands/inventory", description=__doc__.splitlines()[0])
+    parser = argparse.ArgumentParser(prog="checks/commands/inventory.py", description=__doc__.splitlines()[0])
     commands = parser.add_subparsers(dest="command", required=True)
     commands.add_parser("write").add_argument("file", type=pathlib.Path)
     comparing = commands.add_parser("compare")
@@ -258,7 +258,7 @@ def main():
         asked.file.write_text("\n".join(inventory()) + "\n", errors="surrogateescape")
         return 0
     except OSError as error:
-        print(f"checks/commands/inventory: {error}", file=sys.stderr)
+        print(f"checks/commands/inventory.py: {error}", file=sys.stderr)
         return 2
 
 

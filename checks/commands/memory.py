@@ -8,7 +8,7 @@ No contract refuses a body that gives up so, since memory may always be wanting:
 made at any other place, and where such a comment stands above no such line. What it cannot see is a growth that is asked for and
 too great to be given.
 
-    checks/commands/memory           reads crates/*/src, the tests aside
+    checks/commands/memory.py           reads crates/*/src, the tests aside
 """
 import os
 import re
@@ -120,10 +120,10 @@ def main():
         faults += [f"crates/{path.split('/crates/')[1]}:{at + 1}: made up: no comment above says why" for at in lines if at - 1 not in markers]
         faults += [f"crates/{path.split('/crates/')[1]}:{at + 1}: the comment stands above no such error" for at in markers if at + 1 not in lines]
     for fault in faults:
-        print(f"checks/commands/memory: {fault}", file=sys.stderr)
+        print(f"checks/commands/memory.py: {fault}", file=sys.stderr)
     if faults:
         sys.exit(1)
-    print(f"checks/commands/memory: {count} places, each with its reason")
+    print(f"checks/commands/memory.py: {count} places, each with its reason")
 
 
 main()

@@ -1,7 +1,7 @@
 #!/usr/bin/env python3
 """What a shell offers behind `rvtest`, over examples/fleet.toml, with the completions of packaging.
 
-    checks/commands/completions [SHELL..]    bash, zsh or fish; absent: bash
+    checks/commands/completions.py [SHELL..]    bash, zsh or fish; absent: bash
 """
 import os
 import pathlib
@@ -107,7 +107,7 @@ def offering(shell, folder):
 def main(shells):
     for shell in shells or ["bash"]:
         if shell not in ("bash", "zsh", "fish"):
-            sys.exit(f"checks/commands/completions: '{shell}' is no shell that has completions here; usage: checks/commands/completions [bash|zsh|fish]..")
+            sys.exit(f"checks/commands/completions.py: '{shell}' is no shell that has completions here; usage: checks/commands/completions.py [bash|zsh|fish]..")
         with tempfile.TemporaryDirectory() as made:
             folder = pathlib.Path(made)
             (folder / "bin").mkdir()
@@ -121,7 +121,7 @@ def main(shells):
             for line, wanted in ROWS + BASH_ROWS * (shell == "bash"):
                 met = sorted(offered(line))
                 if met != wanted:
-                    sys.exit(f"checks/commands/completions: {shell}: behind '{line}' {' '.join(met) or 'nothing'} is offered, expected {' '.join(wanted) or 'nothing'}")
+                    sys.exit(f"checks/commands/completions.py: {shell}: behind '{line}' {' '.join(met) or 'nothing'} is offered, expected {' '.join(wanted) or 'nothing'}")
                 print(f"{shell}: {line}: {' '.join(met) or 'nothing'}")
 
 

@@ -1,5 +1,5 @@
 #!/usr/bin/env python3
-"""checks/commands/grammar: whether tables are read as checks/tables/README.md says, of its own example and of each sign; and whether files
+"""checks/commands/grammar.py: whether tables are read as checks/tables/README.md says, of its own example and of each sign; and whether files
 that are no files of tables are refused with their line and the reason.
 """
 import pathlib
@@ -69,7 +69,7 @@ def main():
     cases += [(f"the file '{text}'", wanted, refusal_of(text)[:len(wanted)]) for text, wanted in REFUSED.items()]
     wrong = [f"{name}: {found!r}, expected {wanted!r}" for name, wanted, found in cases if wanted != found]
     if wrong:
-        sys.exit("\n".join(f"checks/commands/grammar: {one}" for one in wrong))
+        sys.exit("\n".join(f"checks/commands/grammar.py: {one}" for one in wrong))
     for name, _, _ in cases:
         print(name.replace("\n", " / "))
 

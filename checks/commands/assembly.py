@@ -1,5 +1,5 @@
 #!/usr/bin/env python3
-"""checks/commands/assembly: whether the assembly texts that checks/tables has of the GNU disassembler are those that it makes.
+"""checks/commands/assembly.py: whether the assembly texts that checks/tables has of the GNU disassembler are those that it makes.
 
 Run by hand, since it needs Debian's package binutils-riscv64-unknown-elf; with --write it writes the lists anew. The
 GNU assembler makes the codes, of each row at the least, the greatest and a middle value of each operand, but of no hint;
@@ -16,12 +16,12 @@ TOP = pathlib.Path(__file__).resolve().parents[2]
 LIST = TOP / "checks/tables/assembly.txt"
 # What stands above the lines of each list.
 HEAD = """\
-# By the GNU disassembler: `checks/commands/assembly --write` writes these lines.
+# By the GNU disassembler: `checks/commands/assembly.py --write` writes these lines.
 code | address | text
 ---------------------
 """
 HEAD_OF_UNSIMULATED = """\
-# By the GNU disassembler, of other extensions, and of privileged modes: `checks/commands/assembly --write` writes these lines, too.
+# By the GNU disassembler, of other extensions, and of privileged modes: `checks/commands/assembly.py --write` writes these lines, too.
 code | address | text
 ---------------------
 """
@@ -167,11 +167,11 @@ def main():
         if sys.argv[1:] == ["--write"]:
             held = held[:begin] + made + held[end:]
         elif held[begin:end] != made:
-            sys.exit("checks/commands/assembly: the list is not the disassembler's")
+            sys.exit("checks/commands/assembly.py: the list is not the disassembler's")
         count += made.count("\n")
     if sys.argv[1:] == ["--write"]:
         LIST.write_text(held)
-    print(f"checks/commands/assembly: {count} rows, each as the disassembler has it")
+    print(f"checks/commands/assembly.py: {count} rows, each as the disassembler has it")
 
 
 main()

@@ -1,8 +1,8 @@
 #!/usr/bin/env python3
-"""checks/commands/gdb_sessions: sessions of gdb with `rvtest gdb` that were recorded, over the example firmware.
+"""checks/commands/gdb_sessions.py: sessions of gdb with `rvtest gdb` that were recorded, over the example firmware.
 
-    checks/commands/gdb_sessions [--seed N] [NAME..]     sends again what gdb sent: each answer must be the recorded one, byte for byte
-    checks/commands/gdb_sessions --record [NAME..]       records them anew, by gdb-multiarch
+    checks/commands/gdb_sessions.py [--seed N] [NAME..]     sends again what gdb sent: each answer must be the recorded one, byte for byte
+    checks/commands/gdb_sessions.py --record [NAME..]       records them anew, by gdb-multiarch
 
 gdb_sessions.d/NAME.gdb begins with the list and the job, and has what gdb is told. NAME.packets has what went over the pipe: what gdb
 sent behind `> `, and what it was answered behind `< `. A session is sent as it was recorded, and then cut anywhere, by the seed.
@@ -170,7 +170,7 @@ def record(name):
 # ---- words
 
 def words():
-    parser = argparse.ArgumentParser(prog="checks/commands/gdb_sessions", allow_abbrev=False)
+    parser = argparse.ArgumentParser(prog="checks/commands/gdb_sessions.py", allow_abbrev=False)
     parser.add_argument("--record", action="store_true")
     parser.add_argument("--seed", type=int, default=1, metavar="N")
     parser.add_argument("--between", nargs=3, help=argparse.SUPPRESS)
@@ -193,7 +193,7 @@ def main():
         for name in names:
             print(record(name) if asked.record else replay(name, asked.seed), flush=True)
     except (OSError, Wrong) as wrong:
-        print(f"checks/commands/gdb_sessions: {wrong}", file=sys.stderr)
+        print(f"checks/commands/gdb_sessions.py: {wrong}", file=sys.stderr)
         return 1
     return 0
 

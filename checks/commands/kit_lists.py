@@ -1,8 +1,8 @@
 #!/usr/bin/env python3
-"""checks/commands/kit_lists: tries what the firmware kit does before a compiler is called: which files are tests, what is said of the others and of wrong
+"""checks/commands/kit_lists.py: tries what the firmware kit does before a compiler is called: which files are tests, what is said of the others and of wrong
 ones, the words of options, and when an image is built again, by a stand-in for the compiler.
 
-    checks/commands/kit_lists
+    checks/commands/kit_lists.py
 
 It needs python3 and the programs, for the errors that rvtest finds in a list.
 """
@@ -275,7 +275,7 @@ def main():
             try:
                 print(f"{case.__name__}: {case()}", flush=True)
             except Wrong as wrong:
-                print(f"checks/commands/kit_lists: {case.__name__}: {wrong}", file=sys.stderr)
+                print(f"checks/commands/kit_lists.py: {case.__name__}: {wrong}", file=sys.stderr)
                 return 1
     return 0
 

@@ -1,5 +1,5 @@
 #!/usr/bin/env python3
-"""checks/commands/samples: whether the images that the crate `samples` holds as digits are byte for byte the files of checks/images and examples."""
+"""checks/commands/samples.py: whether the images that the crate `samples` holds as digits are byte for byte the files of checks/images and examples."""
 import pathlib
 import re
 import sys
@@ -29,8 +29,8 @@ def main():
     found = held()
     wrong = [f"{NAMES[word]} is not {images.FILES[word].name}" for word in NAMES if found.get(NAMES[word]) != images.IMAGES[word]]
     if wrong:
-        sys.exit("\n".join(f"checks/commands/samples: {one}" for one in wrong))
-    print(f"checks/commands/samples: {len(NAMES)} images, each a file of checks/images or examples")
+        sys.exit("\n".join(f"checks/commands/samples.py: {one}" for one in wrong))
+    print(f"checks/commands/samples.py: {len(NAMES)} images, each a file of checks/images or examples")
 
 
 main()

@@ -1,30 +1,23 @@
 #!/usr/bin/env python3
-"""checks/commands/ci: whether checks/nightly skips, fails and counts as it says; and whether the pipelines of GitHub and GitLab are YAML, run
+"""checks/commands/ci.py: whether checks/nightly skips, fails and counts as it says; and whether the pipelines of GitHub and GitLab are YAML, run
 checks/run on each push and checks/nightly each night, the whole of both, and name the packages that checks/nightly needs. Without a reader
-of YAML it says so, and does not look at the pipelines.
+of YAML this case is skipped.
 """
 import contextlib
-import importlib.machinery
-import importlib.util
 import io
 import os
 import pathlib
+import shutil
 import subprocess
 import sys
 import tempfile
+import unittest.mock
 
 TOP = pathlib.Path(__file__).resolve().parents[2]
 GITHUB, GITLAB = TOP / ".github/workflows/checks.yml", TOP / ".gitlab-ci.yml"
-
-
-def load_nightly():
-    """checks/nightly as a module."""
-    sys.dont_write_bytecode = True
-    loader = importlib.machinery.SourceFileLoader("nightly", str(TOP / "checks/nightly"))
-    module = importlib.util.module_from_spec(importlib.util.spec_from_loader("nightly", loader))
-    sys.modules["nightly"] = module
-    loader.exec_module(module)
-    return module
+sys.dont_write_bytecode = True
+sys.path.insert(0, str(TOP / "checks/lib"))
+import nightly  # noqa: E402
 
 
 # ---- checks/nightly
@@ -53,7 +46,7 @@ CALLS = [
 ]
 
 
-def call_nightly(nightly, words):
+def call_nightly(words):
     """The status and the lines of a call."""
     out, sys.argv = io.StringIO(), ["checks/nightly", *words]
     with contextlib.redirect_stdout(out):
@@ -63,12 +56,14 @@ def call_nightly(nightly, words):
 
 def check_calls():
     """Calls checks/nightly with checks of another kind in place of its own, and says what is wrong."""
-    nightly = load_nightly()
-    nightly.CHECKS = {name: nightly.Check(*of) for name, of in COMMANDS.items()}
-    nightly.NEEDS = {"key": ("a key", lambda: True), "lock": ("a lock", lambda: False)}
-    nightly.SHOWN_BY = {"here": "/", "gone": "/none/gone"}
+    others = {
+        "CHECKS": {name: nightly.Check(*of) for name, of in COMMANDS.items()},
+        "NEEDS": {"key": ("a key", lambda: True), "lock": ("a lock", lambda: False)},
+        "SHOWN_BY": {"here": "/", "gone": "/none/gone"},
+    }
     for words, status, last, among in CALLS:
-        found, lines = call_nightly(nightly, words.split())
+        with unittest.mock.patch.multiple(nightly, **others):
+            found, lines = call_nightly(words.split())
         absent = [line for line in among if line not in lines[:-1]]
         skips = [line for line in lines if line.startswith("skipped: ")]
         if (found, lines[-1:]) != (status, [last]) or absent or (bool(skips) != (", 0 skipped" not in last) and "--list" not in words):
@@ -79,9 +74,11 @@ def check_calls():
 
 def check_without_toolchain():
     """Starts the checks that need the toolchain where it is missing, and says what is wrong."""
-    with tempfile.TemporaryDirectory() as empty:
-        words = [sys.executable, str(TOP / "checks/nightly"), "edits", "growths"]
-        done = subprocess.run(words, env={**os.environ, "PATH": empty}, capture_output=True, text=True, check=False)
+    with tempfile.TemporaryDirectory() as folder:
+        for name, path in {"bash": shutil.which("bash"), "dirname": shutil.which("dirname"), "python3": sys.executable}.items():
+            os.symlink(path, f"{folder}/{name}")
+        words = [TOP / "checks/nightly", "edits", "growths"]
+        done = subprocess.run(words, env={**os.environ, "PATH": folder}, capture_output=True, text=True, check=False)
     last = ["skipped: edits (needs rt), growths (needs rt)", "0 passed, 0 failed, 2 skipped"]
     if done.returncode != 0 or done.stdout.splitlines()[-2:] != last:
         yield f"checks/nightly edits growths, without rt: status {done.returncode}: {done.stdout}{done.stderr}"
@@ -129,9 +126,9 @@ def check_pipelines():
     try:
         import yaml
     except ImportError:
-        print("checks/commands/ci: there is no reader of YAML (python3-yaml): the pipelines are not looked at")
+        print("skipped: python3-yaml is not installed, so the pipelines are not checked")
         return
-    packages, found = load_nightly().packages(), []
+    packages, found = nightly.packages(), []
     for path, jobs in ((GITHUB, github_jobs), (GITLAB, gitlab_jobs)):
         try:
             found += [f"{path.relative_to(TOP)}: {one}" for one in problems_of(jobs(lambda file: yaml.safe_load(file.read_text())), packages)]
@@ -139,13 +136,13 @@ def check_pipelines():
             found.append(f"{path.relative_to(TOP)}: {type(error).__name__}: {error}")
     yield from found
     if not found:
-        print("checks/commands/ci: two pipelines, which run checks/run and checks/nightly")
+        print("checks/commands/ci.py: two pipelines, which run checks/run and checks/nightly")
 
 
 def main():
     problems = [*check_calls(), *check_without_toolchain(), *check_pipelines()]
     if problems:
-        sys.exit("\n".join(f"checks/commands/ci: {problem}" for problem in problems))
+        sys.exit("\n".join(f"checks/commands/ci.py: {problem}" for problem in problems))
 
 
 main()

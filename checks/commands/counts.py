@@ -1,7 +1,7 @@
 #!/usr/bin/env python3
-"""checks/commands/counts: tries `rvtest run --counts` and `rvtest counts`, by the built rvtest, beside programs that are not ours.
+"""checks/commands/counts.py: tries `rvtest run --counts` and `rvtest counts`, by the built rvtest, beside programs that are not ours.
 
-    checks/commands/counts
+    checks/commands/counts.py
 
 Some 6,000 changed texts of a table are either refused, by the words that the firmware kit's own reader has for them, or their sum is the
 text itself. The counts of a C program's lines are those that the host's gcc and gcov give it. The page that genhtml makes of them, as
@@ -194,7 +194,7 @@ def main():
             try:
                 print(f"{case.__name__}: {case()}", flush=True)
             except Wrong as wrong:
-                print(f"checks/commands/counts: {case.__name__}: {wrong}", file=sys.stderr)
+                print(f"checks/commands/counts.py: {case.__name__}: {wrong}", file=sys.stderr)
                 return 1
     return 0
 
