@@ -67,7 +67,7 @@ class Compiler:
         name = words[0] if words else ""
         if not words or shutil.which(name) is None:
             raise Refused(f'error: compiler "{shown(name)}" not found\nhelp: as root, apt-get install gcc-riscv64-unknown-elf')
-        if not re.search(r"^gcc (?:driver )?version ", self.run([*words, "-v"]), re.M):
+        if not re.search(r"^gcc (?:driver )?version ", self.run([*words, "-###"]), re.M):
             raise Refused(f'error: CC="{shown(shlex.join(words))}" is not GCC, which this kit needs\n'
                           "help: choose a GCC for RISC-V, such as CC=riscv64-unknown-elf-gcc")
 
