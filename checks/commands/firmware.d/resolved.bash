@@ -265,7 +265,7 @@ case_wrong_compilers() {
 echo "clang version 14.0.6" >&2'
     chmod +x clang
     check 'another compiler than GCC' 2 'build: error: CC="./clang" is not GCC, which this kit needs' CC=./clang
-    hides 'CC '
+    hides 'CC a'
     [ "$(grep -c 'error: ' err)" = 1 ] || fail "more is told: $(<err)"
     check 'specs that are missing' 2 "cannot read spec file 'gone.specs'" CFLAGS='-Os -specs=gone.specs'
     [ "$(grep -c 'gone.specs' err)" = 1 ] || fail "it is told more than once: $(<err)"
