@@ -19,9 +19,9 @@ TOP = pathlib.Path(__file__).resolve().parents[2]
 KIT = TOP / "firmware"
 CC = TOP / "checks/commands/kit_lists.d/cc"
 sys.path[:0] = [str(KIT)]
-from building.names import names_in_text  # noqa: E402
 from building.records import paths_in_words  # noqa: E402
 from building.rules import files_in_linked, files_in_rules  # noqa: E402
+from building.steps import names_below  # noqa: E402
 from listing.files import Refused, shown  # noqa: E402
 from listing.flags import expanded, inputs_of, response_words, words_in  # noqa: E402
 
@@ -170,16 +170,16 @@ def option_words():
 
 
 def lists_of_files():
-    """The lists that GCC, the assembler and the linker write, and names in sources."""
+    """The lists that GCC, the assembler and the linker write, and the names by which a file was found."""
     text = "x: a.c \\\n a\\ b.h do$$l.h ha\\#h.h co:n.h back\\slash.h b\\\\\\ s.h\nco:n.h:\n"
     expect("GCC's list", files_in_rules(text), ["a.c", "a b.h", "do$l.h", "ha#h.h", "co:n.h", "back\\slash.h", "b\\ s.h"])
     expect("an empty list", files_in_rules("x:\n"), [])
     expect("ld's list", files_in_linked("x y.o: \\\n  a b.o \\\n  c$#.o\n\na b.o:\n"), ["a b.o", "c$#.o"])
-    for text, names in (
-        (b'#include "a.h"\n#if __has_include(<b/c>)\n', ["a.h", "b/c"]), (b'int x = "a.h";\n', []), (b"#define X(a) a(my.h)\n", ["my.h"]),
-        (b"#if __has_include(X)\n", ["*"]), (b"asm(\".incbin \\\"x.bin\\\"\");\n", ["x.bin"]), (b"x = __DATE__;\n", ["__DATE__"]),
+    for path, folders, names in (
+        ("inc/sub/a.inc", ["", "inc"], {"a.inc", "inc/sub/a.inc", "sub/a.inc"}), ("./inc//a.inc", ["inc/"], {"a.inc"}),
+        ("/sdk/x/a.inc", ["", "/sdk"], {"a.inc", "x/a.inc"}), ("../a.inc", ["", ".."], {"a.inc", "../a.inc"}),
     ):
-        expect(f"names in {text!r}", [it for it in names_in_text(text) if it in names or not names], names)
+        expect(f"names of {path} in {folders}", names_below(path, folders), names)
     return "lists of files"
 
 
@@ -230,8 +230,9 @@ def rebuilds():
     put("shared.c", "SHARED\n")
     expect("the shared source", sorted(build()), ["CC shared.c", "LD a", "LD b"])
     put("third/z.h")
-    expect("a variable", sorted(build(CPATH="third")), ["CC a", "CC b", "CC shared.c", "CC start.S"])
-    expect("and back", sorted(build()), ["CC a", "CC b", "CC shared.c", "CC start.S"])
+    put("third/extra.h", "third\n")
+    expect("a variable", (build(CPATH="third"), "third" in image()), (["CC a"], True))
+    expect("and back", (build(), "third" in image()), (["CC a"], False))
     put("t/a.flags", "-Ifirst -Isecond shared.c -DX")
     expect("flags", sorted(build()), ["CC a", "CC shared.c"])
     expect("one alone", (build("--only", "b"), build()), ([], []))
@@ -260,6 +261,11 @@ def compilers():
     expect("a test that fails", ("gone.h" in err, os.path.exists("t/build/a.elf")), (True, False))
     out, err = call("build", "t", "--to", "t/build", "CC=no-such-cc", "ARCH=", "CFLAGS=", "LINK=", "LIBC=none", "ARCH_INCLUDE=", status=2)
     expect("no compiler", err.startswith('build: error: compiler "no-such-cc" not found\nhelp: '), True)
+    put("bin/clang", '#!/bin/sh\necho "clang version 14.0.6" >&2\n')
+    os.chmod("bin/clang", 0o755)
+    out, err = call("build", "t", "--to", "t/build", "CC=bin/clang", "ARCH=", "CFLAGS=", "LINK=", "LIBC=none", "ARCH_INCLUDE=", status=2)
+    expect("not GCC", err, 'build: error: CC="bin/clang" is not GCC, which this kit needs\n'
+           "help: choose a GCC for RISC-V, such as CC=riscv64-unknown-elf-gcc\n")
     return "compilers"
 
 

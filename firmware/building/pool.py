@@ -11,18 +11,16 @@ from .steps import Failed, compile_step, link_step
 
 
 def jobs_of_make():
-    """How many compilers may run at a time: the number of make's -j."""
-    found = re.search(r"(?:^|\s)-j ?(\d*)", os.environ.get("MAKEFLAGS", "").partition(" -- ")[0])
-    if not found:
-        return 1
-    return max(1, int(found[1])) if found[1] else os.cpu_count() or 1
+    """How many compilers may run at a time: the number of make's -j, or else one for each processor."""
+    found = re.search(r"(?:^|\s)-j ?(\d+)", os.environ.get("MAKEFLAGS", "").partition(" -- ")[0])
+    return max(1, int(found[1])) if found else len(os.sched_getaffinity(0))
 
 
 class Report:
     """What is printed: a line for each step, or its whole command, and what the compiler says."""
 
     def __init__(self, verbose):
-        self.verbose, self.lock = verbose, threading.Lock()
+        self.verbose, self.lock, self.told = verbose, threading.Lock(), set()
 
     def step(self, label, command, said):
         """Reports a step."""
@@ -36,9 +34,10 @@ class Report:
                 sys.stderr.flush()
 
     def error(self, text):
-        """Reports what is wrong with a test."""
+        """Reports what is wrong with a test, once if several tests share it."""
         with self.lock:
-            if text:
+            if text and text not in self.told:
+                self.told.add(text)
                 print(f"build: {text}" if text.startswith("error: ") else text, file=sys.stderr, flush=True)
 
 

@@ -1,7 +1,8 @@
 """Records of what was made, and of all that went into it: a record holds as long as making it again would give the same.
 
-A record has the digest of each file that was read; the names that were searched for, the directories that were searched, and what
-there was of these names; and the digest of the output. It is complete when it appears, as the output is.
+A record has the digest of each file that was read; for what only the assembler or the linker reads, the names that were searched for, the
+directories that were searched, and what there was of these names; and the digest of the output. It is complete when it appears, as the
+output is.
 """
 import json
 import os
@@ -10,7 +11,7 @@ import re
 from listing.files import Refused, text_at
 from listing.flags import is_file, response_words
 
-from .digests import FORMAT, SPECIAL, digest_of, has_contents, write_whole
+from .digests import FORMAT, SPECIAL, has_contents, write_whole
 
 # In the place of the digest of a file that was read, but that is not here, or may not be read here, as with a compiler in a container.
 # No file has this digest, so that its record never holds.
@@ -50,12 +51,18 @@ def pieces_of(word):
     return [it for it in pieces + [re.sub("^-{1,2}[A-Za-z]", "", it) for it in pieces if it.startswith("-")] if it]
 
 
+def maps_in(words):
+    """The files that the linker writes by its option -Map."""
+    text = ",".join(it.removeprefix("-Wl,") for it in words if it != "-Xlinker")
+    return re.findall(r"(?:^|,)--?Map[=,]([^,]+)", text)
+
+
 class Record:
     """What went into an output, and the output's digest."""
 
     def __init__(self, digests, key):
         self.digests, self.key = digests, key
-        self.files, self.searches, self.present, self.output, self.told, self.candidates = {}, [], None, None, {}, set()
+        self.files, self.searches, self.present, self.output = {}, [], {}, None
 
     def add_files(self, paths):
         """Adds the files that were read."""
@@ -68,34 +75,28 @@ class Record:
             digest = self.digests.of(path)
             self.files[path] = digest if has_contents(digest) or digest == SPECIAL else UNREAD
 
-    def add_candidates(self, folders, names):
+    def add_search(self, folders, names):
         """Adds a search: these names in each of these directories. Directories of a search are compared as they are spelt."""
-        self.searches.append([list(dict.fromkeys(folders)), names, []])
+        self.searches.append([list(dict.fromkeys(folders)), sorted(names)])
 
-    def add_sources(self, folders, sources, names):
-        """Adds a search for these names, which options mention, and for those that sources mention, which are read from these again."""
-        self.searches.append([list(dict.fromkeys(folders)), names, sources])
-
-    def close(self, output=None):
+    def close(self, output):
         """Completes the record, with its output, which was just written."""
-        self.output = self.digests.anew(output) if output else None
-        self.present = self.found()
+        self.output, self.present = self.digests.anew(output), self.found()
 
     def found(self):
-        """A digest of what there is of all that was searched for, whose paths are then the candidates."""
-        found = [self.digests.present(tuple(folders), names, sources) for folders, names, sources in self.searches]
-        self.candidates = {path for _, paths in found for path in paths}
-        return digest_of([it for it, _ in found])
+        """What there is of all that was searched for: paths, each with its digest."""
+        paths = {os.path.join(folder, name) for folders, names in self.searches for folder in folders for name in names}
+        return {path: self.digests.of(path) for path in paths if self.digests.has(path)}
 
-    def holds(self, key, output=None):
+    def holds(self, key, output):
         """Whether all is as it was. The output must be the very bytes, whatever its date."""
         return (self.key == key and all(self.digests.of(path) == digest for path, digest in self.files.items())
-                and self.present == self.found() and (output is None or self.digests.of(output) == self.output))
+                and self.present == self.found() and self.digests.of(output) == self.output)
 
     def value(self):
         """The record as JSON has it."""
         return {"format": FORMAT, "key": self.key, "files": self.files, "searches": self.searches, "present": self.present,
-                "output": self.output, "told": self.told}
+                "output": self.output}
 
 
 class Records:
@@ -116,8 +117,8 @@ class Records:
             if value["format"] != FORMAT:
                 return None
             record = Record(self.digests, value["key"])
-            record.files, record.searches, record.present = value["files"], value["searches"], value["present"]
-            record.output, record.told = value["output"], value["told"]
+            record.files, record.searches = value["files"], value["searches"]
+            record.present, record.output = value["present"], value["output"]
             return record
         except (OSError, ValueError, KeyError, TypeError):
             return None

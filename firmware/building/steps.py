@@ -1,4 +1,9 @@
-"""The steps of a build: a source is compiled to an object, and objects are linked to an image. Each is done only if it must be."""
+"""The steps of a build: a source is compiled to an object, and objects are linked to an image. Each is done only if it must be.
+
+An object is up to date if the compiler would run the same programs with the same words, its preprocessor prints the same text, and the files
+that were read have the same contents. For an image the linker takes the place of the preprocessor: no file may have appeared where it
+searches. The same holds for the assembler's files.
+"""
 import os
 import re
 import shlex
@@ -8,9 +13,9 @@ from typing import NamedTuple
 
 from listing.files import Refused, shown
 
-from .digests import DIRECTORY, digest_of, today, with_precompiled
-from .names import names_in_options
-from .records import Record, paths_in_words
+from .compiler import TEMPORARY, UNCACHED
+from .digests import DIRECTORY, digest_of, new_digest
+from .records import Record, maps_in, paths_in_words
 from .rules import files_in_linked, files_in_rules
 from .scripts import folders_in_script, is_script, library_files, names_in_script, text_of_script
 
@@ -19,14 +24,15 @@ TICK_NS = 20_000_000
 MOST_TRIES = 3
 # With -flto, wherever it comes from, a source is assembled at once by this option, so that the assembler tells which files it reads for it.
 ASSEMBLED = "-ffat-lto-objects"
-# By this option, headers of the system are listed, and looked for, by the paths that they were found by, whose links may be switched.
+# By this option, headers of the system are listed by the paths that they were found by, whose links may be switched.
 AS_FOUND = "-fno-canonical-system-headers"
 # The symbol of an object of GCC that was not.
 SLIM = b"\0__gnu_lto_slim\0"
-# A file that a compiler made for the next program, and removed.
-TEMPORARY = re.compile(r"(?:.*/)?cc[A-Za-z0-9]{6}\.(?:s|o|.*\.o|res)", re.S)
 NAMED = re.compile(rb'(?:\.file[ \t]+|^[ \t]*#[ \t]*(?:line[ \t]+)?\d+[ \t]+)"([^"\n]*)"', re.M)
-# Sources of these languages are not preprocessed, so that there is no list of headers.
+# A precompiled header that the preprocessor takes in place of a header is named in its text by this option.
+PRECOMPILED_NAMED = "-fpch-preprocess"
+PRECOMPILED = re.compile(rb'^#pragma GCC pch_preprocess "(.*)"$', re.M)
+# Sources of these languages are not preprocessed.
 WITHOUT_HEADERS = ("assembler", "cpp-output", "c++-cpp-output")
 
 
@@ -58,20 +64,32 @@ def key_of(tools, words, answer):
     return digest_of([tools.compiler.words, words, answer.digest, tools.compiler.environment, os.getcwd()])
 
 
+def preprocess(tools, source):
+    """What the preprocessor prints for a source now, warnings as well; nothing if the language has none, and None if it fails."""
+    if source.language in WITHOUT_HEADERS:
+        return b""
+    words = [*tools.compiler.words, *source.options, AS_FOUND, PRECOMPILED_NAMED, "-x", source.language, "-E", source.path]
+    done = subprocess.run(words, stdin=subprocess.DEVNULL, stdout=subprocess.PIPE, stderr=subprocess.STDOUT, check=False,
+                          env={**os.environ, **UNCACHED})
+    return None if done.returncode else done.stdout
+
+
 def compile_step(tools, source):
     """Makes the object of a source unless it is up to date, and returns its path, and whether it was made now."""
     answer = tools.compiler.about(list(source.options), source.language)
     words = [*source.options, "-x", source.language, "-c", source.path]
-    key = key_of(tools, words, answer)
+    place = key_of(tools, words, answer)
     stem = re.sub(r"[^A-Za-z0-9._-]", "_", os.path.splitext(os.path.basename(source.path))[0])
-    output = os.path.join(tools.folder, "objects", key, f"{stem}.o")
-    record = tools.records.load("objects", os.path.join(key, "record"))
-    if record and answer.here and record.holds(key, output):
+    output = os.path.join(tools.folder, "objects", place, f"{stem}.o")
+    # What changes between this and the compilation is in the next build's text alone, so that the record does not hold then.
+    text = preprocess(tools, source)
+    key = digest_of([place, new_digest(text or b"").hexdigest()])
+    record = tools.records.load("objects", os.path.join(place, "record"))
+    if record and answer.here and text is not None and record.holds(key, output):
         return output, False
     os.makedirs(os.path.dirname(output), exist_ok=True)
     headers, assembled = f"{output}.headers", f"{output}.assembled"
     command = [*words, ASSEMBLED, AS_FOUND, "-MD", "-MF", headers, "-MT", "x", f"-Wa,--MD,{assembled}"]
-    given = [*tools.compiler.words, *source.options]
 
     def read():
         refuse_unassembled(f"{output}.new", source.path)
@@ -81,18 +99,18 @@ def compile_step(tools, source):
         return files, read_list(assembled, files_in_rules)
 
     def complete(record, files, others):
-        files = list(dict.fromkeys([*files, *read_by_assembler(others, files)]))
-        record.add_files(paths_in_words(given))
-        record.add_listed(files)
-        folders = ["", *answer.headers, *answer.assembler, *(os.path.dirname(it) for it in files)]
-        record.add_sources(folders, files, with_precompiled(names_in_options([*given, *answer.words])))
+        record.add_files([*paths_in_words([*tools.compiler.words, *source.options]), *map(os.fsdecode, PRECOMPILED.findall(text or b""))])
+        included = read_by_assembler(others, files)
+        record.add_listed([*files, *included])
+        folders = ["", *answer.assembler, *(os.path.dirname(it) for it in [source.path, *included])]
+        record.add_search(folders, {name for it in included for name in names_below(it, folders)})
 
     record = run_recorded(tools, command, output, key, f"CC {source.label}", read, complete)
     for path in (headers, assembled):
         if os.path.exists(path):
             os.remove(path)
-    if record:
-        tools.records.save("objects", os.path.join(key, "record"), record)
+    if record and text is not None:
+        tools.records.save("objects", os.path.join(place, "record"), record)
     os.replace(f"{output}.new", output)
     tools.digests.anew(output)
     return output, True
@@ -124,7 +142,7 @@ def link_step(tools, words, image, place, label):
         libraries = [it for name in answer.library_names for it in library_files(name)]
         names = {*named, *map(os.path.basename, named), *libraries, *(it for text in texts for it in names_in_script(text))}
         folders += [os.path.dirname(it) for it in scripts] + [it for text in texts for it in folders_in_script(text)]
-        record.add_candidates(folders, sorted(names))
+        record.add_search(folders, names)
 
     def read():
         return read_list(listed, files_in_linked), paths_in_words(given)
@@ -142,11 +160,11 @@ def run_recorded(tools, words, output, key, label, read, complete, written=()):
 
     A file whose digest was taken before the compiler began must be the same after it. One that was not looked at before must not have
     changed since the compiler began, nor may a directory, nor what a search found there. Further files that it wrote are part of the
-    output. The day, which a source may ask for, must be the same, too.
+    output.
     """
     new = f"{output}.new"
     for _ in range(MOST_TRIES):
-        began, day, listed = time.time_ns() - TICK_NS, today(), set(tools.digests.listings)
+        began, listed = time.time_ns() - TICK_NS, set(tools.digests.listings)
         run(tools, [*words, "-o", new], label)
         label = None
         if not os.path.isfile(new):
@@ -154,12 +172,12 @@ def run_recorded(tools, words, output, key, label, read, complete, written=()):
         record = Record(tools.digests, key)
         complete(record, *read())
         record.close(new)
-        candidates = [it for it in record.candidates if tools.digests.of(it) != DIRECTORY]
-        files = [it for it in {*record.files, *candidates} if not it.startswith(tools.folder) and it not in written]
+        found = [path for path, digest in record.present.items() if digest != DIRECTORY]
+        files = [it for it in {*record.files, *found} if not it.startswith(tools.folder) and it not in written]
         folders = {folder for search in record.searches for folder in search[0]} - listed
         changed = [it for it in files if changed_since(it, began) or tools.digests.is_outdated(it)]
         changed_folders = [it for it in folders if changed_since(it or ".", began)]
-        if not changed and not changed_folders and day == today():
+        if not changed and not changed_folders:
             return record
         time.sleep(TICK_NS / 1e9)
         tools.digests.forget(changed, changed_folders)
@@ -177,9 +195,8 @@ def changed_since(path, instant):
 def run(tools, words, label):
     """Runs the compiler, and reports its command and what it prints in one piece."""
     words = [*tools.compiler.words, *words]
-    # ccache would write no list of the files that the assembler read.
-    environment = {**os.environ, "CCACHE_DISABLE": "1"}
-    done = subprocess.run(words, stdin=subprocess.DEVNULL, stdout=subprocess.PIPE, stderr=subprocess.STDOUT, check=False, env=environment)
+    done = subprocess.run(words, stdin=subprocess.DEVNULL, stdout=subprocess.PIPE, stderr=subprocess.STDOUT, check=False,
+                          env={**os.environ, **UNCACHED})
     said = done.stdout.decode("utf-8", "surrogateescape")
     tools.report.step(label, shlex.join(words), said)
     if done.returncode:
@@ -211,16 +228,29 @@ def read_by_assembler(listed, files):
     return [it for it in listed if os.path.exists(it) or it in absent and it not in named]
 
 
+def names_below(path, folders):
+    """The names by which a path can be found in these directories."""
+    plain, names = plain_path(path), {os.path.basename(path)}
+    for folder in folders:
+        above = plain_path(f"{folder}/").rstrip("/") if folder else ""
+        if not above and not folder.startswith("/"):
+            # The directory that make runs in.
+            names.add(plain)
+        elif plain.startswith(f"{above}/"):
+            names.add(plain[len(above) + 1:])
+    return {it for it in names if not os.path.isabs(it)}
+
+
+def plain_path(path):
+    """A path without `./` and doubled slashes, which lists leave out in part. What `..` leads to depends on links: it stays."""
+    absolute = "/" if path.startswith("/") else ""
+    return absolute + "/".join(it for it in path.split("/") if it not in ("", "."))
+
+
 def names_of_lines(path):
     """The names of files in .file and in markers of lines, as preprocessed sources have them: debug information is all that they are for."""
     with open(path, "rb") as file:
         return {os.fsdecode(it) for it in NAMED.findall(file.read())}
-
-
-def maps_in(words):
-    """The files that the linker writes by its option -Map."""
-    text = ",".join(it.removeprefix("-Wl,") for it in words if it != "-Xlinker")
-    return re.findall(r"(?:^|,)--?Map[=,]([^,]+)", text)
 
 
 def members_of_thin(path):

@@ -114,7 +114,7 @@ case_system_errors() {
         [ "$(grep -vc '^make' err)" = 1 ] || fail "it is told in more than one line: $(<err)"
     }
     exits t/a.c 0
-    for file in .build/lock .build/digests.json .marks/lock; do
+    for file in .build/lock .marks/lock; do
         mkdir -p "t/build/$file/inner"
         tells "a folder in the place of $file" "t/build/$file: error: Is a directory"
         rm -r "t/build/$file"
@@ -131,8 +131,6 @@ real = builtins.open
 def opened(path, mode="r", *words, **more):
     return real("/dev/full" if "w" in mode and os.environ["FULL"] in str(path) else path, mode, *words, **more)
 builtins.open = opened'
-    rm -r t/build
-    FULL=digests.json. PYTHONPATH=$PWD/full tells 'no space for digests' 't/build/.build/digests.json: error: No space left on device'
     rm -r t/build
     FULL=t.toml. PYTHONPATH=$PWD/full tells 'no space for the list' 't/build/t.toml: error: No space left on device'
     rm -r t/build

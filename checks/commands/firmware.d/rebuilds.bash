@@ -226,8 +226,11 @@ int main(void) { return code(); }'
     stale 'a member of a thin archive'
     exits t/a.c 0
     rm t/a.flags
+    echo 'ENTRY(main)' >default.ld
+    check "a script that is named like the kit's, but not asked for" 0 '1 job: 1 passed, 0 failed'
+    rm default.ld
     change() { echo 'ENTRY(main)' >default.ld; }
-    stale "a linker script in the place of the kit's"
+    stale "a linker script in the place of the kit's" LINK='-T default.ld'
     rm default.ld
     cp "$kit/default.ld" mine.ld
     change() { sed -i 's/0x80080000/0x80000/' mine.ld; }
