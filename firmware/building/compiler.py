@@ -26,6 +26,12 @@ UNCACHED = {"CCACHE_DISABLE": "1"}
 # A file that a compiler makes for the next program, and removes. Its name is another one each time.
 TEMPORARY = re.compile(r"(?:.*/)?cc[A-Za-z0-9]{6}\.(?:s|o|.*\.o|res)", re.S)
 TEMPORARY_IN_TEXT = re.compile(r"""[^\s"'=]*/cc[A-Za-z0-9]{6}(?=\.)""")
+# Options of the compiler proper by which it reads files that it does not report, or by which its preprocessor does not print what it
+# compiles.
+UNSEEN = re.compile(r"-f(?:modules?-.*|modules|profile-use(?:=.*)?|branch-probabilities|auto-profile(?:=.*)?|directives-only|preprocessed)"
+                    r"|-d(?!ump)[A-Za-z]*[DIMNU][A-Za-z]*", re.S)
+SEARCHING = re.compile(r"-(?:[IDUA]|i[a-z]+|nostdinc)")
+COMPILING = re.compile(r"cc1(?:plus|obj|objplus)?")
 # Names of its linker and of its assembler.
 LINKING = re.compile(r"(?:.*-)?(?:collect2|ld(?:\..*)?)")
 ASSEMBLING = re.compile(r"(?:.*-)?as")
@@ -84,6 +90,7 @@ class Compiler:
         given, nothing = [*self.words, *options], [os.devnull, "-o", os.devnull]
         if language:
             told, linker = self.run([*given, "-###", "-c", "-x", language, *nothing]), []
+            self.refuse_unseen(told, self.run([*given, "-###", "-E", "-x", language, *nothing]))
         else:
             # The linker is found by collect2, which says so when it runs it. What is compiled as late as that is compiled by lto1.
             told = self.run([*given, "-###", *nothing]) + self.run([*given, "-###", "-c", "-x", "lto", *nothing])
@@ -99,6 +106,16 @@ class Compiler:
         return Answer(digest_of([TEMPORARY_IN_TEXT.sub("cc", told), digests]), all(has_contents(digests[it]) for it in programs),
                       values_after(linking, LIBRARY_FOLDER), values_after(linking, LIBRARY),
                       values_after(words_of_program(commands, ASSEMBLING), ASSEMBLER_FOLDER))
+
+    @staticmethod
+    def refuse_unseen(compiling, preprocessing):
+        """Refuses options, wherever they come from, for which the text of the preprocessor says too little of a compilation."""
+        words, others = (words_of_program(commands_in(it), COMPILING) for it in (compiling, preprocessing))
+        for word in filter(UNSEEN.fullmatch, words):
+            raise Refused(f'error: "{shown(word)}" cannot be used: the compiler does not report what it reads for it')
+        if searching_words(words) != searching_words(others):
+            raise Refused("error: the compiler's specs choose other folders or macros for -E, so it is not known which headers a source reads\n"
+                          "help: remove %{E: and %{!E: from the specs")
 
     @staticmethod
     def run(words):
@@ -131,6 +148,11 @@ def commands_in(told):
     for line in re.findall(r"^ (\S.*)$", told, re.M):
         with contextlib.suppress(ValueError):
             yield shlex.split(line)
+
+
+def searching_words(words):
+    """The options by which headers are found and macros defined, with their values."""
+    return [(word, after if SEARCHING.fullmatch(word) else "") for word, after in zip(words, [*words[1:], ""]) if SEARCHING.match(word)]
 
 
 def words_of_program(commands, name):

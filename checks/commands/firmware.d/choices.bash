@@ -190,3 +190,27 @@ case_refused_options() {
     rm t/a.flags
     check 'modules for all tests' 2 'CFLAGS: error: "-fmodules-ts" cannot be used' CFLAGS='-std=c++20 -fmodules-ts'
 }
+
+# The same where only the compiler's own command shows them.
+case_refused_options_of_the_compiler() {
+    local option
+    exits t/a.c 0
+    for option in -Wp,-fbranch-probabilities -Wp,-fmodules-ts -dM -Wp,-dM -dD -fdirectives-only -Wp,-fdirectives-only; do
+        printf '%s\n' "$option" >t/a.flags
+        check "$option" 2 "error: \"${option#-Wp,}\" cannot be used"
+    done
+    echo '-dM' >t/a.rsp
+    echo '@t/a.rsp' >t/a.flags
+    check 'a response file' 2 'error: "-dM" cannot be used'
+    rm t/a.flags
+    check 'options for all tests' 2 'error: "-dM" cannot be used' CC='riscv64-unknown-elf-gcc -dM'
+    check 'options that dump' 0 '1 passed' CFLAGS='-Os -dp -dumpbase x'
+    put board.specs <<<'*cpp_unique_options:
++ %{!E:-Ihere}
+'
+    check 'specs that differ for -E' 2 "the compiler's specs choose other folders or macros for -E" CFLAGS='-Os -specs=board.specs'
+    put board.specs <<<'*cpp_unique_options:
++ -Ihere
+'
+    check 'specs that do not' 0 '1 passed' CFLAGS='-Os -g -specs=board.specs'
+}
