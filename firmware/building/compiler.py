@@ -29,7 +29,7 @@ TEMPORARY_IN_TEXT = re.compile(r"""[^\s"'=]*/cc[A-Za-z0-9]{6}(?=\.)""")
 # Options of the compiler proper by which it reads files that it does not report, or by which its preprocessor does not print what it
 # compiles.
 UNSEEN = re.compile(r"-f(?:modules?-.*|modules|profile-use(?:=.*)?|branch-probabilities|auto-profile(?:=.*)?|directives-only|preprocessed)"
-                    r"|-d(?!ump)[A-Za-z]*[DIMNU][A-Za-z]*", re.S)
+                    r"|-d(?!ump)[A-Za-z]*[DIMNU][A-Za-z]*|-P", re.S)
 SEARCHING = re.compile(r"-(?:[IDUA]|i[a-z]+|nostdinc)")
 COMPILING = re.compile(r"cc1(?:plus|obj|objplus)?")
 # Names of its linker and of its assembler.
@@ -90,7 +90,7 @@ class Compiler:
         given, nothing = [*self.words, *options], [os.devnull, "-o", os.devnull]
         if language:
             told, linker = self.run([*given, "-###", "-c", "-x", language, *nothing]), []
-            self.refuse_unseen(told, self.run([*given, "-###", "-E", "-x", language, *nothing]))
+            self.refuse_unseen(given, told, self.run([*given, "-###", "-E", "-x", language, *nothing]))
         else:
             # The linker is found by collect2, which says so when it runs it. What is compiled as late as that is compiled by lto1.
             told = self.run([*given, "-###", *nothing]) + self.run([*given, "-###", "-c", "-x", "lto", *nothing])
@@ -108,11 +108,13 @@ class Compiler:
                       values_after(words_of_program(commands, ASSEMBLING), ASSEMBLER_FOLDER))
 
     @staticmethod
-    def refuse_unseen(compiling, preprocessing):
+    def refuse_unseen(given, compiling, preprocessing):
         """Refuses options, wherever they come from, for which the text of the preprocessor says too little of a compilation."""
         words, others = (words_of_program(commands_in(it), COMPILING) for it in (compiling, preprocessing))
         for word in filter(UNSEEN.fullmatch, words):
-            raise Refused(f'error: "{shown(word)}" cannot be used: the compiler does not report what it reads for it')
+            # Files that are kept are made of preprocessed text, by an option that nobody wrote.
+            word = next((it for it in given if it.startswith("-save-temps")), word)
+            raise Refused(f'error: "{shown(word)}" cannot be used: with it, the compiler does not report all that it reads')
         if searching_words(words) != searching_words(others):
             raise Refused("error: the compiler's specs choose other folders or macros for -E, so it is not known which headers a source reads\n"
                           "help: remove %{E: and %{!E: from the specs")

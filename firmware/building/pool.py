@@ -50,12 +50,11 @@ class Pool:
 
     def build(self, plans):
         """Builds each test; one that fails leaves no image, and the others go on. Returns whether all were built."""
-        futures = []
-        for plan in plans:
-            for source in plan.sources:
-                if source not in self.objects:
-                    self.objects[source] = self.executor.submit(compile_step, self.tools, source)
-            futures.append(self.executor.submit(self.link, plan))
+        plans = list(plans)
+        for source in dict.fromkeys(it for plan in plans for it in plan.sources):
+            self.objects[source] = self.executor.submit(compile_step, self.tools, source)
+        # Behind all sources, so that few links wait for an object and keep a thread from compiling.
+        futures = [self.executor.submit(self.link, plan) for plan in plans]
         try:
             return all([it.result() for it in futures])
         except BaseException:

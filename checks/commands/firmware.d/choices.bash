@@ -195,7 +195,8 @@ case_refused_options() {
 case_refused_options_of_the_compiler() {
     local option
     exits t/a.c 0
-    for option in -Wp,-fbranch-probabilities -Wp,-fmodules-ts -dM -Wp,-dM -dD -fdirectives-only -Wp,-fdirectives-only; do
+    for option in -Wp,-fbranch-probabilities -Wp,-fmodules-ts -dM -Wp,-dM -dD -P -Wp,-P -fdirectives-only \
+        -Wp,-fdirectives-only -save-temps; do
         printf '%s\n' "$option" >t/a.flags
         check "$option" 2 "error: \"${option#-Wp,}\" cannot be used"
     done
