@@ -90,7 +90,7 @@ class Compiler:
         given, nothing = [*self.words, *options], [os.devnull, "-o", os.devnull]
         if language:
             told, linker = self.run([*given, "-###", "-c", "-x", language, *nothing]), []
-            self.refuse_unseen(given, told, self.run([*given, "-###", "-E", "-x", language, *nothing]))
+            self.refuse_unseen(given, told, [*given, "-###", "-E", "-x", language, *nothing])
         else:
             # The linker is found by collect2, which says so when it runs it. What is compiled as late as that is compiled by lto1.
             told = self.run([*given, "-###", *nothing]) + self.run([*given, "-###", "-c", "-x", "lto", *nothing])
@@ -107,14 +107,18 @@ class Compiler:
                       values_after(linking, LIBRARY_FOLDER), values_after(linking, LIBRARY),
                       values_after(words_of_program(commands, ASSEMBLING), ASSEMBLER_FOLDER))
 
-    @staticmethod
-    def refuse_unseen(given, compiling, preprocessing):
+    def refuse_unseen(self, given, compiling, preprocess):
         """Refuses options, wherever they come from, for which the text of the preprocessor says too little of a compilation."""
-        words, others = (words_of_program(commands_in(it), COMPILING) for it in (compiling, preprocessing))
+        words = words_of_program(commands_in(compiling), COMPILING)
         for word in filter(UNSEEN.fullmatch, words):
             # Files that are kept are made of preprocessed text, by an option that nobody wrote.
             word = next((it for it in given if it.startswith("-save-temps")), word)
             raise Refused(f'error: "{shown(word)}" cannot be used: with it, the compiler does not report all that it reads')
+        try:
+            others = words_of_program(commands_in(self.run(preprocess)), COMPILING)
+        except Refused:
+            # Without a preprocessor, sources are compiled in each build.
+            return
         if searching_words(words) != searching_words(others):
             raise Refused("error: the compiler's specs choose other folders or macros for -E, so it is not known which headers a source reads\n"
                           "help: remove %{E: and %{!E: from the specs")
