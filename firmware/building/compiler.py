@@ -31,6 +31,8 @@ TEMPORARY_IN_TEXT = re.compile(r"""[^\s"'=]*/cc[A-Za-z0-9]{6}(?=\.)""")
 UNSEEN = re.compile(r"-f(?:modules?-.*|modules|profile-use(?:=.*)?|branch-probabilities|auto-profile(?:=.*)?|directives-only|preprocessed)"
                     r"|-d(?!ump)[A-Za-z]*[DIMNU][A-Za-z]*|-P", re.S)
 SEARCHING = re.compile(r"-(?:[IDUA]|i[a-z]+|nostdinc)")
+# Sources of these languages are not preprocessed.
+WITHOUT_HEADERS = ("assembler", "cpp-output", "c++-cpp-output")
 COMPILING = re.compile(r"cc1(?:plus|obj|objplus)?")
 # Names of its linker and of its assembler.
 LINKING = re.compile(r"(?:.*-)?(?:collect2|ld(?:\..*)?)")
@@ -90,7 +92,9 @@ class Compiler:
         given, nothing = [*self.words, *options], [os.devnull, "-o", os.devnull]
         if language:
             told, linker = self.run([*given, "-###", "-c", "-x", language, *nothing]), []
-            self.refuse_unseen(given, told, [*given, "-###", "-E", "-x", language, *nothing])
+            self.refuse_unseen(given, told, language)
+            if language not in WITHOUT_HEADERS:
+                self.refuse_other_search(told, [*given, "-###", "-E", "-x", language, *nothing])
         else:
             # The linker is found by collect2, which says so when it runs it. What is compiled as late as that is compiled by lto1.
             told = self.run([*given, "-###", *nothing]) + self.run([*given, "-###", "-c", "-x", "lto", *nothing])
@@ -107,19 +111,26 @@ class Compiler:
                       values_after(linking, LIBRARY_FOLDER), values_after(linking, LIBRARY),
                       values_after(words_of_program(commands, ASSEMBLING), ASSEMBLER_FOLDER))
 
-    def refuse_unseen(self, given, compiling, preprocess):
-        """Refuses options, wherever they come from, for which the text of the preprocessor says too little of a compilation."""
-        words = words_of_program(commands_in(compiling), COMPILING)
-        for word in filter(UNSEEN.fullmatch, words):
-            # Files that are kept are made of preprocessed text, by an option that nobody wrote.
-            word = next((it for it in given if it.startswith("-save-temps")), word)
-            raise Refused(f'error: "{shown(word)}" cannot be used: with it, the compiler does not report all that it reads')
+    @staticmethod
+    def refuse_unseen(given, compiling, language):
+        """Refuses options, wherever they come from, for which neither the compiler nor its preprocessor tells what is read."""
+        for word in filter(UNSEEN.fullmatch, words_of_program(commands_in(compiling), COMPILING)):
+            if word != "-fpreprocessed":
+                raise Refused(f'error: "{shown(word)}" cannot be used: with it, the compiler does not report all that it reads')
+            if language not in WITHOUT_HEADERS:
+                # Files that are kept are made of preprocessed text, by an option that nobody wrote.
+                word = next((it for it in given if it.startswith("-save-temps")), word)
+                raise Refused(f'error: "{shown(word)}" cannot be used: it changes how a source is preprocessed')
+
+    def refuse_other_search(self, compiling, preprocess):
+        """Refuses specs by which the preprocessor, asked for its text alone, searches elsewhere than in a compilation."""
         try:
-            others = words_of_program(commands_in(self.run(preprocess)), COMPILING)
+            told = self.run(preprocess)
         except Refused:
             # Without a preprocessor, sources are compiled in each build.
             return
-        if searching_words(words) != searching_words(others):
+        here, there = (searching_words(words_of_program(commands_in(it), COMPILING)) for it in (compiling, told))
+        if here != there:
             raise Refused("error: the compiler's specs choose other folders or macros for -E, so it is not known which headers a source reads\n"
                           "help: remove %{E: and %{!E: from the specs")
 

@@ -13,7 +13,7 @@ from typing import NamedTuple
 
 from listing.files import Refused, shown
 
-from .compiler import TEMPORARY, UNCACHED
+from .compiler import TEMPORARY, UNCACHED, WITHOUT_HEADERS
 from .digests import DIRECTORY, digest_of, new_digest
 from .records import Record, maps_in, paths_in_words
 from .rules import files_in_linked, files_in_rules
@@ -32,8 +32,6 @@ NAMED = re.compile(rb'(?:\.file[ \t]+|^[ \t]*#[ \t]*(?:line[ \t]+)?\d+[ \t]+)"([
 # A precompiled header that the preprocessor takes in place of a header is named in its text by this option.
 PRECOMPILED_NAMED = "-fpch-preprocess"
 PRECOMPILED = re.compile(rb'^#pragma GCC pch_preprocess "(.*)"$', re.M)
-# Sources of these languages are not preprocessed.
-WITHOUT_HEADERS = ("assembler", "cpp-output", "c++-cpp-output")
 
 
 class Failed(Exception):
