@@ -1,9 +1,7 @@
 //! The table of each job of a batch.
 
-ghost use Rattle.std.specs.Prelude.{◌≡◌, ◌<◌, IfOk, length};
+ghost use Rattle.std.specs.Prelude.{◌≡◌};
 ghost use Rattle.rv_counts.specs.Table.{IsTable};
-ghost use Rattle.rv_coverage.specs.JobTables.{IsTableOfOne};
-ghost use Rattle.rv_trace.specs.Trace.{job_at};
 
 use crate::table_of_job::count_place;
 use crate::table_sum::HasTable;
@@ -48,6 +46,7 @@ impl HasTable for JobTable {
 }
 
 /// Counts the jobs of a batch.
+#[derive(Drop)]
 pub(crate) struct CountWork<'a> {
     pub(crate) batch: &'a Batch<'a>,
 }

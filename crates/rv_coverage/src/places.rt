@@ -1,33 +1,32 @@
 //! The table of the jobs at some places of a plan.
 
-ghost use Rattle.std.specs.Prelude.{◌+◌, ◌-◌, ◌*◌, ◌<◌, ◌≤◌, ◌^◌, ℕ, List, Result, IfOk, length, max, slice_index_or};
-ghost use Rattle.std.specs.declared.alloc.AllocError.{AllocError as Refused};
-ghost use Rattle.rv_counts.specs.declared.table.CountTable.{CountTable as Counted};
-ghost use Rattle.rv_counts.specs.Sum.{IsSum};
-ghost use Rattle.rv_counts.specs.Table.{IsTable, begun_in};
-ghost use Rattle.rv_fleet.specs.Choices.{AreJobPlaces};
-ghost use Rattle.rv_jobs.specs.Limits.{most_jobs};
-ghost use Rattle.rv_coverage.specs.JobTables.{AllSumTo, HasNoStacks, IsSmallTable, IsTableOfPlaces, IsTableOfShare};
+ghost use Rattle.std.specs.Prelude.{◌≡◌, ◌-◌, ◌*◌, ◌<◌, ◌≤◌, IfOk, max};
+ghost use Rattle.rv_coverage.specs.JobTables.{IsTableOfPlaces};
 
-use crate::table_of_job::{count_place, empty_table};
-use rv_counts::{CountTable, SumError, sum_of_tables};
-use rv_fleet::{Batch, Crew};
-use rv_jobs::Plan;
-use std::alloc::{AllocError, Global};
-use std::thread;
+use crate::count_work::{CountWork, JobTable};
+use crate::table_sum::TableSum;
+use rv_counts::CountTable;
+use rv_engine::{Crew, run_jobs};
+use rv_fleet::Batch;
+use std::alloc::AllocError;
+use std::sync::Wait;
 use std::thread::Threads;
 
 /// The table of the jobs of a batch: the sum of the tables of their runs, the same for every crew. Each job is run once more,
-/// by as many threads as the crew has, each of which takes an equal share of the places; it takes memory for two tables of each
-/// thread, and 128 KiB for what a thread knows of code. No number of so few jobs reaches 2^64.
-pub fn count_places<R: Threads + Sync>(
+/// by the threads of the crew; it takes memory for the tables that wait to be added, for two sums, and 128 KiB for what a thread
+/// knows of code. No number of so few jobs reaches 2^64.
+pub fn count_places<R: Threads + Wait + Sync>(
     crew: &Crew<'_, R>,
     batch: &Batch<'_>,
 ) -> Result<CountTable, AllocError>
     ensures { IfOk result (λ table. IsTableOfPlaces batch.now.plan.now batch.now.places.now table) }
 {
     let work = CountWork { batch };
-    let (sum, ran) = run_jobs(&engine_crew(crew), &work, TableSum::new(crew.alloc));
+    let (sum, ran) = run_jobs::<JobTable, R, CountWork<'_>, TableSum>(
+        crew,
+        &work,
+        TableSum::new(crew.alloc),
+    );
     match (ran, sum.into_sum()) {
         (Ok(_), Ok(table)) => Ok(table),
         // Out of memory: tables of counts alone always have a sum, and no worker is had where memory is short.

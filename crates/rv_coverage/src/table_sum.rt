@@ -1,9 +1,8 @@
 //! The sum of the tables of jobs.
 
-ghost use Rattle.std.specs.Prelude.{◌≡◌, None, [], IfSome};
+ghost use Rattle.std.specs.Prelude.{◌≡◌, None};
 ghost use Rattle.rv_counts.specs.Sum.{no_counts};
-ghost use Rattle.rv_counts.specs.Table.{IsTable};
-ghost use Rattle.rv_coverage.specs.TableSums.{AreAdded};
+ghost use Rattle.rv_coverage.specs.TableSums.{sum_or_error};
 
 use crate::table_of_job::empty_table;
 use rv_counts::{CountTable, SumError, sum_of_tables};
