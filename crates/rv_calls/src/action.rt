@@ -1,10 +1,10 @@
 //! What an instruction does to the stack of calls.
 
-ghost use Rattle.std.specs.Prelude.{◌≡◌, ◌==◌, option_and_then};
+ghost use Rattle.std.specs.Prelude.{◌≡◌, ◌==◌, Some, option_and_then};
 ghost use Rattle.rv_trace.specs.Code.{instr_of};
 ghost use Rattle.rv_calls.specs.Stack.{instr_action, is_link, jalr_action, op_action, pushes_frame};
 
-use rv_isa::Op;
+use rv_isa::{Instr, Op};
 use rv_trace::{Code, instr_of};
 
 /// What an instruction hints to a return-address stack (ISA manual, table 2.1).
@@ -40,9 +40,16 @@ pub fn action_of_code(code: Option<Code>) -> StackAction
         return StackAction::Keep;
     };
     match instr_of(code) {
-        Some(instr) => op_action(instr.op, instr.rd, instr.rs1),
+        Some(instr) => action_of(instr),
         None => StackAction::Keep,
     }
+}
+
+/// What an instruction does.
+pub fn action_of(instr: Instr) -> StackAction
+    ensures { result ≡ instr_action (Some instr) }
+{
+    op_action(instr.op, instr.rd, instr.rs1)
 }
 
 fn op_action(op: Op, rd: u8, rs1: u8) -> StackAction

@@ -1,12 +1,14 @@
 //! How an instruction passes control to the next.
 
-ghost use Rattle.std.specs.Prelude.{◌≡◌, MatchBool, MatchOption, Ok, false, is_ok};
+ghost use Rattle.std.specs.Prelude.{◌≡◌, ◌+◌, ◌%◌, MatchBool, MatchOption, Ok, Some, false, is_ok};
 ghost use Rattle.rv_machine.specs.Machine.{state_of};
 ghost use Rattle.rv_machine.specs.Run.{step_of};
 ghost use Rattle.rv_trace.specs.Code.{size_of_code};
 ghost use Rattle.rv_calls.specs.Calls.{behind_code, transfer_of};
+ghost use Rattle.rv_calls.specs.Stack.{instr_action};
 
-use crate::action::{StackAction, action_of_code};
+use crate::action::{StackAction, action_of, action_of_code};
+use rv_isa::Instr;
 use rv_machine::Machine;
 use rv_trace::{Code, code_at};
 
@@ -48,6 +50,19 @@ pub fn next_transfer(machine: &mut Machine) -> Option<Transfer>
         to: machine.pc(),
         sp,
     })
+}
+
+/// How an instruction that completed, of so many bytes, passed control from a pc to another, with the stack pointer in front of it.
+pub fn transfer_by(instr: Instr, length: u32, from: u32, stack: u32, to: u32) -> Transfer
+    ensures { result ≡ record { action = instr_action (Some instr); from = from; behind = (from + length) % 0x1_0000_0000; to = to; sp = stack } }
+{
+    Transfer {
+        action: action_of(instr),
+        from,
+        behind: from.wrapping_add(length),
+        to,
+        sp: stack,
+    }
 }
 
 // Does the next instruction of a machine, and tells whether it completed.

@@ -6,14 +6,15 @@ use Rattle.std.specs.Cmp.Lexicographic.{bytes_decides}
 use Rattle.std.specs.List.{AllByRecursion}
 use Rattle.std.specs.Str.{bytes_eq, IsUtf8}
 use Rattle.rv_counts.specs.declared.table.FunctionName.{FunctionName}
+use Rattle.rv_counts.specs.declared.table.CountTable.{CountTable}
 use Rattle.rv_counts.specs.declared.table.ImageCounts.{ImageCounts}
 use Rattle.rv_counts.specs.declared.sum.SumError.{SumError}
 use Rattle.rv_counts.specs.declared.sum.SumError.TheVariants.{OutOfMemory, Count, Spot, Names, Runs}
 use Rattle.rv_counts.specs.declared.sum_of_images.NextImage.{NextImage}
 use Rattle.rv_counts.specs.Lines.{lacks}
 use Rattle.rv_counts.specs.Table.{begun_at, taken_at, name_at, begun_in, taken_in, path_in, name_in, arrivals_in, steps_in, least_path, least_path_of}
-use Rattle.rv_counts.specs.Table.{is_before, is_behind, digests_rise, AreNamesOf, AreSpots, IsImage, IsSpot}
-use Rattle.rv_counts.specs.Sum.{sum_error_of, Agree, HasName, HasNameIn, IsSumOfCounts, IsSumOfNames, CountsHaveNoSum, NamesHaveNoSum}
+use Rattle.rv_counts.specs.Table.{is_before, is_behind, digests_rise, AreNamesOf, AreSpots, IsImage, IsSpot, IsTable}
+use Rattle.rv_counts.specs.Sum.{sum_error_of, Agree, HasName, HasNameIn, IsSum, IsSumOfCounts, IsSumOfNames, CountsHaveNoSum, NamesHaveNoSum}
 use Rattle.rv_counts.specs.SumSteps.{ImagesAddUp, IsNextImage, ImagesHaveNoSum, ImageHasNoSum}
 use Rattle.rv_spots.specs.declared.sum.SpotSumError.{SpotSumError}
 use Rattle.rv_spots.specs.declared.sum.SpotSumError.TheVariants as spots
@@ -513,3 +514,18 @@ images_summed a b sums n m p q ahead =
     subst (λ (s : List ImageCounts). ImagesAddUp s (drop m b) []) (sym e)
     (subst (λ (s : List ImageCounts). ImagesAddUp [] s []) (sym f) none_add_up) in
     subst (λ (s : List ImageCounts). ImagesAddUp a b s) (append-nil sums) (ahead [] none)
+
+-- tables add up as their images do
+pub tables_add_up : (a b sum : CountTable) → IsTable a → IsTable b → ImagesAddUp a.images b.images sum.images
+    → length sum.images < 2 ^ 64 → sum.runs < 2 ^ 64 → sum.runs ≡ a.runs + b.runs → IsSum a b sum
+tables_add_up a b sum first second up few fits runs = record {
+  table = record { images = up.each; rising = up.rising None first.rising second.rising; few = few; runs = fits };
+  begun = up.begun;
+  taken = up.taken;
+  paths = up.paths;
+  agree = up.agree None first.rising second.rising;
+  names = up.names;
+  arrivals = up.arrivals;
+  steps = up.steps;
+  runs = runs;
+}

@@ -6,7 +6,7 @@ pub mod AddingImages
 pub mod AddingNames
 pub mod NamesOfSpots
 pub mod NamesOfMaps
-pub mod NameIndexes
+pub mod SpotIndexes
 pub mod SumsOfStacks
 pub mod Pieces
 pub mod Words

@@ -6,5 +6,5 @@ pub mod SumSteps
 pub mod ReadSteps
 pub mod Read
 pub mod NamesByFunctionInside
-pub mod NameIndex
+pub mod SpotLines
 pub use Rattle.rv_text.specs.Words

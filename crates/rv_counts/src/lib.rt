@@ -2,7 +2,8 @@
 //!
 //! A [`CountTable`] has an entry for each address whose instruction began, by image. [`table_text`] writes a table, and
 //! [`read_table`] answers the table whose text it is given, or names the first line that no table has there
-//! ([`ReadError`]). [`sum_of_tables`] adds two tables, and refuses a sum with a number of 2^64 or more ([`SumError`]).
+//! ([`ReadError`]). [`sum_of_tables`] adds two tables, and refuses a sum with a number of 2^64 or more ([`SumError`]);
+//! [`add_table`] does the same with tables that are given away.
 //! A sum does not depend on the order of tables: [`sums_of_counts_commute`] and [`sums_of_counts_associate`].
 #![tactic(auto)]
 
@@ -33,7 +34,7 @@ pub use law::{
 pub use lookup::{counts_at, has_begun_within, place_of_address};
 pub use names::{add_name, name_of};
 pub use read::{ReadError, read_table};
-pub use sum::{SumError, sum_of_tables};
+pub use sum::{SumError, add_table, sum_of_tables};
 pub use table::{
     AddressCounts, Addresses, CountTable, Digest, FunctionName, FunctionNames, ImageCounts, Images,
 };

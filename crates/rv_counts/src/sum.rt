@@ -5,7 +5,7 @@ ghost use Rattle.rv_counts.specs.Sum.{IsSum, HaveNoSum, sum_error_of};
 ghost use Rattle.rv_counts.specs.Table.{IsTable};
 ghost use Rattle.rv_counts.specs.declared.sum.SumError.TheVariants.{OutOfMemory};
 
-use crate::sum_of_images::sum_of_images;
+use crate::sum_of_images::{add_images, sum_of_images};
 use crate::table::CountTable;
 use rv_spots::SpotSumError;
 use std::alloc::{AllocError, Global};
@@ -60,5 +60,17 @@ pub fn sum_of_tables(alloc: Global, a: &CountTable, b: &CountTable) -> Result<Co
 {
     let runs = a.runs.checked_add(b.runs).ok_or(SumError::Runs)?;
     let images = sum_of_images(alloc, a.images.as_slice(), b.images.as_slice())?;
+    Ok(CountTable { images, runs })
+}
+
+/// The same sum of tables that are given away: where one of them has no image, the images of the other are moved, and not copied.
+pub fn add_table(alloc: Global, sum: CountTable, table: CountTable) -> Result<CountTable, SumError>
+    requires sum { IsTable sum }
+    requires table { IsTable table }
+    ensures value { IfOk result (λ total. IsSum sum table total) }
+    ensures refused { IfErr result (λ error. HaveNoSum error sum table) }
+{
+    let runs = sum.runs.checked_add(table.runs).ok_or(SumError::Runs)?;
+    let images = add_images(alloc, sum.images, table.images)?;
     Ok(CountTable { images, runs })
 }

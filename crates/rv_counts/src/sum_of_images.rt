@@ -41,6 +41,22 @@ pub(crate) fn sum_of_images(
     Ok(Images::new(sums))
 }
 
+/// The images of both tables, each once: moved where all are of one table, and else copied.
+pub(crate) fn add_images(alloc: Global, a: Images, b: Images) -> Result<Images, SumError>
+    requires a { AllByRecursion IsImage a }
+    requires b { AllByRecursion IsImage b }
+    ensures value { IfOk result (λ sum. ImagesAddUp a b sum) }
+    ensures refused { IfErr result (λ error. ImagesHaveNoSum error a b) }
+{
+    if a.as_slice().is_empty() {
+        return Ok(b);
+    }
+    if b.as_slice().is_empty() {
+        return Ok(a);
+    }
+    sum_of_images(alloc, a.as_slice(), b.as_slice())
+}
+
 /// The first image of a sum, and of how many images of each list it is the sum.
 #[derive(Drop)]
 pub(crate) struct NextImage {

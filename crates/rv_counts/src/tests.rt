@@ -1,6 +1,6 @@
 //! Texts of tables, read, written and added.
 
-use crate::{ReadError, SumError, read_table, sum_of_tables, table_text};
+use crate::{ReadError, SumError, add_table, read_table, sum_of_tables, table_text};
 use std::alloc::Global;
 use std::rt::HostRuntime;
 use std::test::Fail;
@@ -23,6 +23,16 @@ image fa5d878384b4165ad613c93c06d8e251eb3c2c4230c67ce1306aa610ced287b5 build/han
 done 2 5
 ";
 
+const B_AND_RUNS: &str = "\
+rvcounts 1
+image 428abbe1347171d7e00df3badf31776c1ef4445e0516044cf7a638356db5f470 build/a.elf
+80000004 7 7
+800000aa 11 6
+image fa5d878384b4165ad613c93c06d8e251eb3c2c4230c67ce1306aa610ced287b5 build/hand.elf
+80000074 5 1
+done 2 9
+";
+
 const BOTH: &str = "\
 rvcounts 1
 image 428abbe1347171d7e00df3badf31776c1ef4445e0516044cf7a638356db5f470 build/a.elf
@@ -34,13 +44,14 @@ image fa5d878384b4165ad613c93c06d8e251eb3c2c4230c67ce1306aa610ced287b5 build/han
 done 2 6
 ";
 
-// What comes of the sum of two texts.
+// What comes of the sum of two texts, of tables that are lent and that are given away.
 fn sum_is(alloc: Global, a: &str, b: &str, expected: &str) -> Result<(), Fail> {
     let first = read_table(alloc, a.as_bytes())?;
     let second = read_table(alloc, b.as_bytes())?;
     let sum = sum_of_tables(alloc, &first, &second)?;
     let text = table_text(alloc, &sum)?;
-    if text.as_str() == expected {
+    let same = table_text(alloc, &add_table(alloc, first, second)?)?;
+    if text.as_str() == expected && same.as_str() == expected {
         Ok(())
     } else {
         Err(expected.into())
@@ -52,7 +63,9 @@ fn adds_tables(rt: HostRuntime) -> Result<(), Fail> {
     let alloc = rt.alloc();
     sum_is(alloc, A, B, BOTH)?;
     sum_is(alloc, B, A, BOTH)?;
-    sum_is(alloc, "rvcounts 1\ndone 0 0\n", A, A)
+    sum_is(alloc, "rvcounts 1\ndone 0 0\n", A, A)?;
+    sum_is(alloc, "rvcounts 1\ndone 0 4\n", B, B_AND_RUNS)?;
+    sum_is(alloc, B, "rvcounts 1\ndone 0 4\n", B_AND_RUNS)
 }
 
 // A text that is no table, and the line that is refused, or 0 where it is cut off.
@@ -132,8 +145,12 @@ fn refuses_sums(rt: HostRuntime) -> Result<(), Fail> {
         _ => return Err("a count that does not fit".into()),
     }
     match sum_of_tables(rt.alloc(), &full, &run) {
+        Err(SumError::Runs) => {}
+        _ => return Err("runs that do not fit".into()),
+    }
+    match add_table(rt.alloc(), full, run) {
         Err(SumError::Runs) => Ok(()),
-        _ => Err("runs that do not fit".into()),
+        _ => Err("given runs that do not fit".into()),
     }
 }
 

@@ -1,13 +1,14 @@
 //! The text of a table.
 
-ghost use Rattle.std.specs.Prelude.{◌≡◌, ◌++◌, ℕ, IfOk, OnOk, string_bytes, length};
+ghost use Rattle.std.specs.Prelude.{◌≡◌, ◌++◌, IfOk, OnOk, codes, string_bytes, length};
+ghost use Rattle.std.specs.Fmt.{decimal};
 ghost use Rattle.std.specs.List.{flat_map};
-ghost use Rattle.rv_text.specs.Words.{word_digits};
-ghost use Rattle.rv_counts.specs.NameIndex.{indexed_name};
-ghost use Rattle.rv_counts.specs.Table.{name_of};
-ghost use Rattle.rv_counts.specs.Text.{address_line, image_line, image_text, last_line, line_of_spot, name_or_nothing, spot_line, table_text, words_of_spot};
+ghost use Rattle.rv_counts.specs.SpotLines.{words_of_function, words_with_digits, line_with_digits, line_by_index, IsIndexOf};
+ghost use Rattle.rv_counts.specs.Text.{address_line, image_line, image_text, last_line, line_of_spot, spot_line, table_text};
 
 use crate::table::{AddressCounts, CountTable, FunctionName, ImageCounts};
+use itoa::Buffer;
+use rv_base::Text;
 use rv_spots::Spot;
 use std::alloc::{AllocError, Global};
 use std::collections::BTreeMap;
@@ -68,34 +69,64 @@ fn push_spots(
 ) -> Result<(), AllocError>
     ensures { OnOk result (string_bytes text.new ≡ string_bytes text.old ++ flat_map (line_of_spot names.now) spots.now) }
 {
-    let index = index_of_names(alloc, names)?;
+    let index = index_of_functions(alloc, names)?;
     for spot in spots {
-        push_spot_line(alloc, text, *spot, name_in_line(&index, spot.function))?;
+        push_indexed_line(alloc, text, *spot, &index)?;
     }
     Ok(())
 }
 
-// The first name of each function.
-fn index_of_names<'a>(
+/// What the lines of a function's spots have in common.
+#[derive(Drop)]
+pub(crate) struct FunctionWords {
+    pub(crate) digits: Text,
+    pub(crate) name: Text,
+}
+
+// The words of each function, by its first name.
+fn index_of_functions(
     alloc: Global,
-    names: &'a [FunctionName],
-) -> Result<BTreeMap<u32, &'a str>, AllocError>
-    ensures { IfOk result (λ index. (function : ℕ) → indexed_name index function ≡ name_of function names.now) }
+    names: &[FunctionName],
+) -> Result<BTreeMap<u32, FunctionWords>, AllocError>
+    ensures { IfOk result (λ index. IsIndexOf names.now index) }
 {
     let mut index = BTreeMap::new(alloc);
     for name in names {
         if !index.contains_key(&name.function) {
-            index.insert(name.function, name.name.as_str())?;
+            let words = words_of_function(alloc, name)?;
+            index.insert(name.function, words)?;
         }
     }
     Ok(index)
 }
 
-// The name that a line has of a function: each function of a table's spots has one.
-fn name_in_line<'a>(index: &BTreeMap<u32, &'a str>, function: u32) -> &'a str
-    ensures { result.now ≡ name_or_nothing (indexed_name index.now function) }
+#[tactic(auto, unfolding(rv_text::specs::Words::word_digits))]
+fn words_of_function(alloc: Global, name: &FunctionName) -> Result<FunctionWords, AllocError>
+    ensures { IfOk result (λ words. words ≡ words_of_function name.now.function name.now.name) }
 {
-    index.get(&function).copied().unwrap_or("")
+    let digits = hex::encode(alloc, name.function.to_be_bytes().as_slice())?;
+    Ok(FunctionWords {
+        digits: Text::new(digits),
+        name: Text::copy(alloc, name.name.as_str())?,
+    })
+}
+
+// Each function of a table's spots has a name; one without any has the line of an empty name.
+#[tactic(auto, unfolding(crate::specs::SpotLines::line_by_index))]
+fn push_indexed_line(
+    alloc: Global,
+    text: &mut String,
+    spot: Spot,
+    index: &BTreeMap<u32, FunctionWords>,
+) -> Result<(), AllocError>
+    ensures { OnOk result (string_bytes text.new ≡ string_bytes text.old ++ line_by_index index.now spot) }
+{
+    match index.get(&spot.function) {
+        Some(words) => {
+            push_line_with_digits(text, spot, words.digits.as_str(), words.name.as_str())
+        }
+        None => push_spot_line(alloc, text, spot, ""),
+    }
 }
 
 /// Appends the line of an image, without its counts.
@@ -130,7 +161,7 @@ pub(crate) fn push_address_line(
 }
 
 /// Appends the line of a spot.
-#[tactic(auto, unfolding(crate::specs::Text::spot_line))]
+#[tactic(auto, unfolding(crate::specs::SpotLines::line_with_digits, crate::specs::SpotLines::words_with_digits, crate::specs::Text::spot_line, crate::specs::Text::words_of_spot, rv_text::specs::Words::word_digits))]
 pub(crate) fn push_spot_line(
     alloc: Global,
     text: &mut String,
@@ -139,20 +170,49 @@ pub(crate) fn push_spot_line(
 ) -> Result<(), AllocError>
     ensures { OnOk result (string_bytes text.new ≡ string_bytes text.old ++ spot_line (record { spot = spot; name = name.now })) }
 {
-    push_words_of_spot(alloc, text, spot)?;
-    write!(text, " {name}\n")
+    let digits = hex::encode(alloc, spot.function.to_be_bytes().as_slice())?;
+    push_line_with_digits(text, spot, digits.as_str(), name)
 }
 
-#[tactic(auto, unfolding(crate::specs::Text::words_of_spot, rv_text::specs::Words::word_digits))]
-fn push_words_of_spot(alloc: Global, text: &mut String, spot: Spot) -> Result<(), AllocError>
-    ensures { OnOk result (string_bytes text.new ≡ string_bytes text.old ++ words_of_spot spot) }
+// Appends the line of a spot whose function has these digits.
+#[tactic(auto, unfolding(crate::specs::SpotLines::line_with_digits))]
+fn push_line_with_digits(
+    text: &mut String,
+    spot: Spot,
+    digits: &str,
+    name: &str,
+) -> Result<(), AllocError>
+    ensures { OnOk result (string_bytes text.new ≡ string_bytes text.old ++ line_with_digits digits.now spot name.now) }
 {
-    let digits = hex::encode(alloc, spot.function.to_be_bytes().as_slice())?;
-    let depth = spot.depth;
-    let function = digits.as_str();
-    let arrivals = spot.arrivals;
-    let steps = spot.steps;
-    write!(text, "spot {depth} {function} {arrivals} {steps}")
+    push_words_with_digits(text, spot, digits)?;
+    push_word(text, name)?;
+    text.push_str("\n")
+}
+
+#[tactic(auto, unfolding(crate::specs::SpotLines::words_with_digits))]
+fn push_words_with_digits(text: &mut String, spot: Spot, digits: &str) -> Result<(), AllocError>
+    ensures { OnOk result (string_bytes text.new ≡ string_bytes text.old ++ words_with_digits digits.now spot) }
+{
+    text.push_str("spot")?;
+    push_number(text, spot.depth as u64)?;
+    push_word(text, digits)?;
+    push_number(text, spot.arrivals)?;
+    push_number(text, spot.steps)
+}
+
+fn push_word(text: &mut String, word: &str) -> Result<(), AllocError>
+    ensures { OnOk result (string_bytes text.new ≡ string_bytes text.old ++ codes " " ++ word.now) }
+{
+    text.push_str(" ")?;
+    text.push_str(word)
+}
+
+// With `write!` a line takes about a third longer, and a table can have hundreds of thousands.
+fn push_number(text: &mut String, number: u64) -> Result<(), AllocError>
+    ensures { OnOk result (string_bytes text.new ≡ string_bytes text.old ++ codes " " ++ decimal number) }
+{
+    let mut digits = Buffer::new();
+    push_word(text, digits.format(number))
 }
 
 /// Appends the last line of a table of so many images and runs.

@@ -9,6 +9,7 @@ pub mod Blocks
 pub mod Finding
 pub mod Evens
 pub mod Counting
+pub mod Counters
 pub mod Lookups
 pub mod Sorted
 pub mod Starts

@@ -1,4 +1,8 @@
 -- The lemmas that proofs of other crates may cite.
+pub use Rattle.rv_coverage.proofs.Blocks.{reaches, Reaches}
+pub use Rattle.rv_coverage.proofs.Counters.{counted_all, ready}
+pub use Rattle.rv_coverage.proofs.Ends.{begun_is, completed_begins, ended_begins}
+pub use Rattle.rv_coverage.proofs.Runs.{ended_early, steps_within}
 pub use Rattle.rv_coverage.proofs.OfJobs.{first_path-append, no_counts_is_table, no_names, no_owners, no_spots, none_either, none_if_no_ok, not_over, one_rises, over, picked_path}
 pub use Rattle.rv_coverage.proofs.Orders.{first_moved}
 pub use Rattle.rv_coverage.proofs.Parted.{all_parts, joined_parts}

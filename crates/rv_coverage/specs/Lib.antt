@@ -1,4 +1,5 @@
 pub mod Coverage
 pub mod Blocks
 pub mod Tallies
+pub mod Counters
 pub mod JobTables

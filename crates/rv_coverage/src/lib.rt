@@ -8,6 +8,7 @@
 
 mod block;
 mod count;
+mod counter;
 mod known;
 mod law;
 mod places;
@@ -15,7 +16,9 @@ mod step;
 mod table_of_job;
 mod tally;
 
+pub use block::{Block, first_of};
 pub use count::{count_job, count_run};
+pub use counter::{Counter, Stepped};
 pub use law::{
     counts_stand_at_even_addresses, counts_sum_to_the_steps, jobs_have_one_table,
     jobs_have_one_table_over_the_same_files, run_begins_its_end, run_begins_its_steps,

@@ -19,7 +19,7 @@ use std::thread::Threads;
 
 /// The table of the jobs of a batch: the sum of the tables of their runs, the same for every crew. Each job is run once more,
 /// by as many threads as the crew has, each of which takes an equal share of the places; it takes memory for two tables of each
-/// thread, and 96 KiB for what a thread knows of code. No number of so few jobs reaches 2^64.
+/// thread, and 128 KiB for what a thread knows of code. No number of so few jobs reaches 2^64.
 pub fn count_places<R: Threads + Sync>(
     crew: &Crew<'_, R>,
     batch: &Batch<'_>,

@@ -15,28 +15,16 @@ use Rattle.rv_stacks.specs.Stacks.{arrivals_by, arrivals_in, begun_in_function, 
 use Rattle.rv_spots.specs.declared.spot.Spot.{Spot}
 use Rattle.rv_stacks.specs.declared.node.Node.{Node}
 use Rattle.rv_stacks.specs.Walks.{AreSpotsOf}
-use Rattle.rv_stacks.specs.StackSteps.{AreNodesOf, BeginsAt, IsAt, StacksStep}
-
-pub record SoFar (function : ℕ → ℕ) (n i : ℕ) (start s : State) (frames : List Frame) (walk : Walk) : Type 0 where
-  pub within : i ≤ n
-  pub at : IsAt function frames s.pc walk
-  pub few : all_arrivals walk.nodes.items ≤ 2 * i + 1
-  pub fewer : all_steps walk.nodes.items ≤ i
-  pub all : all_steps walk.nodes.items + begun_steps (n - i) s ≡ begun_steps n start
-  pub own : (f : ℕ) → own_in f walk.nodes.items + begun_in_function function f (n - i) s ≡ begun_in_function function f n start
-  pub steps : (path : List ℕ) → steps_at path walk.nodes.items + steps_in function path (n - i) frames s
-      ≡ steps_in function path n [] start
-  pub arrivals : (path : List ℕ) → arrivals_at path walk.nodes.items + arrivals_in function path (n - i) frames s
-      ≡ once_if (bytes_eq (function start.pc ∷ []) path) + arrivals_in function path n [] start
+use Rattle.rv_stacks.specs.StackSteps.{AreNodesOf, BeginsAt, SoFar, StacksStep}
 
 -- ---- one step ahead
 
-all_next : (n i : ℕ) (s : State) → i < n → begun_steps (n - i) s
+pub all_next : (n i : ℕ) (s : State) → i < n → begun_steps (n - i) s
     ≡ once_if (is_begun (fetch_at s)) + behind (step_of s) (λ t. begun_steps (n - (i + 1)) t)
 unfolding begun_steps
 all_next n i s h = let e : n - i ≡ suc (n - (i + 1)) = omega arith in ap (λ (m : ℕ). begun_steps m s) e
 
-own_next : (function : ℕ → ℕ) (f n i : ℕ) (s : State) → i < n → begun_in_function function f (n - i) s
+pub own_next : (function : ℕ → ℕ) (f n i : ℕ) (s : State) → i < n → begun_in_function function f (n - i) s
     ≡ once_if (is_begun (fetch_at s) && (function s.pc == f)) + behind (step_of s) (λ t. begun_in_function function f (n - (i + 1)) t)
 unfolding begun_in_function
 own_next function f n i s h =
@@ -46,7 +34,7 @@ no_own : (function : ℕ → ℕ) (f n i : ℕ) (s : State) → n ≤ i → begu
 unfolding begun_in_function
 no_own function f n i s h = let e : n - i ≡ 0 = omega arith in ap (λ (m : ℕ). begun_in_function function f m s) e
 
-steps_next : (function : ℕ → ℕ) (path : List ℕ) (n i : ℕ) (frames : List Frame) (s : State) → i < n
+pub steps_next : (function : ℕ → ℕ) (path : List ℕ) (n i : ℕ) (frames : List Frame) (s : State) → i < n
     → steps_in function path (n - i) frames s
     ≡ once_if (is_begun (fetch_at s) && bytes_eq (path_at function frames s.pc) path)
     + behind (step_of s) (λ t. steps_in function path (n - (i + 1)) (after_transfer frames (transfer_of s t)) t)
@@ -54,7 +42,7 @@ unfolding steps_in
 steps_next function path n i frames s h =
     let e : n - i ≡ suc (n - (i + 1)) = omega arith in ap (λ (m : ℕ). steps_in function path m frames s) e
 
-arrivals_next : (function : ℕ → ℕ) (path : List ℕ) (n i : ℕ) (frames : List Frame) (s : State) → i < n
+pub arrivals_next : (function : ℕ → ℕ) (path : List ℕ) (n i : ℕ) (frames : List Frame) (s : State) → i < n
     → arrivals_in function path (n - i) frames s ≡ behind (step_of s)
     (λ t. arrivals_by function path frames (transfer_of s t)
     + arrivals_in function path (n - (i + 1)) (after_transfer frames (transfer_of s t)) t)

@@ -7,7 +7,7 @@ use Rattle.std.specs.Str.{bytes_eq}
 use Rattle.rv_spots.specs.Trees.{ends_with, once_if, steps_if}
 use Rattle.rv_stacks.specs.declared.node.Node.{Node}
 use Rattle.rv_stacks.specs.declared.walk.Walk.{Walk}
-use Rattle.rv_stacks.specs.Nodes.{all_arrivals, all_steps, arrivals_at, own_in, path_below, paths_behind, path_of, paths_of, steps_at, weighed, ArrivesOnce, HasChild, IsChild, KeepsPaths, StepsOnce}
+use Rattle.rv_stacks.specs.Nodes.{all_arrivals, all_steps, arrivals_at, own_in, path_below, paths_behind, path_of, paths_of, steps_at, weighed, ArrivesOnce, HasChild, IsChild, KeepsPaths, StepsMore, times_if}
 use Rattle.rv_stacks.specs.Walks.{Arrives, IsTrail, Returns}
 use Rattle.rv_stacks.proofs.Nodes.{first_paths, long_paths, path_with, paths_more, paths_with, weighed_more, weighed_with, IsOfSame}
 
@@ -156,19 +156,19 @@ module _ (nodes : List Node) (number : ℕ) (some : 0 < number) (within : number
         all_steps = same (λ p x. x.steps) n refl refl refl;
       }
 
-  pub stepped_once : StepsOnce number nodes
-      (set nodes (number - 1) (record { parent = old.parent; function = old.function; arrivals = old.arrivals; steps = old.steps + 1 }))
-  stepped_once =
-      let n : Node = record { parent = old.parent; function = old.function; arrivals = old.arrivals; steps = old.steps + 1 } in record {
+  pub stepped_more : (k : ℕ) → StepsMore k number nodes
+      (set nodes (number - 1) (record { parent = old.parent; function = old.function; arrivals = old.arrivals; steps = old.steps + k }))
+  stepped_more k =
+      let n : Node = record { parent = old.parent; function = old.function; arrivals = old.arrivals; steps = old.steps + k } in record {
         kept = kept n refl refl;
         arrivals = λ path. same (λ p x. cond (bytes_eq p path) x.arrivals 0) n refl refl refl;
-        steps = λ path. more (λ p x. cond (bytes_eq p path) x.steps 0) n (once_if (bytes_eq (path_of number nodes) path)) refl refl
-            (sum_if (bytes_eq (path_of number nodes) path) old.steps 1);
-        own = λ f. more (λ p x. steps_if (x.function == f) x.steps) n (once_if (old.function == f)) refl refl
-            (sum_if (old.function == f) old.steps 1)
-            ∙ ap (λ (b : Bool). own_in f nodes + once_if b) (sym (ends_here f));
+        steps = λ path. more (λ p x. cond (bytes_eq p path) x.steps 0) n (times_if k (bytes_eq (path_of number nodes) path)) refl refl
+            (sum_if (bytes_eq (path_of number nodes) path) old.steps k);
+        own = λ f. more (λ p x. steps_if (x.function == f) x.steps) n (times_if k (old.function == f)) refl refl
+            (sum_if (old.function == f) old.steps k)
+            ∙ ap (λ (b : Bool). own_in f nodes + times_if k b) (sym (ends_here f));
         all_arrivals = same (λ p x. x.arrivals) n refl refl refl;
-        all_steps = more (λ p x. x.steps) n 1 refl refl refl;
+        all_steps = more (λ p x. x.steps) n k refl refl refl;
       }
 
 -- ---- trails

@@ -9,8 +9,8 @@ pub one_more_known : (function : ℕ → ℕ) (known : List Known) (place : ℕ)
     → place < length known → x.function ≡ function x.address → AreKnown function (set known place x)
 one_more_known function known place x h within is =
     let long = length-set known place x in
-    let some = h.some in record {
-      some = omega (arith, long, some);
+    let many = h.many in record {
+      many = omega (arith, long, many);
       each = λ k d inside. elim (cases_eq k place) [
         | inl same ↦ subst (λ (y : Known). y.function ≡ function y.address)
             (sym (ap (λ (n : ℕ). get_or (set known place x) n d) same ∙ get_or-set_same known place x d within)) is

@@ -2,6 +2,8 @@ pub mod Counting
 pub mod Paths
 pub mod AddressCounts
 pub mod Steps
+pub mod Straight
+pub mod Advancing
 pub mod SymbolValues
 pub mod Going
 pub mod Knowns

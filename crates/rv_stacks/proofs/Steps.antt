@@ -20,7 +20,7 @@ use Rattle.rv_stacks.specs.StackSteps.{CountsHere, Follows, IsAt, StacksStep}
 
 -- ---- counted or not
 
-pub counted : (old new : Walk) → Steps old new → CountsHere true old new
+pub counted : (old new : Walk) → Steps 1 old new → CountsHere true old new
 counted old new h = record {
   walk = h.walk;
   path = h.path;
@@ -36,7 +36,7 @@ last_of f [] x = refl
 last_of f (y ∷ []) x = refl
 last_of f (y ∷ z ∷ zs) x = last_of f (z ∷ zs) x
 
-ends_at : (function : ℕ → ℕ) (frames : List Frame) (pc f : ℕ) → ends_with f (path_at function frames pc) ≡ (function pc == f)
+pub ends_at : (function : ℕ → ℕ) (frames : List Frame) (pc f : ℕ) → ends_with f (path_at function frames pc) ≡ (function pc == f)
 ends_at function frames pc f = last_of f (map (λ (x : Frame). function x.call) frames) (function pc)
 
 pub some_path : (function : ℕ → ℕ) (frames : List Frame) (pc : ℕ) → 0 < length (path_at function frames pc)

@@ -89,10 +89,15 @@ pub record ArrivesOnce (number : ℕ) (old new : List Node) : Type 0 where
   pub all_arrivals : all_arrivals new ≡ all_arrivals old + 1
   pub all_steps : all_steps new ≡ all_steps old
 
-pub record StepsOnce (number : ℕ) (old new : List Node) : Type 0 where
+-- a number if a test holds, or 0
+abbrev pub times_if : ℕ → Bool → ℕ
+times_if n test = if test then n else 0
+
+-- so many steps more
+pub record StepsMore (n number : ℕ) (old new : List Node) : Type 0 where
   pub kept : KeepsPaths old new
   pub arrivals : (path : List ℕ) → arrivals_at path new ≡ arrivals_at path old
-  pub steps : (path : List ℕ) → steps_at path new ≡ steps_at path old + once_if (bytes_eq (path_of number old) path)
-  pub own : (f : ℕ) → own_in f new ≡ own_in f old + once_if (ends_with f (path_of number old))
+  pub steps : (path : List ℕ) → steps_at path new ≡ steps_at path old + times_if n (bytes_eq (path_of number old) path)
+  pub own : (f : ℕ) → own_in f new ≡ own_in f old + times_if n (ends_with f (path_of number old))
   pub all_arrivals : all_arrivals new ≡ all_arrivals old
-  pub all_steps : all_steps new ≡ all_steps old + 1
+  pub all_steps : all_steps new ≡ all_steps old + n

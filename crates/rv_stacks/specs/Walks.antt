@@ -7,7 +7,7 @@ use Rattle.rv_spots.specs.Trees.{ends_with, last_path, once_if, HasArrivals, IsT
 use Rattle.rv_stacks.specs.declared.flat.Flat.{Flat}
 use Rattle.rv_stacks.specs.declared.node.Node.{Node}
 use Rattle.rv_stacks.specs.declared.walk.Walk.{Walk}
-use Rattle.rv_stacks.specs.Nodes.{all_arrivals, all_steps, arrivals_at, own_in, path_of, steps_at}
+use Rattle.rv_stacks.specs.Nodes.{all_arrivals, all_steps, arrivals_at, own_in, path_of, steps_at, times_if}
 
 -- each number is that of a node, whose functions are the first of the path
 pub record IsTrail (nodes : List Node) (path trail : List ℕ) : Type 0 where
@@ -35,17 +35,16 @@ pub record Returns (depth : ℕ) (old new : Walk) : Type 0 where
   pub path : new.path.items ≡ take depth old.path.items
   pub nodes : new.nodes.items ≡ old.nodes.items
 
--- an instruction began in its node
-pub record Steps (old new : Walk) : Type 0 where
+-- so many instructions began in the node where a walk is
+pub record Steps (n : ℕ) (old new : Walk) : Type 0 where
   pub walk : IsWalk new
   pub path : new.path.items ≡ old.path.items
   pub arrivals : (at : List ℕ) → arrivals_at at new.nodes.items ≡ arrivals_at at old.nodes.items
   pub steps : (at : List ℕ) → steps_at at new.nodes.items
-      ≡ steps_at at old.nodes.items + once_if (bytes_eq old.path.items at)
-  pub own : (function : ℕ) → own_in function new.nodes.items
-      ≡ own_in function old.nodes.items + once_if (ends_with function old.path.items)
+      ≡ steps_at at old.nodes.items + times_if n (bytes_eq old.path.items at)
+  pub own : (f : ℕ) → own_in f new.nodes.items ≡ own_in f old.nodes.items + times_if n (ends_with f old.path.items)
   pub all_arrivals : all_arrivals new.nodes.items ≡ all_arrivals old.nodes.items
-  pub all_steps : all_steps new.nodes.items ≡ all_steps old.nodes.items + 1
+  pub all_steps : all_steps new.nodes.items ≡ all_steps old.nodes.items + n
 
 -- ---- nodes as spots
 

@@ -1,10 +1,13 @@
 //! Functions by the addresses of their instructions.
 
-ghost use Rattle.std.specs.Prelude.{◌≡◌, IfOk};
+ghost use Rattle.std.specs.Prelude.{◌≡◌, ◌+◌, ◌<◌, ◌≤◌, ℕ, IfOk, length};
+ghost use Rattle.rv_coverage.specs.Blocks.{address_at};
 ghost use Rattle.rv_stacks.specs.StackSteps.{AreKnown};
 ghost use Rattle.rv_elf.specs.SymbolSearch.{symbol_at};
 ghost use Rattle.rv_stacks.specs.Stacks.{function_at, no_function, start_of};
 
+use rv_counts::AddressCounts;
+use rv_coverage::Block;
 use rv_elf::CodeSymbols;
 use std::alloc::{AllocError, Global};
 
@@ -41,7 +44,7 @@ pub(crate) fn look_up(known: &mut Vec<Known>, symbols: &CodeSymbols<'_>, address
     ensures value { result ≡ function_at symbols.now.image.now symbols.now.bytes.now address }
     ensures known { AreKnown (function_at symbols.now.image.now symbols.now.bytes.now) known.new.items }
 {
-    let place = address as usize / 2 % known.len();
+    let place = address as usize / 2 % PLACES;
     let there = known[place];
     if there.address == address {
         return there.function;
@@ -49,6 +52,34 @@ pub(crate) fn look_up(known: &mut Vec<Known>, symbols: &CodeSymbols<'_>, address
     let function = function_of(symbols, address);
     known[place] = Known { address, function };
     function
+}
+
+/// How many of the instructions of a block, but for its last, are of the function of the first, as those behind them are.
+pub(crate) fn steps_in_function(
+    known: &mut Vec<Known>,
+    symbols: &CodeSymbols<'_>,
+    counts: &[AddressCounts],
+    block: Block,
+) -> u32
+    requires known { AreKnown (function_at symbols.now.image.now symbols.now.bytes.now) known.old.items }
+    requires within { 0 < block.steps → block.place + block.steps ≤ length counts.now }
+    ensures known { AreKnown (function_at symbols.now.image.now symbols.now.bytes.now) known.new.items }
+    ensures fewer { 0 < result → result < block.steps }
+    ensures own { (j : ℕ) → 0 < result → j ≤ result
+        → function_at symbols.now.image.now symbols.now.bytes.now (address_at counts.now (block.place + j))
+        ≡ function_at symbols.now.image.now symbols.now.bytes.now (address_at counts.now block.place) }
+{
+    if block.steps < 2 {
+        return 0;
+    }
+    let function = look_up(known, symbols, counts[block.place].address);
+    for steps in 0..block.steps - 1 {
+        let next = counts[block.place + steps as usize + 1].address;
+        if look_up(known, symbols, next) != function {
+            return steps;
+        }
+    }
+    block.steps - 1
 }
 
 /// Where the symbol of an address stands, or what stands for none: 0, or the last address where a function can stand at 0. Takes the time

@@ -15,6 +15,7 @@ mod names;
 mod node;
 mod places;
 mod run;
+mod stacks;
 mod table;
 mod turns;
 mod walk;
@@ -31,5 +32,6 @@ pub use law::{
 };
 pub use node::Node;
 pub use places::{count_places_with_stacks, stacks_of_places};
-pub use run::stacks_of_run;
+pub use run::{count_with_stacks, stacks_of_run};
+pub use stacks::Stacks;
 pub use walk::Walk;

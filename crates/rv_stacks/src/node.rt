@@ -1,7 +1,7 @@
 //! Nodes as values.
 
 ghost use Rattle.std.specs.Prelude.{◌+◌, ◌^◌, ◌<◌, IfOk, length};
-ghost use Rattle.rv_stacks.specs.Nodes.{all_arrivals, all_steps, ArrivesOnce, HasChild, StepsOnce};
+ghost use Rattle.rv_stacks.specs.Nodes.{all_arrivals, all_steps, ArrivesOnce, HasChild, StepsMore};
 
 use crate::children::Children;
 use std::alloc::AllocError;
@@ -59,18 +59,18 @@ pub(crate) fn count_arrival(nodes: &mut Vec<Node>, number: usize)
     };
 }
 
-/// Counts an instruction in the node of a number.
-pub(crate) fn count_step(nodes: &mut Vec<Node>, number: usize)
+/// Counts instructions in the node of a number.
+pub(crate) fn count_steps(nodes: &mut Vec<Node>, number: usize, steps: u32)
     requires some { 0 < number }
     requires within { number < length nodes.old.items + 1 }
     requires few { all_steps nodes.old.items < 2 ^ 63 }
-    ensures { StepsOnce number nodes.old.items nodes.new.items }
+    ensures { StepsMore steps number nodes.old.items nodes.new.items }
 {
     let old = nodes[number - 1];
     nodes[number - 1] = Node {
         parent: old.parent,
         function: old.function,
         arrivals: old.arrivals,
-        steps: old.steps + 1,
+        steps: old.steps + u64::from(steps),
     };
 }

@@ -1,19 +1,15 @@
-//! The stacks of a run.
+//! The counts and the stacks of a run.
 
-ghost use Rattle.std.specs.Prelude.{◌≡◌, ◌^◌, ◌<◌, false, is_ok, length, IfOk};
-ghost use Rattle.rv_coverage.specs.Coverage.{fetch_at, is_begun};
+ghost use Rattle.std.specs.Prelude.{◌≡◌, IfOk};
+ghost use Rattle.rv_coverage.specs.Counters.{HasCounted};
+ghost use Rattle.rv_coverage.specs.Coverage.{AreCountsOf};
 ghost use Rattle.rv_machine.specs.Machine.{state_of};
-ghost use Rattle.rv_machine.specs.Run.{step_of};
-ghost use Rattle.rv_stacks.specs.Nodes.{all_arrivals, all_steps};
-ghost use Rattle.rv_stacks.specs.Walks.{IsWalk};
-ghost use Rattle.rv_stacks.specs.StackSteps.{AreKnown, BeginsAt, CountsHere, IsAt, StacksStep};
-ghost use Rattle.rv_stacks.specs.Stacks.{AreStacksOf, function_at};
+ghost use Rattle.rv_stacks.specs.StackSteps.{AreNodesOf};
+ghost use Rattle.rv_stacks.specs.Stacks.{function_at, AreStacksOf};
 
-use crate::functions::{Known, known_functions, look_up};
-use crate::turns::follow;
-use crate::walk::Walk;
-use rv_calls::{Frame, next_transfer};
-use rv_coverage::{begins_at_end, run_begins_its_end, run_begins_its_steps};
+use crate::stacks::Stacks;
+use rv_counts::Addresses;
+use rv_coverage::Counter;
 use rv_elf::CodeSymbols;
 use rv_machine::Machine;
 use rv_spots::Spots;
@@ -30,75 +26,53 @@ pub fn stacks_of_run(
     ensures { IfOk result (λ spots. AreStacksOf (function_at symbols.now.image.now symbols.now.bytes.now) budget
         (state_of machine) spots) }
 {
+    Ok(count_with_stacks(alloc, machine, budget, symbols)?.1)
+}
+
+/// The counts of a machine's run of at most so many steps, and its stacks by the functions of a file.
+pub fn count_with_stacks(
+    alloc: Global,
+    machine: Machine,
+    budget: u32,
+    symbols: &CodeSymbols<'_>,
+) -> Result<(Addresses, Spots), AllocError>
+    ensures counts { IfOk result (λ both. AreCountsOf budget (state_of machine) both.0) }
+    ensures stacks { IfOk result (λ both. AreStacksOf (function_at symbols.now.image.now symbols.now.bytes.now) budget
+        (state_of machine) both.1) }
+{
+    let (counter, stacks) = follow_run(alloc, machine, budget, symbols)?;
+    let spots = stacks.walk.into_spots(alloc)?;
+    Ok((counter.into_addresses(), spots))
+}
+
+// What was counted of a run, which is done: straight code of a function at once, and every other instruction by itself.
+fn follow_run(
+    alloc: Global,
+    machine: Machine,
+    budget: u32,
+    symbols: &CodeSymbols<'_>,
+) -> Result<(Counter, Stacks), AllocError>
+    ensures counts { IfOk result (λ both. HasCounted budget (state_of machine) both.0) }
+    ensures stacks { IfOk result (λ both. AreNodesOf (function_at symbols.now.image.now symbols.now.bytes.now) budget
+        (state_of machine) both.1.walk.nodes.items) }
+{
     let mut machine = machine;
-    let mut known = known_functions(alloc, symbols, machine.pc())?;
-    let mut frames = Vec::new(alloc);
-    let mut walk = walk_from(alloc, look_up(&mut known, symbols, machine.pc()))?;
-    'steps: for _ in 0..budget {
-        if !next_step(&mut machine, symbols, &mut known, &mut frames, &mut walk)? {
-            return walk.into_spots(alloc);
+    let mut counter = Counter::new(alloc)?;
+    let mut stacks = Stacks::new(alloc, symbols, machine.pc())?;
+    let mut left = budget;
+    'steps: while left > 0 {
+        let block = stacks.straight_block(symbols, &counter, &machine, left);
+        if block.steps == 0 {
+            if !stacks.step(symbols, &mut machine, &mut counter)? {
+                return Ok((counter, stacks));
+            }
+            left -= 1;
+        } else {
+            if !stacks.run_block(&mut machine, &mut counter, block)? {
+                return Ok((counter, stacks));
+            }
+            left -= block.steps;
         }
     }
-    walk.into_spots(alloc)
-}
-
-// A walk that came to a function.
-fn walk_from(alloc: Global, function: u32) -> Result<Walk, AllocError>
-    ensures { IfOk result (BeginsAt function) }
-{
-    let mut walk = Walk::new(alloc)?;
-    walk.arrive(0, function)?;
-    Ok(walk)
-}
-
-// Counts the next instruction of a machine in its spot, goes with control, and tells whether it completed.
-fn next_step(
-    machine: &mut Machine,
-    symbols: &CodeSymbols<'_>,
-    known: &mut Vec<Known>,
-    frames: &mut Vec<Frame>,
-    walk: &mut Walk,
-) -> Result<bool, AllocError>
-    requires known { AreKnown (function_at symbols.now.image.now symbols.now.bytes.now) known.old.items }
-    requires at { IsAt (function_at symbols.now.image.now symbols.now.bytes.now) frames.old.items (state_of machine.old).pc
-        walk.old }
-    requires few { all_arrivals walk.old.nodes.items < 2 ^ 40 }
-    requires fewer { all_steps walk.old.nodes.items < 2 ^ 63 }
-    ensures known { IfOk result (λ _. AreKnown (function_at symbols.now.image.now symbols.now.bytes.now) known.new.items) }
-    ensures step { IfOk result (λ completed. StacksStep (function_at symbols.now.image.now symbols.now.bytes.now)
-        (state_of machine.old) frames.old.items walk.old completed
-        (state_of machine.new) frames.new.items walk.new) }
-{
-    let Some(transfer) = next_transfer(machine) else {
-        let begun = begins_here(machine);
-        count_if(walk, begun);
-        return Ok(false);
-    };
-    run_begins_its_steps();
-    count_if(walk, true);
-    follow(symbols, known, frames, walk, transfer)?;
-    Ok(true)
-}
-
-// Counts an instruction in the spot where a walk is, if one began.
-fn count_if(walk: &mut Walk, begun: bool)
-    requires walk { IsWalk walk.old }
-    requires some { 0 < length walk.old.path.items }
-    requires few { all_steps walk.old.nodes.items < 2 ^ 63 }
-    ensures { CountsHere begun walk.old walk.new }
-{
-    if !begun {
-        return;
-    }
-    walk.count_step();
-}
-
-// Whether the next instruction of a machine begins, which does not complete.
-fn begins_here(machine: &mut Machine) -> bool
-    requires { is_ok (step_of (state_of machine.old)) ≡ false }
-    ensures begun { result ≡ is_begun (fetch_at (state_of machine.old)) }
-    ensures state { state_of machine.new ≡ state_of machine.old }
-{
-    run_begins_its_end();
-    begins_at_end(machine.run(1).ending)
+    Ok((counter, stacks))
 }

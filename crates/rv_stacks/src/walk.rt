@@ -6,7 +6,7 @@ ghost use Rattle.rv_stacks.specs.Walks.{Arrives, AreSpotsOf, IsWalk, Returns, St
 
 use crate::children::Children;
 use crate::flat::spots_of_nodes;
-use crate::node::{Node, count_arrival, count_step, number_of_child};
+use crate::node::{Node, count_arrival, count_steps, number_of_child};
 use rv_spots::Spots;
 use std::alloc::{AllocError, Global};
 
@@ -65,15 +65,15 @@ impl Walk {
         self.trail.truncate(depth + 1);
     }
 
-    /// Counts an instruction in the node where it is.
-    pub fn count_step(&mut self)
+    /// Counts instructions in the node where it is.
+    pub fn count_steps(&mut self, steps: u32)
         requires walk { IsWalk self.old }
         requires some { 0 < length self.old.path.items }
         requires few { all_steps self.old.nodes.items < 2 ^ 63 }
-        ensures { Steps self.old self.new }
+        ensures { Steps steps self.old self.new }
     {
         let number = self.last_number();
-        count_step(&mut self.nodes, number);
+        count_steps(&mut self.nodes, number, steps);
     }
 
     /// The nodes that it came to, as spots.

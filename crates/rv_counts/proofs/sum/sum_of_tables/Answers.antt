@@ -1,7 +1,8 @@
 -- The images add up, and so their tables do.
-use Rattle.std.proofs.Common.{rules, List, None, subst}
+use Rattle.std.proofs.Common.{rules, List, subst}
 use Rattle.rv_counts.specs.declared.table.ImageCounts.{ImageCounts}
 use Rattle.rv_counts.specs.SumSteps.{ImagesAddUp}
+use Rattle.rv_counts.proofs.AddingImages.{tables_add_up}
 use Rattle.rv_counts.proofs.sum.sum_of_tables.Goals as goal
 
 pub returns-clause-value : goal.returns-clause-value
@@ -12,19 +13,5 @@ returns-clause-value c =
     let up : ImagesAddUp a.images b.images images =
     subst (λ (is : List ImageCounts). ImagesAddUp a.images is images) c.as_slice-2.ensures
     (subst (λ (is : List ImageCounts). ImagesAddUp is c.as_slice-2.result.now images) c.as_slice.ensures
-    c.in_ok-images.ensures.value) in record {
-      table = record {
-        images = up.each;
-        rising = up.rising None c.requires.a.rising c.requires.b.rising;
-        few = search rules;
-        runs = search rules;
-      };
-      begun = up.begun;
-      taken = up.taken;
-      paths = up.paths;
-      agree = up.agree None c.requires.a.rising c.requires.b.rising;
-      names = up.names;
-      arrivals = up.arrivals;
-      steps = up.steps;
-      runs = search rules;
-    }
+    c.in_ok-images.ensures.value) in
+    tables_add_up a b _ c.requires.a c.requires.b up (search rules) (search rules) (search rules)
