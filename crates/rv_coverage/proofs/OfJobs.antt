@@ -176,16 +176,16 @@ pub none_if_no_ok : (r : Result State Refusal) → ((s : State) → r ≡ Ok s �
 none_if_no_ok (Ok s) h = absurd (h s refl)
 none_if_no_ok (Err why) h = refl
 
-not_ok_if_none : (r : Result State Refusal) → result_ok r ≡ None → is_ok r ≡ false
+pub not_ok_if_none : (r : Result State Refusal) → result_ok r ≡ None → is_ok r ≡ false
 not_ok_if_none (Ok s) h = cc
 not_ok_if_none (Err why) h = refl
 
-picked_begun : (b : Bool) (n address budget : ℕ) (s : State) → n ≡ begun_in_run address budget s
+pub picked_begun : (b : Bool) (n address budget : ℕ) (s : State) → n ≡ begun_in_run address budget s
     → cond b n 0 ≡ begun_from address budget (cond b (Some s) None)
 picked_begun true n address budget s h = h
 picked_begun false n address budget s h = refl
 
-picked_taken : (b : Bool) (n address budget : ℕ) (s : State) → n ≡ taken_in_run address budget s
+pub picked_taken : (b : Bool) (n address budget : ℕ) (s : State) → n ≡ taken_in_run address budget s
     → cond b n 0 ≡ taken_from address budget (cond b (Some s) None)
 picked_taken true n address budget s h = h
 picked_taken false n address budget s h = refl
