@@ -1,8 +1,6 @@
 -- The sum of the tables of all shares is that of all places.
-use Rattle.std.proofs.Common.{◌∙◌, ℕ, List, Result, get_or, length, sym, ap, subst, arith}
+use Rattle.std.proofs.Common.{◌∙◌, ℕ, List, get_or, length, sym, subst}
 use Rattle.std.proofs.lemmas.Result.{IfErr-weaker, IfOk-weaker}
-use Rattle.rv_counts.specs.declared.sum.SumError.{SumError}
-use Rattle.rv_counts.specs.declared.table.CountTable.{CountTable}
 use Rattle.rv_counts.specs.Table.{IsTable}
 use Rattle.rv_stacks.specs.StackTables.{HaveNoTableWithStacks, IsOfNamesOrMemory, IsTableIfAny, IsTableWithStacks}
 use Rattle.rv_stacks.proofs.NoSums.{no_other_reason}
@@ -22,7 +20,8 @@ returns-clause-value g c =
     let share = c.share_of-share.result in
     let results = c.in_ok-tables.tables.items in
     IfOk-weaker c.sum_of_all.result _ (IsTableWithStacks plan places)
-    (λ t added. all_shares plan places share (length results) t c.share_of-share.ensures.some c.in_ok-tables.ensures.len added)
+    (λ t added. all_shares plan places share (length results) t c.share_of-share.ensures.some
+    (sym c.in_ok-tables.tables.ok.0 ∙ c.in_ok-tables.ensures.len) added)
     (c.sum_of_all.ensures.value plan places share
     (λ n d lt.
     let k = (c.in_ok-tables.ensures.each n d lt).1 in

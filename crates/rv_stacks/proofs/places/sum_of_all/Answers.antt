@@ -1,5 +1,5 @@
 -- One table more is added.
-use Rattle.std.proofs.Common.{◌≡◌, ◌∙◌, ◌+◌, ◌*◌, ◌<◌, ℕ, List, [], ◌∷◌, ◌++◌, Result, Ok, Err, append_assoc, append-nil, get_or, length, refl, sym, ap, subst, take, inr, arith}
+use Rattle.std.proofs.Common.{◌≡◌, ◌∙◌, ◌+◌, ◌*◌, ℕ, List, [], ◌∷◌, ◌++◌, Result, append_assoc, append-nil, get_or, length, refl, sym, ap, subst, take, inr, arith}
 use Rattle.std.proofs.Math.Seq.{get_or-append_seam}
 use Rattle.std.proofs.lemmas.List.{length-append}
 use Rattle.std.proofs.lemmas.Result.{err_from_is_err_and}
@@ -25,7 +25,8 @@ loop-table-init c = record {
       subst (λ (t : CountTable). IsTableWithStacks plan (take (0 * share) places) t) (sym c.empty_table-sum.ensures)
       (no_shares plan places share);
   front = refl;
-  left = sym c.into_iter-table-iterator.ensures.into_iter_gives.1;
+  left = c.into_iter-table-iterator.ensures.into_iter_gives.1 ∙ c.args.tables.ok.0
+      ∙ ap length (sym c.into_iter-table-iterator.ensures.into_iter_gives.0);
 }
 
 pub add_table-requires-clause-sum : goal.add_table-requires-clause-sum
@@ -71,10 +72,38 @@ loop-table-preserved c =
     }
 
 pub returns-in_err-table-clause-refused : goal.returns-in_err-table-clause-refused
-returns-in_err-table-clause-refused c = ?
+returns-in_err-table-clause-refused c = λ plan places share shares.
+    let ts = c.loop-table.yielded in
+    let t = c.in-Some.table in
+    let rest = into_iter_items c.next.new.self in
+    let steps : into_iter_items c.loop-table.table-iterator ≡ t ∷ rest = c.in-Some.ensures.steps.0 in
+    let whole : ts ++ t ∷ rest ≡ c.args.tables.items =
+    ap (λ (us : List (Result CountTable SumError)). ts ++ us) (sym steps) ∙ c.loop-table.invariant.front
+    ∙ c.into_iter-table-iterator.ensures.into_iter_gives.0 in
+    let all = subst (λ (us : List (Result CountTable SumError)). AreShares plan places share us) (sym whole) shares in
+    let error = err_from_is_err_and c.from_residual.result c.from_residual.ensures.1 in
+    rw (error.1, error.2)
+    (no_share plan places share (length ts) _
+    (subst (λ (r : Result CountTable SumError). IsTableIfAny plan (slice_chunk places share (length ts)) r) c.in_err-table.was
+    (next_share plan places share ts t rest all)).1)
 
 pub returns-in_err-sum-clause-refused : goal.returns-in_err-sum-clause-refused
-returns-in_err-sum-clause-refused c = ?
+returns-in_err-sum-clause-refused c = λ plan places share shares.
+    let ts = c.loop-table.yielded in
+    let t = c.in-Some.table in
+    let rest = into_iter_items c.next.new.self in
+    let steps : into_iter_items c.loop-table.table-iterator ≡ t ∷ rest = c.in-Some.ensures.steps.0 in
+    let whole : ts ++ t ∷ rest ≡ c.args.tables.items =
+    ap (λ (us : List (Result CountTable SumError)). ts ++ us) (sym steps) ∙ c.loop-table.invariant.front
+    ∙ c.into_iter-table-iterator.ensures.into_iter_gives.0 in
+    let all = subst (λ (us : List (Result CountTable SumError)). AreShares plan places share us) (sym whole) shares in
+    let one = subst (λ (r : Result CountTable SumError). IsTableIfAny plan (slice_chunk places share (length ts)) r) c.in_ok-table.was
+    (next_share plan places share ts t rest all) in
+    let error = err_from_is_err_and c.from_residual-in_err-sum.result c.from_residual-in_err-sum.ensures.1 in
+    rw (error.1, error.2)
+    (inr (no_next_share plan places share (length ts) c.loop-table.sum c.in_ok-table.field-0 _
+    (c.loop-table.invariant.stacks plan places share (first_shares plan places share ts (t ∷ rest) all)) one.0
+    c.in_err-sum.ensures.refused))
 
 pub returns-clause-value : goal.returns-clause-value
 returns-clause-value c = λ plan places share shares.
