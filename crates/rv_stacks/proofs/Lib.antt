@@ -9,10 +9,12 @@ pub mod Going
 pub mod Knowns
 pub mod NamedSpots
 pub mod Tables
-pub mod Parts
 pub mod Named
 pub mod WithStacks
 pub mod Apart
+pub mod OfRun
+pub mod OneByOne
+pub mod Parts
 pub mod Shards
 pub mod Bounds
 pub mod NoSums

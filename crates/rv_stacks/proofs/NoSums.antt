@@ -1,4 +1,4 @@
--- The numbers of so few jobs fit in 64 bits, so tables of stacks lack a sum by names alone.
+-- The numbers of so few jobs fit in 64 bits, so tables with stacks lack a sum by names alone.
 use Rattle.std.proofs.Common.{◌≡◌, ◌∙◌, ◌+◌, ◌*◌, ◌^◌, ◌≤◌, ℕ, List, [], ◌∷◌, ◌++◌, Option, None, Result, Ok, Err, length, get_or, refl, ap, arith, inl, inr, ⊎_elim}
 use Rattle.std.proofs.lemmas.List.{length-append, length-map}
 use Rattle.std.proofs.lemmas.List.Sums.{sum_by-cons}
@@ -11,7 +11,7 @@ use Rattle.rv_counts.specs.declared.sum.SumError.TheVariants.{OutOfMemory, Count
 use Rattle.rv_counts.specs.declared.table.CountTable.{CountTable}
 use Rattle.rv_counts.specs.Sum.{HaveNoSum}
 use Rattle.rv_counts.specs.Table.{begun_in, arrivals_in, steps_in}
-use Rattle.rv_coverage.specs.JobTables.{begun_by, begun_from, jobs_at, runs_by, start_over, IsTableOfPlaces}
+use Rattle.rv_coverage.specs.JobTables.{begun_by, begun_from, jobs_at, runs_by, start_over}
 use Rattle.rv_coverage.proofs.Public.{not_over}
 use Rattle.rv_jobs.specs.declared.answers.Answer.{Answer}
 use Rattle.rv_machine.specs.State.{State}
@@ -20,8 +20,9 @@ use Rattle.rv_jobs.specs.declared_job.Job.{Job}
 use Rattle.rv_jobs.specs.Jobs.{single_job}
 use Rattle.rv_jobs.specs.Plans.{Planned}
 use Rattle.rv_rows.specs.Rows.{start_in}
-use Rattle.rv_stacks.specs.StackTables.{arrivals_by_job, arrivals_from, function_of_job, steps_by_job, steps_from, AreStacksOfPlaces, HaveNoStacks, HaveNoTableWithStacks, HavePartsNoSum, IsOfNamesOrMemory, RunsWithinABudget}
+use Rattle.rv_stacks.specs.StackTables.{arrivals_by_job, arrivals_from, function_of_job, steps_by_job, steps_from, HaveNoTableWithStacks, HavePartsNoSum, IsOfNamesOrMemory, IsTableWithStacks, RunsWithinABudget}
 use Rattle.rv_stacks.proofs.Bounds.{arrivals_at_most, begun_at_most, once_at_most, steps_at_most}
+use Rattle.rv_stacks.proofs.WithStacks.{of_places, IsOfJobs}
 
 -- ---- the jobs at some places
 
@@ -63,25 +64,14 @@ module _ (plan : Planned) (places : List ℕ) (budgets : AllByRecursion (RunsWit
       let long = length-map places (λ (place : ℕ). get_or plan.jobs place (single_job [] 0 [])) in
       omega (arith, sum, long)
 
-  small_counts : (t : CountTable) → IsTableOfPlaces plan places t → IsSmall (length places) t
-  small_counts t h = record {
+  small_table : (t : CountTable) → IsOfJobs plan.answers (jobs_at plan places) t → IsSmall (length places) t
+  small_table t h = record {
     begun = λ digest address.
         let e = h.begun digest address in
         let few = few_jobs (begun_by plan.answers digest address)
         (λ job. few_if_run plan.answers job digest (begun_from address)
         (λ n o. let b = begun_at_most address n o in omega (arith, b)) (λ n. refl)) in
         omega (arith, e, few);
-    arrivals = λ digest path. let e = h.stacks.arrivals digest path in omega (arith, e);
-    steps = λ digest path. let e = h.stacks.steps digest path in omega (arith, e);
-    runs = (let e = h.runs in
-        let few = few_jobs (runs_by plan.answers)
-        (λ job small. let b = once_at_most (is_ok (start_in plan.answers job)) in omega (arith, b)) in
-        omega (arith, e, few));
-  }
-
-  small_stacks : (t : CountTable) → AreStacksOfPlaces plan places t → IsSmall (length places) t
-  small_stacks t h = record {
-    begun = λ digest address. let e = h.begun digest address in omega (arith, e);
     arrivals = λ digest path.
         let e = h.arrivals digest path in
         let few = few_jobs (arrivals_by_job plan.answers digest path)
@@ -94,8 +84,16 @@ module _ (plan : Planned) (places : List ℕ) (budgets : AllByRecursion (RunsWit
         (λ job. few_if_run plan.answers job digest (steps_from (function_of_job plan.answers job) path)
         (λ n o. let b = steps_at_most (function_of_job plan.answers job) path n o in omega (arith, b)) (λ n. refl)) in
         omega (arith, e, few);
-    runs = (let e = h.runs in omega (arith, e));
+    runs = (let e = h.runs in
+        let few = few_jobs (runs_by plan.answers)
+        (λ job small. let b = once_at_most (is_ok (start_in plan.answers job)) in omega (arith, b)) in
+        omega (arith, e, few));
   }
+
+small : (plan : Planned) (places : List ℕ) (t : CountTable) → IsTableWithStacks plan places t → IsSmall (length places) t
+small plan places t is =
+    let h = of_places plan places t is in
+    small_table plan places h.budgets t h
 
 -- ---- why there is no sum
 
@@ -129,17 +127,8 @@ told_of_parts plan places error few h =
     let second = length-append (h.before ++ h.some) h.others in
     let first = length-append h.before h.some in
     told (length h.some) (length h.others) h.first h.second error (omega (arith, few, long, second, first))
-    (small_stacks plan h.some h.of_some.budgets h.first h.of_some)
-    (small_stacks plan h.others h.of_others.budgets h.second h.of_others) h.refused
-
-pub no_stacks_reason : (plan : Planned) (places : List ℕ) (error : SumError) → length places ≤ most_jobs
-    → HaveNoStacks plan places error → IsOfNamesOrMemory error
-no_stacks_reason plan places error few = ⊎_elim inl (told_of_parts plan places error few)
+    (small plan h.some h.first h.of_some) (small plan h.others h.second h.of_others) h.refused
 
 pub no_other_reason : (plan : Planned) (places : List ℕ) (error : SumError) → length places ≤ most_jobs
     → HaveNoTableWithStacks plan places error → IsOfNamesOrMemory error
-no_other_reason plan places error few =
-    ⊎_elim (no_stacks_reason plan places error few)
-    (λ h. told (length places) (length places) h.counts h.stacks error (omega (arith, few))
-    (small_counts plan places h.stacked.budgets h.counts h.counted)
-    (small_stacks plan places h.stacked.budgets h.stacks h.stacked) h.refused)
+no_other_reason plan places error few = ⊎_elim inl (told_of_parts plan places error few)

@@ -1,5 +1,5 @@
--- The table of the stacks of the jobs of a plan: how often their runs came to each list of functions of their images, and how
--- many instructions began there. It has no counts of addresses, and no runs.
+-- The table of the jobs of a plan with their stacks: beside the counts of their instructions, how often their runs came to each
+-- list of functions of their images, and how many instructions began there. The table of the stacks alone has no counts and no runs.
 use Rattle.std.specs.Prelude.{◌≡◌, ◌==◌, ◌+◌, ◌%◌, ◌^◌, ◌<◌, ◌⊎◌, ℕ, true, List, [], ◌∷◌, ◌++◌, Option, Some, None, codes, if◌then◌else◌}
 use Rattle.std.specs.Prelude.{length, map, slice_index_or, Result, Ok, IfErr, IfOk}
 use Rattle.std.specs.Fork.{slice_chunk}
@@ -8,6 +8,7 @@ use Rattle.std.specs.Str.{bytes_eq}
 use Rattle.sha2.specs.Sha256.{sha256}
 use Rattle.rv_counts.specs.declared.sum.SumError.{SumError}
 use Rattle.rv_counts.specs.declared.sum.SumError.TheVariants.{Names, OutOfMemory}
+use Rattle.rv_counts.specs.declared.table.AddressCounts.{AddressCounts}
 use Rattle.rv_counts.specs.declared.table.CountTable.{CountTable}
 use Rattle.rv_counts.specs.declared.table.FunctionName.{FunctionName}
 use Rattle.rv_counts.specs.declared.table.ImageCounts.{ImageCounts}
@@ -55,23 +56,25 @@ pub record AreNamedUpTo (name : ℕ → List ℕ) (spots : List Spot) (next : �
   pub below : AllByRecursion (λ n. n.function < next) names
   pub last : (f : ℕ) → f + 1 ≡ next → is_last_of_some f spots ≡ true
 
-abbrev pub table_of_spots : List ℕ → List ℕ → List FunctionName → List Spot → CountTable
-table_of_spots path file functions spots = record {
+-- the counts and the spots of one run, over the image of a path with these bytes
+abbrev pub table_of_run : List ℕ → List ℕ → List AddressCounts → List FunctionName → List Spot → CountTable
+table_of_run path file addresses functions spots = record {
   images = record {
     digest = sha256 file;
     path = printable_text path;
-    addresses = [];
+    addresses = addresses;
     functions = functions;
     spots = spots;
   } ∷ [];
-  runs = 0;
+  runs = 1;
 }
 
--- the table of the spots of one run, over the image of a path with these bytes, whose functions have these names
-pub record IsTableOfSpots (name : ℕ → List ℕ) (path file : List ℕ) (spots : List Spot) (t : CountTable) : Type 0 where
+-- the table of them, whose functions have these names
+pub record IsTableOfRun (name : ℕ → List ℕ) (path file : List ℕ) (addresses : List AddressCounts) (spots : List Spot) (t : CountTable)
+    : Type 0 where
   pub functions : List FunctionName
   pub named : AreNamesBy name spots functions
-  pub value : t ≡ table_of_spots path file functions spots
+  pub value : t ≡ table_of_run path file addresses functions spots
   pub table : IsTable t
 
 -- ---- one job
@@ -140,32 +143,6 @@ pub record AreStacksOfJobs (answers : List Answer) (jobs : List Job) (t : CountT
 abbrev pub AreStacksOfPlaces : Planned → List ℕ → CountTable → Type 0
 AreStacksOfPlaces plan places t = AreStacksOfJobs plan.answers (jobs_at plan places) t
 
--- two tables of stacks, each of places that stand beside those of the other, have no sum
-pub record HavePartsNoSum (plan : Planned) (places : List ℕ) (error : SumError) : Type 0 where
-  pub before : List ℕ
-  pub some : List ℕ
-  pub others : List ℕ
-  pub behind : List ℕ
-  pub parts : places ≡ before ++ some ++ others ++ behind
-  pub first : CountTable
-  pub second : CountTable
-  pub of_some : AreStacksOfPlaces plan some first
-  pub of_others : AreStacksOfPlaces plan others second
-  pub refused : HaveNoSum error first second
-
--- memory was wanting, or some of the stacks have no sum
-abbrev pub HaveNoStacks : Planned → List ℕ → SumError → Type 0
-HaveNoStacks plan places error = (error ≡ OutOfMemory) ⊎ HavePartsNoSum plan places error
-
--- a table of the stacks of the jobs at some places, or why there is none
-abbrev pub AreStacksIfAny : Planned → List ℕ → Result CountTable SumError → Type 0
-AreStacksIfAny plan places result = IfOk result (AreStacksOfPlaces plan places) × IfErr result (HaveNoStacks plan places)
-
--- the same of each share of some places
-abbrev pub AreShares : Planned → List ℕ → ℕ → List (Result CountTable SumError) → Type 0
-AreShares plan places share results = (k : ℕ) (d : Result CountTable SumError) → k < length results
-    → AreStacksIfAny plan (slice_chunk places share k) (slice_index_or results k d)
-
 -- ---- counts and stacks
 
 -- the table of the counts of the jobs at some places, and of their stacks
@@ -176,16 +153,31 @@ pub record IsTableWithStacks (plan : Planned) (places : List ℕ) (t : CountTabl
   pub stacked : AreStacksOfPlaces plan places stacks
   pub sum : IsSum counts stacks t
 
--- there is none
-pub record HaveCountsNoSum (plan : Planned) (places : List ℕ) (error : SumError) : Type 0 where
-  pub counts : CountTable
-  pub stacks : CountTable
-  pub counted : IsTableOfPlaces plan places counts
-  pub stacked : AreStacksOfPlaces plan places stacks
-  pub refused : HaveNoSum error counts stacks
+-- two such tables, each of places that stand beside those of the other, have no sum
+pub record HavePartsNoSum (plan : Planned) (places : List ℕ) (error : SumError) : Type 0 where
+  pub before : List ℕ
+  pub some : List ℕ
+  pub others : List ℕ
+  pub behind : List ℕ
+  pub parts : places ≡ before ++ some ++ others ++ behind
+  pub first : CountTable
+  pub second : CountTable
+  pub of_some : IsTableWithStacks plan some first
+  pub of_others : IsTableWithStacks plan others second
+  pub refused : HaveNoSum error first second
 
+-- memory was wanting, or some of the tables have no sum
 abbrev pub HaveNoTableWithStacks : Planned → List ℕ → SumError → Type 0
-HaveNoTableWithStacks plan places error = HaveNoStacks plan places error ⊎ HaveCountsNoSum plan places error
+HaveNoTableWithStacks plan places error = (error ≡ OutOfMemory) ⊎ HavePartsNoSum plan places error
+
+-- the table of the jobs at some places, or why there is none
+abbrev pub IsTableIfAny : Planned → List ℕ → Result CountTable SumError → Type 0
+IsTableIfAny plan places result = IfOk result (IsTableWithStacks plan places) × IfErr result (HaveNoTableWithStacks plan places)
+
+-- the same of each share of some places
+abbrev pub AreShares : Planned → List ℕ → ℕ → List (Result CountTable SumError) → Type 0
+AreShares plan places share results = (k : ℕ) (d : Result CountTable SumError) → k < length results
+    → IsTableIfAny plan (slice_chunk places share k) (slice_index_or results k d)
 
 -- memory was wanting, or a function has two names
 abbrev pub IsOfNamesOrMemory : SumError → Type 0

@@ -6,7 +6,7 @@ use Rattle.rv_calls.specs.declared.transfer.Transfer.{Transfer}
 use Rattle.rv_calls.specs.Calls.{transfer_of}
 use Rattle.rv_calls.specs.Stack.{after_transfer, frame_of, is_pushed, popped}
 use Rattle.rv_counts.specs.declared.table.AddressCounts.{AddressCounts}
-use Rattle.rv_coverage.specs.Coverage.{behind, begun_steps, fetch_at, is_begun, once_if}
+use Rattle.rv_coverage.specs.Coverage.{behind, begun_steps, fetch_at, is_begun, once_if, AreCountsOf}
 use Rattle.rv_elf.specs.declared.image.Image.{Image}
 use Rattle.rv_elf.specs.SymbolSearch.{symbol_at}
 use Rattle.rv_machine.specs.Run.{step_of}
@@ -96,12 +96,12 @@ pub record AreStacksOf (function : ℕ → ℕ) (n : ℕ) (s : State) (spots : L
   pub own : (f : ℕ) → own_in f spots ≡ begun_in_function function f n s
   pub all : all_steps spots ≡ begun_steps n s
 
--- those of a job that begins in this state, or none where it is refused
-abbrev pub AreStacksOfJob : (ℕ → ℕ) → ℕ → Result State Refusal → Option (List Spot) → Type 0
-AreStacksOfJob function n (Ok s) (Some spots) = AreStacksOf function n s spots
-AreStacksOfJob function n (Ok s) None = ⊥
-AreStacksOfJob function n (Err why) (Some spots) = ⊥
-AreStacksOfJob function n (Err why) None = Unit {0}
+-- the counts and the stacks of a job that begins in this state, or none where it is refused
+abbrev pub AreCountsAndStacksOfJob : (ℕ → ℕ) → ℕ → Result State Refusal → Option (List AddressCounts × List Spot) → Type 0
+AreCountsAndStacksOfJob function n (Ok s) (Some both) = AreCountsOf n s both.0 × AreStacksOf function n s both.1
+AreCountsAndStacksOfJob function n (Ok s) None = ⊥
+AreCountsAndStacksOfJob function n (Err why) (Some both) = ⊥
+AreCountsAndStacksOfJob function n (Err why) None = Unit {0}
 
 -- ---- counts
 

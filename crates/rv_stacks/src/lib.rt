@@ -1,7 +1,7 @@
 //! The stacks of a run: in which list of functions each instruction began, from the root to the function of the pc, and how
 //! often a run came to each list.
 //!
-//! [`stacks_of_run`] runs a machine within a budget, one instruction at a time, and answers its spots. [`stacks_of_job`] does so of
+//! [`count_with_stacks`] runs a machine within a budget, and answers its counts and its spots. [`count_job_with_stacks`] does so of
 //! a job of a plan, and [`count_places_with_stacks`] answers the table of counts of the jobs of a batch, with their stacks. The
 //! calls that have not returned are those of `rv_calls`: a spot is the functions in which they were made, and that of the pc.
 #![tactic(auto)]
@@ -23,7 +23,7 @@ mod walk;
 pub use children::Children;
 pub use flat::Flat;
 pub use functions::{Known, function_of};
-pub use job::stacks_of_job;
+pub use job::count_job_with_stacks;
 pub use law::{
     jobs_have_one_table_with_stacks, names_alone_refuse_a_table_with_stacks,
     own_steps_are_the_counts_of_addresses, run_has_one_list_of_spots,
@@ -31,7 +31,7 @@ pub use law::{
     tables_with_stacks_of_shards_sum_to_that_of_all,
 };
 pub use node::Node;
-pub use places::{count_places_with_stacks, stacks_of_places};
-pub use run::{count_with_stacks, stacks_of_run};
+pub use places::count_places_with_stacks;
+pub use run::count_with_stacks;
 pub use stacks::Stacks;
 pub use walk::Walk;

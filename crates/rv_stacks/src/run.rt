@@ -15,21 +15,8 @@ use rv_machine::Machine;
 use rv_spots::Spots;
 use std::alloc::{AllocError, Global};
 
-/// The stacks of a machine's run of at most so many steps, by the functions of a file. It takes the time of that run and more,
-/// and memory for each list of functions that the run comes to.
-pub fn stacks_of_run(
-    alloc: Global,
-    machine: Machine,
-    budget: u32,
-    symbols: &CodeSymbols<'_>,
-) -> Result<Spots, AllocError>
-    ensures { IfOk result (λ spots. AreStacksOf (function_at symbols.now.image.now symbols.now.bytes.now) budget
-        (state_of machine) spots) }
-{
-    Ok(count_with_stacks(alloc, machine, budget, symbols)?.1)
-}
-
-/// The counts of a machine's run of at most so many steps, and its stacks by the functions of a file.
+/// The counts of a machine's run of at most so many steps, and its stacks by the functions of a file. It takes the time of that run
+/// and more, and memory for each address and each list of functions that the run comes to.
 pub fn count_with_stacks(
     alloc: Global,
     machine: Machine,

@@ -1,12 +1,11 @@
-//! The table of the stacks of one job of a plan.
+//! The table of one job of a plan, with its stacks.
 
 ghost use Rattle.std.specs.Prelude.{◌<◌, ◌∷◌, [], IfOk, length};
-ghost use Rattle.rv_jobs.specs.declared_job.Job.{Job as AJob};
+ghost use Rattle.rv_counts.specs.Table.{AreCounts};
 ghost use Rattle.rv_spots.specs.Trees.{HasArrivals, IsTree};
-ghost use Rattle.rv_stacks.specs.StackTables.{name_of_function, AreStacksOfJobs, IsTableOfSpots};
-ghost use Rattle.rv_trace.specs.Trace.{job_at};
+ghost use Rattle.rv_stacks.specs.StackTables.{name_of_function, IsTableOfRun, IsTableWithStacks};
 
-use crate::job::stacks_of_job;
+use crate::job::count_job_with_stacks;
 use crate::names::names_of_spots;
 use rv_counts::{Addresses, CountTable, ImageCounts};
 use rv_coverage::{digest_of, empty_table, image_bytes, image_of_bytes, images_of_one, shown_text};
@@ -16,16 +15,15 @@ use rv_spots::Spots;
 use rv_trace::JobImage;
 use std::alloc::{AllocError, Global};
 
-/// The table of the stacks of the job at a place, which are those of its run, or none where the job is refused. The job is run
-/// once more.
-pub(crate) fn stacks_of_place(
+/// The table of the job at a place, which has the counts and the stacks of its run, or that of no run where the job is refused. The
+/// job is run once more.
+pub(crate) fn count_place_with_stacks(
     alloc: Global,
     plan: &Plan,
     place: usize,
 ) -> Result<CountTable, AllocError>
     requires { place < length plan.now.jobs }
-    ensures { IfOk result (λ table. (d : AJob)
-        → AreStacksOfJobs plan.now.answers (job_at plan.now place d ∷ []) table) }
+    ensures { IfOk result (IsTableWithStacks plan.now (place ∷ [])) }
 {
     let job = plan.job(place);
     let Some(bytes) = image_bytes(plan, place) else {
@@ -40,23 +38,27 @@ pub(crate) fn stacks_of_place(
         place,
         image: &image,
     };
-    match stacks_of_job(alloc, &job_image, &symbols)? {
-        Some(spots) => table_of_spots(alloc, job.image.as_str(), &symbols, spots),
+    match count_job_with_stacks(alloc, &job_image, &symbols)? {
+        Some((addresses, spots)) => {
+            table_of_run(alloc, job.image.as_str(), &symbols, addresses, spots)
+        }
         None => Ok(empty_table(alloc)),
     }
 }
 
-// The table of the spots of a run over the image of a path.
-fn table_of_spots(
+// The table of the counts and the spots of one run over the image of a path.
+fn table_of_run(
     alloc: Global,
     path: &str,
     symbols: &CodeSymbols<'_>,
+    addresses: Addresses,
     spots: Spots,
 ) -> Result<CountTable, AllocError>
+    requires counts { AreCounts addresses }
     requires tree { IsTree spots }
     requires some { HasArrivals spots }
-    ensures { IfOk result (IsTableOfSpots (name_of_function symbols.now.image.now symbols.now.bytes.now) path.now
-        symbols.now.bytes.now spots) }
+    ensures { IfOk result (IsTableOfRun (name_of_function symbols.now.image.now symbols.now.bytes.now) path.now
+        symbols.now.bytes.now addresses spots) }
 {
     let functions = names_of_spots(alloc, symbols, spots.as_slice())?;
     let digest = digest_of(alloc, symbols.bytes)?;
@@ -66,10 +68,10 @@ fn table_of_spots(
         ImageCounts {
             digest,
             path,
-            addresses: Addresses::new(Vec::new(alloc)),
+            addresses,
             functions,
             spots,
         },
     )?;
-    Ok(CountTable { images, runs: 0 })
+    Ok(CountTable { images, runs: 1 })
 }

@@ -3,7 +3,7 @@ use rv_elf::{CodeSymbols, read_image};
 use rv_isa::Isa;
 use rv_machine::Machine;
 use rv_memory::{Bus, Map, Misaligned, Region};
-use rv_stacks::stacks_of_run;
+use rv_stacks::count_with_stacks;
 use samples::{agree, cell_of, file_bytes, has_lines, hex_of, numbers};
 use std::alloc::Global;
 use std::test::Fail;
@@ -88,7 +88,7 @@ fn told(alloc: Global, row: &str) -> Result<String, Fail> {
     let image = read_image(alloc, bytes.as_slice(), Isa::Imc)?;
     let symbols = CodeSymbols::new(alloc, &image, bytes.as_slice())?;
     let budget = cell_of(row, 1).parse::<u32>()?;
-    let spots = stacks_of_run(alloc, machine_of(alloc, cell_of(row, 3))?, budget, &symbols)?;
+    let (_, spots) = count_with_stacks(alloc, machine_of(alloc, cell_of(row, 3))?, budget, &symbols)?;
     let mut text = String::new(alloc);
     for spot in spots.as_slice() {
         let comma = if text.is_empty() { "" } else { ", " };

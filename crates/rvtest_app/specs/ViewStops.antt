@@ -19,7 +19,7 @@ use Rattle.rv_lists.specs.declared.job.Job.{Job}
 use Rattle.rv_profile.specs.ImageStacks.{image_past_64_bits}
 use Rattle.rv_report.specs.declared.row.Row.{Row}
 use Rattle.rv_report.specs.declared.saved.Shard.{Shard}
-use Rattle.rv_stacks.specs.StackTables.{HaveNoStacks}
+use Rattle.rv_stacks.specs.StackTables.{HaveNoTableWithStacks}
 use Rattle.rv_text.specs.Printable.{printable_text}
 use Rattle.rvtest_app.specs.CountStops.{IsSumErrorStop, IsTableFaultStop}
 use Rattle.rvtest_app.specs.CountSums.{IsTableAt}
@@ -61,10 +61,10 @@ IsUnfitTableStop known shown path images why = IsNoTableStop known path images w
 
 -- ---- no table of a run
 
--- the stacks of the runs of the jobs at some places have no sum, which is told of a path
+-- the runs of the jobs at some places have no table with stacks, which is told of a path
 abbrev pub IsUnstackedJobsStop : Planned → List ℕ → List ℕ → Stop → Type 0
 IsUnstackedJobsStop plan places path why =
-    (error : SumError) × (HaveNoStacks plan places error × IsSumErrorStop path error why)
+    (error : SumError) × (HaveNoTableWithStacks plan places error × IsSumErrorStop path error why)
 
 -- memory was wanting to count the runs; or their stacks have no sum
 abbrev pub IsUncountedStop : View → Planned → List ℕ → List ℕ → Stop → Type 0

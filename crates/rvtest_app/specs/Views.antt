@@ -16,7 +16,7 @@ use Rattle.rv_profile.specs.ImageStacks.{has_stacks}
 use Rattle.rv_profile.specs.ProfileText.{IsProfileText}
 use Rattle.rv_report.specs.declared.row.Row.{Row}
 use Rattle.rv_report.specs.declared.saved.Shard.{Shard}
-use Rattle.rv_stacks.specs.StackTables.{AreStacksOfPlaces}
+use Rattle.rv_stacks.specs.StackTables.{IsTableWithStacks}
 use Rattle.rvtest_app.specs.CountSums.{IsTableAt}
 use Rattle.rvtest_app.specs.RefusedNotes.{refused_note}
 use Rattle.rvtest_app.specs.Runs.{AreRequestedJobs, IsPlanFor, places_of_marks}
@@ -26,10 +26,10 @@ use Rattle.rvtest_app.specs.declared.view.View.TheVariants as view
 
 -- ---- what a view takes and shows
 
--- a run of the jobs at some places gives the table: of their counts, or of their stacks
+-- a run of the jobs at some places gives the table: of their counts, or of their counts and stacks
 abbrev pub IsCountedFor : View → Planned → List ℕ → CountTable → Type 0
 IsCountedFor (view.Cover csv) plan places table = IsTableOfPlaces plan places table
-IsCountedFor (view.Profile format) plan places table = AreStacksOfPlaces plan places table
+IsCountedFor (view.Profile format) plan places table = IsTableWithStacks plan places table
 
 -- any table tells what ran; only one with stacks tells where steps were
 abbrev pub has_counts_for : View → CountTable → Bool

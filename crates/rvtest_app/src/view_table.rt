@@ -7,7 +7,7 @@ ghost use Rattle.rv_cover.specs.ImageCounts.{other_image};
 ghost use Rattle.rv_cover.specs.JobImages.{images_of, images_of_files};
 ghost use Rattle.rv_coverage.specs.JobTables.{IsTableOfPlaces, jobs_at};
 ghost use Rattle.rv_fleet.specs.Choices.{AreJobPlaces};
-ghost use Rattle.rv_stacks.specs.StackTables.{AreStacksOfPlaces};
+ghost use Rattle.rv_stacks.specs.StackTables.{IsTableWithStacks};
 ghost use Rattle.rvtest_app.specs.CountSums.{IsTableAt};
 ghost use Rattle.rvtest_app.specs.ViewStops.{IsNoTableStop, IsUncountedStop, IsUnfitTableStop, IsUnstackedJobsStop, IsUntabledStop, no_stacks_message, other_image_message};
 ghost use Rattle.rvtest_app.specs.Views.{IsCountedFor, IsFitTableAt, IsTableFor, has_counts_for};
@@ -24,7 +24,7 @@ use rv_files::Inputs;
 use rv_fleet::Batch;
 use rv_jobs::Plan;
 use rv_profile::has_stacks;
-use rv_stacks::stacks_of_places;
+use rv_stacks::count_places_with_stacks;
 use rv_text::{Span, text_of_spans};
 use rvtest_cli::RunAsked;
 use std::alloc::{AllocError, Global};
@@ -61,7 +61,7 @@ impl<'x, R: Threads + Sync, D: Inputs> JobsView<'x, R, D> {
     {
         match self.view {
             View::Cover { .. } => Ok(counts_of_jobs(self.host, self.asked, plan, places)?),
-            View::Profile(_) => stacks_of_jobs(self.host, self.asked, plan, places),
+            View::Profile(_) => counts_with_stacks_of_jobs(self.host, self.asked, plan, places),
         }
     }
 
@@ -97,8 +97,8 @@ fn counts_of_jobs<R: Threads + Sync, D>(
     count_places(&crew, &Batch::new(plan, places))
 }
 
-// The stacks of the jobs at some places.
-fn stacks_of_jobs<R: Threads + Sync, D>(
+// The counts of the jobs at some places, with their stacks.
+fn counts_with_stacks_of_jobs<R: Threads + Sync, D>(
     host: &Host<'_, R, D>,
     asked: &RunAsked<'_>,
     plan: &Plan,
@@ -106,11 +106,11 @@ fn stacks_of_jobs<R: Threads + Sync, D>(
 ) -> Result<CountTable, Stop>
     requires within { AreJobPlaces plan.now places.now }
     requires rising { IsStrictlyIncreasing places.now }
-    ensures stacks { IfOk result (AreStacksOfPlaces plan.now places.now) }
+    ensures stacks { IfOk result (IsTableWithStacks plan.now places.now) }
     ensures stopped { IfErr result (IsUnstackedJobsStop plan.now places.now asked.now.list.now) }
 {
     let crew = requested_crew(host.rt, host.alloc, asked);
-    match stacks_of_places(&crew, &Batch::new(plan, places)) {
+    match count_places_with_stacks(&crew, &Batch::new(plan, places)) {
         Ok(table) => Ok(table),
         Err(error) => Err(sum_error_stop(host.alloc, asked.list, error)),
     }
