@@ -46,6 +46,7 @@ PAGES = [
     "docs/RUNNER.md",
     "docs/LISTS.md",
     "docs/RUN.md",
+    "docs/EXPLAIN.md",
     "docs/REPORTS.md",
     "docs/ARCHITECTURE.md",
     "docs/DEFINITIONS.md",
@@ -57,7 +58,7 @@ PAGES = [
 # The most words of a sentence.
 LONGEST = 45
 # Pages whose commands are run, in this order: a later one may use what an earlier one wrote.
-RUN = ["README.md", "docs/LISTS.md", "docs/RUN.md", "docs/RUNNER.md", "docs/REPORTS.md"]
+RUN = ["README.md", "docs/LISTS.md", "docs/RUN.md", "docs/EXPLAIN.md", "docs/RUNNER.md", "docs/REPORTS.md"]
 # What stands below this heading names what is gone.
 PAST = "Names that changed"
 PATH_ENDS = (".md", ".rt", ".antt", ".edit", ".bash", ".py", ".ld", ".sbatch", ".svg")
