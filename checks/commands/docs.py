@@ -48,6 +48,9 @@ PAGES = [
     "docs/RUN.md",
     "docs/EXPLAIN.md",
     "docs/REPORTS.md",
+    "docs/CI.md",
+    "docs/COVERAGE.md",
+    "docs/PROFILE.md",
     "docs/ARCHITECTURE.md",
     "docs/DEFINITIONS.md",
     "docs/PROMISES.md",
@@ -58,7 +61,10 @@ PAGES = [
 # The most words of a sentence.
 LONGEST = 45
 # Pages whose commands are run, in this order: a later one may use what an earlier one wrote.
-RUN = ["README.md", "docs/LISTS.md", "docs/RUN.md", "docs/EXPLAIN.md", "docs/RUNNER.md", "docs/REPORTS.md"]
+RUN = [
+    "README.md", "docs/LISTS.md", "docs/RUN.md", "docs/EXPLAIN.md", "docs/RUNNER.md", "docs/REPORTS.md", "docs/COVERAGE.md",
+    "docs/PROFILE.md", "docs/COUNTS.md",
+]
 # What stands below this heading names what is gone.
 PAST = "Names that changed"
 PATH_ENDS = (".md", ".rt", ".antt", ".edit", ".bash", ".py", ".ld", ".sbatch", ".svg")
