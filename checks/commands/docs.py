@@ -13,11 +13,12 @@ Of each page (*.md) it asks that
   - a number behind <!-- count: NAME --> is that of the repository, and so is a number of crates, edits, test
     functions, commands, and rows of `checks/tables`; and a number of the jobs and programs of a list, of engines, and of the lists in
     `examples`. Numbers up to twelve may stand as words.
-Of the pages of WORDS it asks the number of words, the median of their sentences and the longest one. Words count in text and tables, and
-not in code; sentences of tables count for the longest alone. What stands below the heading of PAST names what is gone, and counts nowhere.
+Of the pages of PAGES it asks that every name in backticks is a word of some file, and that no sentence is longer than LONGEST. What stands
+below the heading of PAST names what is gone, and counts nowhere.
 Of docs/PROMISES.md it asks that the external crates which it lists as trusted are those of crates.txt, and that its table of calls that may
-wait has each public call whose bounds let it wait. Then it asks that docs/rooms.svg is what docs/rooms.py draws. The lines `$ ..` of README.md and docs/RUNNER.md are run, and what they print is compared: `..` alone on a line stands
-for lines left out, and /tmp for a folder that is taken away.
+wait has each public call whose bounds let it wait. Then it asks that docs/rooms.svg is what docs/rooms.py draws. The lines `$ ..` of the
+pages of RUN are run, and what they print is compared: `..` alone on a line stands for lines left out, and /tmp for a folder that is taken
+away.
 
 A line a page goes to standard output where all is well, and else to standard error, with a line for each thing that is wrong. The status
 is 1 where something is.
@@ -27,7 +28,6 @@ import fnmatch
 import os
 import pathlib
 import re
-import statistics
 import subprocess
 import sys
 import tempfile
@@ -39,23 +39,35 @@ import markdown  # noqa: E402
 import promised  # noqa: E402
 from facts import Facts  # noqa: E402
 
-# The most words of a page.
-WORDS = {
-    "README.md": 900,
-    "CONTRIBUTING.md": 1700,
-    "docs/RUNNER.md": 3300,
-    "docs/REPORTS.md": 1500,
-    "docs/ARCHITECTURE.md": 2000,
-    "docs/DEFINITIONS.md": 2500,
-    "docs/PROMISES.md": 1700,
-    "docs/DECISIONS.md": 3200,
-    "docs/PERFORMANCE.md": 1200,
-    "crates/*/README.md": 150,
-}
-MEDIAN = 18
+# Pages that must be there, and whose names and sentences are looked at most closely.
+PAGES = [
+    "README.md",
+    "CONTRIBUTING.md",
+    "docs/RUNNER.md",
+    "docs/LISTS.md",
+    "docs/RUN.md",
+    "docs/EXPLAIN.md",
+    "docs/REPORTS.md",
+    "docs/CI.md",
+    "docs/COVERAGE.md",
+    "docs/PROFILE.md",
+    "docs/COUNTS.md",
+    "docs/ACCEPT.md",
+    "docs/GLOSSARY.md",
+    "docs/ARCHITECTURE.md",
+    "docs/DEFINITIONS.md",
+    "docs/PROMISES.md",
+    "docs/DECISIONS.md",
+    "docs/PERFORMANCE.md",
+    "crates/*/README.md",
+]
+# The most words of a sentence.
 LONGEST = 45
 # Pages whose commands are run, in this order: a later one may use what an earlier one wrote.
-RUN = ["README.md", "docs/RUNNER.md", "docs/REPORTS.md"]
+RUN = [
+    "README.md", "docs/LISTS.md", "docs/RUN.md", "docs/EXPLAIN.md", "docs/RUNNER.md", "docs/REPORTS.md", "docs/COVERAGE.md",
+    "docs/PROFILE.md", "docs/COUNTS.md", "docs/ACCEPT.md",
+]
 # What stands below this heading names what is gone.
 PAST = "Names that changed"
 PATH_ENDS = (".md", ".rt", ".antt", ".edit", ".bash", ".py", ".ld", ".sbatch", ".svg")
@@ -101,9 +113,9 @@ class Review:
         own = os.path.dirname(self.page.path)
         return (own,) if own.startswith("crates/") else (own, "crates/*")
 
-    def limit(self):
-        """The most words of the page, if it is one of the table."""
-        return next((most for name, most in WORDS.items() if fnmatch.fnmatch(self.page.path, name)), None)
+    def is_listed(self):
+        """Whether the page is one of PAGES."""
+        return any(fnmatch.fnmatch(self.page.path, name) for name in PAGES)
 
     # ---- paths and links
 
@@ -175,7 +187,7 @@ class Review:
         crate = parts[0] if parts[0] in self.facts.crates else None
         words = self.facts.words_of(crate) if crate else self.facts.vocabulary
         missing = [part for part in parts[1 if crate else 0:] if part not in words]
-        if not crate and not self.limit() and "_" not in text.strip("_"):
+        if not crate and not self.is_listed() and "_" not in text.strip("_"):
             return
         if missing and parts[0] not in self.facts.externals:
             self.say(line, f"no source of {crate or 'the repository'} has `{missing[0]}`")
@@ -285,31 +297,15 @@ class Review:
         for crate, name in sorted(told ^ promised.waiting_calls()):
             self.say(1, f"{crate}::{name} may wait by one of this page and the sources, and not by the other")
 
-    # ---- sizes
+    # ---- sentences
 
-    def check_sizes(self):
-        """The page keeps to its number of words, and its sentences to theirs."""
-        most, words = self.limit(), self.words()
-        if words > most:
-            self.say(1, f"{words} words, {most} at most")
-        if self.median() > MEDIAN:
-            self.say(1, f"the median sentence has {self.median()} words, {MEDIAN} at most")
+    def check_sentences(self):
+        """No sentence is too long to be read once."""
         for block in self.page.prose():
             for text in markdown.cells_of(block.text) if block.kind == "row" else [block.text]:
                 for sentence in markdown.sentences_in(text):
                     if len(sentence) > LONGEST and block.line < self.past:
                         self.say(block.line, f"a sentence of {len(sentence)} words, {LONGEST} at most: {' '.join(sentence[:8])} ..")
-
-    def words(self):
-        """The words of the page, without those of its past."""
-        blocks = [block for block in self.page.blocks if block.line < self.past]
-        return markdown.words_in(markdown.Page(self.page.path, "", blocks))
-
-    def median(self):
-        """The median of the sentences of paragraphs and items. One or two words are a label."""
-        texts = [block.text for block in self.page.prose() if block.kind in ("text", "item") and block.line < self.past]
-        lengths = [len(sentence) for text in texts for sentence in markdown.sentences_in(text) if len(sentence) > 2]
-        return statistics.median(lengths) if lengths else 0
 
     def check(self):
         """Asks everything but the commands."""
@@ -322,16 +318,13 @@ class Review:
         if self.page.path == "docs/PROMISES.md":
             self.check_trusted()
             self.check_waiting()
-        if self.limit():
-            self.check_sizes()
+        if self.is_listed():
+            self.check_sentences()
 
     def summary(self):
         """The line of the page."""
         asked = ", ".join(f"{count} {name}" for name, count in self.asked.items() if count)
-        if not self.limit():
-            return f"{self.page.path}: {asked or 'nothing to ask'}"
-        size = f"{self.words()} of {self.limit()} words, median sentence {self.median():g}"
-        return f"{self.page.path}: {size}{', ' if asked else ''}{asked}"
+        return f"{self.page.path}: {asked or 'nothing to ask'}"
 
 
 def path_in(code):
@@ -439,7 +432,7 @@ def main():
         check_commands(reviews, facts)
     if not words.pages and not is_drawn(facts):
         reviews[0].say(1, "docs/rooms.svg is of another crates.txt: run docs/rooms.py")
-    missing = [] if words.pages else [name for name in WORDS if not any(fnmatch.fnmatch(path, name) for path in pages)]
+    missing = [] if words.pages else [name for name in PAGES if not any(fnmatch.fnmatch(path, name) for path in pages)]
     for review in reviews:
         print(review.summary(), file=sys.stderr if review.wrong else sys.stdout)
         for line in review.wrong:

@@ -1,6 +1,4 @@
-"""Pages of Markdown as blocks: headings, paragraphs, items of lists, rows of tables and code. Words and sentences are counted in text and
-tables, and not in code.
-"""
+"""Pages of Markdown as blocks: headings, paragraphs, items of lists, rows of tables and code; and the sentences of a text."""
 import dataclasses
 import re
 
@@ -110,12 +108,6 @@ def is_rule(row):
 def shown(text):
     """A text as a reader sees it: links without their targets."""
     return LINK.sub(r"\1", text)
-
-
-def words_in(page):
-    """How many words a page has: those of headings, text, items and rows, and not those of code."""
-    blocks = [block for block in page.prose() if not is_rule(block.text)]
-    return sum(len(WORD.findall(shown(block.text).replace("|", " "))) for block in blocks)
 
 
 def sentences_in(text):
