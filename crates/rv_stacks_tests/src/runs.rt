@@ -88,7 +88,12 @@ fn told(alloc: Global, row: &str) -> Result<String, Fail> {
     let image = read_image(alloc, bytes.as_slice(), Isa::Imc)?;
     let symbols = CodeSymbols::new(alloc, &image, bytes.as_slice())?;
     let budget = cell_of(row, 1).parse::<u32>()?;
-    let (_, spots) = count_with_stacks(alloc, machine_of(alloc, cell_of(row, 3))?, budget, &symbols)?;
+    let (_, spots) = count_with_stacks(
+        alloc,
+        machine_of(alloc, cell_of(row, 3))?,
+        budget,
+        &symbols,
+    )?;
     let mut text = String::new(alloc);
     for spot in spots.as_slice() {
         let comma = if text.is_empty() { "" } else { ", " };
