@@ -75,7 +75,7 @@ all_small known answers are job = kept_small known job.image answers are
 
 counted_table : (shown : View) (plan : Planned) (places : List ℕ) (table : CountTable) → IsCountedFor shown plan places table → IsTable table
 counted_table (view.Cover csv) plan places table are = are.table
-counted_table (view.Profile format) plan places table are = are.table
+counted_table (view.Profile format) plan places table are = are.sum.table
 
 pub table_of_view : (known : Option FileContents) (shown : View) (path : Option (List ℕ)) (plan : Planned) (places : List ℕ)
     (table : CountTable) → IsTableFor known shown path plan places table → IsTable table
