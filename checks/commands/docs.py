@@ -55,6 +55,7 @@ PAGES = [
     "docs/COUNTS.md",
     "docs/ACCEPT.md",
     "docs/GLOSSARY.md",
+    "docs/CONTRACTS.md",
     "docs/ARCHITECTURE.md",
     "docs/DEFINITIONS.md",
     "docs/PROMISES.md",
