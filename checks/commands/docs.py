@@ -43,6 +43,7 @@ from facts import Facts  # noqa: E402
 PAGES = [
     "README.md",
     "CONTRIBUTING.md",
+    "docs/TUTORIAL.md",
     "docs/RUNNER.md",
     "docs/LISTS.md",
     "docs/RUN.md",
@@ -54,6 +55,7 @@ PAGES = [
     "docs/COUNTS.md",
     "docs/ACCEPT.md",
     "docs/GLOSSARY.md",
+    "docs/CONTRACTS.md",
     "docs/ARCHITECTURE.md",
     "docs/DEFINITIONS.md",
     "docs/PROMISES.md",
@@ -65,8 +67,8 @@ PAGES = [
 LONGEST = 45
 # Pages whose commands are run, in this order: a later one may use what an earlier one wrote.
 RUN = [
-    "README.md", "docs/LISTS.md", "docs/RUN.md", "docs/EXPLAIN.md", "docs/RUNNER.md", "docs/REPORTS.md", "docs/COVERAGE.md",
-    "docs/PROFILE.md", "docs/COUNTS.md", "docs/ACCEPT.md",
+    "README.md", "docs/TUTORIAL.md", "docs/LISTS.md", "docs/RUN.md", "docs/EXPLAIN.md", "docs/RUNNER.md", "docs/REPORTS.md",
+    "docs/COVERAGE.md", "docs/PROFILE.md", "docs/COUNTS.md", "docs/ACCEPT.md",
 ]
 # What stands below this heading names what is gone.
 PAST = "Names that changed"
