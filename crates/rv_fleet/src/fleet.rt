@@ -11,7 +11,7 @@ ghost use Rattle.rv_fleet.specs.Pieces.{Hears};
 
 use crate::batch::Batch;
 use crate::collect::rows_of_all_pieces;
-use crate::crew::Crew;
+use rv_engine::Crew;
 use crate::gate::{Gate, Unheard};
 use crate::pieces::Pieces;
 use crate::places::all_places;

@@ -8,7 +8,6 @@
 
 mod batch;
 mod collect;
-mod crew;
 mod fleet;
 mod gate;
 mod piece;
@@ -20,7 +19,7 @@ mod worker;
 mod worker_promise;
 
 pub use batch::Batch;
-pub use crew::Crew;
+pub use rv_engine::Crew;
 pub use fleet::{FleetError, PlacesError, run_fleet, run_places};
 pub use gate::{FreeGate, Gate};
 pub use piece::Piece;

@@ -10,7 +10,7 @@ ghost use Rattle.rv_fleet.specs.Started.{CanWork};
 
 use crate::batch::Batch;
 use crate::collect::{Collected, collect_pieces};
-use crate::crew::Crew;
+use rv_engine::Crew;
 use crate::fleet::FleetError;
 use crate::gate::Gate;
 use crate::pieces::Pieces;

@@ -1,25 +1,81 @@
-//! What is told of rows, one after the other.
+//! An observer that tells of rows, and sends that.
 
-ghost use Rattle.std.specs.Prelude.{◌≡◌, IfOk};
-ghost use Rattle.rv_stream.specs.Streams.{joined_row_texts};
+ghost use Rattle.std.specs.Prelude.{◌≡◌, [], None};
+ghost use Rattle.rv_stream.specs.Texts.{IsSent};
 
-use crate::placed_rows::PlacedRows;
-use rv_rows::Telling;
-use std::alloc::{AllocError, Global};
+use crate::outbox::Outbox;
+use crate::told_row::ToldRow;
+use rv_engine::{Flow, Observer};
+use rv_fleet::Sink;
+use rv_rows::{Telling, WriteError};
+use std::alloc::Global;
 
-/// What is told of rows.
-pub(crate) fn joined_row_texts<T: Telling>(
-    alloc: Global,
-    telling: &T,
-    placed: &PlacedRows<'_>,
-) -> Result<Vec<u8>, AllocError>
-    ensures { IfOk result (λ text. text.items
-        ≡ joined_row_texts (T.line telling.now) placed.now.places.now placed.now.rows.now) }
-{
-    let (places, rows) = (placed.places, placed.rows);
-    let mut text = Vec::new(alloc);
-    for i in 0..rows.len() {
-        telling.push_row_text(alloc, places[i], &rows[i], &mut text)?;
+/// Tells of each row with the place of its job, and sends that: what comes together in one put.
+#[derive(Drop)]
+pub(crate) struct RowTexts<'a, T: Telling, W: Sink + Drop> {
+    pub(crate) alloc: Global,
+    pub(crate) telling: &'a T,
+    pub(crate) places: &'a [usize],
+    /// How many rows it has told of.
+    pub(crate) told: usize,
+    pub(crate) outbox: Outbox<W>,
+}
+
+impl<'a, T: Telling, W: Sink + Drop> RowTexts<'a, T, W> {
+    /// It has seen nothing yet.
+    pub(crate) fn new(
+        alloc: Global,
+        telling: &'a T,
+        places: &'a [usize],
+        out: W,
+    ) -> RowTexts<'a, T, W>
+        ensures telling { result.telling.now ≡ telling.now }
+        ensures places { result.places.now ≡ places.now }
+        ensures told { result.told ≡ 0 }
+        ensures start { result.outbox.start.value ≡ out }
+        ensures sent { IsSent (W.taken out) (W.taken result.outbox.out) (W.failed out) (W.failed result.outbox.out)
+            result.outbox.failed result.outbox.unsent.items [] }
+        ensures goes { result.outbox.failed ≡ None }
+    {
+        RowTexts {
+            alloc,
+            telling,
+            places,
+            told: 0,
+            outbox: Outbox::new(alloc, out),
+        }
     }
-    Ok(text)
+}
+
+impl<T: Telling, W: Sink + Drop> Observer<ToldRow> for RowTexts<'_, T, W> {
+    ghost use Rattle.std.specs.Prelude.{◌≡◌, true, is_some, length, min};
+    ghost use Rattle.rv_stream.specs.Streams.{joined_row_texts};
+    ghost use Rattle.rv_stream.specs.Texts.{IsSent};
+    ghost use Rattle.rv_stream.specs.Told.{rows_of_told};
+
+    ghost has_seen = { λ s told. (s.told ≡ min (length told) (length s.places.now))
+        × IsSent (W.taken s.outbox.start.value) (W.taken s.outbox.out)
+        (W.failed s.outbox.start.value) (W.failed s.outbox.out) s.outbox.failed s.outbox.unsent.items
+        (joined_row_texts (T.line s.telling.now) s.places.now (rows_of_told told)) };
+
+    ghost stops = { λ s. is_some s.outbox.failed ≡ true };
+
+    fn see(&mut self, made: &ToldRow) -> Flow {
+        let Some(place) = self.places.get(self.told) else {
+            return Flow::GoOn;
+        };
+        self.told += 1;
+        let (alloc, unsent) = (self.alloc, &mut self.outbox.unsent);
+        match self.telling.push_row_text(alloc, *place, &made.row, unsent) {
+            Ok(()) => Flow::GoOn,
+            Err(_) => {
+                self.outbox.failed = Some(WriteError::OutOfMemory);
+                Flow::Stop
+            }
+        }
+    }
+
+    fn pause(&mut self) -> Flow {
+        self.outbox.send()
+    }
 }

@@ -26,7 +26,7 @@ use rv_fleet::{Batch, Rows};
 use rv_job_text::Verbosity;
 use rv_kept_lines::{KeepingTelling, KeptLines, RowLines};
 use rv_progress::{CountingTelling, Progress, TerminalSink};
-use rv_rounds::FailureLimit;
+use rv_stream::FailureLimit;
 use rv_rows::Sink;
 use rv_stream::BothError;
 use std::io::Write;
