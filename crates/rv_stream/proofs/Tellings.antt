@@ -2,6 +2,7 @@
 use Rattle.std.proofs.Common.{◌≡◌, ◌∙◌, ℕ, zero, suc, ◌+◌, ◌<◌, ◌≤◌, List, [], ◌∷◌, ◌++◌, length, take, drop}
 use Rattle.std.proofs.Common.{get_or, refl, sym, ap, arith, append-nil, append_assoc, take-append-drop}
 use Rattle.std.specs.List.{concat}
+use Rattle.std.proofs.lemmas.List.{get_or_default}
 use Rattle.std.proofs.lemmas.List.Folds.{concat-append}
 use Rattle.rv_rows.specs.declared_row.Row.{Row}
 use Rattle.rv_stream.specs.Streams.{row_text_list, joined_row_texts}
@@ -100,3 +101,11 @@ module _ (line : ℕ → Row → List ℕ) where
   told_past (p ∷ places) [] row past = absurd (omega (arith, past))
   told_past (p ∷ places) (r ∷ rows) row past =
       ap (λ (l : List ℕ). line p r ++ l) (told_past places rows row (omega (arith, past)))
+
+  -- of one row more, at the place of its number
+  pub told_at : (places : List ℕ) (rows : List Row) (told : ℕ) (row : Row) → told ≡ length rows → told < length places
+      → joined_row_texts line places (rows ++ row ∷ []) ≡ joined_row_texts line places rows ++ line (get_or places told 0) row
+  told_at places rows told row is low =
+      let place = get_or places told 0 in
+      told_last places rows place row (omega (arith, is, low))
+      (get_or_default places told 0 place low ∙ ap (λ (n : ℕ). get_or places n place) is)

@@ -3,8 +3,8 @@ use Rattle.std.specs.Prelude.{◌≡◌, ◌++◌, ℕ, List, Option, Some, None
 use Rattle.std.specs.Io.KnownBytes.{Appends}
 use Rattle.rv_base.specs.Counts.{one_more}
 use Rattle.rv_rows.specs.Sinks.{AppendsBeginning}
-use Rattle.rv_report.specs.declared.report.WriteError.{WriteError}
-use Rattle.rv_report.specs.declared.report.WriteError.TheVariants.{Failed, OutOfMemory}
+use Rattle.rv_rows.specs.declared_report.WriteError.{WriteError}
+use Rattle.rv_rows.specs.declared_report.WriteError.TheVariants.{Failed, OutOfMemory}
 
 -- what is out and what waits is all of the text, and no put failed
 pub record IsUnderWay (before now : Option (List ℕ)) (failures_before failures : ℕ) (unsent text : List ℕ) : Type 0 where

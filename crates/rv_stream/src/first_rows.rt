@@ -1,6 +1,6 @@
 //! A listener that keeps rows up to a failure.
 
-ghost use Rattle.std.specs.Prelude.{◌≡◌, ◌-◌, [], false, if◌then◌else◌, option_map};
+ghost use Rattle.std.specs.Prelude.{◌≡◌, ◌-◌, ◌++◌, ◌∷◌, [], false, if◌then◌else◌, option_map};
 ghost use Rattle.rv_stream.specs.Told.{AreFirstRows};
 
 use crate::failure_limit::FailureLimit;
@@ -48,8 +48,7 @@ impl Listener<ToldRow> for FirstRows<'_> {
     fn hear(&mut self, made: ToldRow) -> Flow {
         let failed = self.limit.judge.fails(&made.row);
         self.left = failures_left(self.left, failed);
-        // Out of memory: `push` fails by that alone.
-        self.refused = self.rows.push(made.row).is_err();
+        self.refused = keep_row(&mut self.rows, made.row);
         if self.refused || self.left == Some(0) {
             Flow::Stop
         } else {
@@ -60,6 +59,14 @@ impl Listener<ToldRow> for FirstRows<'_> {
     fn pause(&mut self) -> Flow {
         Flow::GoOn
     }
+}
+
+// Keeps a row, and answers whether a growth was refused.
+fn keep_row(rows: &mut Vec<Row>, row: Row) -> bool
+    ensures { result ≡ false → rows.new.items ≡ rows.old.items ++ row ∷ [] }
+{
+    // Out of memory: `push` fails by that alone.
+    rows.push(row).is_err()
 }
 
 // How many failures are left after a row, where they are counted.

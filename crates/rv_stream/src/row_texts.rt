@@ -12,23 +12,23 @@ use std::alloc::Global;
 
 /// Tells of each row with the place of its job, and sends that: what comes together in one put.
 #[derive(Drop)]
-pub(crate) struct RowTexts<'a, T: Telling, W: Sink + Drop> {
+pub(crate) struct RowTexts<'t, 'p, T: Telling, W: Sink + Drop> {
     pub(crate) alloc: Global,
-    pub(crate) telling: &'a T,
-    pub(crate) places: &'a [usize],
+    pub(crate) telling: &'t T,
+    pub(crate) places: &'p [usize],
     /// How many rows it has told of.
     pub(crate) told: usize,
     pub(crate) outbox: Outbox<W>,
 }
 
-impl<'a, T: Telling, W: Sink + Drop> RowTexts<'a, T, W> {
+impl<'t, 'p, T: Telling, W: Sink + Drop> RowTexts<'t, 'p, T, W> {
     /// It has seen nothing yet.
     pub(crate) fn new(
         alloc: Global,
-        telling: &'a T,
-        places: &'a [usize],
+        telling: &'t T,
+        places: &'p [usize],
         out: W,
-    ) -> RowTexts<'a, T, W>
+    ) -> RowTexts<'t, 'p, T, W>
         ensures telling { result.telling.now ≡ telling.now }
         ensures places { result.places.now ≡ places.now }
         ensures told { result.told ≡ 0 }
@@ -47,7 +47,7 @@ impl<'a, T: Telling, W: Sink + Drop> RowTexts<'a, T, W> {
     }
 }
 
-impl<T: Telling, W: Sink + Drop> Observer<ToldRow> for RowTexts<'_, T, W> {
+impl<T: Telling, W: Sink + Drop> Observer<ToldRow> for RowTexts<'_, '_, T, W> {
     ghost use Rattle.std.specs.Prelude.{◌≡◌, true, is_some, length, min};
     ghost use Rattle.rv_stream.specs.Streams.{joined_row_texts};
     ghost use Rattle.rv_stream.specs.Texts.{IsSent};
@@ -61,12 +61,13 @@ impl<T: Telling, W: Sink + Drop> Observer<ToldRow> for RowTexts<'_, T, W> {
     ghost stops = { λ s. is_some s.outbox.failed ≡ true };
 
     fn see(&mut self, made: &ToldRow) -> Flow {
-        let Some(place) = self.places.get(self.told) else {
+        if self.told >= self.places.len() {
             return Flow::GoOn;
-        };
+        }
+        let place = self.places[self.told];
         self.told += 1;
         let (alloc, unsent) = (self.alloc, &mut self.outbox.unsent);
-        match self.telling.push_row_text(alloc, *place, &made.row, unsent) {
+        match self.telling.push_row_text(alloc, place, &made.row, unsent) {
             Ok(()) => Flow::GoOn,
             Err(_) => {
                 self.outbox.failed = Some(WriteError::OutOfMemory);

@@ -122,8 +122,8 @@ pub fn stream_rows_to_both<
 
 // The rows of a run, if it came to its end and they were kept.
 fn rows_of_run(ran: Result<Flow, RunError>, first: FirstRows<'_>) -> Result<Rows, StreamError>
-    ensures rows { IfOk result (λ rows. rows ≡ first.rows.items) }
-    ensures kept { IfOk result (λ _. first.refused ≡ false) }
+    ensures rows { IfOk result (λ rows. rows ≡ first.entry.rows.items) }
+    ensures kept { IfOk result (λ _. first.entry.refused ≡ false) }
     ensures ran { IfOk result (λ _. is_ok ran ≡ true) }
 {
     ran?;

@@ -16,12 +16,12 @@ pub struct ToldRow {
 
 /// Makes the rows of a batch, and tells of them.
 #[derive(Drop)]
-pub(crate) struct ToldRows<'a, T: Telling> {
-    pub(crate) batch: &'a Batch<'a>,
-    pub(crate) telling: &'a T,
+pub(crate) struct ToldRows<'b, 't, T: Telling> {
+    pub(crate) batch: &'b Batch<'b>,
+    pub(crate) telling: &'t T,
 }
 
-impl<T: Telling> Work<ToldRow> for ToldRows<'_, T> {
+impl<T: Telling> Work<ToldRow> for ToldRows<'_, '_, T> {
     ghost use Rattle.std.specs.Prelude.{length};
     ghost use Rattle.rv_rows.specs.Recent.{AreOutcomes};
     ghost use Rattle.rv_stream.specs.Told.{IsToldRow};
