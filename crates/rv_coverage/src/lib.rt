@@ -8,16 +8,19 @@
 
 mod block;
 mod count;
+mod count_work;
 mod counter;
 mod known;
 mod law;
 mod places;
 mod step;
 mod table_of_job;
+mod table_sum;
 mod tally;
 
 pub use block::{Block, first_of};
 pub use count::{count_job, count_run};
+pub use count_work::JobTable;
 pub use counter::{Counter, Stepped};
 pub use law::{
     counts_stand_at_even_addresses, counts_sum_to_the_steps, jobs_have_one_table,
@@ -29,3 +32,4 @@ pub use step::{begins_at_end, is_branch};
 pub use table_of_job::{
     digest_of, empty_table, image_bytes, image_of_bytes, images_of_one, shown_text,
 };
+pub use table_sum::{HasTable, TableSum};

@@ -1,0 +1,31 @@
+-- Tables that are added one after another.
+use Rattle.std.specs.Prelude.{◌≡◌, List, [], ◌∷◌, ◌++◌, Option, Some, None, Result, Ok, Err}
+use Rattle.rv_counts.specs.declared.sum.SumError.{SumError}
+use Rattle.rv_counts.specs.declared.table.CountTable.{CountTable}
+use Rattle.rv_counts.specs.Sum.{no_counts, HaveNoSum}
+use Rattle.rv_coverage.specs.JobTables.{SumsTo}
+
+-- the sum of those that were added, and why the next one was not
+pub record Added : Type 0 where
+  pub sum : CountTable
+  pub failed : Option SumError
+
+abbrev pub sum_or_error_of : CountTable → Option SumError → Result CountTable SumError
+sum_or_error_of sum None = Ok sum
+sum_or_error_of sum (Some error) = Err error
+
+abbrev pub sum_or_error : Added → Result CountTable SumError
+sum_or_error added = sum_or_error_of added.sum added.failed
+
+-- the last table has no sum with those before it
+pub record EndAdded (sum : CountTable) (error : SumError) (ts : List CountTable) : Type 0 where
+  pub before : List CountTable
+  pub last : CountTable
+  pub tables : ts ≡ before ++ last ∷ []
+  pub sums : SumsTo no_counts before sum
+  pub refused : HaveNoSum error sum last
+
+-- tables were added, or all but the last, which has no sum with the others
+abbrev pub AreAdded : CountTable → Option SumError → List CountTable → Type 0
+AreAdded sum None ts = SumsTo no_counts ts sum
+AreAdded sum (Some error) ts = EndAdded sum error ts

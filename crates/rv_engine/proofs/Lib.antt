@@ -1,0 +1,2 @@
+mod Hearing
+mod Sending
