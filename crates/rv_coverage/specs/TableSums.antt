@@ -1,21 +1,26 @@
 -- Tables that are added one after another.
 use Rattle.std.specs.Prelude.{◌≡◌, List, [], ◌∷◌, ◌++◌, Option, Some, None, Result, Ok, Err}
 use Rattle.rv_counts.specs.declared.sum.SumError.{SumError}
+use Rattle.rv_counts.specs.declared.sum.SumError.TheVariants.{OutOfMemory}
 use Rattle.rv_counts.specs.declared.table.CountTable.{CountTable}
 use Rattle.rv_counts.specs.Sum.{no_counts, HaveNoSum}
 use Rattle.rv_coverage.specs.JobTables.{SumsTo}
+use Rattle.rv_engine.specs.declared.engine.RunError.{RunError}
+use Rattle.rv_engine.specs.declared.listener.Flow.{Flow}
 
 -- the sum of those that were added, and why the next one was not
 pub record Added : Type 0 where
   pub sum : CountTable
   pub failed : Option SumError
 
-abbrev pub sum_or_error_of : CountTable → Option SumError → Result CountTable SumError
-sum_or_error_of sum None = Ok sum
-sum_or_error_of sum (Some error) = Err error
+abbrev pub sum_or_error : CountTable → Option SumError → Result CountTable SumError
+sum_or_error sum None = Ok sum
+sum_or_error sum (Some error) = Err error
 
-abbrev pub sum_or_error : Added → Result CountTable SumError
-sum_or_error added = sum_or_error_of added.sum added.failed
+-- what is told behind a run: memory was wanting where it ended early
+abbrev pub sum_of_run : Added → Result Flow RunError → Result CountTable SumError
+sum_of_run added (Ok flow) = sum_or_error added.sum added.failed
+sum_of_run added (Err error) = Err OutOfMemory
 
 -- the last table has no sum with those before it
 pub record EndAdded (sum : CountTable) (error : SumError) (ts : List CountTable) : Type 0 where

@@ -29,6 +29,7 @@ impl Model for JobTable {
 }
 
 impl JobTable {
+    /// The table of a run.
     pub fn new(table: CountTable) -> JobTable
         requires { IsTable table }
         ensures { result ≡ table }
@@ -52,7 +53,7 @@ pub(crate) struct CountWork<'a> {
 }
 
 impl Work<JobTable> for CountWork<'_> {
-    ghost use Rattle.std.specs.Prelude.{ℕ, Unit, length, slice_index_or};
+    ghost use Rattle.std.specs.Prelude.{ℕ, length, slice_index_or};
     ghost use Rattle.rv_jobs.specs.declared_job.Job.{Job as AJob};
     ghost use Rattle.rv_coverage.specs.JobTables.{IsTableOfOne};
     ghost use Rattle.rv_trace.specs.Trace.{job_at};

@@ -27,7 +27,7 @@ pub use law::{
     jobs_have_one_table_over_the_same_files, run_begins_its_end, run_begins_its_steps,
     tables_of_parts_sum_to_that_of_the_list, tables_of_shards_sum_to_that_of_all,
 };
-pub use places::{count_places, share_of};
+pub use places::count_places;
 pub use step::{begins_at_end, is_branch};
 pub use table_of_job::{
     digest_of, empty_table, image_bytes, image_of_bytes, images_of_one, shown_text,

@@ -1,11 +1,12 @@
 //! The table of the jobs at some places of a plan.
 
-ghost use Rattle.std.specs.Prelude.{◌≡◌, ◌-◌, ◌*◌, ◌<◌, ◌≤◌, IfOk, max};
+ghost use Rattle.std.specs.Prelude.{◌≡◌, IfOk};
+ghost use Rattle.rv_counts.specs.declared.sum.SumError.TheVariants.{OutOfMemory};
 ghost use Rattle.rv_coverage.specs.JobTables.{IsTableOfPlaces};
 
 use crate::count_work::{CountWork, JobTable};
 use crate::table_sum::TableSum;
-use rv_counts::CountTable;
+use rv_counts::{CountTable, SumError};
 use rv_engine::{Crew, run_jobs};
 use rv_fleet::Batch;
 use std::alloc::AllocError;
@@ -27,19 +28,20 @@ pub fn count_places<R: Threads + Wait + Sync>(
         &work,
         TableSum::new(crew.alloc),
     );
-    match (ran, sum.into_sum()) {
-        (Ok(_), Ok(table)) => Ok(table),
-        // Out of memory: tables of counts alone always have a sum, and no worker is had where memory is short.
-        (Err(_), _) | (_, Err(_)) => Err(AllocError),
+    match sum.into_sum_of_run(ran) {
+        Ok(table) => Ok(table),
+        Err(error) => Err(want_of_memory(error)),
     }
 }
 
-/// How many places each of so many threads takes: one at least, and no more than so many threads need for all.
-pub fn share_of(places: usize, workers: u32) -> usize
-    requires { 0 < workers }
-    ensures some { 0 < result }
-    ensures all { places ≤ result * workers }
-    ensures least { (result - 1) * workers < max places 1 }
+// Why jobs have no table: their tables have no stacks, and so few of these have a sum unless memory is wanting.
+fn want_of_memory(error: SumError) -> AllocError
+    requires { error ≡ OutOfMemory }
 {
-    places.div_ceil(workers as usize).max(1)
+    match error {
+        SumError::OutOfMemory => AllocError,
+        SumError::Count(_) | SumError::Spot(_) | SumError::Names(_) | SumError::Runs => {
+            unreachable!()
+        }
+    }
 }

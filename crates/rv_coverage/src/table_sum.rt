@@ -2,11 +2,11 @@
 
 ghost use Rattle.std.specs.Prelude.{◌≡◌, None};
 ghost use Rattle.rv_counts.specs.Sum.{no_counts};
-ghost use Rattle.rv_coverage.specs.TableSums.{sum_or_error};
+ghost use Rattle.rv_coverage.specs.TableSums.{sum_of_run};
 
 use crate::table_of_job::empty_table;
 use rv_counts::{CountTable, SumError, sum_of_tables};
-use rv_engine::{Flow, Listener};
+use rv_engine::{Flow, Listener, RunError};
 use std::alloc::Global;
 use std::marker::Model;
 
@@ -54,13 +54,16 @@ impl TableSum {
         }
     }
 
-    /// The sum, or why there is none.
-    pub fn into_sum(self) -> Result<CountTable, SumError>
-        ensures { result ≡ sum_or_error self }
+    /// The sum behind a run that it heard, or why there is none. A run ends early where a growth or the start of a thread was refused.
+    pub fn into_sum_of_run(self, ran: Result<Flow, RunError>) -> Result<CountTable, SumError>
+        ensures { result ≡ sum_of_run self ran }
     {
-        match self.failed {
-            Some(error) => Err(error),
-            None => Ok(self.sum),
+        match ran {
+            Ok(_) => match self.failed {
+                None => Ok(self.sum),
+                Some(error) => Err(error),
+            },
+            Err(_) => Err(SumError::OutOfMemory),
         }
     }
 }
