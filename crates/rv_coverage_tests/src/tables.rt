@@ -108,7 +108,12 @@ fn told<R: Threads + Wait + Sync>(
     Ok(told)
 }
 
-fn check<R: Threads + Wait + Sync>(rt: &R, alloc: Global, plan: &Plan, row: &str) -> Result<(), Fail> {
+fn check<R: Threads + Wait + Sync>(
+    rt: &R,
+    alloc: Global,
+    plan: &Plan,
+    row: &str,
+) -> Result<(), Fail> {
     for workers in [1, 3] {
         let told = told(rt, alloc, plan, cell_of(row, 0), workers)?;
         agree(row, told.as_str(), cell_of(row, 1))?;
