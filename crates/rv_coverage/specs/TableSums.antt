@@ -13,6 +13,7 @@ pub record Added : Type 0 where
   pub sum : CountTable
   pub failed : Option SumError
 
+-- the sum, or why the last table was not added
 abbrev pub sum_or_error : CountTable → Option SumError → Result CountTable SumError
 sum_or_error sum None = Ok sum
 sum_or_error sum (Some error) = Err error

@@ -3,7 +3,8 @@
 //! [`count_run`] runs a machine within a budget, known straight code at once, and answers its counts: for each address exactly how
 //! often an instruction began there, and how often it was a conditional branch that was taken. [`count_job`] does so of
 //! a job of a plan, by a run beside its own. [`count_places`] answers the table of the jobs of a batch, which is the sum of theirs:
-//! [`jobs_have_one_table`] whatever their order, and [`tables_of_shards_sum_to_that_of_all`].
+//! [`jobs_have_one_table`] whatever their order, and [`tables_of_shards_sum_to_that_of_all`]. [`TableSum`] adds the tables that a run of
+//! the engine makes, each as soon as those of all jobs before it are added.
 #![tactic(auto)]
 
 mod block;
