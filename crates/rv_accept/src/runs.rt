@@ -11,6 +11,7 @@ use crate::standing::{Candidate, Standing};
 use crate::values::{ValueKey, is_value_changed};
 use rv_jobs::Job;
 use rv_rows::{Row, RowEnd};
+use rv_text::is_utf8;
 use std::alloc::{AllocError, Global};
 use std::vec::IntoIter;
 
@@ -238,14 +239,5 @@ fn why_end_is_left(acceptance: Acceptance, job: &Job, ending: RowEnd) -> Option<
         None
     } else {
         Some(WhyLeft::End)
-    }
-}
-
-fn is_utf8(console: &[u8]) -> bool
-    ensures { result ≡ is_utf8 console.now }
-{
-    match str::from_utf8(console) {
-        Ok(_) => true,
-        Err(_) => false,
     }
 }
