@@ -2,7 +2,6 @@
 
 ghost use Rattle.std.specs.Prelude.{◌≡◌, ◌++◌, IfOk, OnOk, drop, option_map};
 ghost use Rattle.std.specs.Vec.Iter.{into_iter_items};
-ghost use Rattle.std.specs.Str.{is_utf8};
 ghost use Rattle.rv_accept.specs.Runs.{first_row, is_accepted_run, judged_run, judged_runs, placed_rows, rest_if, row_if, takes_from_run};
 ghost use Rattle.rv_accept.specs.Runs.{why_chosen_is_left, why_differing_is_left, why_end_is_left, why_left, why_sharing_is_left};
 

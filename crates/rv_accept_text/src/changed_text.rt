@@ -2,7 +2,6 @@
 
 ghost use Rattle.std.specs.Prelude.{◌≡◌, ◌++◌, OnOk, nat_eq};
 ghost use Rattle.std.specs.List.{common_prefix_len};
-ghost use Rattle.std.specs.Str.{is_utf8};
 ghost use Rattle.rv_text.specs.Spans.{span_text};
 ghost use Rattle.rv_accept_text.specs.ChangedTexts.{byte_change, digits_at, text_change, values_from, word_change, word_change_at};
 

@@ -1,7 +1,6 @@
 //! The text that a console is expected to be, where a difference from it is told by lines.
 
 ghost use Rattle.std.specs.Prelude.{◌≡◌, ◌&&◌, option_map};
-ghost use Rattle.std.specs.Str.{is_utf8};
 ghost use Rattle.rv_expect.specs.Comparisons.{sides_of};
 ghost use Rattle.rv_job_text.specs.ConsoleLines.{is_told_by_lines, told_by_lines, wanted_by_lines, wanted_console, wanted_of};
 
