@@ -25,7 +25,8 @@ use Rattle.rv_report.specs.declared.row.Refusal.{Refusal}
 use Rattle.rv_rows.specs.Rows.{start_in}
 use Rattle.rv_text.specs.Printable.{printable_text}
 use Rattle.rv_coverage.specs.Coverage.{once_if, begun_in_run, taken_in_run, AreCountsOf, AreCountsOfJob}
-use Rattle.rv_coverage.specs.JobTables.{image_bytes, has_digest, start_over, begun_from, taken_from, begun_by, taken_by, path_by, runs_by, first_path, table_of_run, HasNoStacks, IsTableOfFew, IsTableOfJobs, IsTableOfOne}
+use Rattle.rv_coverage.specs.JobTables.{has_digest, start_over, begun_from, taken_from, begun_by, taken_by, path_by, runs_by, first_path, table_of_run, HasNoStacks, IsTableOfFew, IsTableOfJobs, IsTableOfOne}
+use Rattle.rv_trace.specs.Trace.{image_bytes}
 
 none_rise : digests_rise None [] ≡ true
 unfolding digests_rise

@@ -12,15 +12,12 @@ use Rattle.rv_counts.specs.Table.{begun_in, taken_in, path_in, name_in, arrivals
 use Rattle.rv_jobs.specs.declared.answers.Answer.{Answer}
 use Rattle.rv_jobs.specs.declared_job.Job.{Job}
 use Rattle.rv_jobs.specs.Jobs.{single_job}
-use Rattle.rv_jobs.specs.Plans.{Planned, kept_for}
+use Rattle.rv_jobs.specs.Plans.{Planned}
 use Rattle.rv_machine.specs.State.{State}
-use Rattle.rv_rows.specs.Rows.{content_if_read, start_in}
+use Rattle.rv_rows.specs.Rows.{start_in}
 use Rattle.rv_text.specs.Printable.{printable_text}
+use Rattle.rv_trace.specs.Trace.{image_bytes}
 use Rattle.rv_coverage.specs.Coverage.{once_if, begun_in_run, taken_in_run}
-
--- the bytes of a job's image, where they were read
-abbrev pub image_bytes : List Answer → Job → Option (List ℕ)
-image_bytes answers job = content_if_read (Some (kept_for answers job.image))
 
 -- the bytes have this SHA-256 digest
 abbrev pub has_digest : List ℕ → Option (List ℕ) → Bool

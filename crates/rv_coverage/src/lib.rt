@@ -30,7 +30,5 @@ pub use law::{
 };
 pub use places::count_places;
 pub use step::{begins_at_end, is_branch};
-pub use table_of_job::{
-    digest_of, empty_table, image_bytes, image_of_bytes, images_of_one, shown_text,
-};
+pub use table_of_job::{digest_of, empty_table, images_of_one, shown_text};
 pub use table_sum::{HasTable, TableSum};

@@ -14,7 +14,7 @@ use Rattle.rv_counts.specs.declared.table.ImageCounts.{ImageCounts}
 use Rattle.rv_counts.specs.Sum.{HaveNoSum, IsSum}
 use Rattle.rv_counts.specs.Table.{begun_in, taken_in, path_in, name_in, arrivals_in, steps_in, has_name, name_of, AreNames, AreNamesOf, IsTable}
 use Rattle.rv_coverage.specs.Coverage.{once_if}
-use Rattle.rv_coverage.specs.JobTables.{first_path, image_bytes, jobs_at, start_over, IsTableOfPlaces}
+use Rattle.rv_coverage.specs.JobTables.{first_path, jobs_at, start_over, IsTableOfPlaces}
 use Rattle.rv_elf.specs.declared.image.Image.{Image}
 use Rattle.rv_elf.specs.SymbolSearch.{symbol_at}
 use Rattle.rv_jobs.specs.declared.answers.Answer.{Answer}
@@ -27,6 +27,7 @@ use Rattle.rv_spots.specs.Profiles.{is_last_of_some}
 use Rattle.rv_spots.specs.Trees.{ends_with}
 use Rattle.rv_stacks.specs.Stacks as run
 use Rattle.rv_text.specs.Printable.{printable_text}
+use Rattle.rv_trace.specs.Trace.{image_bytes}
 
 -- ---- names
 

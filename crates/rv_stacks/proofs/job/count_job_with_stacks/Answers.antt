@@ -1,5 +1,5 @@
 -- The counts and the stacks are those of the run that begins where the job's does.
-use Rattle.std.proofs.Common.{◌∙◌, ◌×◌, List, Some, None, Result, get_or, sym, ap, subst, arith}
+use Rattle.std.proofs.Common.{◌∙◌, Some, None, Result, get_or, sym, ap, subst, arith}
 use Rattle.std.proofs.lemmas.List.{get_or_read}
 use Rattle.rv_coverage.proofs.Public.{counts_even, start_even}
 use Rattle.rv_coverage.specs.Coverage.{AreCountsOf}

@@ -6,7 +6,7 @@ use Rattle.rv_stacks.proofs.table.table_of_run.Goals as goal
 
 pub returns : goal.returns
 returns c =
-    run_table _ _ _ _ _ _ _ _ _ c.in_ok-images.ensures c.in_ok-digest.ensures.value
+    run_table _ _ _ _ _ _ _ _ _ _ c.in_ok-images.ensures c.in_ok-digest.ensures.value
     (c.in_ok-path.ensures.value ∙ ap printable_text c.as_bytes.ensures.value) c.requires.counts
     c.as_slice.ensures c.in_ok-functions.ensures.names c.in_ok-functions.ensures.fits c.requires.tree c.requires.some
     c.in_ok-digest.ensures.long c.in_ok-digest.ensures.bytes c.in_ok-path.ensures.text c.in_ok-path.ensures.line
