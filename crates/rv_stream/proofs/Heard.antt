@@ -8,7 +8,7 @@ use Rattle.rv_engine.specs.declared.engine.RunError.{RunError}
 use Rattle.rv_engine.specs.declared.listener.Flow.{Flow}
 use Rattle.rv_engine.specs.declared.listener.Flow.TheVariants.{GoOn, Stop}
 use Rattle.rv_engine.specs.Results.{HeardRun, Hears}
-use Rattle.rv_expect.specs.Judgement.{fails, judging_of}
+use Rattle.rv_expect.specs.Judgement.{Judging, fails}
 use Rattle.rv_fleet.proofs.Public.{rows_count}
 use Rattle.rv_fleet.specs.declared.batch.Batch.{Batch}
 use Rattle.rv_fleet.specs.Batches.{batch_rows}
@@ -16,9 +16,8 @@ use Rattle.rv_jobs.specs.Jobs.{single_job}
 use Rattle.rv_rows.specs.declared_row.Row.{Row}
 use Rattle.rv_rows.specs.Rows.{row_of, rows_at}
 use Rattle.rv_rows.specs.Sinks.{AppendsBeginning}
-use Rattle.rv_stream.specs.declared.failure_limit.FailureLimit.{FailureLimit}
 use Rattle.rv_stream.specs.declared.told_row.ToldRow.{ToldRow}
-use Rattle.rv_stream.specs.Limits.{rows_within}
+use Rattle.rv_stream.specs.Limits.{rows_up_to}
 use Rattle.rv_stream.specs.Streams.{joined_row_texts, row_text_list}
 use Rattle.rv_stream.specs.Told.{rows_of_told, texts_of_told, AreFirstRows, IsToldRow}
 use Rattle.rv_stream.proofs.Limits.{ended_there, first_of}
@@ -59,28 +58,28 @@ module _ (line : ℕ → Row → List ℕ) (batch : Batch) (told : List ToldRow)
 -- ---- the end of a run
 
 -- a listener heard of the first rows that the run would have
-pub record HasBegun (line : ℕ → Row → List ℕ) (batch : Batch) (limit : FailureLimit) (heard : List ToldRow → Type 0) : Type 0 where
+pub record HasBegun (line : ℕ → Row → List ℕ) (batch : Batch) (most : Option ℕ) (judging : Judging) (heard : List ToldRow → Type 0) : Type 0 where
   pub told : List ToldRow
   pub is_heard : heard told
   pub few : length (rows_of_told told) ≤ length batch.places.now
   pub rest : List Row
-  pub rows : rows_within limit (batch_rows batch) ≡ rows_of_told told ++ rest
+  pub rows : rows_up_to most (fails judging) (batch_rows batch) ≡ rows_of_told told ++ rest
   pub texts : concat (texts_of_told told) ≡ joined_row_texts line batch.places.now (rows_of_told told)
 
 -- or of all of them, and kept them
-pub record HasEnded (line : ℕ → Row → List ℕ) (batch : Batch) (limit : FailureLimit) (heard : List ToldRow → Type 0) (kept : List Row)
+pub record HasEnded (line : ℕ → Row → List ℕ) (batch : Batch) (most : Option ℕ) (judging : Judging) (heard : List ToldRow → Type 0) (kept : List Row)
     : Type 0 where
   pub told : List ToldRow
   pub is_heard : heard told
   pub few : length (rows_of_told told) ≤ length batch.places.now
-  pub rows : rows_within limit (batch_rows batch) ≡ rows_of_told told
+  pub rows : rows_up_to most (fails judging) (batch_rows batch) ≡ rows_of_told told
   pub kept_all : kept ≡ rows_of_told told
   pub texts : concat (texts_of_told told) ≡ joined_row_texts line batch.places.now (rows_of_told told)
 
-module _ (line : ℕ → Row → List ℕ) (batch : Batch) (limit : FailureLimit) (left : Option ℕ) (refused : Bool) (kept : List Row)
+module _ (line : ℕ → Row → List ℕ) (batch : Batch) (most : Option ℕ) (judging : Judging) (left : Option ℕ) (refused : Bool) (kept : List Row)
     (heard : List ToldRow → Type 0) (stops : Type 0)
-    (first : (told : List ToldRow) → heard told → AreFirstRows limit left refused kept (rows_of_told told)) where
-  begins : (n : ℕ) → Hears (IsToldRow line batch) (length batch.places.now) heard n → HasBegun line batch limit heard
+    (first : (told : List ToldRow) → heard told → AreFirstRows most judging left refused kept (rows_of_told told)) where
+  begins : (n : ℕ) → Hears (IsToldRow line batch) (length batch.places.now) heard n → HasBegun line batch most judging heard
   begins n hears =
       let told = hears.results in
       let long = hears.count_is in
@@ -89,27 +88,27 @@ module _ (line : ℕ → Row → List ℕ) (batch : Batch) (limit : FailureLimit
       let count = length-map told (λ (t : ToldRow). t.row) in
       let k = length told in
       let are = rows_are line batch told few hears.each in
-      let front = first_of (fails (judging_of limit.judge)) limit.failures (rows_of_told told) (drop k (batch_rows batch))
+      let front = first_of (fails judging) most (rows_of_told told) (drop k (batch_rows batch))
       (first told hears.heard).within in record {
         told = told;
         is_heard = hears.heard;
         few = omega (arith, count, few);
         rest = front.0;
-        rows = ap (rows_within limit) (sym (take-append-drop k (batch_rows batch)))
-            ∙ ap (λ (rs : List Row). rows_within limit (rs ++ drop k (batch_rows batch))) (sym are) ∙ front.1;
+        rows = ap (rows_up_to most (fails judging)) (sym (take-append-drop k (batch_rows batch)))
+            ∙ ap (λ (rs : List Row). rows_up_to most (fails judging) (rs ++ drop k (batch_rows batch))) (sym are) ∙ front.1;
         texts = texts_are line batch told few hears.each;
       }
 
   -- however a run ended
   pub has_begun : (ran : Result Flow RunError) → HeardRun (IsToldRow line batch) (length batch.places.now) heard stops ran
-      → HasBegun line batch limit heard
+      → HasBegun line batch most judging heard
   has_begun (Ok GoOn) run = begins (length batch.places.now) run.0
   has_begun (Ok Stop) run = begins run.0.count run.0.hears
   has_begun (Err error) run = begins run.count run.hears
 
   -- with all rows, or where a failure ended it
   pub has_ended : (flow : Flow) → HeardRun (IsToldRow line batch) (length batch.places.now) heard stops (Ok flow)
-      → refused ≡ false → (stops → left ≡ Some 0) → HasEnded line batch limit heard kept
+      → refused ≡ false → (stops → left ≡ Some 0) → HasEnded line batch most judging heard kept
   has_ended GoOn run there ends =
       let hears = run.0 in
       let told = hears.results in
@@ -122,7 +121,7 @@ module _ (line : ℕ → Row → List ℕ) (batch : Batch) (limit : FailureLimit
         told = told;
         is_heard = hears.heard;
         few = omega (arith, count, few);
-        rows = ap (rows_within limit) (sym all) ∙ (first told hears.heard).within;
+        rows = ap (rows_up_to most (fails judging)) (sym all) ∙ (first told hears.heard).within;
         kept_all = (first told hears.heard).kept_all there;
         texts = texts_are line batch told few hears.each;
       }
@@ -139,22 +138,22 @@ module _ (line : ℕ → Row → List ℕ) (batch : Batch) (limit : FailureLimit
         told = told;
         is_heard = hears.heard;
         few = omega (arith, count, few);
-        rows = ap (rows_within limit) (sym (take-append-drop k (batch_rows batch)))
-            ∙ ap (λ (rs : List Row). rows_within limit (rs ++ drop k (batch_rows batch))) (sym are)
-            ∙ ended_there (fails (judging_of limit.judge)) limit.failures (rows_of_told told) (drop k (batch_rows batch))
+        rows = ap (rows_up_to most (fails judging)) (sym (take-append-drop k (batch_rows batch)))
+            ∙ ap (λ (rs : List Row). rows_up_to most (fails judging) (rs ++ drop k (batch_rows batch))) (sym are)
+            ∙ ended_there (fails judging) most (rows_of_told told) (drop k (batch_rows batch))
             told_first.within (sym told_first.left_is ∙ ends run.1);
         kept_all = told_first.kept_all there;
         texts = texts_are line batch told few hears.each;
       }
 
 -- a beginning of what is told of these rows is one of what is told of all
-pub begun_of_all : (line other : ℕ → Row → List ℕ) (batch : Batch) (limit : FailureLimit) (heard : List ToldRow → Type 0)
-    (begun : HasBegun line batch limit heard) (before now : Option (List ℕ))
+pub begun_of_all : (line other : ℕ → Row → List ℕ) (batch : Batch) (most : Option ℕ) (judging : Judging) (heard : List ToldRow → Type 0)
+    (begun : HasBegun line batch most judging heard) (before now : Option (List ℕ))
     → AppendsBeginning before now (joined_row_texts other batch.places.now (rows_of_told begun.told))
-    → AppendsBeginning before now (joined_row_texts other batch.places.now (rows_within limit (batch_rows batch)))
-begun_of_all line other batch limit heard begun before now part =
+    → AppendsBeginning before now (joined_row_texts other batch.places.now (rows_up_to most (fails judging) (batch_rows batch)))
+begun_of_all line other batch most judging heard begun before now part =
     let rows = rows_of_told begun.told in
     beginning_of_longer before now (joined_row_texts other batch.places.now rows)
     (joined_row_texts other (drop (length rows) batch.places.now) begun.rest)
-    (joined_row_texts other batch.places.now (rows_within limit (batch_rows batch))) part
+    (joined_row_texts other batch.places.now (rows_up_to most (fails judging) (batch_rows batch))) part
     (ap (joined_row_texts other batch.places.now) begun.rows ∙ told_append other batch.places.now rows begun.rest begun.few)

@@ -1,11 +1,10 @@
 -- The rows up to a failure.
 use Rattle.std.proofs.Common.{◌≡◌, ◌∙◌, ◌-◌, ℕ, zero, suc, Bool, true, false, List, [], ◌∷◌, ◌++◌, Option, Some, None, append-nil, ap, sym, refl, arith}
 use Rattle.std.specs.Prelude.{if◌then◌else◌, option_map}
-use Rattle.rv_expect.specs.Judgement.{fails, judging_of}
+use Rattle.rv_expect.specs.Judgement.{Judging, fails}
 use Rattle.rv_rows.specs.declared_row.Row.{Row}
-use Rattle.rv_stream.specs.declared.failure_limit.FailureLimit.{FailureLimit}
-use Rattle.rv_stream.specs.Limits.{failures_behind, rows_until, rows_up_to, rows_within}
-use Rattle.rv_stream.specs.Told.{failures_left, AreFirstRows}
+use Rattle.rv_stream.specs.Limits.{failures_behind, rows_until, rows_up_to}
+use Rattle.rv_stream.specs.Told.{AreFirstRows}
 
 module _ (fails : Row → Bool) where
   -- of rows in two pieces
@@ -128,21 +127,21 @@ module _ (fails : Row → Bool) where
       ∙ append-nil rows
 
 -- nothing is heard yet
-pub no_rows_yet : (limit : FailureLimit) → AreFirstRows limit limit.failures false [] []
-no_rows_yet limit = record {
+pub no_rows_yet : (most : Option ℕ) (judging : Judging) → AreFirstRows most judging most false [] []
+no_rows_yet most judging = record {
   kept_all = λ kept. refl;
-  left_is = first_left (fails (judging_of limit.judge)) limit.failures;
-  within = first_within (fails (judging_of limit.judge)) limit.failures;
+  left_is = first_left (fails judging) most;
+  within = first_within (fails judging) most;
 }
 
 -- one row more
-pub one_row_more : (limit : FailureLimit) (left now : Option ℕ) (refused gone : Bool) (kept after rows : List Row) (row : Row)
-    → AreFirstRows limit left refused kept rows → (left ≡ Some 0 → ⊥) → refused ≡ false
-    → now ≡ (if fails (judging_of limit.judge) row then option_map (λ (m : ℕ). m - 1) left else left)
+pub one_row_more : (most : Option ℕ) (judging : Judging) (left now : Option ℕ) (refused gone : Bool) (kept after rows : List Row) (row : Row)
+    → AreFirstRows most judging left refused kept rows → (left ≡ Some 0 → ⊥) → refused ≡ false
+    → now ≡ (if fails judging row then option_map (λ (m : ℕ). m - 1) left else left)
     → (gone ≡ false → after ≡ kept ++ row ∷ [])
-    → AreFirstRows limit now gone after (rows ++ row ∷ [])
-one_row_more limit left now refused gone kept after rows row first goes none less pushed = record {
+    → AreFirstRows most judging now gone after (rows ++ row ∷ [])
+one_row_more most judging left now refused gone kept after rows row first goes none less pushed = record {
   kept_all = λ there. pushed there ∙ ap (λ (l : List Row). l ++ row ∷ []) (first.kept_all none);
-  left_is = less ∙ more_left (fails (judging_of limit.judge)) limit.failures left rows row first.left_is goes;
-  within = more_within (fails (judging_of limit.judge)) limit.failures left rows row first.left_is goes first.within;
+  left_is = less ∙ more_left (fails judging) most left rows row first.left_is goes;
+  within = more_within (fails judging) most left rows row first.left_is goes first.within;
 }

@@ -4,10 +4,9 @@ use Rattle.rv_fleet.specs.declared.batch.Batch.{Batch}
 use Rattle.rv_jobs.specs.Jobs.{single_job}
 use Rattle.rv_rows.specs.declared_row.Row.{Row}
 use Rattle.rv_rows.specs.Rows.{row_of}
-use Rattle.rv_stream.specs.declared.failure_limit.FailureLimit.{FailureLimit}
 use Rattle.rv_stream.specs.declared.told_row.ToldRow.{ToldRow}
-use Rattle.rv_stream.specs.Limits.{failures_behind, rows_within}
-use Rattle.rv_expect.specs.Judgement.{fails, judging_of}
+use Rattle.rv_stream.specs.Limits.{failures_behind, rows_up_to}
+use Rattle.rv_expect.specs.Judgement.{Judging, fails}
 
 -- the place of the job of a number, and its row
 abbrev pub place_of_number : Batch → ℕ → ℕ
@@ -29,11 +28,11 @@ abbrev pub texts_of_told : List ToldRow → List (List ℕ)
 texts_of_told told = map (λ (t : ToldRow). t.text.items) told
 
 -- how many failures are left before a run ends, where failures end it
-abbrev pub failures_left : FailureLimit → List Row → Option ℕ
-failures_left limit rows = option_map (λ most. failures_behind (fails (judging_of limit.judge)) most rows) limit.failures
+abbrev pub failures_left : Option ℕ → Judging → List Row → Option ℕ
+failures_left most judging rows = option_map (λ number. failures_behind (fails judging) number rows) most
 
 -- rows up to a failure that ends a run; they are kept, unless a growth was refused
-pub record AreFirstRows (limit : FailureLimit) (left : Option ℕ) (refused : Bool) (kept rows : List Row) : Type 0 where
+pub record AreFirstRows (most : Option ℕ) (judging : Judging) (left : Option ℕ) (refused : Bool) (kept rows : List Row) : Type 0 where
   pub kept_all : refused ≡ false → kept ≡ rows
-  pub left_is : left ≡ failures_left limit rows
-  pub within : rows_within limit rows ≡ rows
+  pub left_is : left ≡ failures_left most judging rows
+  pub within : rows_up_to most (fails judging) rows ≡ rows

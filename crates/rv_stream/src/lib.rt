@@ -15,6 +15,7 @@ mod placed_rows;
 mod row_text_puts;
 mod row_texts;
 mod stream;
+mod streamed;
 mod told_row;
 
 pub use error::{BothError, StreamError};
@@ -23,4 +24,5 @@ pub use placed_rows::PlacedRows;
 pub use row_text_puts::put_row_texts;
 pub use rv_rows::Telling;
 pub use stream::{ToldTo, stream_rows, stream_rows_to_both};
+pub use streamed::Streamed;
 pub use told_row::ToldRow;

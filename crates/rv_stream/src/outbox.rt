@@ -6,51 +6,48 @@ ghost use Rattle.rv_engine.specs.declared.listener.Flow.TheVariants.{GoOn, Stop}
 ghost use Rattle.rv_rows.specs.Sinks.{AppendsBeginning};
 ghost use Rattle.rv_stream.specs.Texts.{IsSent};
 
+use crate::streamed::Streamed;
 use rv_engine::Flow;
 use rv_fleet::{Sink, put_all};
 use rv_rows::WriteError;
 use std::alloc::Global;
-use std::snapshot::Snapshot;
+use std::marker::PhantomData;
 
 /// A sink, and the text that waits to go out to it.
 #[derive(Drop)]
-pub(crate) struct Outbox<W: Sink + Drop> {
+pub(crate) struct Outbox<J: Streamed, W: Sink + Drop> {
     pub(crate) out: W,
     /// What waits.
     pub(crate) unsent: Vec<u8>,
     /// Why no more goes out.
     pub(crate) failed: Option<WriteError>,
-    // The sink as it was at first.
-    pub(crate) start: Snapshot<W>,
+    of: PhantomData<J>,
 }
 
-impl<W: Sink + Drop> Outbox<W> {
+impl<J: Streamed, W: Sink + Drop> Outbox<J, W> {
     /// Nothing waits.
-    pub(crate) fn new(alloc: Global, out: W) -> Outbox<W>
-        ensures start { result.start.value ≡ out }
-        ensures sent { IsSent (W.taken out) (W.taken result.out) (W.failed out) (W.failed result.out)
-            result.failed result.unsent.items [] }
+    pub(crate) fn new(alloc: Global, out: W) -> Outbox<J, W>
+        requires before { J.before ≡ W.taken out }
+        requires failures { J.failures ≡ W.failed out }
+        ensures sent { IsSent J.before (W.taken result.out) J.failures (W.failed result.out) result.failed result.unsent.items [] }
         ensures goes { result.failed ≡ None }
     {
-        let start = Snapshot::of(&out);
         Outbox {
             out,
             unsent: Vec::new(alloc),
             failed: None,
-            start,
+            of: PhantomData,
         }
     }
 
     /// Sends what waits, and answers whether to go on.
     pub(crate) fn send(&mut self) -> Flow
         requires { self.old.failed ≡ None }
-        ensures sent { (text : List ℕ) → IsSent (W.taken self.old.start.value) (W.taken self.old.out)
-            (W.failed self.old.start.value) (W.failed self.old.out) self.old.failed self.old.unsent.items text
-            → IsSent (W.taken self.new.start.value) (W.taken self.new.out)
-            (W.failed self.new.start.value) (W.failed self.new.out) self.new.failed self.new.unsent.items text }
+        ensures sent { (text : List ℕ)
+            → IsSent J.before (W.taken self.old.out) J.failures (W.failed self.old.out) self.old.failed self.old.unsent.items text
+            → IsSent J.before (W.taken self.new.out) J.failures (W.failed self.new.out) self.new.failed self.new.unsent.items text }
         ensures goes { result ≡ GoOn → self.new.failed ≡ None }
         ensures stops { result ≡ Stop → is_some self.new.failed ≡ true }
-        ensures start { self.new.start ≡ self.old.start }
     {
         match put_all(&mut self.out, self.unsent.as_slice()) {
             Ok(()) => {
@@ -66,17 +63,14 @@ impl<W: Sink + Drop> Outbox<W> {
 
     /// Sends what waits, and gives the sink back: it took all of the text, or a beginning.
     pub(crate) fn finish(self) -> (W, Result<(), WriteError>)
-        ensures all { (text : List ℕ) → IsSent (W.taken self.start.value) (W.taken self.out)
-            (W.failed self.start.value) (W.failed self.out) self.failed self.unsent.items text
-            → OnOk result.1 (Appends (W.taken self.start.value) (W.taken result.0) text
-            × (W.failed result.0 ≡ W.failed self.start.value)) }
-        ensures part { (text : List ℕ) → IsSent (W.taken self.start.value) (W.taken self.out)
-            (W.failed self.start.value) (W.failed self.out) self.failed self.unsent.items text
-            → OnErr result.1 (AppendsBeginning (W.taken self.start.value) (W.taken result.0) text) }
+        ensures all { (text : List ℕ) → IsSent J.before (W.taken self.out) J.failures (W.failed self.out) self.failed self.unsent.items text
+            → OnOk result.1 (Appends J.before (W.taken result.0) text
+            × (W.failed result.0 ≡ J.failures)) }
+        ensures part { (text : List ℕ) → IsSent J.before (W.taken self.out) J.failures (W.failed self.out) self.failed self.unsent.items text
+            → OnErr result.1 (AppendsBeginning J.before (W.taken result.0) text) }
         ensures goes { OnOk result.1 (self.failed ≡ None) }
-        ensures begun { (text : List ℕ) → IsSent (W.taken self.start.value) (W.taken self.out)
-            (W.failed self.start.value) (W.failed self.out) self.failed self.unsent.items text
-            → AppendsBeginning (W.taken self.start.value) (W.taken result.0) text }
+        ensures begun { (text : List ℕ) → IsSent J.before (W.taken self.out) J.failures (W.failed self.out) self.failed self.unsent.items text
+            → AppendsBeginning J.before (W.taken result.0) text }
     {
         let Outbox {
             out,

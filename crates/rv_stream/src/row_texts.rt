@@ -4,6 +4,7 @@ ghost use Rattle.std.specs.Prelude.{◌≡◌, [], None};
 ghost use Rattle.rv_stream.specs.Texts.{IsSent};
 
 use crate::outbox::Outbox;
+use crate::streamed::Streamed;
 use crate::told_row::ToldRow;
 use rv_engine::{Flow, Observer};
 use rv_fleet::Sink;
@@ -12,28 +13,29 @@ use std::alloc::Global;
 
 /// Tells of each row with the place of its job, and sends that: what comes together in one put.
 #[derive(Drop)]
-pub(crate) struct RowTexts<'t, 'p, T: Telling, W: Sink + Drop> {
+pub(crate) struct RowTexts<'t, 'p, J: Streamed, T: Telling, W: Sink + Drop> {
     pub(crate) alloc: Global,
     pub(crate) telling: &'t T,
     pub(crate) places: &'p [usize],
     /// How many rows it has told of.
     pub(crate) told: usize,
-    pub(crate) outbox: Outbox<W>,
+    pub(crate) outbox: Outbox<J, W>,
 }
 
-impl<'t, 'p, T: Telling, W: Sink + Drop> RowTexts<'t, 'p, T, W> {
+impl<'t, 'p, J: Streamed, T: Telling, W: Sink + Drop> RowTexts<'t, 'p, J, T, W> {
     /// It has seen nothing yet.
     pub(crate) fn new(
         alloc: Global,
         telling: &'t T,
         places: &'p [usize],
         out: W,
-    ) -> RowTexts<'t, 'p, T, W>
+    ) -> RowTexts<'t, 'p, J, T, W>
+        requires before { J.before ≡ W.taken out }
+        requires failures { J.failures ≡ W.failed out }
         ensures telling { result.telling.now ≡ telling.now }
         ensures places { result.places.now ≡ places.now }
         ensures told { result.told ≡ 0 }
-        ensures start { result.outbox.start.value ≡ out }
-        ensures sent { IsSent (W.taken out) (W.taken result.outbox.out) (W.failed out) (W.failed result.outbox.out)
+        ensures sent { IsSent J.before (W.taken result.outbox.out) J.failures (W.failed result.outbox.out)
             result.outbox.failed result.outbox.unsent.items [] }
         ensures goes { result.outbox.failed ≡ None }
     {
@@ -42,21 +44,21 @@ impl<'t, 'p, T: Telling, W: Sink + Drop> RowTexts<'t, 'p, T, W> {
             telling,
             places,
             told: 0,
-            outbox: Outbox::new(alloc, out),
+            outbox: Outbox::<J, W>::new(alloc, out),
         }
     }
 }
 
-impl<T: Telling, W: Sink + Drop> Observer<ToldRow> for RowTexts<'_, '_, T, W> {
+impl<J: Streamed, T: Telling, W: Sink + Drop> Observer<ToldRow> for RowTexts<'_, '_, J, T, W> {
     ghost use Rattle.std.specs.Prelude.{◌≡◌, true, is_some, length, min};
     ghost use Rattle.rv_stream.specs.Streams.{joined_row_texts};
     ghost use Rattle.rv_stream.specs.Texts.{IsSent};
     ghost use Rattle.rv_stream.specs.Told.{rows_of_told};
 
-    ghost has_seen = { λ s told. (s.told ≡ min (length told) (length s.places.now))
-        × IsSent (W.taken s.outbox.start.value) (W.taken s.outbox.out)
-        (W.failed s.outbox.start.value) (W.failed s.outbox.out) s.outbox.failed s.outbox.unsent.items
-        (joined_row_texts (T.line s.telling.now) s.places.now (rows_of_told told)) };
+    ghost has_seen = { λ s told. (T.line s.telling.now ≡ J.line) × (s.places.now ≡ J.places)
+        × (s.told ≡ min (length told) (length J.places))
+        × IsSent J.before (W.taken s.outbox.out) J.failures (W.failed s.outbox.out) s.outbox.failed s.outbox.unsent.items
+        (joined_row_texts J.line J.places (rows_of_told told)) };
 
     ghost stops = { λ s. is_some s.outbox.failed ≡ true };
 

@@ -1,10 +1,11 @@
 //! Runs whose rows are told of as they come.
 
-ghost use Rattle.std.specs.Prelude.{◌≡◌, ◌≤◌, IfOk, OnErr, OnOk, false, is_ok, length, true};
+ghost use Rattle.std.specs.Prelude.{◌≡◌, ◌≤◌, IfOk, OnErr, OnOk, Some, false, is_ok, length, true};
 ghost use Rattle.std.specs.Io.KnownBytes.{Appends};
 ghost use Rattle.rv_fleet.specs.Batches.{batch_rows};
 ghost use Rattle.rv_rows.specs.Sinks.{AppendsBeginning};
-ghost use Rattle.rv_stream.specs.Limits.{rows_within};
+ghost use Rattle.rv_expect.specs.Judgement.{fails, judging_of};
+ghost use Rattle.rv_stream.specs.Limits.{rows_up_to, rows_within};
 ghost use Rattle.rv_stream.specs.Streams.{joined_row_texts};
 
 use crate::error::{BothError, StreamError};
@@ -12,10 +13,12 @@ use crate::failure_limit::FailureLimit;
 use crate::first_rows::FirstRows;
 use crate::made_texts::MadeTexts;
 use crate::row_texts::RowTexts;
+use crate::streamed::Streamed;
 use crate::told_row::ToldRows;
 use rv_engine::{Both, Crew, Flow, RunError, run_jobs};
 use rv_fleet::{Batch, Rows, Sink};
 use rv_rows::Telling;
+use std::marker::Brand;
 use std::sync::Wait;
 use std::thread::Threads;
 
@@ -47,20 +50,50 @@ pub fn stream_rows<R: Threads + Wait + Sync, T: Telling + Sync, W: Sink + Drop +
     if let Some(0) = limit.failures {
         return (out, Ok(Rows::new(Vec::new(crew.alloc))));
     }
-    let work = ToldRows { batch, telling };
+    stream_first_rows::<Brand, R, T, W>(crew, batch, limit, ToldTo { telling, out })
+}
+
+// The same where a failure, if any, ends the run, and a stream of its own says what is told.
+fn stream_first_rows<
+    J: Streamed + Send,
+    R: Threads + Wait + Sync,
+    T: Telling + Sync,
+    W: Sink + Drop + Send,
+>(
+    crew: &Crew<'_, R>,
+    batch: &Batch<'_>,
+    limit: &FailureLimit<'_>,
+    to: ToldTo<'_, T, W>,
+) -> (W, Result<Rows, StreamError>)
+    requires goes { limit.now.failures ≡ Some 0 → ⊥ }
+    requires before { (J.before ≡ W.taken to.out) × (J.failures ≡ W.failed to.out) }
+    requires told { (J.line ≡ T.line to.telling.now) × (J.places ≡ batch.now.places.now) }
+    requires ends { (J.most ≡ limit.now.failures) × (J.judging ≡ judging_of limit.now.judge) }
+    ensures rows { IfOk result.1 (λ rows. rows ≡ rows_up_to J.most (fails J.judging) (batch_rows batch.now)) }
+    ensures few { IfOk result.1 (λ rows. length rows ≤ length J.places) }
+    ensures all { OnOk result.1 (Appends J.before (W.taken result.0)
+        (joined_row_texts J.line J.places (rows_up_to J.most (fails J.judging) (batch_rows batch.now)))) }
+    ensures counted { OnOk result.1 (W.failed result.0 ≡ J.failures) }
+    ensures part { OnErr result.1 (AppendsBeginning J.before (W.taken result.0)
+        (joined_row_texts J.line J.places (rows_up_to J.most (fails J.judging) (batch_rows batch.now)))) }
+{
+    let work = ToldRows {
+        batch,
+        telling: to.telling,
+    };
     let listener = Both {
-        first: MadeTexts::new(crew.alloc, out),
-        second: FirstRows::new(crew.alloc, limit),
+        first: MadeTexts::<J, W>::new(crew.alloc, to.out),
+        second: FirstRows::<J>::new(crew.alloc, limit),
     };
     let (heard, ran) = run_jobs(crew, &work, listener);
     let (out, sent) = heard.first.outbox.finish();
     if let Err(error) = sent {
         return (out, Err(StreamError::from(error)));
     }
-    (out, rows_of_run(ran, heard.second))
+    (out, rows_of_run::<J>(ran, heard.second))
 }
 
-/// The same for two sinks: what is told of the second comes of the rows alone.
+/// The same for two sinks: what the second takes is told of the rows alone.
 pub fn stream_rows_to_both<
     R: Threads + Wait + Sync,
     T: Telling + Sync,
@@ -94,15 +127,52 @@ pub fn stream_rows_to_both<
     if let Some(0) = limit.failures {
         return (first.out, second.out, Ok(Rows::new(Vec::new(crew.alloc))));
     }
+    stream_first_rows_to_both::<Brand, Brand, R, T, U, W, V>(crew, batch, limit, first, second)
+}
+
+// The same where a failure, if any, ends the run, and two streams of their own say what is told.
+fn stream_first_rows_to_both<
+    J: Streamed + Send,
+    K: Streamed + Send,
+    R: Threads + Wait + Sync,
+    T: Telling + Sync,
+    U: Telling + Sync,
+    W: Sink + Drop + Send,
+    V: Sink + Drop + Send,
+>(
+    crew: &Crew<'_, R>,
+    batch: &Batch<'_>,
+    limit: &FailureLimit<'_>,
+    first: ToldTo<'_, T, W>,
+    second: ToldTo<'_, U, V>,
+) -> (W, V, Result<Rows, BothError>)
+    requires goes { limit.now.failures ≡ Some 0 → ⊥ }
+    requires first_before { (J.before ≡ W.taken first.out) × (J.failures ≡ W.failed first.out) }
+    requires second_before { (K.before ≡ V.taken second.out) × (K.failures ≡ V.failed second.out) }
+    requires first_told { (J.line ≡ T.line first.telling.now) × (J.places ≡ batch.now.places.now) }
+    requires second_told { (K.line ≡ U.line second.telling.now) × (K.places ≡ batch.now.places.now) }
+    requires ends { (J.most ≡ limit.now.failures) × (J.judging ≡ judging_of limit.now.judge) }
+    ensures rows { IfOk result.2 (λ rows. rows ≡ rows_up_to J.most (fails J.judging) (batch_rows batch.now)) }
+    ensures few { IfOk result.2 (λ rows. length rows ≤ length J.places) }
+    ensures first { OnOk result.2 (Appends J.before (W.taken result.0)
+        (joined_row_texts J.line J.places (rows_up_to J.most (fails J.judging) (batch_rows batch.now)))) }
+    ensures second { OnOk result.2 (Appends K.before (V.taken result.1)
+        (joined_row_texts K.line K.places (rows_up_to J.most (fails J.judging) (batch_rows batch.now)))) }
+    ensures counted { OnOk result.2 ((W.failed result.0 ≡ J.failures) × (V.failed result.1 ≡ K.failures)) }
+    ensures first_part { OnErr result.2 (AppendsBeginning J.before (W.taken result.0)
+        (joined_row_texts J.line J.places (rows_up_to J.most (fails J.judging) (batch_rows batch.now)))) }
+    ensures second_part { OnErr result.2 (AppendsBeginning K.before (V.taken result.1)
+        (joined_row_texts K.line K.places (rows_up_to J.most (fails J.judging) (batch_rows batch.now)))) }
+{
     let work = ToldRows {
         batch,
         telling: first.telling,
     };
     let listener = Both {
-        first: MadeTexts::new(crew.alloc, first.out),
+        first: MadeTexts::<J, W>::new(crew.alloc, first.out),
         second: Both {
-            first: RowTexts::new(crew.alloc, second.telling, batch.places, second.out),
-            second: FirstRows::new(crew.alloc, limit),
+            first: RowTexts::<K, U, V>::new(crew.alloc, second.telling, batch.places, second.out),
+            second: FirstRows::<J>::new(crew.alloc, limit),
         },
     };
     let (heard, ran) = run_jobs(crew, &work, listener);
@@ -114,14 +184,17 @@ pub fn stream_rows_to_both<
     if let Err(error) = sent_other {
         return (out, other, Err(BothError::Second(StreamError::from(error))));
     }
-    match rows_of_run(ran, heard.second.second) {
+    match rows_of_run::<J>(ran, heard.second.second) {
         Ok(rows) => (out, other, Ok(rows)),
         Err(error) => (out, other, Err(BothError::First(error))),
     }
 }
 
 // The rows of a run, if it came to its end and they were kept.
-fn rows_of_run(ran: Result<Flow, RunError>, first: FirstRows<'_>) -> Result<Rows, StreamError>
+fn rows_of_run<J: Streamed>(
+    ran: Result<Flow, RunError>,
+    first: FirstRows<'_, J>,
+) -> Result<Rows, StreamError>
     ensures rows { IfOk result (λ rows. rows ≡ first.entry.rows.items) }
     ensures kept { IfOk result (λ _. first.entry.refused ≡ false) }
     ensures ran { IfOk result (λ _. is_ok ran ≡ true) }
