@@ -1,6 +1,8 @@
 -- What is heard of a run: the first rows of a batch, and what is told of them.
-use Rattle.std.proofs.Common.{◌≡◌, ◌∙◌, ◌<◌, ◌≤◌, ◌⊎◌, ℕ, zero, suc, Bool, false, List, [], ◌∷◌, ◌++◌, Option, Some, Result, Ok, Err, length, map, take, drop, get_or, take-append-drop, refl, sym, ap, subst, arith}
+use Rattle.std.proofs.Common.{◌≡◌, ◌∙◌, ◌<◌, ◌≤◌, ◌⊎◌, ℕ, zero, suc, Bool, true, false, List, [], ◌∷◌, ◌++◌, Option, Some, Result, Ok, Err, length, map, take, drop, get_or, take-append-drop, refl, sym, ap, subst, arith}
+use Rattle.std.proofs.lemmas.Bool.{false≢true}
 use Rattle.std.proofs.lemmas.List.{length-map, take_all}
+use Rattle.std.specs.Prelude.{is_ok, IfOk, OnErr, OnOk}
 use Rattle.std.specs.Io.KnownBytes.{Appends}
 use Rattle.std.specs.List.{concat}
 use Rattle.rv_base.proofs.Public.{beginning_of_longer}
@@ -145,6 +147,28 @@ module _ (line : ℕ → Row → List ℕ) (batch : Batch) (most : Option ℕ) (
         kept_all = told_first.kept_all there;
         texts = texts_are line batch told few hears.each;
       }
+
+  -- the same of a run that ended well
+  pub has_ended_well : (ran : Result Flow RunError) → HeardRun (IsToldRow line batch) (length batch.places.now) heard stops ran
+      → is_ok ran ≡ true → refused ≡ false → (stops → left ≡ Some 0) → HasEnded line batch most judging heard kept
+  has_ended_well (Ok flow) run ok there ends = has_ended flow run there ends
+  has_ended_well (Err error) run ok there ends = absurd (false≢true ok)
+
+-- ---- results
+
+pub if_all : {X E : Type 0} (r : Result X E) (A B C D : X → Type 0) → ((x : X) → A x → B x → C x → D x) → IfOk r A → IfOk r B → IfOk r C
+    → IfOk r D
+if_all (Ok x) A B C D f a b c = f x a b c
+if_all (Err e) A B C D f a b c = tt
+
+pub on_both : {X E : Type 0} (r : Result X E) (A B : X → Type 0) (P : Type 0) → ((x : X) → A x → B x → P) → IfOk r A → IfOk r B
+    → OnOk r P
+on_both (Ok x) A B P f a b = f x a b
+on_both (Err e) A B P f a b = tt
+
+pub on_error : {X E : Type 0} (r : Result X E) (P : Type 0) → P → OnErr r P
+on_error (Ok x) P p = tt
+on_error (Err e) P p = p
 
 -- a beginning of what is told of these rows is one of what is told of all
 pub begun_of_all : (line other : ℕ → Row → List ℕ) (batch : Batch) (most : Option ℕ) (judging : Judging) (heard : List ToldRow → Type 0)
