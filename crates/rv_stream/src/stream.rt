@@ -165,7 +165,7 @@ fn stream_first_rows_to_both<
         (joined_row_texts K.line K.places (rows_up_to J.most (fails J.judging) (batch_rows batch.now)))) }
 {
     let work = ToldRows {
-        batch,
+        batch: &*batch,
         telling: first.telling,
     };
     let listener = Both {
