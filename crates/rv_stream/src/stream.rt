@@ -176,15 +176,23 @@ fn stream_first_rows_to_both<
         },
     };
     let (heard, ran) = run_jobs(crew, &work, listener);
-    let (out, sent) = heard.first.outbox.finish();
-    let (other, sent_other) = heard.second.first.outbox.finish();
+    let Both {
+        first: texts,
+        second: rest,
+    } = heard;
+    let Both {
+        first: row_texts,
+        second: rows,
+    } = rest;
+    let (out, sent) = texts.outbox.finish();
+    let (other, sent_other) = row_texts.outbox.finish();
     if let Err(error) = sent {
         return (out, other, Err(BothError::First(StreamError::from(error))));
     }
     if let Err(error) = sent_other {
         return (out, other, Err(BothError::Second(StreamError::from(error))));
     }
-    match rows_of_run::<J>(ran, heard.second.second) {
+    match rows_of_run::<J>(ran, rows) {
         Ok(rows) => (out, other, Ok(rows)),
         Err(error) => (out, other, Err(BothError::First(error))),
     }
