@@ -2,7 +2,6 @@
 
 ghost use Rattle.std.specs.Prelude.{◌≡◌, ◌++◌, IfOk, OnOk, drop, option_map};
 ghost use Rattle.std.specs.Vec.Iter.{into_iter_items};
-ghost use Rattle.std.specs.Str.{is_utf8};
 ghost use Rattle.rv_accept.specs.Runs.{first_row, is_accepted_run, judged_run, judged_runs, placed_rows, rest_if, row_if, takes_from_run};
 ghost use Rattle.rv_accept.specs.Runs.{why_chosen_is_left, why_differing_is_left, why_end_is_left, why_left, why_sharing_is_left};
 
@@ -11,6 +10,7 @@ use crate::standing::{Candidate, Standing};
 use crate::values::{ValueKey, is_value_changed};
 use rv_jobs::Job;
 use rv_rows::{Row, RowEnd};
+use rv_text::is_utf8;
 use std::alloc::{AllocError, Global};
 use std::vec::IntoIter;
 
@@ -238,14 +238,5 @@ fn why_end_is_left(acceptance: Acceptance, job: &Job, ending: RowEnd) -> Option<
         None
     } else {
         Some(WhyLeft::End)
-    }
-}
-
-fn is_utf8(console: &[u8]) -> bool
-    ensures { result ≡ is_utf8 console.now }
-{
-    match str::from_utf8(console) {
-        Ok(_) => true,
-        Err(_) => false,
     }
 }

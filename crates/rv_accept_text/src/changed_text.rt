@@ -2,13 +2,12 @@
 
 ghost use Rattle.std.specs.Prelude.{◌≡◌, ◌++◌, OnOk, nat_eq};
 ghost use Rattle.std.specs.List.{common_prefix_len};
-ghost use Rattle.std.specs.Str.{is_utf8};
 ghost use Rattle.rv_text.specs.Spans.{span_text};
 ghost use Rattle.rv_accept_text.specs.ChangedTexts.{byte_change, digits_at, text_change, values_from, word_change, word_change_at};
 
 use rv_job_text::push_console_lines;
 use rv_rows::LINE;
-use rv_text::{Span, push_spans, push_text, tail_from};
+use rv_text::{Span, is_utf8, push_spans, push_text, tail_from};
 use std::alloc::AllocError;
 
 /// Appends what differs first, and ends the line: by lines where both texts are UTF-8, else by bytes. The old text has a name.
@@ -26,15 +25,6 @@ pub(crate) fn push_text_change(
         push_console_lines(out, source, new, old)
     } else {
         push_byte_change(out, old, new)
-    }
-}
-
-fn is_utf8(text: &[u8]) -> bool
-    ensures { result ≡ is_utf8 text.now }
-{
-    match str::from_utf8(text) {
-        Ok(_) => true,
-        Err(_) => false,
     }
 }
 

@@ -10,7 +10,7 @@ ghost use Rattle.rv_calls.specs.Stack.{instr_action};
 use crate::action::{StackAction, action_of, action_of_code};
 use rv_isa::Instr;
 use rv_machine::Machine;
-use rv_trace::{Code, code_at};
+use rv_trace::{Code, code_at, code_length};
 
 /// How an instruction that completed passed control to the next.
 #[derive(Clone, Copy)]
@@ -81,14 +81,5 @@ fn behind_code(pc: u32, code: Option<Code>) -> u32
     match code {
         Some(code) => pc.wrapping_add(code_length(code)),
         None => pc,
-    }
-}
-
-fn code_length(code: Code) -> u32
-    ensures { result ≡ size_of_code code }
-{
-    match code {
-        Code::Half(_) => 2,
-        Code::Word(_) => 4,
     }
 }

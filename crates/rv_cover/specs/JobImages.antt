@@ -4,12 +4,12 @@ use Rattle.std.specs.List.{fold, list_any}
 use Rattle.std.specs.Option.{option_map_or}
 use Rattle.std.specs.Str.{bytes_eq}
 use Rattle.rv_base.specs.Limits.{most_bytes}
-use Rattle.rv_coverage.specs.JobTables.{image_bytes}
 use Rattle.rv_elf.specs.declared.image.Image.{Image}
 use Rattle.rv_jobs.specs.declared.answers.Answer.{Answer}
 use Rattle.rv_jobs.specs.declared_job.Job.{Job}
 use Rattle.rv_rows.specs.Rows.{image_if_read}
 use Rattle.rv_cover.specs.declared.image_file.ImageFile.{ImageFile}
+use Rattle.rv_trace.specs.Trace.{image_bytes}
 
 -- an image with the path that a list names it by, and its file
 pub record FileImage : Type 0 where

@@ -10,7 +10,7 @@ use crate::amounts::CodeAmounts;
 use rv_counts::{AddressCounts, counts_at};
 use rv_coverage::is_branch;
 use rv_isa::is_long;
-use rv_trace::{Code, instr_of};
+use rv_trace::{Code, code_length, instr_of};
 
 /// What ran of code that stands at an address.
 pub(crate) fn amounts_of_code(address: u32, code: &[u8], counts: &[AddressCounts]) -> CodeAmounts
@@ -22,7 +22,7 @@ pub(crate) fn amounts_of_code(address: u32, code: &[u8], counts: &[AddressCounts
     let mut address = address;
     while let Some(code) = front_code(rest) {
         amounts = amounts.plus(amounts_at(address, code, counts));
-        address = address.wrapping_add(code_length(code) as u32);
+        address = address.wrapping_add(code_length(code));
         rest = bytes_behind(rest, code);
     }
     amounts
@@ -77,14 +77,5 @@ fn bytes_behind(bytes: &[u8], code: Code) -> &[u8]
     requires { size_of_code code ≤ length bytes.now }
     ensures { result.now ≡ drop (size_of_code code) bytes.now }
 {
-    &bytes[code_length(code)..]
-}
-
-fn code_length(code: Code) -> usize
-    ensures { result ≡ size_of_code code }
-{
-    match code {
-        Code::Half(_) => 2,
-        Code::Word(_) => 4,
-    }
+    &bytes[code_length(code) as usize..]
 }

@@ -3,18 +3,15 @@
 ghost use Rattle.std.specs.Prelude.{◌≡◌, ◌<◌, IfOk, IfSome, Ok, OnOk, Some, length, option_map};
 ghost use Rattle.std.specs.List.{list_any};
 ghost use Rattle.std.specs.Str.{bytes_eq};
-ghost use Rattle.rv_coverage.specs.JobTables.{image_bytes, jobs_at};
-ghost use Rattle.rv_elf.specs.Image.{image_of};
+ghost use Rattle.rv_coverage.specs.JobTables.{jobs_at};
 ghost use Rattle.rv_fleet.specs.Choices.{AreJobPlaces};
 ghost use Rattle.rv_jobs.specs.declared_job.Job.{Job as AJob};
-ghost use Rattle.rv_rows.specs.Rows.{image_if_read};
 ghost use Rattle.rv_trace.specs.Trace.{job_at};
 ghost use Rattle.rv_cover.specs.JobImages.{AreSmall, image_of_file, image_of_job, images_of, images_of_files, with_image, with_image_of};
 
 use crate::image_file::ImageFile;
-use rv_elf::{Image, ImageError, read_image};
-use rv_isa::Isa;
-use rv_jobs::{Kept, Plan};
+use rv_jobs::Plan;
+use rv_trace::{image_bytes, image_of_bytes};
 use std::alloc::{AllocError, Global};
 
 /// The images of the jobs at some places, in their order: each file once, by the path of the first job that has it.
@@ -92,28 +89,4 @@ fn image_at(alloc: Global, plan: &Plan, place: usize) -> Result<Option<ImageFile
         image,
         isa: job.isa,
     }))
-}
-
-// The bytes of a job's image, where they were read.
-fn image_bytes(plan: &Plan, place: usize) -> Option<&[u8]>
-    requires { place < length plan.now.jobs }
-    ensures { (d : AJob) → option_map (λ bytes. bytes.now) result
-        ≡ image_bytes plan.now.answers (job_at plan.now place d) }
-{
-    match plan.image(place) {
-        Kept::Content(bytes) => Some(bytes.as_slice()),
-        Kept::Unreadable | Kept::TooLong => None,
-    }
-}
-
-// The image that bytes are read as, where they are one.
-fn image_of_bytes(alloc: Global, isa: Isa, bytes: &[u8]) -> Result<Option<Image>, AllocError>
-    ensures value { IfOk result (λ image. image ≡ image_if_read isa (Some bytes.now)) }
-    ensures read { IfOk result (λ found. IfSome found (λ image. image_of isa bytes.now ≡ Ok image)) }
-{
-    match read_image(alloc, bytes, isa) {
-        Ok(image) => Ok(Some(image)),
-        Err(ImageError::OutOfMemory) => Err(AllocError),
-        Err(_) => Ok(None),
-    }
 }

@@ -17,8 +17,7 @@ pub mod Lines
 pub mod OfJobs
 pub mod Orders
 pub mod Kept
-pub mod Shares
+pub mod Adding
 pub mod Parted
 pub mod OfShards
-pub mod Bounds
 pub mod Public

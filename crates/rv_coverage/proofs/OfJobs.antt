@@ -15,10 +15,9 @@ use Rattle.rv_counts.specs.declared.table.AddressCounts.{AddressCounts}
 use Rattle.rv_counts.specs.declared.table.CountTable.{CountTable}
 use Rattle.rv_counts.specs.declared.table.FunctionName.{FunctionName}
 use Rattle.rv_counts.specs.declared.table.ImageCounts.{ImageCounts}
-use Rattle.rv_counts.specs.declared.sum.SumError.{SumError}
 use Rattle.rv_counts.specs.declared.sum.SumError.TheVariants.{Names}
 use Rattle.rv_counts.specs.Sum.{HasName, HasNameIn, HaveNoSum, IsSum, no_counts}
-use Rattle.rv_counts.specs.Table.{begun_at, taken_at, name_at, begun_in, name_in, least_path, least_path_of, digests_rise, names_rise, AreNames, AreNamesOf, AreSpots, IsImage, IsTable}
+use Rattle.rv_counts.specs.Table.{begun_at, taken_at, name_at, name_in, least_path, least_path_of, digests_rise, names_rise, AreNames, AreNamesOf, AreSpots, IsImage, IsTable}
 use Rattle.rv_jobs.specs.declared.answers.Answer.{Answer}
 use Rattle.rv_jobs.specs.declared_job.Job.{Job}
 use Rattle.rv_machine.specs.State.{State}
@@ -26,7 +25,8 @@ use Rattle.rv_report.specs.declared.row.Refusal.{Refusal}
 use Rattle.rv_rows.specs.Rows.{start_in}
 use Rattle.rv_text.specs.Printable.{printable_text}
 use Rattle.rv_coverage.specs.Coverage.{once_if, begun_in_run, taken_in_run, AreCountsOf, AreCountsOfJob}
-use Rattle.rv_coverage.specs.JobTables.{image_bytes, has_digest, start_over, begun_from, taken_from, begun_by, taken_by, path_by, runs_by, first_path, table_of_run, HasNoStacks, IsTableOfFew, IsTableOfJobs, IsTableOfOne}
+use Rattle.rv_coverage.specs.JobTables.{has_digest, start_over, begun_from, taken_from, begun_by, taken_by, path_by, runs_by, first_path, table_of_run, HasNoStacks, IsTableOfFew, IsTableOfJobs, IsTableOfOne}
+use Rattle.rv_trace.specs.Trace.{image_bytes}
 
 none_rise : digests_rise None [] ≡ true
 unfolding digests_rise
@@ -132,11 +132,8 @@ no_name_in digest f name (i ∷ is) none (inr more) =
     no_name_in digest f name is
     (none_of_either (cond (bytes_eq i.digest digest) (name_at f i.functions) None) (name_in digest f is) none).1 more
 
-no_two_names : (t u : CountTable) (f : ℕ) → HasNoStacks t → HaveNoSum (Names f) t u → ⊥
+pub no_two_names : (t u : CountTable) (f : ℕ) → HasNoStacks t → HaveNoSum (Names f) t u → ⊥
 no_two_names t u f h have = no_name_in have.0 f have.1 t.images (h.names have.0 f) have.3
-
-pub no_other_names : (t u : CountTable) (error : SumError) (f : ℕ) → error ≡ Names f → HasNoStacks t → HaveNoSum error t u → ⊥
-no_other_names t u error f is h have = no_two_names t u f h (subst (λ (e : SumError). HaveNoSum e t u) is have)
 
 pub no_counts_are_few : (n : ℕ) → IsTableOfFew n no_counts
 no_counts_are_few n = record { begun = λ digest address. omega arith; runs = omega arith; stacks = no_counts_have_none }
@@ -331,22 +328,3 @@ few_more n m t u sum h k is = record {
   runs = (let s = is.runs in let p = h.runs in let q = k.runs in omega (arith, s, p, q));
   stacks = sum_has_none t u sum h.stacks k.stacks is;
 }
-
-pub few_within : (n m : ℕ) (t : CountTable) → n ≤ m → IsTableOfFew n t → IsTableOfFew m t
-few_within n m t le h = record {
-  begun = λ digest address. let p = h.begun digest address in omega (arith, p);
-  runs = (let p = h.runs in omega (arith, p));
-  stacks = h.stacks;
-}
-
--- so few jobs add up below 2^64
-pub fits : (n m : ℕ) (t u : CountTable) (digest : List ℕ) (address : ℕ) → n + m < 2 ^ 32 → IsTableOfFew n t
-    → IsTableOfFew m u → begun_in digest address t.images + begun_in digest address u.images < 2 ^ 64
-fits n m t u digest address le h k =
-    let p = h.begun digest address in
-    let q = k.begun digest address in
-    omega (arith, p, q)
-
-pub runs_fit : (n m : ℕ) (t u : CountTable) → n + m < 2 ^ 32 → IsTableOfFew n t → IsTableOfFew m u
-    → t.runs + u.runs < 2 ^ 64
-runs_fit n m t u le h k = let p = h.runs in let q = k.runs in omega (arith, p, q)

@@ -1,4 +1,5 @@
 -- The lemmas that proofs of other crates may cite.
+pub use Rattle.rv_coverage.proofs.Adding.{run_added, run_ended, NextRefused}
 pub use Rattle.rv_coverage.proofs.Blocks.{reaches, Reaches}
 pub use Rattle.rv_coverage.proofs.Counters.{counted_all, ready}
 pub use Rattle.rv_coverage.proofs.Evens.{counts_even}
@@ -7,5 +8,4 @@ pub use Rattle.rv_coverage.proofs.Runs.{ended_early, steps_within}
 pub use Rattle.rv_coverage.proofs.OfJobs.{first_path-append, no_counts_is_table, no_names, no_owners, no_spots, none_either, none_if_no_ok, not_ok_if_none, not_over, one_rises, over, picked_begun, picked_path, picked_taken}
 pub use Rattle.rv_coverage.proofs.Orders.{first_moved}
 pub use Rattle.rv_coverage.proofs.Parted.{all_parts, joined_parts}
-pub use Rattle.rv_coverage.proofs.Shares.{jobs_more, jobs_of_share}
 pub use Rattle.rv_coverage.proofs.Starts.{no_bytes, no_image, start_even}

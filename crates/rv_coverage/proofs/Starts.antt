@@ -18,7 +18,7 @@ use Rattle.rv_rows.specs.declared.outcome.Loadable.{Loadable}
 use Rattle.rv_rows.specs.declared_row.Refusal.{Refusal}
 use Rattle.rv_rows.specs.Outcome.{image_file_or_refusal, loadable_image, loaded_state, range_if_asked, reference_or_refusal, start_if_loadable, start_if_readable, start_of}
 use Rattle.rv_rows.specs.Rows.{content_if_read, start_in}
-use Rattle.rv_coverage.specs.JobTables.{image_bytes}
+use Rattle.rv_trace.specs.Trace.{image_bytes}
 
 -- the bytes of the image were read, and the run begins at its entry
 pub record IsStart (job : Job) (bytes : Option (List ℕ)) (s : State) : Type 0 where

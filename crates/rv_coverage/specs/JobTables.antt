@@ -1,28 +1,23 @@
 -- The table of the jobs of a plan: how often each instruction of their images began, and was taken.
 use Rattle.std.specs.Prelude.{◌≡◌, ◌==◌, ◌*◌, ◌%◌, ◌^◌, ◌<◌, ◌≤◌, ℕ, Bool, false, if◌then◌else◌, is_ok, List, [], ◌∷◌}
-use Rattle.std.specs.Prelude.{Option, Some, None, option_map, map, length, slice_index_or, Result, Ok}
+use Rattle.std.specs.Prelude.{Option, Some, None, option_map, map, length, slice_index_or}
 use Rattle.std.specs.List.{filter, sum_by}
 use Rattle.std.specs.Result.{result_ok}
 use Rattle.std.specs.Str.{bytes_eq}
-use Rattle.std.specs.declared.alloc.AllocError.{AllocError}
 use Rattle.sha2.specs.Sha256.{sha256}
 use Rattle.rv_counts.specs.declared.table.AddressCounts.{AddressCounts}
 use Rattle.rv_counts.specs.declared.table.CountTable.{CountTable}
-use Rattle.rv_counts.specs.Sum.{IsSum, no_counts}
+use Rattle.rv_counts.specs.Sum.{IsSum}
 use Rattle.rv_counts.specs.Table.{begun_in, taken_in, path_in, name_in, arrivals_in, steps_in, least_path_of, IsTable}
 use Rattle.rv_jobs.specs.declared.answers.Answer.{Answer}
 use Rattle.rv_jobs.specs.declared_job.Job.{Job}
 use Rattle.rv_jobs.specs.Jobs.{single_job}
-use Rattle.rv_base.specs.Limits.{most_jobs}
-use Rattle.rv_jobs.specs.Plans.{Planned, kept_for}
+use Rattle.rv_jobs.specs.Plans.{Planned}
 use Rattle.rv_machine.specs.State.{State}
-use Rattle.rv_rows.specs.Rows.{content_if_read, start_in}
+use Rattle.rv_rows.specs.Rows.{start_in}
 use Rattle.rv_text.specs.Printable.{printable_text}
+use Rattle.rv_trace.specs.Trace.{image_bytes}
 use Rattle.rv_coverage.specs.Coverage.{once_if, begun_in_run, taken_in_run}
-
--- the bytes of a job's image, where they were read
-abbrev pub image_bytes : List Answer → Job → Option (List ℕ)
-image_bytes answers job = content_if_read (Some (kept_for answers job.image))
 
 -- the bytes have this SHA-256 digest
 abbrev pub has_digest : List ℕ → Option (List ℕ) → Bool
@@ -115,16 +110,6 @@ pub record IsTableOfOne (answers : List Answer) (job : Job) (t : CountTable) : T
   pub table : IsTableOfJobs answers (job ∷ []) t
   pub few : IsTableOfFew 1 t
 
--- a table that as many jobs can have as a list has
-pub record IsSmallTable (t : CountTable) : Type 0 where
-  pub table : IsTable t
-  pub few : IsTableOfFew most_jobs t
-
--- the table of the places that one thread takes
-pub record IsTableOfShare (plan : Planned) (places : List ℕ) (t : CountTable) : Type 0 where
-  pub table : IsTableOfPlaces plan places t
-  pub few : IsTableOfFew most_jobs t
-
 -- ---- parts
 
 -- a table for each part of the jobs
@@ -137,10 +122,6 @@ AreTablesOfParts answers _ _ = ⊥
 abbrev pub SumsTo : CountTable → List CountTable → CountTable → Type 0
 SumsTo sum [] t = sum ≡ t
 SumsTo sum (u ∷ us) t = (next : CountTable) × IsSum sum u next × SumsTo next us t
-
--- all tables are there, and this is their sum
-abbrev pub AllSumTo : List (Result CountTable AllocError) → CountTable → Type 0
-AllSumTo results t = (us : List CountTable) × (results ≡ map (λ (u : CountTable). Ok u) us) × SumsTo no_counts us t
 
 -- a table for each of so many shards: a shard has every so-many-th place
 pub record AreTablesOfShards (plan : Planned) (shards : ℕ) (places : List ℕ) (ts : List CountTable) : Type 0 where

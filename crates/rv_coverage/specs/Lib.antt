@@ -3,3 +3,4 @@ pub mod Blocks
 pub mod Tallies
 pub mod Counters
 pub mod JobTables
+pub mod TableSums

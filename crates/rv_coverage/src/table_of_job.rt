@@ -1,6 +1,6 @@
 //! The table of one job of a plan.
 
-ghost use Rattle.std.specs.Prelude.{◌≡◌, ◌<◌, ◌∷◌, [], IfOk, Some, true, length, option_map};
+ghost use Rattle.std.specs.Prelude.{◌≡◌, ◌<◌, ◌∷◌, [], IfOk, true, length};
 ghost use Rattle.std.specs.List.{AllByRecursion};
 ghost use Rattle.std.specs.Str.{IsUtf8};
 ghost use Rattle.sha2.specs.Sha256.{sha256};
@@ -8,20 +8,16 @@ ghost use Rattle.rv_counts.specs.Lines.{lacks};
 ghost use Rattle.rv_counts.specs.Sum.{no_counts};
 ghost use Rattle.rv_counts.specs.Table.{AreCounts, IsTable};
 ghost use Rattle.rv_jobs.specs.declared_job.Job.{Job as AJob};
-ghost use Rattle.rv_jobs.specs.Plans.{kept_for};
-ghost use Rattle.rv_rows.specs.Rows.{image_if_read};
 ghost use Rattle.rv_text.specs.Printable.{printable_text};
 ghost use Rattle.rv_trace.specs.Trace.{job_at};
-ghost use Rattle.rv_coverage.specs.JobTables.{IsTableOfOne, image_bytes, table_of_run};
+ghost use Rattle.rv_coverage.specs.JobTables.{IsTableOfOne, table_of_run};
 
 use crate::count::count_job;
 use rv_counts::{Addresses, CountTable, FunctionNames, ImageCounts, Images};
-use rv_elf::{Image, ImageError, read_image};
-use rv_isa::Isa;
-use rv_jobs::{Bytes, Kept, Plan, Text};
+use rv_jobs::{Bytes, Plan, Text};
 use rv_spots::Spots;
 use rv_text::{printable_text_is_utf8_without_controls, push_printable_text};
-use rv_trace::JobImage;
+use rv_trace::{JobImage, image_bytes, image_of_bytes};
 use sha2::{Digest, Sha256};
 use std::alloc::{AllocError, Global};
 
@@ -60,29 +56,6 @@ pub fn empty_table(alloc: Global) -> CountTable
     CountTable {
         images: Images::new(Vec::new(alloc)),
         runs: 0,
-    }
-}
-
-/// The bytes of a job's image, where they were read.
-pub fn image_bytes(plan: &Plan, place: usize) -> Option<&[u8]>
-    requires { place < length plan.now.jobs }
-    ensures { (d : AJob) → option_map (λ bytes. bytes.now) result
-        ≡ image_bytes plan.now.answers (job_at plan.now place d) }
-{
-    match plan.image(place) {
-        Kept::Content(bytes) => Some(bytes.as_slice()),
-        Kept::Unreadable | Kept::TooLong => None,
-    }
-}
-
-/// The image that bytes are read as, where they are one.
-pub fn image_of_bytes(alloc: Global, isa: Isa, bytes: &[u8]) -> Result<Option<Image>, AllocError>
-    ensures { IfOk result (λ image. image ≡ image_if_read isa (Some bytes.now)) }
-{
-    match read_image(alloc, bytes, isa) {
-        Ok(image) => Ok(Some(image)),
-        Err(ImageError::OutOfMemory) => Err(AllocError),
-        Err(_) => Ok(None),
     }
 }
 

@@ -5,10 +5,12 @@ ghost use Rattle.rv_fleet.specs.Choices.{AreJobPlaces};
 
 use rv_counts::table_text;
 use rv_coverage::count_places;
-use rv_fleet::{Batch, Crew};
+use rv_engine::Crew;
+use rv_fleet::Batch;
 use rv_jobs::{Plan, ReadError, Store, gather, marked_places, read_jobs};
 use samples::{agree, cell_of, file, has_lines};
 use std::alloc::{AllocError, Global};
+use std::sync::Wait;
 use std::test::Fail;
 use std::thread::Threads;
 
@@ -86,7 +88,7 @@ fn chosen(alloc: Global, plan: &Plan, choice: &str) -> Result<Vec<usize>, Fail>
 }
 
 // The text of the table of a choice, by so many threads.
-fn told<R: Threads + Sync>(
+fn told<R: Threads + Wait + Sync>(
     rt: &R,
     alloc: Global,
     plan: &Plan,
@@ -106,7 +108,12 @@ fn told<R: Threads + Sync>(
     Ok(told)
 }
 
-fn check<R: Threads + Sync>(rt: &R, alloc: Global, plan: &Plan, row: &str) -> Result<(), Fail> {
+fn check<R: Threads + Wait + Sync>(
+    rt: &R,
+    alloc: Global,
+    plan: &Plan,
+    row: &str,
+) -> Result<(), Fail> {
     for workers in [1, 3] {
         let told = told(rt, alloc, plan, cell_of(row, 0), workers)?;
         agree(row, told.as_str(), cell_of(row, 1))?;

@@ -11,11 +11,11 @@ ghost use Rattle.rv_fleet.specs.Pieces.{Hears};
 
 use crate::batch::Batch;
 use crate::collect::rows_of_all_pieces;
-use crate::crew::Crew;
 use crate::gate::{Gate, Unheard};
 use crate::pieces::Pieces;
 use crate::places::all_places;
 use crate::threads::make_pieces;
+use rv_engine::Crew;
 use rv_jobs::Plan;
 use rv_rows::{Report, Rows};
 use std::alloc::{AllocError, Global};

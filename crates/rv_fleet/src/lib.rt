@@ -8,7 +8,6 @@
 
 mod batch;
 mod collect;
-mod crew;
 mod fleet;
 mod gate;
 mod piece;
@@ -20,11 +19,11 @@ mod worker;
 mod worker_promise;
 
 pub use batch::Batch;
-pub use crew::Crew;
 pub use fleet::{FleetError, PlacesError, run_fleet, run_places};
 pub use gate::{FreeGate, Gate};
 pub use piece::Piece;
 pub use rv_claims::{Claims, Pass, SplitError};
+pub use rv_engine::Crew;
 pub use rv_rows::{
     Loadable, Outcome, Refusal, Report, Row, RowEnd, Rows, SignatureRange, Sink, SinkFailed,
     Verdict, Words, WriteError, flat_row, narrower_sets_only_refuse,

@@ -10,13 +10,13 @@ ghost use Rattle.rv_fleet.specs.Started.{CanWork};
 
 use crate::batch::Batch;
 use crate::collect::{Collected, collect_pieces};
-use crate::crew::Crew;
 use crate::fleet::FleetError;
 use crate::gate::Gate;
 use crate::pieces::Pieces;
 use crate::worker::work_with_own_pass;
 use crate::worker_promise::{Worked, Works};
 use rv_claims::{Claims, Pass, SplitError};
+use rv_engine::Crew;
 use std::alloc::{AllocError, Global};
 use std::sync::Wait;
 use std::thread;

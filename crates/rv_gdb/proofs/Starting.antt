@@ -25,7 +25,8 @@ use Rattle.rv_rows.specs.Rows.{content_if_read, image_if_read, image_in, start_i
 use Rattle.rv_history.specs.declared.start.Start.{Start}
 use Rattle.rv_session.specs.Sessions.{at_first}
 use Rattle.rv_session.specs.declared.session.Session.{Session}
-use Rattle.rv_gdb.specs.JobSessions.{IsSessionOf, image_bytes}
+use Rattle.rv_gdb.specs.JobSessions.{IsSessionOf}
+use Rattle.rv_trace.specs.Trace.{image_bytes}
 
 -- the bytes of the image were read, and the run begins at its entry
 pub record IsBegun (job : Job) (bytes : Option (List ℕ)) (s : State) : Type 0 where

@@ -2,16 +2,12 @@
 use Rattle.std.specs.Prelude.{◌≡◌, ℕ, List, Option, Some, Ok}
 use Rattle.rv_history.specs.Starts.{start_of}
 use Rattle.rv_history.specs.declared.start.Start.{Start}
-use Rattle.rv_jobs.specs.Plans.{kept_for}
 use Rattle.rv_jobs.specs.declared.answers.Answer.{Answer}
 use Rattle.rv_jobs.specs.declared_job.Job.{Job}
-use Rattle.rv_rows.specs.Rows.{content_if_read, start_in}
+use Rattle.rv_rows.specs.Rows.{start_in}
 use Rattle.rv_session.specs.Sessions.{at_first}
 use Rattle.rv_session.specs.declared.session.Session.{Session}
-
--- the bytes of a job's image, where they were read
-abbrev pub image_bytes : List Answer → Job → Option (List ℕ)
-image_bytes answers job = content_if_read (Some (kept_for answers job.image))
+use Rattle.rv_trace.specs.Trace.{image_bytes}
 
 -- a session at the start of the run of a job that is not refused, before gdb says anything; gdb is told this path of its image
 pub record IsSessionOf (answers : List Answer) (job : Job) (path : List ℕ) (session : Session) : Type 0 where

@@ -2,17 +2,17 @@
 
 ghost use Rattle.std.specs.Prelude.{◌≡◌, ◌<◌, IfOk, MatchOption, Some, false, is_ok, length, option_map};
 ghost use Rattle.rv_jobs.specs.declared_job.Job.{Job as AJob};
-ghost use Rattle.rv_gdb.specs.JobSessions.{IsSessionOf, image_bytes};
+ghost use Rattle.rv_gdb.specs.JobSessions.{IsSessionOf};
 ghost use Rattle.rv_rows.specs.Rows.{image_if_read, image_in, start_in};
-ghost use Rattle.rv_trace.specs.Trace.{job_at};
+ghost use Rattle.rv_trace.specs.Trace.{image_bytes, job_at};
 
 use rv_base::Bytes;
-use rv_elf::{Image, ImageError, read_image};
+use rv_elf::Image;
 use rv_history::Start;
-use rv_isa::Isa;
-use rv_jobs::{Kept, Plan};
+use rv_jobs::Plan;
 use rv_rows::machine_at;
 use rv_session::{Program, Session};
+use rv_trace::{image_bytes, image_of_bytes};
 use std::alloc::{AllocError, Global};
 
 /// The session over the run of the job at a place, before gdb says anything; nothing where the job is refused. The path is the one
@@ -38,28 +38,6 @@ pub fn session_at(
     let copy = Bytes::new(Vec::from_slice(alloc, bytes)?);
     let program = Program { path, image: copy };
     session_over_image(alloc, plan, place, &image, program)
-}
-
-fn image_bytes(plan: &Plan, place: usize) -> Option<&[u8]>
-    requires { place < length plan.now.jobs }
-    ensures { (d : AJob) → option_map (λ bytes. bytes.now) result
-        ≡ image_bytes plan.now.answers (job_at plan.now place d) }
-{
-    match plan.image(place) {
-        Kept::Content(bytes) => Some(bytes.as_slice()),
-        Kept::Unreadable | Kept::TooLong => None,
-    }
-}
-
-// The image that bytes are read as, where they are one.
-fn image_of_bytes(alloc: Global, isa: Isa, bytes: &[u8]) -> Result<Option<Image>, AllocError>
-    ensures { IfOk result (λ image. image ≡ image_if_read isa (Some bytes.now)) }
-{
-    match read_image(alloc, bytes, isa) {
-        Ok(image) => Ok(Some(image)),
-        Err(ImageError::OutOfMemory) => Err(AllocError),
-        Err(_) => Ok(None),
-    }
 }
 
 // The session over the image that the job's file was read as.

@@ -11,7 +11,7 @@ ghost use Rattle.rv_memory.specs.Bus.{size_of};
 use rv_isa::{Instr, Op};
 use rv_machine::Machine;
 use rv_memory::{Bus, Width};
-use rv_trace::{code_at, instr_of};
+use rv_trace::{accessed_address, code_at, instr_of};
 
 /// Whether the next step of a machine, where it completes, leaves the bus as it is.
 pub(crate) fn is_step_quiet(machine: &Machine) -> bool
@@ -38,16 +38,6 @@ fn is_instr_quiet(machine: &Machine, instr: Instr) -> bool
         Op::FenceI => false,
         _ => true,
     }
-}
-
-/// The address that a load or a store reaches.
-pub(crate) fn accessed_address(machine: &Machine, instr: Instr) -> u32
-    requires { IsWellFormed instr }
-    ensures { result ≡ address (state_of machine.now) instr }
-{
-    machine
-        .reg(instr.rs1)
-        .wrapping_add(instr.imm.cast_unsigned())
 }
 
 // A word load at the console's first address takes a byte of the script, while there is one.

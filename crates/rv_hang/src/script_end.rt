@@ -5,10 +5,9 @@ ghost use Rattle.rv_hang.specs.ScriptEnd.{loads_script_end, reads_script_end};
 ghost use Rattle.rv_isa.specs.Words.{IsWellFormed};
 ghost use Rattle.rv_machine.specs.Machine.{state_of};
 
-use crate::quiet::accessed_address;
 use rv_isa::{Instr, Op};
 use rv_machine::Machine;
-use rv_trace::{code_at, instr_of};
+use rv_trace::{accessed_address, code_at, instr_of};
 
 /// Whether the next step of a machine loads from the script at its end.
 pub(crate) fn reads_script_end(machine: &Machine) -> bool

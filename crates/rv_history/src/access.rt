@@ -9,7 +9,7 @@ ghost use Rattle.rv_history.specs.Accesses.{access_at, access_by, is_hit, reach_
 use crate::stops::Watch;
 use rv_isa::{Instr, Op};
 use rv_machine::Machine;
-use rv_trace::{code_at, instr_of};
+use rv_trace::{accessed_address, code_at, instr_of};
 
 /// How an instruction reaches memory.
 #[derive(Clone, Copy)]
@@ -46,15 +46,6 @@ fn access_by(machine: &Machine, instr: Instr) -> Option<Access>
         address: accessed_address(machine, instr),
         count: reach.count,
     })
-}
-
-fn accessed_address(machine: &Machine, instr: Instr) -> u32
-    requires { IsWellFormed instr }
-    ensures { result ≡ address (state_of machine.now) instr }
-{
-    machine
-        .reg(instr.rs1)
-        .wrapping_add(instr.imm.cast_unsigned())
 }
 
 fn reach_of(op: Op) -> Option<Reach>

@@ -7,14 +7,13 @@ use Rattle.rv_expect.specs.Comparisons.{Sides}
 use Rattle.rv_expect.specs.UnmetInPlan.{sides_in, unmet_in}
 use Rattle.rv_files.specs.declared.noting_store.Unread.{Unread}
 use Rattle.rv_jobs.specs.declared_job.Job.{Job}
-use Rattle.rv_jobs.specs.Plans.{Planned, kept_for}
+use Rattle.rv_jobs.specs.Plans.{Planned}
 use Rattle.rv_expect.specs.Judgement.{Judging, fails, is_unknown_failure, judgement, judging_of}
 use Rattle.rv_job_text.specs.ConsoleTail.{console_tail}
 use Rattle.rv_job_text.specs.ResultLine.{result_line}
 use Rattle.rv_job_text.specs.MetLines.{met_lines}
 use Rattle.rv_job_text.specs.UnmetLines.{unmet_lines}
 use Rattle.rv_rows.specs.declared_row.Row.{Row}
-use Rattle.rv_rows.specs.Rows.{content_if_read}
 use Rattle.rv_rows.specs.Verdict.{did_run}
 use Rattle.rv_job_text.specs.declared.row_telling.RowTelling.{RowTelling}
 use Rattle.rv_job_text.specs.declared.verbosity.Detail.{Detail}
@@ -26,7 +25,7 @@ use Rattle.rv_job_text.specs.RefusalReasons.{ending_reason}
 use Rattle.rv_job_text.specs.BudgetUseLine.{budget_use_line}
 use Rattle.rv_job_text.specs.WayToEnd.{optional_calls_text, optional_trace_text}
 use Rattle.rv_job_text.specs.declared.way_to_end.WayToEnd.{WayToEnd}
-use Rattle.rv_trace.specs.Trace.{trace_in}
+use Rattle.rv_trace.specs.Trace.{image_bytes, trace_in}
 
 -- the rows of which plan are told, with what was noted of its paths, how they are counted, how much of them,
 -- and how many of the last instructions of a job that failed, where they are
@@ -46,23 +45,19 @@ telling_of telling = record {
   last = telling.last;
 }
 
--- the bytes that the plan has of a job's image
-abbrev pub image_bytes : Planned → Job → Option (List ℕ)
-image_bytes plan job = content_if_read (Some (kept_for plan.answers job.image))
-
 -- the address of the first word of a job's signature, where it is known
 abbrev pub signature_address : Planned → Job → Option ℕ
-signature_address plan job = signature_begin job.isa (image_bytes plan job) job.signature
+signature_address plan job = signature_begin job.isa (image_bytes plan.answers job) job.signature
 
 -- the line of a row: a fault's place by its symbol too, a refusal with its reason
 unfoldable pub row_line : Planned → List Unread → Judging → Job → Row → List ℕ
 row_line plan unread judging job row =
-    result_line (judgement judging row) row (fault_symbol job.isa (image_bytes plan job) row.ending)
+    result_line (judgement judging row) row (fault_symbol job.isa (image_bytes plan.answers job) row.ending)
     (ending_reason plan.answers unread job row.ending)
 
 -- how a run came to its end, with so many of its last instructions
 unfoldable pub way_to_end_lines : Planned → Job → Row → ℕ → List ℕ
-way_to_end_lines plan job row last = optional_trace_text job.isa (image_bytes plan job) row.ending
+way_to_end_lines plan job row last = optional_trace_text job.isa (image_bytes plan.answers job) row.ending
     (trace_in plan job row.steps last)
 
 abbrev pub way_to_end_if_asked : Planned → Job → Row → Option ℕ → List ℕ
@@ -127,7 +122,7 @@ outcome_text plan unread judging job row = row_line plan unread judging job row 
 
 -- the calls that have not returned where the run of a job ended, in a line, where there are any
 unfoldable pub calls_lines : Planned → Job → List ℕ
-calls_lines plan job = optional_calls_text job.isa (image_bytes plan job) (calls_in plan job)
+calls_lines plan job = optional_calls_text job.isa (image_bytes plan.answers job) (calls_in plan job)
 
 -- every expectation, the end of the console, what is found of a used-up budget, how the run came to its end, and the calls
 -- that have not returned there

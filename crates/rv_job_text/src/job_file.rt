@@ -8,8 +8,8 @@ ghost use Rattle.rv_trace.specs.Trace.{job_at};
 
 use rv_elf::{Image, ImageError, read_image};
 use rv_isa::Isa;
-use rv_jobs::{Kept, Plan};
-use rv_trace::ElfFile;
+use rv_jobs::Plan;
+use rv_trace::{ElfFile, image_bytes};
 use std::alloc::{AllocError, Global};
 
 /// The bytes of a job's image, where they were read, and the image that they are, where they are one.
@@ -58,18 +58,6 @@ impl<'a> JobFile<'a> {
             }),
             None => None,
         }
-    }
-}
-
-/// The bytes of a job's image, where they were read.
-pub(crate) fn image_bytes(plan: &Plan, place: usize) -> Option<&[u8]>
-    requires { place < length plan.now.jobs }
-    ensures { (d : AJob) → option_map (λ bytes. bytes.now) result
-        ≡ content_if_read (Some (kept_for plan.now.answers (job_at plan.now place d).image)) }
-{
-    match plan.image(place) {
-        Kept::Content(bytes) => Some(bytes.as_slice()),
-        Kept::Unreadable | Kept::TooLong => None,
     }
 }
 

@@ -8,13 +8,13 @@ ghost use Rattle.rv_job_text.specs.RefusalReasons.{unread_reference_path};
 ghost use Rattle.rv_job_text.specs.UnreadFiles.{too_long_file_text, unread_file_text};
 
 use crate::image_reason::push_image_reason;
-use crate::job_file::image_bytes;
 use crate::paths::{console_path, reference_path};
 use crate::unread_files::{too_long_file_text, unread_file_text};
 use rv_elf::ImageError;
 use rv_files::Unread;
 use rv_jobs::Plan;
 use rv_rows::{Refusal, RowEnd, expected_console_bytes, signature_reference_bytes};
+use rv_trace::image_bytes;
 use std::alloc::{AllocError, Global};
 
 /// Why the job at a place was refused, where it was.

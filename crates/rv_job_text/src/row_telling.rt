@@ -5,9 +5,9 @@ ghost use Rattle.rv_expect.specs.Comparisons.{sides_of};
 ghost use Rattle.rv_expect.specs.Judgement.{judging_of};
 ghost use Rattle.rv_expect.specs.UnmetInPlan.{row_of_same_as_job};
 ghost use Rattle.rv_jobs.specs.declared_job.Job.{Job as AJob};
-ghost use Rattle.rv_trace.specs.Trace.{job_at};
+ghost use Rattle.rv_trace.specs.Trace.{image_bytes, job_at};
 ghost use Rattle.rv_job_text.specs.ImageSymbols.{fault_symbol};
-ghost use Rattle.rv_job_text.specs.Telling.{compared_lines, expectation_lines, explanation_text, image_bytes, row_line};
+ghost use Rattle.rv_job_text.specs.Telling.{compared_lines, expectation_lines, explanation_text, row_line};
 ghost use Rattle.rv_job_text.specs.Telling.{outcome_text, run_explanation, run_lines, telling_of, row_lines};
 
 use crate::budget_use_line::push_budget_use_line;
@@ -193,7 +193,7 @@ impl<'a> RowTelling<'a> {
         requires place { place < length self.now.plan.now.jobs }
         requires symbol { (d : AJob) → option_map (λ s. (s.name.now, s.offset)) symbol
             ≡ fault_symbol (job_at self.now.plan.now place d).isa
-            (image_bytes self.now.plan.now (job_at self.now.plan.now place d)) row.now.ending }
+            (image_bytes self.now.plan.now.answers (job_at self.now.plan.now place d)) row.now.ending }
         ensures { OnOk result ((d : AJob) → text.new.items ≡ text.old.items
             ++ row_line self.now.plan.now self.now.unread.now (judging_of self.now.judge)
             (job_at self.now.plan.now place d) row.now) }

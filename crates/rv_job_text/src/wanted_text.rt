@@ -1,14 +1,13 @@
 //! The text that a console is expected to be, where a difference from it is told by lines.
 
 ghost use Rattle.std.specs.Prelude.{◌≡◌, ◌&&◌, option_map};
-ghost use Rattle.std.specs.Str.{is_utf8};
 ghost use Rattle.rv_expect.specs.Comparisons.{sides_of};
 ghost use Rattle.rv_job_text.specs.ConsoleLines.{is_told_by_lines, told_by_lines, wanted_by_lines, wanted_console, wanted_of};
 
 use crate::difference_text::bytes_or_empty;
 use rv_expect::{Comparison, Difference, Unmet};
 use rv_jobs::ExpectedConsole;
-use rv_text::Span;
+use rv_text::{Span, is_utf8};
 
 /// A text, and what it is called.
 #[derive(Clone, Copy)]
@@ -72,14 +71,5 @@ fn is_told_by_lines(difference: Difference, met: &[u8], wanted: &[u8]) -> bool
     match difference {
         Difference::Absent => false,
         Difference::At(_) | Difference::Lengths => is_utf8(met) && is_utf8(wanted),
-    }
-}
-
-fn is_utf8(text: &[u8]) -> bool
-    ensures { result ≡ is_utf8 text.now }
-{
-    match str::from_utf8(text) {
-        Ok(_) => true,
-        Err(_) => false,
     }
 }

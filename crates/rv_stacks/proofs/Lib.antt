@@ -14,7 +14,6 @@ pub mod WithStacks
 pub mod Apart
 pub mod OfRun
 pub mod OneByOne
-pub mod Parts
 pub mod Shards
 pub mod Bounds
 pub mod NoSums

@@ -1,6 +1,6 @@
 -- The numbers of so few jobs fit in 64 bits, so tables with stacks lack a sum by names alone.
-use Rattle.std.proofs.Common.{◌≡◌, ◌∙◌, ◌+◌, ◌*◌, ◌^◌, ◌≤◌, ℕ, List, [], ◌∷◌, ◌++◌, Option, None, Result, Ok, Err, length, get_or, refl, ap, arith, inl, inr, ⊎_elim}
-use Rattle.std.proofs.lemmas.List.{length-append, length-map}
+use Rattle.std.proofs.Common.{◌≡◌, ◌∙◌, ◌+◌, ◌*◌, ◌^◌, ◌≤◌, ℕ, List, [], ◌∷◌, Option, None, Result, Ok, Err, length, take, get_or, refl, ap, arith, inl, inr, ⊎_elim}
+use Rattle.std.proofs.lemmas.List.{length-map, length-take}
 use Rattle.std.proofs.lemmas.List.Sums.{sum_by-cons}
 use Rattle.std.specs.List.{AllByRecursion, sum_by}
 use Rattle.std.specs.Result.{result_ok}
@@ -20,7 +20,7 @@ use Rattle.rv_jobs.specs.declared_job.Job.{Job}
 use Rattle.rv_jobs.specs.Jobs.{single_job}
 use Rattle.rv_jobs.specs.Plans.{Planned}
 use Rattle.rv_rows.specs.Rows.{start_in}
-use Rattle.rv_stacks.specs.StackTables.{arrivals_by_job, arrivals_from, function_of_job, steps_by_job, steps_from, HaveNoTableWithStacks, HavePartsNoSum, IsOfNamesOrMemory, IsTableWithStacks, RunsWithinABudget}
+use Rattle.rv_stacks.specs.StackTables.{arrivals_by_job, arrivals_from, function_of_job, steps_by_job, steps_from, HaveNoTableWithStacks, HasNextNoSum, IsOfNamesOrMemory, IsTableWithStacks, RunsWithinABudget}
 use Rattle.rv_stacks.proofs.Bounds.{arrivals_at_most, begun_at_most, once_at_most, steps_at_most}
 use Rattle.rv_stacks.proofs.WithStacks.{of_places, IsOfJobs}
 
@@ -119,16 +119,15 @@ told n m t u Runs few h k no_sum =
     let b = k.runs in
     absurd (omega (arith, few, a, b, no_sum))
 
-told_of_parts : (plan : Planned) (places : List ℕ) (error : SumError) → length places ≤ most_jobs → HavePartsNoSum plan places error
+told_of_next : (plan : Planned) (places : List ℕ) (error : SumError) → length places ≤ most_jobs → HasNextNoSum plan places error
     → IsOfNamesOrMemory error
-told_of_parts plan places error few h =
-    let long = ap length h.parts
-    ∙ length-append ((h.before ++ h.some) ++ h.others) h.behind in
-    let second = length-append (h.before ++ h.some) h.others in
-    let first = length-append h.before h.some in
-    told (length h.some) (length h.others) h.first h.second error (omega (arith, few, long, second, first))
-    (small plan h.some h.first h.of_some) (small plan h.others h.second h.of_others) h.refused
+told_of_next plan places error few h =
+    let before = take h.count places in
+    let long = length-take h.count places in
+    let lt = h.within in
+    told (length before) 1 h.first h.next error (omega (arith, few, long, lt)) (small plan before h.first h.of_first)
+    (small plan (get_or places h.count 0 ∷ []) h.next h.of_next) h.refused
 
 pub no_other_reason : (plan : Planned) (places : List ℕ) (error : SumError) → length places ≤ most_jobs
     → HaveNoTableWithStacks plan places error → IsOfNamesOrMemory error
-no_other_reason plan places error few = ⊎_elim inl (told_of_parts plan places error few)
+no_other_reason plan places error few = ⊎_elim inl (told_of_next plan places error few)

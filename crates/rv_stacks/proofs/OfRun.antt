@@ -11,7 +11,7 @@ use Rattle.rv_counts.specs.Sum.{no_counts}
 use Rattle.rv_counts.specs.Table.{begun_at, name_at, taken_at, least_path_of, IsTable}
 use Rattle.rv_coverage.proofs.Public.{no_counts_is_table, none_if_no_ok, not_ok_if_none, not_over, over, picked_begun, picked_path, picked_taken}
 use Rattle.rv_coverage.specs.Coverage.{once_if, AreCountsOf}
-use Rattle.rv_coverage.specs.JobTables.{begun_from, image_bytes, taken_from}
+use Rattle.rv_coverage.specs.JobTables.{begun_from, taken_from}
 use Rattle.rv_elf.specs.declared.image.Image.{Image}
 use Rattle.rv_jobs.specs.declared.answers.Answer.{Answer}
 use Rattle.rv_jobs.specs.declared_job.Job.{Job}
@@ -25,6 +25,7 @@ use Rattle.rv_stacks.specs.StackTables.{arrivals_by_job, arrivals_from, function
 use Rattle.rv_text.specs.Printable.{printable_text}
 use Rattle.rv_stacks.proofs.NamedSpots.{last_if_come}
 use Rattle.rv_stacks.proofs.WithStacks.{IsOfJobs}
+use Rattle.rv_trace.specs.Trace.{image_bytes}
 
 picked_arrivals : (b : Bool) (n : ℕ) (function : ℕ → ℕ) (path : List ℕ) (budget : ℕ) (s : State)
     → n ≡ arrivals_from function path budget (Some s)

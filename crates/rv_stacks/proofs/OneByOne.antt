@@ -1,40 +1,59 @@
--- The table of some places, and one place more.
-use Rattle.std.proofs.Common.{◌≡◌, ◌∙◌, ◌+◌, ◌<◌, ℕ, List, [], ◌∷◌, ◌++◌, length, take, drop, get_or, sym, ap, subst}
-use Rattle.std.proofs.lemmas.List.{take-append-drop, take_more}
+-- The tables of places that are added one after another.
+use Rattle.std.proofs.Common.{◌≡◌, ◌⊎◌, ℕ, List, [], ◌∷◌, ◌++◌, Result, map, length, get_or, sym, subst, inl, inr, ⊎_elim}
+use Rattle.std.proofs.lemmas.List.{map-append}
+use Rattle.std.proofs.lemmas.Result.{IfErr-weaker}
+use Rattle.std.specs.Prelude.{is_some, true, IfErr, IfOk}
 use Rattle.rv_counts.specs.declared.sum.SumError.{SumError}
+use Rattle.rv_counts.specs.declared.sum.SumError.TheVariants.{OutOfMemory}
 use Rattle.rv_counts.specs.declared.table.CountTable.{CountTable}
-use Rattle.rv_counts.specs.Sum.{HaveNoSum, IsSum, no_counts}
-use Rattle.rv_coverage.proofs.Public.{jobs_more}
+use Rattle.rv_counts.specs.Sum.{IsSum, no_counts}
+use Rattle.rv_coverage.proofs.Public.{run_added, run_ended, NextRefused}
 use Rattle.rv_coverage.specs.JobTables.{jobs_at}
+use Rattle.rv_coverage.specs.TableSums.{sum_of_run, Added, AreAdded}
+use Rattle.rv_engine.specs.declared.engine.RunError.{RunError}
+use Rattle.rv_engine.specs.declared.listener.Flow.{Flow}
+use Rattle.rv_engine.specs.Results.{HeardRun}
 use Rattle.rv_jobs.specs.Plans.{Planned}
-use Rattle.rv_stacks.specs.StackTables.{HavePartsNoSum, IsTableWithStacks}
+use Rattle.rv_stacks.specs.StackTables.{HasNextNoSum, HaveNoTableWithStacks, IsTableWithStacks}
 use Rattle.rv_stacks.proofs.Apart.{counts_and_stacks}
 use Rattle.rv_stacks.proofs.WithStacks.{of_both, of_none, of_places, IsOfJobs}
 
-pub of_no_place : (plan : Planned) → IsTableWithStacks plan [] no_counts
-of_no_place plan = counts_and_stacks plan [] no_counts (of_none plan.answers)
+module _ (plan : Planned) where
+  of_no_place : IsTableWithStacks plan [] no_counts
+  of_no_place = counts_and_stacks plan [] no_counts (of_none plan.answers)
 
-module _ (plan : Planned) (places : List ℕ) (i place : ℕ) (sum table : CountTable)
-    (h : IsTableWithStacks plan (take i places) sum) (lt : i < length places) (is : place ≡ get_or places i place)
-    (one : IsTableWithStacks plan (place ∷ []) table) where
-  pub one_more : (next : CountTable) → IsSum sum table next → IsTableWithStacks plan (take (i + 1) places) next
-  one_more next sums =
-      counts_and_stacks plan (take (i + 1) places) next
-      (subst (λ js. IsOfJobs plan.answers js next) (sym (jobs_more plan places i place lt is))
-      (of_both plan.answers (jobs_at plan (take i places)) (jobs_at plan (place ∷ [])) sum table next
-      (of_places plan (take i places) sum h) (of_places plan (place ∷ []) table one) sums))
+  one_more : (ps : List ℕ) (p : ℕ) (t u next : CountTable) → IsTableWithStacks plan ps t → IsTableWithStacks plan (p ∷ []) u
+      → IsSum t u next → IsTableWithStacks plan (ps ++ p ∷ []) next
+  one_more ps p t u next h one sums =
+      counts_and_stacks plan (ps ++ p ∷ []) next
+      (subst (λ js. IsOfJobs plan.answers js next) (sym (map-append _ ps (p ∷ [])))
+      (of_both plan.answers (jobs_at plan ps) (jobs_at plan (p ∷ [])) t u next (of_places plan ps t h)
+      (of_places plan (p ∷ []) u one) sums))
 
-  pub none_more : (error : SumError) → HaveNoSum error sum table → HavePartsNoSum plan places error
-  none_more error no_sum = record {
-    before = [];
-    some = take i places;
-    others = place ∷ [];
-    behind = drop (i + 1) places;
-    parts = sym (take-append-drop (i + 1) places)
-        ∙ ap (λ (ps : List ℕ). ps ++ drop (i + 1) places) (take_more places i place lt ∙ ap (λ (k : ℕ). take i places ++ k ∷ []) (sym is));
-    first = sum;
-    second = table;
-    of_some = h;
-    of_others = one;
-    refused = no_sum;
-  }
+  module _ (places : List ℕ) (added : Added) (ran : Result Flow RunError)
+      (heard : HeardRun (λ n u. IsTableWithStacks plan (get_or places n 0 ∷ []) u) (length places)
+      (λ ts. AreAdded added.sum added.failed (map (λ (u : CountTable). u) ts)) (is_some added.failed ≡ true) ran) where
+    pub all_added : IfOk (sum_of_run added ran) (IsTableWithStacks plan places)
+    all_added =
+        run_added (IsTableWithStacks plan) (λ p u. IsTableWithStacks plan (p ∷ []) u) of_no_place one_more places added ran heard
+
+    refused_here : (error : SumError)
+        → NextRefused (IsTableWithStacks plan) (λ p u. IsTableWithStacks plan (p ∷ []) u) places error
+        → HasNextNoSum plan places error
+    refused_here error h = record {
+      count = h.count;
+      within = h.within;
+      first = h.first;
+      next = h.next;
+      of_first = h.of_first;
+      of_next = h.of_next;
+      refused = h.refused;
+    }
+
+    pub next_refused : IfErr (sum_of_run added ran) (HaveNoTableWithStacks plan places)
+    next_refused =
+        IfErr-weaker (sum_of_run added ran)
+        (λ error. (error ≡ OutOfMemory)
+        ⊎ NextRefused (IsTableWithStacks plan) (λ p u. IsTableWithStacks plan (p ∷ []) u) places error)
+        (HaveNoTableWithStacks plan places) (λ error. ⊎_elim inl (λ h. inr (refused_here error h)))
+        (run_ended (IsTableWithStacks plan) (λ p u. IsTableWithStacks plan (p ∷ []) u) of_no_place one_more places added ran heard)

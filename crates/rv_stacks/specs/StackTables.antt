@@ -1,8 +1,7 @@
 -- The table of the jobs of a plan with their stacks: beside the counts of their instructions, how often their runs came to each
 -- list of functions of their images, and how many instructions began there. The table of the stacks alone has no counts and no runs.
-use Rattle.std.specs.Prelude.{◌≡◌, ◌==◌, ◌+◌, ◌%◌, ◌^◌, ◌<◌, ◌⊎◌, ℕ, true, List, [], ◌∷◌, ◌++◌, Option, Some, None, codes, if◌then◌else◌}
-use Rattle.std.specs.Prelude.{length, map, slice_index_or, Result, Ok, IfErr, IfOk}
-use Rattle.std.specs.Fork.{slice_chunk}
+use Rattle.std.specs.Prelude.{◌≡◌, ◌==◌, ◌+◌, ◌%◌, ◌^◌, ◌<◌, ◌⊎◌, ℕ, true, List, [], ◌∷◌, Option, Some, None, codes, if◌then◌else◌}
+use Rattle.std.specs.Prelude.{length, map, slice_index_or, take, Ok}
 use Rattle.std.specs.List.{AllByRecursion, filter, sum_by}
 use Rattle.std.specs.Str.{bytes_eq}
 use Rattle.sha2.specs.Sha256.{sha256}
@@ -15,7 +14,7 @@ use Rattle.rv_counts.specs.declared.table.ImageCounts.{ImageCounts}
 use Rattle.rv_counts.specs.Sum.{HaveNoSum, IsSum}
 use Rattle.rv_counts.specs.Table.{begun_in, taken_in, path_in, name_in, arrivals_in, steps_in, has_name, name_of, AreNames, AreNamesOf, IsTable}
 use Rattle.rv_coverage.specs.Coverage.{once_if}
-use Rattle.rv_coverage.specs.JobTables.{first_path, image_bytes, jobs_at, start_over, IsTableOfPlaces}
+use Rattle.rv_coverage.specs.JobTables.{first_path, jobs_at, start_over, IsTableOfPlaces}
 use Rattle.rv_elf.specs.declared.image.Image.{Image}
 use Rattle.rv_elf.specs.SymbolSearch.{symbol_at}
 use Rattle.rv_jobs.specs.declared.answers.Answer.{Answer}
@@ -28,6 +27,7 @@ use Rattle.rv_spots.specs.Profiles.{is_last_of_some}
 use Rattle.rv_spots.specs.Trees.{ends_with}
 use Rattle.rv_stacks.specs.Stacks as run
 use Rattle.rv_text.specs.Printable.{printable_text}
+use Rattle.rv_trace.specs.Trace.{image_bytes}
 
 -- ---- names
 
@@ -153,31 +153,19 @@ pub record IsTableWithStacks (plan : Planned) (places : List ℕ) (t : CountTabl
   pub stacked : AreStacksOfPlaces plan places stacks
   pub sum : IsSum counts stacks t
 
--- two such tables, each of places that stand beside those of the other, have no sum
-pub record HavePartsNoSum (plan : Planned) (places : List ℕ) (error : SumError) : Type 0 where
-  pub before : List ℕ
-  pub some : List ℕ
-  pub others : List ℕ
-  pub behind : List ℕ
-  pub parts : places ≡ before ++ some ++ others ++ behind
+-- the table of the first so many places has no sum with that of the next one
+pub record HasNextNoSum (plan : Planned) (places : List ℕ) (error : SumError) : Type 0 where
+  pub count : ℕ
+  pub within : count < length places
   pub first : CountTable
-  pub second : CountTable
-  pub of_some : IsTableWithStacks plan some first
-  pub of_others : IsTableWithStacks plan others second
-  pub refused : HaveNoSum error first second
+  pub next : CountTable
+  pub of_first : IsTableWithStacks plan (take count places) first
+  pub of_next : IsTableWithStacks plan (slice_index_or places count 0 ∷ []) next
+  pub refused : HaveNoSum error first next
 
 -- memory was wanting, or some of the tables have no sum
 abbrev pub HaveNoTableWithStacks : Planned → List ℕ → SumError → Type 0
-HaveNoTableWithStacks plan places error = (error ≡ OutOfMemory) ⊎ HavePartsNoSum plan places error
-
--- the table of the jobs at some places, or why there is none
-abbrev pub IsTableIfAny : Planned → List ℕ → Result CountTable SumError → Type 0
-IsTableIfAny plan places result = IfOk result (IsTableWithStacks plan places) × IfErr result (HaveNoTableWithStacks plan places)
-
--- the same of each share of some places
-abbrev pub AreShares : Planned → List ℕ → ℕ → List (Result CountTable SumError) → Type 0
-AreShares plan places share results = (k : ℕ) (d : Result CountTable SumError) → k < length results
-    → IsTableIfAny plan (slice_chunk places share k) (slice_index_or results k d)
+HaveNoTableWithStacks plan places error = (error ≡ OutOfMemory) ⊎ HasNextNoSum plan places error
 
 -- memory was wanting, or a function has two names
 abbrev pub IsOfNamesOrMemory : SumError → Type 0

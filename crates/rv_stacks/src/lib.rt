@@ -15,6 +15,7 @@ mod names;
 mod node;
 mod places;
 mod run;
+mod stack_work;
 mod stacks;
 mod table;
 mod turns;

@@ -8,11 +8,11 @@ ghost use Rattle.rv_stacks.specs.StackTables.{name_of_function, IsTableOfRun, Is
 use crate::job::count_job_with_stacks;
 use crate::names::names_of_spots;
 use rv_counts::{Addresses, CountTable, ImageCounts};
-use rv_coverage::{digest_of, empty_table, image_bytes, image_of_bytes, images_of_one, shown_text};
+use rv_coverage::{digest_of, empty_table, images_of_one, shown_text};
 use rv_elf::CodeSymbols;
 use rv_jobs::Plan;
 use rv_spots::Spots;
-use rv_trace::JobImage;
+use rv_trace::{JobImage, image_bytes, image_of_bytes};
 use std::alloc::{AllocError, Global};
 
 /// The table of the job at a place, which has the counts and the stacks of its run, or that of no run where the job is refused. The

@@ -1,2 +1,4 @@
-mod Streaming
 mod Tellings
+mod Sending
+mod Limits
+mod Heard

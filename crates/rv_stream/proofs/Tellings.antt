@@ -1,18 +1,15 @@
--- What is told of rows: its parts are told of parts of the rows.
-use Rattle.std.proofs.Common.{◌≡◌, ◌∙◌, ℕ, zero, suc, ◌+◌, ◌*◌, ◌-◌, ◌<◌, List, [], ◌∷◌, ◌++◌, length, take, drop}
-use Rattle.std.proofs.Common.{get_or, refl, sym, ap, arith, append-nil, append_assoc, length-drop}
-use Rattle.std.specs.Fork.{slice_chunk}
-use Rattle.std.specs.Int.{div_ceil}
+-- What is told of rows: of the first ones, and of one more.
+use Rattle.std.proofs.Common.{◌≡◌, ◌∙◌, ℕ, zero, suc, ◌+◌, ◌<◌, ◌≤◌, List, [], ◌∷◌, ◌++◌, length, take, drop}
+use Rattle.std.proofs.Common.{get_or, refl, sym, ap, arith, append-nil, append_assoc, take-append-drop}
 use Rattle.std.specs.List.{concat}
-use Rattle.std.proofs.lemmas.List.{length-take, take_all}
+use Rattle.std.proofs.lemmas.List.{get_or_default}
+use Rattle.std.proofs.lemmas.List.Folds.{concat-append}
 use Rattle.rv_rows.specs.declared_row.Row.{Row}
-use Rattle.rv_fleet.proofs.Public.{chunk_inside}
-use Rattle.rv_stream.specs.Streams.{CanBeTold, row_text_list, joined_row_texts}
-use Rattle.rv_stream.proofs.Streaming.{parts_of_all}
+use Rattle.rv_stream.specs.Streams.{row_text_list, joined_row_texts}
 
--- rows that are others are as many
-pub same_length : (rows all : List Row) (n : ℕ) → rows ≡ all → length all ≡ n → length rows ≡ n
-same_length rows all n same count = ap length same ∙ count
+-- the first texts, and those from there on, are all
+parts_of_all : (texts : List (List ℕ)) (n : ℕ) → concat texts ≡ concat (take n texts) ++ concat (drop n texts)
+parts_of_all texts n = ap concat (sym (take-append-drop n texts)) ∙ concat-append (take n texts) (drop n texts)
 
 module _ (line : ℕ → Row → List ℕ) where
   -- no texts of no rows
@@ -27,39 +24,6 @@ module _ (line : ℕ → Row → List ℕ) where
   texts-take (suc n) [] rows = refl
   texts-take (suc n) (p ∷ places) [] = refl
   texts-take (suc n) (p ∷ places) (r ∷ rows) = ap (λ l. line p r ∷ l) (texts-take n places rows)
-
-  -- the texts of the rows from one on
-  pub texts-drop : (n : ℕ) (places : List ℕ) (rows : List Row)
-      → row_text_list line (drop n places) (drop n rows) ≡ drop n (row_text_list line places rows)
-  texts-drop zero places rows = refl
-  texts-drop (suc n) [] rows = refl
-  texts-drop (suc n) (p ∷ places) [] = texts_none (drop n places)
-  texts-drop (suc n) (p ∷ places) (r ∷ rows) = texts-drop n places rows
-
-  -- what is told of the rows from one on
-  pub rest_told : (from : ℕ) (places : List ℕ) (rows : List Row)
-      → joined_row_texts line (take (length places - from) (drop from places)) (take (length rows - from) (drop from rows))
-      ≡ concat (drop from (row_text_list line places rows))
-  rest_told from places rows =
-      let a = take_all (length places - from) (drop from places) (omega (arith, length-drop from places)) in
-      let b = take_all (length rows - from) (drop from rows) (omega (arith, length-drop from rows)) in
-      (λ i. joined_row_texts line (a i) (b i)) ∙ ap concat (texts-drop from places rows)
-
-  -- a text for each row
-  texts-length : (places : List ℕ) (rows : List Row) → length rows ≡ length places
-      → length (row_text_list line places rows) ≡ length places
-  texts-length [] rows same = refl
-  texts-length (p ∷ places) [] same = same
-  texts-length (p ∷ places) (r ∷ rows) same = ap suc (texts-length places rows (omega (arith, same)))
-
-  -- the texts of rows that are others
-  pub same_texts : (places : List ℕ) (rows all : List Row) (texts : List (List ℕ)) → rows ≡ all
-      → texts ≡ row_text_list line places all → row_text_list line places rows ≡ texts
-  same_texts places rows all texts same joined_row_texts = ap (row_text_list line places) same ∙ sym joined_row_texts
-
-  pub told_length : (places : List ℕ) (all : List Row) (texts : List (List ℕ)) → texts ≡ row_text_list line places all
-      → length all ≡ length places → length texts ≡ length places
-  told_length places all texts joined_row_texts count = ap length joined_row_texts ∙ texts-length places all count
 
   told_next : (places : List ℕ) (rows : List Row) (i p : ℕ) (r : Row) → i < length places → i < length rows
       → joined_row_texts line places (take (suc i) rows)
@@ -79,15 +43,6 @@ module _ (line : ℕ → Row → List ℕ) where
   told_more places rows i p r in' low =
       let e : i + 1 ≡ suc i = omega arith in
       ap (λ n. joined_row_texts line places (take n rows)) e ∙ told_next places rows i p r in' low
-
-  -- a text that one row more was told of
-  pub told_on : (places : List ℕ) (rows : List Row) (i p : ℕ) (row : Row) (text more : List ℕ) → i < length places
-      → i < length rows → row ≡ get_or rows i row → text ≡ joined_row_texts line places (take i rows)
-      → more ≡ text ++ line (get_or places i p) row → more ≡ joined_row_texts line places (take (i + 1) rows)
-  told_on places rows i p row text more in' low is before pushed =
-      pushed ∙ ap (λ l. l ++ line (get_or places i p) row) before
-      ∙ ap (λ r. joined_row_texts line places (take i rows) ++ line (get_or places i p) r) is
-      ∙ sym (told_more places rows i p row in' low)
 
   -- nothing is told of no rows, behind a text
   pub told_none : (text places : List ℕ) (rows : List Row) → text ≡ text ++ joined_row_texts line places (take 0 rows)
@@ -113,17 +68,44 @@ module _ (line : ℕ → Row → List ℕ) where
       ∙ ap (λ l. concat l ++ rest) (sym (texts-take n places rows)))
       ∙ sym (append_assoc text (joined_row_texts line places (take n rows)) rest)
 
-  -- a piece's rows are told as the piece's texts
-  pub piece_told : (texts : List (List ℕ)) (size : ℕ) (places : List ℕ) (rows : List Row) (group k : ℕ)
-      → texts ≡ row_text_list line places rows → size ≡ group → length rows ≡ length places → 0 < group
-      → k < div_ceil (length rows) group
-      → CanBeTold texts size line places group k (slice_chunk rows group k)
-  piece_told texts size places rows group k are same count some low =
-      let from : k * group < length rows = chunk_inside (length rows) group k some low in
-      record {
-        within = omega (arith, from, count, length-take group (drop (k * group) rows), length-drop (k * group) rows);
-        told_so =
-            ap concat (texts-take group (drop (k * group) places) (drop (k * group) rows)
-            ∙ (ap (take group) (texts-drop (k * group) places rows)
-            ∙ (λ i. take (sym same i) (drop (k * sym same i) (sym are i)))));
-      }
+  -- nothing is told of no rows
+  pub none_told : (places : List ℕ) → joined_row_texts line places [] ≡ []
+  none_told places = ap concat (texts_none places)
+
+  -- of some rows, and of more
+  pub told_append : (places : List ℕ) (rows more : List Row) → length rows ≤ length places
+      → joined_row_texts line places (rows ++ more)
+      ≡ joined_row_texts line places rows ++ joined_row_texts line (drop (length rows) places) more
+  told_append places [] more few = ap (λ (l : List ℕ). l ++ joined_row_texts line places more) (sym (none_told places))
+  told_append [] (r ∷ rows) more few = absurd (omega (arith, few))
+  told_append (p ∷ places) (r ∷ rows) more few =
+      ap (λ (l : List ℕ). line p r ++ l) (told_append places rows more (omega (arith, few)))
+      ∙ sym (append_assoc (line p r) (joined_row_texts line places rows) (joined_row_texts line (drop (length rows) places) more))
+
+  -- of one row more
+  pub told_last : (places : List ℕ) (rows : List Row) (place : ℕ) (row : Row) → length rows < length places
+      → place ≡ get_or places (length rows) place
+      → joined_row_texts line places (rows ++ row ∷ []) ≡ joined_row_texts line places rows ++ line place row
+  told_last [] rows place row low is = absurd (omega (arith, low))
+  told_last (p ∷ places) [] place row low is =
+      ap (λ (l : List ℕ). line p row ++ l) (none_told places) ∙ append-nil (line p row) ∙ ap (λ (n : ℕ). line n row) (sym is)
+  told_last (p ∷ places) (r ∷ rows) place row low is =
+      ap (λ (l : List ℕ). line p r ++ l) (told_last places rows place row (omega (arith, low)) is)
+      ∙ sym (append_assoc (line p r) (joined_row_texts line places rows) (line place row))
+
+  -- nothing is told of a row without a place
+  pub told_past : (places : List ℕ) (rows : List Row) (row : Row) → length places ≤ length rows
+      → joined_row_texts line places (rows ++ row ∷ []) ≡ joined_row_texts line places rows
+  told_past [] [] row past = refl
+  told_past [] (r ∷ rows) row past = refl
+  told_past (p ∷ places) [] row past = absurd (omega (arith, past))
+  told_past (p ∷ places) (r ∷ rows) row past =
+      ap (λ (l : List ℕ). line p r ++ l) (told_past places rows row (omega (arith, past)))
+
+  -- of one row more, at the place of its number
+  pub told_at : (places : List ℕ) (rows : List Row) (told : ℕ) (row : Row) → told ≡ length rows → told < length places
+      → joined_row_texts line places (rows ++ row ∷ []) ≡ joined_row_texts line places rows ++ line (get_or places told 0) row
+  told_at places rows told row is low =
+      let place = get_or places told 0 in
+      told_last places rows place row (omega (arith, is, low))
+      (get_or_default places told 0 place low ∙ ap (λ (n : ℕ). get_or places n place) is)

@@ -1,11 +1,16 @@
 -- Errors of a stream.
-use Rattle.rv_fleet.specs.declared.fleet.PlacesError.{PlacesError}
-use Rattle.rv_fleet.specs.declared.fleet.PlacesError.TheVariants as places
+use Rattle.rv_engine.specs.declared.engine.RunError.{RunError}
+use Rattle.rv_engine.specs.declared.engine.RunError.TheVariants as run
+use Rattle.rv_rows.specs.declared_report.WriteError.{WriteError}
+use Rattle.rv_rows.specs.declared_report.WriteError.TheVariants as write
 use Rattle.rv_stream.specs.declared.error.StreamError.{StreamError}
 use Rattle.rv_stream.specs.declared.error.StreamError.TheVariants as stream
 
--- the error of a stream that an error of its run is; the run is stopped after a failed put alone
-abbrev pub stream_error_of_places : PlacesError → StreamError
-stream_error_of_places places.OutOfMemory = stream.OutOfMemory
-stream_error_of_places places.NoWorker = stream.NoWorker
-stream_error_of_places places.Stopped = stream.Failed
+-- a text that did not go out ends its run
+abbrev pub stream_error_of_write : WriteError → StreamError
+stream_error_of_write write.OutOfMemory = stream.OutOfMemory
+stream_error_of_write write.Failed = stream.Failed
+
+abbrev pub stream_error_of_run : RunError → StreamError
+stream_error_of_run run.OutOfMemory = stream.OutOfMemory
+stream_error_of_run run.NoWorker = stream.NoWorker

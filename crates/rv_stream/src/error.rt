@@ -1,11 +1,11 @@
 //! Why not all texts went out.
 
 ghost use Rattle.std.specs.Prelude.{◌≡◌};
-ghost use Rattle.rv_stream.specs.Errors.{stream_error_of_places};
-ghost use Rattle.rv_stream.specs.declared.error.BothError.TheVariants.{First};
+ghost use Rattle.rv_stream.specs.Errors.{stream_error_of_run, stream_error_of_write};
 ghost use Rattle.rv_stream.specs.declared.error.StreamError.TheVariants.{OutOfMemory};
 
-use rv_fleet::PlacesError;
+use rv_engine::RunError;
+use rv_rows::WriteError;
 use std::alloc::AllocError;
 use thiserror::Error;
 
@@ -40,31 +40,24 @@ impl From<AllocError> for StreamError {
     }
 }
 
-// A stream stops its run after a failure alone, and is asked for that failure before the run is.
-impl From<PlacesError> for StreamError {
-    ghost from_gives = { λ error given. given ≡ stream_error_of_places error };
+impl From<WriteError> for StreamError {
+    ghost from_gives = { λ error given. given ≡ stream_error_of_write error };
 
-    fn from(error: PlacesError) -> StreamError {
+    fn from(error: WriteError) -> StreamError {
         match error {
-            PlacesError::OutOfMemory => StreamError::OutOfMemory,
-            PlacesError::NoWorker => StreamError::NoWorker,
-            PlacesError::Stopped => StreamError::Failed,
+            WriteError::OutOfMemory => StreamError::OutOfMemory,
+            WriteError::Failed => StreamError::Failed,
         }
     }
 }
 
-impl From<AllocError> for BothError {
-    ghost from_gives = { λ _ error. error ≡ First OutOfMemory };
+impl From<RunError> for StreamError {
+    ghost from_gives = { λ error given. given ≡ stream_error_of_run error };
 
-    fn from(error: AllocError) -> BothError {
-        BothError::First(StreamError::from(error))
-    }
-}
-
-impl From<PlacesError> for BothError {
-    ghost from_gives = { λ error given. given ≡ First (stream_error_of_places error) };
-
-    fn from(error: PlacesError) -> BothError {
-        BothError::First(StreamError::from(error))
+    fn from(error: RunError) -> StreamError {
+        match error {
+            RunError::OutOfMemory => StreamError::OutOfMemory,
+            RunError::NoWorker => StreamError::NoWorker,
+        }
     }
 }

@@ -1,25 +1,84 @@
-//! What is told of rows, one after the other.
+//! An observer that tells of rows, and sends that.
 
-ghost use Rattle.std.specs.Prelude.{◌≡◌, IfOk};
-ghost use Rattle.rv_stream.specs.Streams.{joined_row_texts};
+ghost use Rattle.std.specs.Prelude.{◌≡◌, [], None};
+ghost use Rattle.rv_stream.specs.Texts.{IsSent};
 
-use crate::placed_rows::PlacedRows;
-use rv_rows::Telling;
-use std::alloc::{AllocError, Global};
+use crate::outbox::Outbox;
+use crate::streamed::Streamed;
+use crate::told_row::ToldRow;
+use rv_engine::{Flow, Observer};
+use rv_fleet::Sink;
+use rv_rows::{Telling, WriteError};
+use std::alloc::Global;
 
-/// What is told of rows.
-pub(crate) fn joined_row_texts<T: Telling>(
-    alloc: Global,
-    telling: &T,
-    placed: &PlacedRows<'_>,
-) -> Result<Vec<u8>, AllocError>
-    ensures { IfOk result (λ text. text.items
-        ≡ joined_row_texts (T.line telling.now) placed.now.places.now placed.now.rows.now) }
-{
-    let (places, rows) = (placed.places, placed.rows);
-    let mut text = Vec::new(alloc);
-    for i in 0..rows.len() {
-        telling.push_row_text(alloc, places[i], &rows[i], &mut text)?;
+/// Tells of each row with the place of its job, and sends that: what comes together in one put.
+#[derive(Drop)]
+pub(crate) struct RowTexts<'t, 'p, J: Streamed, T: Telling, W: Sink + Drop> {
+    pub(crate) alloc: Global,
+    pub(crate) telling: &'t T,
+    pub(crate) places: &'p [usize],
+    /// How many rows it has told of.
+    pub(crate) told: usize,
+    pub(crate) outbox: Outbox<J, W>,
+}
+
+impl<'t, 'p, J: Streamed, T: Telling, W: Sink + Drop> RowTexts<'t, 'p, J, T, W> {
+    /// It has seen nothing yet.
+    pub(crate) fn new(
+        alloc: Global,
+        telling: &'t T,
+        places: &'p [usize],
+        out: W,
+    ) -> RowTexts<'t, 'p, J, T, W>
+        requires before { J.before ≡ W.taken out }
+        requires failures { J.failures ≡ W.failed out }
+        ensures telling { result.telling.now ≡ telling.now }
+        ensures places { result.places.now ≡ places.now }
+        ensures told { result.told ≡ 0 }
+        ensures sent { IsSent J.before (W.taken result.outbox.out) J.failures (W.failed result.outbox.out)
+            result.outbox.failed result.outbox.unsent.items [] }
+        ensures goes { result.outbox.failed ≡ None }
+    {
+        RowTexts {
+            alloc,
+            telling,
+            places,
+            told: 0,
+            outbox: Outbox::<J, W>::new(alloc, out),
+        }
     }
-    Ok(text)
+}
+
+impl<J: Streamed, T: Telling, W: Sink + Drop> Observer<ToldRow> for RowTexts<'_, '_, J, T, W> {
+    ghost use Rattle.std.specs.Prelude.{◌≡◌, true, is_some, length, min};
+    ghost use Rattle.rv_stream.specs.Streams.{joined_row_texts};
+    ghost use Rattle.rv_stream.specs.Texts.{IsSent};
+    ghost use Rattle.rv_stream.specs.Told.{rows_of_told};
+
+    ghost has_seen = { λ s told. (T.line s.telling.now ≡ J.line) × (s.places.now ≡ J.places)
+        × (s.told ≡ min (length told) (length J.places))
+        × IsSent J.before (W.taken s.outbox.out) J.failures (W.failed s.outbox.out) s.outbox.failed s.outbox.unsent.items
+        (joined_row_texts J.line J.places (rows_of_told told)) };
+
+    ghost stops = { λ s. is_some s.outbox.failed ≡ true };
+
+    fn see(&mut self, made: &ToldRow) -> Flow {
+        if self.told >= self.places.len() {
+            return Flow::GoOn;
+        }
+        let place = self.places[self.told];
+        self.told += 1;
+        let (alloc, unsent) = (self.alloc, &mut self.outbox.unsent);
+        match self.telling.push_row_text(alloc, place, &made.row, unsent) {
+            Ok(()) => Flow::GoOn,
+            Err(_) => {
+                self.outbox.failed = Some(WriteError::OutOfMemory);
+                Flow::Stop
+            }
+        }
+    }
+
+    fn pause(&mut self) -> Flow {
+        self.outbox.send()
+    }
 }

@@ -113,7 +113,8 @@ fn front_character_bytes(text: &[u8]) -> &[u8]
     }
 }
 
-fn is_utf8(text: &[u8]) -> bool
+/// Whether bytes are UTF-8.
+pub fn is_utf8(text: &[u8]) -> bool
     ensures { result ≡ is_utf8 text.now }
 {
     match str::from_utf8(text) {

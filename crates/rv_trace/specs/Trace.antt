@@ -1,12 +1,13 @@
 -- The last instructions of a run, and the state in which it ended.
-use Rattle.std.specs.Prelude.{ℕ, ◌-◌, List, Option, option_map, map, min, slice_index_or}
+use Rattle.std.specs.Prelude.{ℕ, ◌-◌, List, Option, Some, option_map, map, min, slice_index_or}
 use Rattle.std.specs.List.{range_with_len}
 use Rattle.std.specs.Result.{result_ok}
-use Rattle.rv_jobs.specs.Plans.{Planned}
+use Rattle.rv_jobs.specs.declared.answers.Answer.{Answer}
+use Rattle.rv_jobs.specs.Plans.{Planned, kept_for}
 use Rattle.rv_jobs.specs.declared_job.Job.{Job}
 use Rattle.rv_machine.specs.Run.{run_of}
 use Rattle.rv_machine.specs.State.{State, register}
-use Rattle.rv_rows.specs.Rows.{start_in}
+use Rattle.rv_rows.specs.Rows.{content_if_read, start_in}
 use Rattle.rv_trace.specs.declared.step.TracedStep.{TracedStep}
 use Rattle.rv_trace.specs.declared.trace.Trace.{Trace}
 use Rattle.rv_trace.specs.Code.{code_at}
@@ -15,6 +16,10 @@ use Rattle.rv_trace.specs.Steps.{steps_from}
 -- the job at a place of a plan, or another where there is none
 abbrev pub job_at : Planned → ℕ → Job → Job
 job_at plan place other = slice_index_or plan.jobs place other
+
+-- the bytes of a job's image, where they were read
+abbrev pub image_bytes : List Answer → Job → Option (List ℕ)
+image_bytes answers job = content_if_read (Some (kept_for answers job.image))
 
 -- the state after at most n steps of a run
 abbrev pub state_after : ℕ → State → State

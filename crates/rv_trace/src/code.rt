@@ -2,7 +2,7 @@
 
 ghost use Rattle.std.specs.Prelude.{◌≡◌, IfSome};
 ghost use Rattle.rv_isa.specs.Words.{IsWellFormed};
-ghost use Rattle.rv_trace.specs.Code.{code_at, instr_of};
+ghost use Rattle.rv_trace.specs.Code.{code_at, instr_of, size_of_code};
 
 use rv_isa::{Instr, Isa, decode16, decode32, is_long};
 use rv_memory::Bus;
@@ -35,5 +35,15 @@ pub fn instr_of(code: Code) -> Option<Instr>
     match code {
         Code::Half(half) => decode16(half, Isa::Imc),
         Code::Word(word) => decode32(word, Isa::Imc),
+    }
+}
+
+/// The length of a code in bytes.
+pub fn code_length(code: Code) -> u32
+    ensures { result ≡ size_of_code code }
+{
+    match code {
+        Code::Half(_) => 2,
+        Code::Word(_) => 4,
     }
 }

@@ -77,7 +77,8 @@ fn instruction_write_target(access: Access, instr: Instr, machine: &Machine) -> 
     }
 }
 
-fn accessed_address(machine: &Machine, instr: Instr) -> u32
+/// The address that a load or a store reaches.
+pub fn accessed_address(machine: &Machine, instr: Instr) -> u32
     requires { IsWellFormed instr }
     ensures { result ≡ address (state_of machine.now) instr }
 {

@@ -26,7 +26,7 @@ use Rattle.rv_counts.specs.declared.table.CountTable.{CountTable}
 use Rattle.rv_coverage.specs.JobTables.{IsTableOfPlaces}
 use Rattle.rv_stacks.specs.StackTables.{IsTableWithStacks}
 use Rattle.rv_expect.specs.Judgement.{Judging, fails}
-use Rattle.rv_rounds.specs.Rounds.{rows_up_to}
+use Rattle.rv_stream.specs.Limits.{rows_up_to}
 use Rattle.rv_known.specs.declared.known_jobs.KnownJobs.{KnownJobs}
 use Rattle.rvtest_app.specs.Commands.{failure_rule, requested_verbosity}
 use Rattle.rvtest_app.specs.KnownFiles.{IsKnownAt}

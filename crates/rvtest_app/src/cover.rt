@@ -12,11 +12,12 @@ use rv_command::Stop;
 use rv_files::{Inputs, Outputs};
 use rv_rows::Sink;
 use rvtest_cli::{ChoosingCommand, CoverAsked};
+use std::sync::Wait;
 use std::thread::Threads;
 
 /// Shows what ran of the images of the jobs that are asked for: by a run of them, or by a table of counts. The status is 0.
 pub(crate) fn cover_requested_jobs<
-    R: Threads + Sync,
+    R: Threads + Wait + Sync,
     D: Inputs,
     F: Outputs + Drop,
     O: Sink + Drop,

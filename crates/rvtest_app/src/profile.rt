@@ -13,11 +13,12 @@ use rv_files::{Inputs, Outputs};
 use rv_profile::ProfileFormat;
 use rv_rows::Sink;
 use rvtest_cli::{ChoosingCommand, ProfileAsked};
+use std::sync::Wait;
 use std::thread::Threads;
 
 /// Shows in which functions the steps of the jobs that are asked for were: by a run of them, or by a table of counts. The status is 0.
 pub(crate) fn profile_requested_jobs<
-    R: Threads + Sync,
+    R: Threads + Wait + Sync,
     D: Inputs,
     F: Outputs + Drop,
     O: Sink + Drop,

@@ -7,7 +7,7 @@ ghost use Rattle.rv_fleet.specs.Batches.{batch_rows};
 ghost use Rattle.rv_job_text.specs.TotalsLine.{run_totals_line};
 ghost use Rattle.rv_lists.specs.Sinks.{AppendsBeginning};
 ghost use Rattle.rv_report.specs.Report.{row_text};
-ghost use Rattle.rv_rounds.specs.Rounds.{rows_within};
+ghost use Rattle.rv_stream.specs.Limits.{rows_within};
 ghost use Rattle.rv_stream.specs.Streams.{joined_row_texts};
 ghost use Rattle.rvtest_app.specs.Commands.{stop_of_stream};
 ghost use Rattle.rvtest_app.specs.RowsFiles.{AreRowsPut, file_name};
@@ -20,8 +20,9 @@ use rv_command::Stop;
 use rv_expect::Judge;
 use rv_fleet::{Batch, Crew, Row, Rows, Sink, put_all};
 use rv_job_text::push_run_totals_line;
-use rv_rounds::{FailureLimit, stream_until, stream_until_to_both};
-use rv_stream::{BothError, StreamError, Telling, ToldTo};
+use rv_stream::{
+    BothError, FailureLimit, StreamError, Telling, ToldTo, stream_rows, stream_rows_to_both,
+};
 use std::alloc::Global;
 use std::io::ErrorKind;
 use std::sync::Wait;
@@ -110,11 +111,11 @@ fn stream_rows<
                 telling: &ReportTelling,
                 out: sink,
             };
-            let (out, sink, ran) = stream_until_to_both(crew, batch, limit, shown, rows);
+            let (out, sink, ran) = stream_rows_to_both(crew, batch, limit, shown, rows);
             (out, Some(RowsFile { name, sink }), ran)
         }
         None => {
-            let (out, ran) = stream_until(crew, batch, limit, telling, out);
+            let (out, ran) = stream_rows(crew, batch, limit, telling, out);
             match ran {
                 Ok(rows) => (out, None, Ok(rows)),
                 Err(error) => (out, None, Err(BothError::First(error))),

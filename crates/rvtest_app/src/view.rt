@@ -25,6 +25,7 @@ use rv_jobs::{JobList, Plan, marked_places};
 use rv_profile::ProfileFormat;
 use rv_rows::Sink;
 use rvtest_cli::{ChoosingCommand, RunAsked};
+use std::sync::Wait;
 use std::thread::Threads;
 
 /// What is shown of images by a table of counts.
@@ -47,7 +48,7 @@ pub(crate) struct JobsView<'x, R, D> {
     pub(crate) view: View,
 }
 
-impl<'x, R: Threads + Sync, D: Inputs> JobsView<'x, R, D> {
+impl<'x, R: Threads + Wait + Sync, D: Inputs> JobsView<'x, R, D> {
     /// Shows it, by a run of the jobs or by a table of counts. The status is 0. A refusal of words shows the usage of the command.
     pub(crate) fn put<F: Outputs + Drop, O: Sink + Drop, E: Sink + Drop>(
         &self,

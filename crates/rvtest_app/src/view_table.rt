@@ -13,7 +13,7 @@ ghost use Rattle.rvtest_app.specs.ViewStops.{IsNoTableStop, IsUncountedStop, IsU
 ghost use Rattle.rvtest_app.specs.Views.{IsCountedFor, IsFitTableAt, IsTableFor, has_counts_for};
 
 use crate::counts::{sum_error_stop, table_of_text};
-use crate::crew::requested_crew;
+use crate::crew::counting_crew;
 use crate::host::Host;
 use crate::view::{JobsView, View};
 use rv_command::{Stop, path_message, read_result_file};
@@ -28,9 +28,10 @@ use rv_stacks::count_places_with_stacks;
 use rv_text::{Span, text_of_spans};
 use rvtest_cli::RunAsked;
 use std::alloc::{AllocError, Global};
+use std::sync::Wait;
 use std::thread::Threads;
 
-impl<'x, R: Threads + Sync, D: Inputs> JobsView<'x, R, D> {
+impl<'x, R: Threads + Wait + Sync, D: Inputs> JobsView<'x, R, D> {
     /// The counts of a run of the jobs at some places, whose images these are; or those of the table that words name.
     pub(crate) fn table_for_images(
         &self,
@@ -83,7 +84,7 @@ impl<'x, R: Threads + Sync, D: Inputs> JobsView<'x, R, D> {
 }
 
 // How often the instructions of the jobs at some places ran.
-fn counts_of_jobs<R: Threads + Sync, D>(
+fn counts_of_jobs<R: Threads + Wait + Sync, D>(
     host: &Host<'_, R, D>,
     asked: &RunAsked<'_>,
     plan: &Plan,
@@ -93,12 +94,12 @@ fn counts_of_jobs<R: Threads + Sync, D>(
     requires rising { IsStrictlyIncreasing places.now }
     ensures { IfOk result (IsTableOfPlaces plan.now places.now) }
 {
-    let crew = requested_crew(host.rt, host.alloc, asked);
+    let crew = counting_crew(host.rt, host.alloc, asked);
     count_places(&crew, &Batch::new(plan, places))
 }
 
 // The counts of the jobs at some places, with their stacks.
-fn counts_with_stacks_of_jobs<R: Threads + Sync, D>(
+fn counts_with_stacks_of_jobs<R: Threads + Wait + Sync, D>(
     host: &Host<'_, R, D>,
     asked: &RunAsked<'_>,
     plan: &Plan,
@@ -109,7 +110,7 @@ fn counts_with_stacks_of_jobs<R: Threads + Sync, D>(
     ensures stacks { IfOk result (IsTableWithStacks plan.now places.now) }
     ensures stopped { IfErr result (IsUnstackedJobsStop plan.now places.now asked.now.list.now) }
 {
-    let crew = requested_crew(host.rt, host.alloc, asked);
+    let crew = counting_crew(host.rt, host.alloc, asked);
     match count_places_with_stacks(&crew, &Batch::new(plan, places)) {
         Ok(table) => Ok(table),
         Err(error) => Err(sum_error_stop(host.alloc, asked.list, error)),

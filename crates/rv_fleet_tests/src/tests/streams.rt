@@ -2,8 +2,9 @@
 ghost use Rattle.std.specs.Prelude.{None};
 
 use super::{chosen, crew_of, number_in};
+use rv_expect::{Judge, Rule};
 use rv_fleet::{Batch, Crew, Row, Rows, Sink, SinkFailed};
-use rv_stream::{StreamError, Telling, stream_places};
+use rv_stream::{FailureLimit, StreamError, Telling, stream_rows};
 use samples::{agree, cell_of, has_lines};
 use std::alloc::{AllocError, Global};
 use std::sync::Wait;
@@ -158,7 +159,11 @@ fn told<R: Threads + Wait + Sync>(
     let out = NotingSink::new(alloc, most, fails_at, &asked);
     let crew = Crew::new(rt, alloc, workers, group);
     let batch = Batch::new(&plan, places.as_slice());
-    let (out, ran) = stream_places(&crew, &batch, &names, out);
+    let limit = FailureLimit {
+        judge: Judge::by_rule(Rule::Strict),
+        failures: None,
+    };
+    let (out, ran) = stream_rows(&crew, &batch, &limit, &names, out);
     text_of(alloc, &out, &ran)
 }
 

@@ -1,26 +1,27 @@
--- The sum of the tables of all shares is that of all places.
-use Rattle.std.proofs.Common.{◌∙◌, ℕ, List, Result, Ok, get_or, length, sym, ap, subst, arith}
-use Rattle.std.proofs.lemmas.Result.{IfOk-weaker}
-use Rattle.std.specs.Prelude.{IfOk}
-use Rattle.std.specs.declared.alloc.AllocError.{AllocError}
+-- The tables that are heard are those of the places, and so few have a sum.
+use Rattle.std.proofs.Common.{◌≡◌, Result, sym, subst}
+use Rattle.std.specs.Prelude.{IfErr, IfOk}
+use Rattle.rv_counts.specs.declared.sum.SumError.{SumError}
+use Rattle.rv_counts.specs.declared.sum.SumError.TheVariants.{OutOfMemory}
 use Rattle.rv_counts.specs.declared.table.CountTable.{CountTable}
-use Rattle.rv_coverage.specs.JobTables.{AllSumTo, IsTableOfPlaces, IsTableOfShare}
-use Rattle.rv_coverage.proofs.Shares.{all_shares}
+use Rattle.rv_coverage.specs.JobTables.{IsTableOfPlaces}
+use Rattle.rv_coverage.proofs.Adding.{all_counted, memory_alone}
 use Rattle.rv_coverage.proofs.places.count_places.Goals as goal
 
-pub returns : goal.returns
-returns g c =
+pub returns-in-Ok : goal.returns-in-Ok
+returns-in-Ok g c =
     let plan = c.args.batch.now.plan.now in
     let places = c.args.batch.now.places.now in
-    let results = c.as_slice.result.now in
-    let same = c.as_slice.ensures.value in
-    let long = c.as_slice.ensures.len ∙ c.in_ok-tables.ensures.len in
-    IfOk-weaker c.sum_of_all.result (AllSumTo results) (IsTableOfPlaces plan places)
-    (λ t added. all_shares plan places c.share_of-share.result results t c.share_of-share.ensures.some long
-    (λ n u lt is.
-    let k = (c.in_ok-tables.ensures.each n (Ok u) (let e = ap length same in omega (arith, lt, e))).1 in
-    let there = ap (λ (rs : List (Result CountTable AllocError)). get_or rs n (Ok u)) (sym same) ∙ is in
-    let told = subst (λ (r : Result CountTable AllocError). IfOk r (IsTableOfShare plan k.argument.now)) there k.call in
-    subst (λ (ps : List ℕ). IsTableOfPlaces plan ps u) k.argument_is.value told.table)
-    added)
-    c.sum_of_all.ensures
+    let ran = c.run_jobs-sum.result in
+    let sums = subst (λ (r : Result CountTable SumError). IfOk r (IsTableOfPlaces plan places)) (sym c.into_sum_of_run.ensures)
+    (all_counted plan places ran.0 ran.1 c.run_jobs-sum.ensures) in
+    rw c.in-Ok.is at sums
+
+pub want_of_memory-requires : goal.want_of_memory-requires
+want_of_memory-requires g c =
+    let plan = c.args.batch.now.plan.now in
+    let places = c.args.batch.now.places.now in
+    let ran = c.run_jobs-sum.result in
+    let refused = subst (λ (r : Result CountTable SumError). IfErr r (λ error. error ≡ OutOfMemory)) (sym c.into_sum_of_run.ensures)
+    (memory_alone plan places ran.0 ran.1 c.run_jobs-sum.ensures c.args.batch.now.few) in
+    rw c.in-Err.is at refused

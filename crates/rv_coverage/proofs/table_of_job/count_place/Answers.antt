@@ -28,7 +28,7 @@ returns-in_default-2 c = λ d.
     let job = job_at plan c.args.place d in
     let same = get_or_read plan.jobs c.args.place c.job-job.result.now c.requires c.job-job.ensures.value d in
     let none = ap (λ (j : Job). result_ok (image_of j.isa c.in-Some.bytes.now)) (sym same)
-    ∙ sym c.in_ok-image.ensures ∙ c.in_default-2.is in
+    ∙ sym c.in_ok-image.ensures.value ∙ c.in_default-2.is in
     refused plan.answers job c.empty_table-in_default-2.result c.empty_table-in_default-2.ensures
     (λ s start. no_image job s plan.answers c.in-Some.bytes.now (sym (c.in-Some.ensures d)) none start)
 

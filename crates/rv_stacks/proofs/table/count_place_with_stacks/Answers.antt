@@ -36,7 +36,7 @@ returns-in_default-2 c =
     let job = job_at plan c.args.place d in
     let same = get_or_read plan.jobs c.args.place c.job-job.result.now c.requires c.job-job.ensures.value d in
     let none = ap (λ (j : Job). result_ok (image_of j.isa c.in-Some.bytes.now)) (sym same)
-    ∙ sym c.in_ok-image.ensures ∙ c.in_default-2.is in
+    ∙ sym c.in_ok-image.ensures.value ∙ c.in_default-2.is in
     let table = c.empty_table-in_default-2.result in
     counts_and_stacks plan (c.args.place ∷ []) table
     (refused plan.answers job table c.empty_table-in_default-2.ensures
@@ -52,7 +52,7 @@ new-requires c =
     record {
       image = record {
         isa = isa;
-        is = read_as (image_of isa c.in-Some.bytes.now) c.in-Some-2.image (sym c.in_ok-image.ensures ∙ c.in-Some-2.is);
+        is = read_as (image_of isa c.in-Some.bytes.now) c.in-Some-2.image (sym c.in_ok-image.ensures.value ∙ c.in-Some-2.is);
       };
     }
 
@@ -76,7 +76,7 @@ returns-in-Some-3 c =
     let path = c.as_str.ensures ∙ ap (λ (j : Job). j.image) same in
     let bytes = sym (c.in-Some.ensures d) in
     let read = ap (image_if_read job.isa) bytes ∙ ap (λ (j : Job). image_if_read j.isa (Some file)) (sym same)
-    ∙ sym c.in_ok-image.ensures ∙ c.in-Some-2.is in
+    ∙ sym c.in_ok-image.ensures.value ∙ c.in-Some-2.is in
     let of_image = subst (λ (i : Image). IsTableOfRun (name_of_function i symbols.bytes.now) c.as_str.result.now symbols.bytes.now addresses spots t)
     its_image is in
     let of_file = subst (λ (b : List ℕ). IsTableOfRun (name_of_function image b) c.as_str.result.now b addresses spots t) its_bytes of_image in

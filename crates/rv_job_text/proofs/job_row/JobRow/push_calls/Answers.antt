@@ -1,8 +1,8 @@
 use Rattle.std.proofs.Common.{◌∙◌, ◌++◌, ap, append-nil, sym}
 use Rattle.rv_calls.specs.CallsLine.{calls_text}
 use Rattle.rv_jobs.specs.declared_job.Job.{Job}
-use Rattle.rv_trace.specs.Trace.{job_at}
-use Rattle.rv_job_text.specs.Telling.{calls_lines, image_bytes}
+use Rattle.rv_trace.specs.Trace.{image_bytes, job_at}
+use Rattle.rv_job_text.specs.Telling.{calls_lines}
 use Rattle.rv_job_text.specs.WayToEnd.{optional_calls_text}
 use Rattle.rv_job_text.proofs.Chains.{told_of_each}
 use Rattle.rv_job_text.proofs.ReadImages.{no_calls_text, read_for, text_in_read_file}
@@ -23,9 +23,9 @@ returns-in-Some-2 c =
     let elf = c.in-Some.elf in
     let calls = c.in-Some-2.calls in
     told_of_each _ _ _ _ (λ d. calls_lines plan (job d))
-    (λ d. sym (text_in_read_file (job d).isa (image_bytes plan (job d)) elf.bytes.now elf.image.now
+    (λ d. sym (text_in_read_file (job d).isa (image_bytes plan.answers (job d)) elf.bytes.now elf.image.now
     (sym (told.bytes d) ∙ c.in-Some.ensures.1)
     (read_for _ _ _ _ (c.in-Some.ensures.0 ∙ told.isa d) elf.read) (λ image bytes. calls_text image bytes calls))
-    ∙ ap (λ shown. optional_calls_text (job d).isa (image_bytes plan (job d)) shown)
+    ∙ ap (λ shown. optional_calls_text (job d).isa (image_bytes plan.answers (job d)) shown)
     (sym c.in-Some-2.is ∙ c.in_ok-calls.ensures d))
     c.push_calls_text.ensures

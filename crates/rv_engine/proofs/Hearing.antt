@@ -1,0 +1,135 @@
+-- What is heard in order: one result more, and one piece more.
+use Rattle.std.proofs.Common.{◌≡◌, ◌∙◌, mul-le-mul_right, ◌+◌, ◌-◌, ◌*◌, ◌<◌, ◌≤◌, ℕ, suc, min, List, [], ◌∷◌, ◌++◌, length, get_or, refl, sym, ap, subst, arith, inl, inr}
+use Rattle.std.proofs.lemmas.Bool.{cases_lt}
+use Rattle.std.proofs.lemmas.Grind.{div_ceil_times}
+use Rattle.std.proofs.lemmas.List.{get_or_append_left, length-append}
+use Rattle.std.proofs.Math.Seq.{get_or-append_seam}
+use Rattle.std.specs.Prelude.{Option, Some, None}
+use Rattle.rv_engine.specs.declared.in_order.End.{End}
+use Rattle.rv_engine.specs.declared.in_order.End.TheVariants.{OutOfMemory, Stopped}
+use Rattle.rv_engine.specs.declared.listener.Flow.{Flow}
+use Rattle.rv_engine.specs.declared.listener.Flow.TheVariants.{GoOn, Stop}
+use Rattle.rv_engine.specs.Results.{AreMade, Hears, HearsSome, HeardBy, HeardUntil, IsPiece, piece_count}
+
+module _ {H : Type 0} (is_result : ℕ → H → Type 0) (jobs : ℕ) where
+  -- nothing yet
+  pub heard_none : (has_heard : List H → Type 0) → has_heard [] → Hears is_result jobs has_heard 0
+  heard_none has_heard none = record {
+    results = [];
+    heard = none;
+    each = λ k any less. absurd (omega (arith, less));
+    count_is = refl;
+    few = omega arith;
+  }
+
+  pub heard_some : (has_heard : List H → Type 0) (n : ℕ) → Hears is_result jobs has_heard n → HearsSome is_result jobs has_heard
+  heard_some has_heard n heard = record { count = n; hears = heard }
+
+  -- the result of the next job
+  pub heard_more : (had has : List H → Type 0) (n : ℕ) (made : H) → Hears is_result jobs had n → n < jobs
+      → ((results : List H) → had results → has (results ++ made ∷ [])) → is_result n made → Hears is_result jobs has (n + 1)
+  heard_more had has n made hears less grown is =
+      let long = hears.count_is in
+      let longer = length-append hears.results (made ∷ []) in record {
+        results = hears.results ++ made ∷ [];
+        heard = grown hears.results hears.heard;
+        each = λ k any low. elim (cases_lt k (length hears.results)) [
+          | inl below ↦
+              subst (is_result k) (sym (get_or_append_left hears.results (made ∷ []) any k below)) (hears.each k any below)
+          | inr past ↦
+              let here : length hears.results ≡ k = omega (arith, past, low, longer) in
+              let last = subst (is_result (length hears.results)) (sym (get_or-append_seam hears.results made [] any))
+              (subst (λ (m : ℕ). is_result m made) (sym long) is) in
+              subst (λ (m : ℕ). is_result m (get_or (hears.results ++ made ∷ []) m any)) here last
+        ];
+        count_is = omega (arith, long, longer);
+        few = omega (arith, less);
+      }
+
+  -- nothing more was heard
+  pub heard_still : (had has : List H → Type 0) (n : ℕ) → ((results : List H) → had results → has results)
+      → Hears is_result jobs had n → Hears is_result jobs has n
+  heard_still had has n kept hears = record {
+    results = hears.results;
+    heard = kept hears.results hears.heard;
+    each = hears.each;
+    count_is = hears.count_is;
+    few = hears.few;
+  }
+
+  -- as many, by another count
+  pub heard_as : (has_heard : List H → Type 0) (n m : ℕ) → n ≡ m → Hears is_result jobs has_heard n
+      → Hears is_result jobs has_heard m
+  heard_as has_heard n m same heard = subst (Hears is_result jobs has_heard) same heard
+
+  module _ (group piece : ℕ) (results : List H) (are : IsPiece is_result jobs group piece results) where
+    -- the next result of a piece
+    pub piece_more : (had has : List H → Type 0) (before : List H) (made : H) (rest : List H) → before ++ made ∷ rest ≡ results
+        → Hears is_result jobs had (min (piece * group) jobs + length before)
+        → ((heard : List H) → had heard → has (heard ++ made ∷ []))
+        → Hears is_result jobs has (min (piece * group) jobs + length (before ++ made ∷ []))
+    piece_more had has before made rest whole heard grown =
+        let i = length before in
+        let count = are.count in
+        let long = ap length (sym whole) ∙ length-append before (made ∷ rest) in
+        let longer = length-append before (made ∷ []) in
+        let low : i < length results = omega (arith, long) in
+        let is : get_or results i made ≡ made =
+        ap (λ (l : List H). get_or l i made) (sym whole) ∙ get_or-append_seam before made rest made in
+        let at : min (piece * group) jobs + i ≡ piece * group + i = omega (arith, count, low) in
+        let right = subst (is_result (piece * group + i)) is (are.each i made low) in
+        heard_as has (min (piece * group) jobs + i + 1) (min (piece * group) jobs + length (before ++ made ∷ [])) (omega (arith, longer))
+        (heard_more had has (min (piece * group) jobs + i) made heard (omega (arith, count, low)) grown
+        (subst (λ (m : ℕ). is_result m made) (sym at) right))
+
+    next_piece : (piece + 1) * group ≡ piece * group + group
+    next_piece =
+        let next : piece + 1 ≡ suc piece = omega arith in
+        let whole : suc piece * group ≡ piece * group + group = omega arith in
+        ap (λ (n : ℕ). n * group) next ∙ whole
+
+    -- all results of a piece
+    pub piece_heard : (has_heard : List H → Type 0) (i : ℕ) → i ≡ length results
+        → Hears is_result jobs has_heard (min (piece * group) jobs + i) → Hears is_result jobs has_heard (min ((piece + 1) * group) jobs)
+    piece_heard has_heard i end heard =
+        let count = are.count in
+        heard_as has_heard (min (piece * group) jobs + i) (min ((piece + 1) * group) jobs) (omega (arith, end, count, next_piece))
+        heard
+
+pub nothing_left : {H : Type 0} (l : List H) → length l ≡ 0 → l ≡ []
+nothing_left [] h = refl
+nothing_left (x ∷ xs) h = absurd (omega arith)
+
+-- a piece of what is made
+pub piece_made : {H : Type 0} (is_made is_result : ℕ → H → Type 0) (jobs group piece : ℕ) (results : List H)
+    → AreMade is_made is_result → IsPiece is_made jobs group piece results → IsPiece is_result jobs group piece results
+piece_made is_made is_result jobs group piece results are made = record {
+  each = λ k any low. are (piece * group + k) (get_or results k any) (made.each k any low);
+  count = made.count;
+}
+
+-- after a pause, whatever it says
+pub heard_paused : {H : Type 0} (is_result : ℕ → H → Type 0) (jobs group : ℕ) (had has : List H → Type 0) (stops : Type 0) (next : ℕ)
+    (flow : Flow) → Hears is_result jobs had (min (next * group) jobs) → ((results : List H) → had results → has results)
+    → (flow ≡ GoOn → stops → ⊥) → (flow ≡ Stop → stops) → HeardBy is_result jobs group has stops next flow
+heard_paused is_result jobs group had has stops next GoOn hears kept goes ends =
+    (heard_still is_result jobs had has (min (next * group) jobs) kept hears, goes refl)
+heard_paused is_result jobs group had has stops next Stop hears kept goes ends = (
+  heard_some is_result jobs has (min (next * group) jobs) (heard_still is_result jobs had has (min (next * group) jobs) kept hears),
+  ends refl,
+)
+
+-- behind the last piece there is no job
+pub all_pieces : (jobs group piece : ℕ) → 0 < group → piece_count jobs group ≤ piece → min (piece * group) jobs ≡ jobs
+all_pieces jobs group piece some past =
+    let all : jobs ≤ piece_count jobs group * group = (div_ceil_times jobs group some).0 in
+    let more : piece_count jobs group * group ≤ piece * group = mul-le-mul_right group past in
+    omega (arith, all, more)
+
+-- however a run ended, the first jobs are heard
+pub until_some : {H : Type 0} (is_result : ℕ → H → Type 0) (jobs group : ℕ) (has_heard : List H → Type 0) (stops : Type 0) (next : ℕ)
+    (ended : Option End) → HeardUntil is_result jobs group has_heard stops next ended → HearsSome is_result jobs has_heard
+until_some is_result jobs group has_heard stops next None heard =
+    heard_some is_result jobs has_heard (min (next * group) jobs) heard.0
+until_some is_result jobs group has_heard stops next (Some Stopped) heard = heard.0
+until_some is_result jobs group has_heard stops next (Some OutOfMemory) heard = heard

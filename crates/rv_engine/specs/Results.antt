@@ -1,0 +1,76 @@
+-- Results of jobs, which are made in pieces and heard in order.
+use Rattle.std.specs.Prelude.{◌≡◌, ◌+◌, ◌-◌, ◌*◌, ◌<◌, ◌≤◌, ℕ, List, length, min, Option, Some, None, IfSome, slice_index_or, Vec}
+use Rattle.std.specs.Prelude.{Result, Ok, Err}
+use Rattle.std.specs.Int.{div_ceil}
+use Rattle.std.specs.declared.alloc.Global.{Global}
+use Rattle.rv_engine.specs.declared.engine.RunError.{RunError}
+use Rattle.rv_engine.specs.declared.in_order.End.{End}
+use Rattle.rv_engine.specs.declared.in_order.End.TheVariants.{OutOfMemory, Stopped}
+use Rattle.rv_engine.specs.declared.listener.Flow.{Flow}
+use Rattle.rv_engine.specs.declared.listener.Flow.TheVariants.{GoOn, Stop}
+
+-- the results of the first jobs
+abbrev pub AreResults : {H : Type 0} → (ℕ → H → Type 0) → List H → Type 0
+AreResults {H} is_result results = (k : ℕ) (any : H) → k < length results → is_result k (slice_index_or results k any)
+
+-- ---- heard in order
+
+-- what a listener has heard: the results of the first so many jobs, each once and in order
+pub record Hears {H : Type 0} (is_result : ℕ → H → Type 0) (jobs : ℕ) (has_heard : List H → Type 0) (count : ℕ) : Type 0 where
+  pub results : List H
+  pub heard : has_heard results
+  pub each : AreResults is_result results
+  pub count_is : length results ≡ count
+  pub few : count ≤ jobs
+
+-- the same of the first jobs, however many
+pub record HearsSome {H : Type 0} (is_result : ℕ → H → Type 0) (jobs : ℕ) (has_heard : List H → Type 0) : Type 0 where
+  pub count : ℕ
+  pub hears : Hears is_result jobs has_heard count
+
+-- behind a run: it heard of all jobs, or said stop, or there was an error
+abbrev pub HeardRun : {H : Type 0} → (ℕ → H → Type 0) → ℕ → (List H → Type 0) → Type 0 → Result Flow RunError → Type 0
+HeardRun is_result jobs has_heard stops (Ok GoOn) = Hears is_result jobs has_heard jobs × (stops → ⊥)
+HeardRun is_result jobs has_heard stops (Ok Stop) = HearsSome is_result jobs has_heard × stops
+HeardRun is_result jobs has_heard stops (Err error) = HearsSome is_result jobs has_heard
+
+-- ---- made in pieces
+
+-- how many pieces jobs have
+abbrev pub piece_count : ℕ → ℕ → ℕ
+piece_count jobs group = div_ceil jobs group
+
+-- the results of a piece's jobs: a group of them, or as many as there are from its first on
+pub record IsPiece {H : Type 0} (is_result : ℕ → H → Type 0) (jobs group piece : ℕ) (results : List H) : Type 0 where
+  pub each : AreResults (λ k. is_result (piece * group + k)) results
+  pub count : length results ≡ min group (jobs - piece * group)
+
+-- the results that came early, each piece's at its place
+abbrev pub AreEarly : {H : Type 0} → (ℕ → H → Type 0) → ℕ → ℕ → List (Option (Vec H Global)) → Type 0
+AreEarly is_result jobs group early = (k : ℕ)
+    → IfSome (slice_index_or early k None) (λ results. IsPiece is_result jobs group k results.items)
+
+-- a listener has heard of the jobs of the pieces before one, and goes on
+abbrev pub HearsUpTo : {H : Type 0} → (ℕ → H → Type 0) → ℕ → ℕ → (List H → Type 0) → Type 0 → ℕ → Type 0
+HearsUpTo is_result jobs group has_heard stops piece = Hears is_result jobs has_heard (min (piece * group) jobs) × (stops → ⊥)
+
+-- the same where nothing ended the run, and else of the first jobs
+abbrev pub HeardUntil : {H : Type 0} → (ℕ → H → Type 0) → ℕ → ℕ → (List H → Type 0) → Type 0 → ℕ → Option End → Type 0
+HeardUntil is_result jobs group has_heard stops next None = HearsUpTo is_result jobs group has_heard stops next
+HeardUntil is_result jobs group has_heard stops next (Some Stopped) = HearsSome is_result jobs has_heard × stops
+HeardUntil is_result jobs group has_heard stops next (Some OutOfMemory) = HearsSome is_result jobs has_heard
+
+-- what is known under the lock
+pub record IsInOrder {H : Type 0} (is_result : ℕ → H → Type 0) (jobs group : ℕ) (has_heard : List H → Type 0) (stops : Type 0)
+    (next : ℕ) (ended : Option End) (early : List (Option (Vec H Global))) : Type 0 where
+  pub heard : HeardUntil is_result jobs group has_heard stops next ended
+  pub waiting : AreEarly is_result jobs group early
+
+-- what a listener has heard in front of a piece, or before that where it said stop
+abbrev pub HeardBy : {H : Type 0} → (ℕ → H → Type 0) → ℕ → ℕ → (List H → Type 0) → Type 0 → ℕ → Flow → Type 0
+HeardBy is_result jobs group has_heard stops next GoOn = HearsUpTo is_result jobs group has_heard stops next
+HeardBy is_result jobs group has_heard stops next Stop = HearsSome is_result jobs has_heard × stops
+
+-- what a work makes of jobs is what a run speaks of
+abbrev pub AreMade : {H : Type 0} → (ℕ → H → Type 0) → (ℕ → H → Type 0) → Type 0
+AreMade {H} is_made is_result = (number : ℕ) (made : H) → is_made number made → is_result number made

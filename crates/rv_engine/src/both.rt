@@ -1,0 +1,64 @@
+//! An observer beside a listener, or beside another observer.
+
+ghost use Rattle.std.specs.Prelude.{◌≡◌, ◌⊎◌};
+ghost use Rattle.rv_engine.specs.declared.listener.Flow.TheVariants.{GoOn, Stop};
+
+use crate::listener::{Flow, Listener, Observer};
+
+/// Two that hear the same results, the first as an observer. A run stops where one of them says so.
+#[derive(Drop)]
+pub struct Both<A: Drop, B: Drop> {
+    pub first: A,
+    pub second: B,
+}
+
+impl<H, A: Observer<H> + Drop, B: Listener<H> + Drop> Listener<H> for Both<A, B> {
+    ghost use Rattle.std.specs.Prelude.{◌⊎◌};
+
+    ghost has_heard = { λ s results. A.has_seen s.first results × B.has_heard s.second results };
+
+    ghost stops = { λ s. A.stops s.first ⊎ B.stops s.second };
+
+    fn hear(&mut self, made: H) -> Flow {
+        let first = self.first.see(&made);
+        let second = self.second.hear(made);
+        first_stop(first, second)
+    }
+
+    fn pause(&mut self) -> Flow {
+        let first = self.first.pause();
+        let second = self.second.pause();
+        first_stop(first, second)
+    }
+}
+
+impl<H, A: Observer<H> + Drop, B: Observer<H> + Drop> Observer<H> for Both<A, B> {
+    ghost use Rattle.std.specs.Prelude.{◌⊎◌};
+
+    ghost has_seen = { λ s results. A.has_seen s.first results × B.has_seen s.second results };
+
+    ghost stops = { λ s. A.stops s.first ⊎ B.stops s.second };
+
+    fn see(&mut self, made: &H) -> Flow {
+        let first = self.first.see(made);
+        let second = self.second.see(made);
+        first_stop(first, second)
+    }
+
+    fn pause(&mut self) -> Flow {
+        let first = self.first.pause();
+        let second = self.second.pause();
+        first_stop(first, second)
+    }
+}
+
+// Stop, where either says so.
+fn first_stop(first: Flow, second: Flow) -> Flow
+    ensures goes { result ≡ GoOn → (first ≡ GoOn) × (second ≡ GoOn) }
+    ensures stops { result ≡ Stop → (first ≡ Stop) ⊎ (second ≡ Stop) }
+{
+    match first {
+        Flow::Stop => Flow::Stop,
+        Flow::GoOn => second,
+    }
+}

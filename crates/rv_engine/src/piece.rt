@@ -1,0 +1,44 @@
+//! The pieces in which jobs are run.
+
+ghost use Rattle.std.specs.Prelude.{◌≡◌, ◌*◌, ◌<◌, ◌≤◌, IfOk, OnOk};
+ghost use Rattle.rv_jobs.specs.Limits.{most_group, most_jobs};
+ghost use Rattle.rv_engine.specs.Results.{IsPiece, piece_count};
+
+use crate::work::Work;
+use crate::workbench::Workbench;
+use std::alloc::{AllocError, Global};
+
+/// How many pieces jobs are run in: groups of them, in order. The last piece may have fewer.
+pub(crate) fn piece_count(jobs: usize, group: u32) -> u64
+    requires few { jobs ≤ most_jobs }
+    requires some { 0 < group }
+    ensures value { result ≡ piece_count jobs group }
+    ensures few { result ≤ most_jobs }
+{
+    jobs.div_ceil(group as usize) as u64
+}
+
+/// The results of the jobs of a piece.
+pub(crate) fn make_piece<H: Drop, W: Work<H>>(
+    alloc: Global,
+    work: &W,
+    group: u32,
+    piece: u64,
+    bench: &mut Workbench,
+) -> Result<Vec<H>, AllocError>
+    requires group { (0 < group) × (group ≤ most_group) }
+    requires piece { piece < piece_count (W.jobs work.now) group }
+    requires bench { W.is_bench work.now bench.old }
+    ensures made { IfOk result (λ made. IsPiece (W.is_made work.now) (W.jobs work.now) group piece made.items) }
+    ensures bench { OnOk result (W.is_bench work.now bench.new) }
+{
+    let jobs = work.jobs();
+    let group = group as usize;
+    let start = piece as usize * group;
+    let end = start + group.min(jobs - start);
+    let mut made = Vec::with_capacity(alloc, end - start)?;
+    for number in start..end {
+        made.push(work.make(alloc, number, bench)?)?;
+    }
+    Ok(made)
+}

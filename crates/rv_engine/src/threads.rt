@@ -1,0 +1,105 @@
+//! Threads that draw pieces, each with a pass of its own.
+
+ghost use Rattle.std.specs.Prelude.{◌≡◌, ◌≤◌, IfOk};
+ghost use Rattle.std.specs.List.{All};
+ghost use Rattle.rv_claims.specs.Passes.{SharedDraw};
+
+use crate::crew::Crew;
+use crate::engine::RunError;
+use rv_claims::{Claims, Pass, SplitError};
+use std::alloc::{AllocError, Global};
+use std::sync::Wait;
+use std::thread;
+use std::thread::Threads;
+
+/// What each of the threads does.
+pub(crate) trait Worker: Sync {
+    ghost use Rattle.std.specs.Prelude.{◌≡◌};
+    ghost use Rattle.rv_claims.specs.Passes.{SharedDraw};
+
+    // Whether the pieces of a shared draw are those that it works on.
+    ghost draws: { Self → SharedDraw → Type 0 };
+
+    /// Takes pieces until there is none, or the run ends.
+    fn work_on_pieces(&self, claims: &Claims, pass: Pass) -> Result<(), AllocError>
+        requires claims { draws self.now claims.now }
+        requires pass { pass.draw ≡ claims.now };
+
+    /// Has the others end.
+    fn give_up(&self);
+}
+
+/// As many threads as the crew has, or as there are pieces. It returns when all of them have ended.
+pub(crate) fn run_workers<R: Threads + Wait, S: Worker>(
+    crew: &Crew<'_, R>,
+    worker: &S,
+    pieces: u64,
+) -> Result<(), RunError>
+    requires few { pieces ≤ 4096 }
+    requires draws { (draw : SharedDraw) → draw.pieces ≡ pieces → S.draws worker.now draw }
+{
+    let (rt, alloc) = (crew.rt, crew.alloc);
+    let (claims, first) = Claims::new(alloc, pieces)?;
+    let passes = split_passes(alloc, &claims, first, pieces.min(u64::from(crew.workers)))?;
+    let claims = &claims;
+    thread::scope(
+        thread::scope_env(),
+        rt,
+        |scope| -> Result<(), RunError>
+            requires { S.draws worker.now claims.now × All (λ pass. pass.draw ≡ claims.now) passes.items }
+        {
+            let mut handles = Vec::with_capacity(alloc, passes.len())?;
+            for pass in passes {
+                let Ok(handle) = scope.spawn(
+                    move || -> Result<(), AllocError>
+                        requires { S.draws worker.now claims.now × (pass.draw ≡ claims.now) }
+                    { worker.work_on_pieces(claims, pass) },
+                ) else {
+                    // No worker: `spawn` fails where the start of a thread was refused. The others need not go on.
+                    worker.give_up();
+                    return Err(RunError::NoWorker);
+                };
+                let Ok(()) = handles.push(handle) else {
+                    // Out of memory: `push` fails by that alone.
+                    return Err(RunError::OutOfMemory);
+                };
+            }
+            for handle in handles {
+                // What was refused is known under the lock.
+                let _made = handle.join(rt);
+            }
+            Ok(())
+        },
+    )
+}
+
+// A pass for each thread: as many as asked, or as there are free places. The last is the first pass itself.
+fn split_passes(
+    alloc: Global,
+    claims: &Claims,
+    first: Pass,
+    count: u64,
+) -> Result<Vec<Pass>, AllocError>
+    requires { first.draw ≡ claims.now }
+    ensures { IfOk result (λ passes. All (λ pass. pass.draw ≡ claims.now) passes.items) }
+{
+    let mut passes = Vec::new(alloc);
+    if count == 0 {
+        return Ok(passes);
+    }
+    let mut last = first;
+    for _ in 1..count {
+        match claims.split(last) {
+            Ok((pass, new)) => {
+                last = pass;
+                passes.push(new)?;
+            },
+            Err(SplitError::Full(pass)) => {
+                last = pass;
+                break;
+            },
+        }
+    }
+    passes.push(last)?;
+    Ok(passes)
+}

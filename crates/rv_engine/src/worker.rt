@@ -1,0 +1,77 @@
+//! What a worker does: it draws pieces, makes them, and hands them on.
+
+ghost use Rattle.rv_jobs.specs.Limits.{most_group};
+ghost use Rattle.std.specs.Prelude.{◌≡◌, ◌<◌, ◌≤◌, OnOk};
+ghost use Rattle.rv_engine.specs.Results.{AreMade, piece_count};
+
+use crate::in_order::{Heard, InOrder};
+use crate::listener::{Flow, Listener};
+use crate::piece::make_piece;
+use crate::threads::Worker;
+use crate::work::Work;
+use crate::workbench::Workbench;
+use rv_claims::{Claims, Pass};
+use std::alloc::{AllocError, Global};
+use std::sync::{Mutex, Wait};
+
+/// What all workers of a run have before them.
+#[derive(Drop)]
+pub(crate) struct Shop<'a, J: Heard<H>, H: Drop, R, W: Work<H>, L: Listener<H> + Drop> {
+    pub(crate) rt: &'a R,
+    pub(crate) alloc: Global,
+    pub(crate) work: &'a W,
+    pub(crate) group: u32,
+    pub(crate) in_order: Mutex<InOrder<J, H, L>>,
+    pub(crate) ghost group_few: { (0 < group) × (group ≤ most_group) },
+    pub(crate) ghost jobs: { J.jobs ≡ W.jobs work.now },
+    pub(crate) ghost pieces: { J.group ≡ group },
+}
+
+impl<
+    'a,
+    J: Heard<H> + Send,
+    H: Drop + Send,
+    R: Wait + Sync,
+    W: Work<H> + Sync,
+    L: Listener<H> + Drop + Send,
+> Worker for Shop<'a, J, H, R, W, L> {
+    ghost use Rattle.std.specs.Prelude.{◌≡◌};
+    ghost use Rattle.rv_engine.specs.Results.{AreMade, piece_count};
+
+    ghost draws = { λ s draw. (draw.pieces ≡ piece_count (W.jobs s.work.now) s.group) × AreMade (W.is_made s.work.now) J.is_result };
+
+    fn work_on_pieces(&self, claims: &Claims, pass: Pass) -> Result<(), AllocError> {
+        let mut pass = pass;
+        let mut bench = self.work.new_bench(self.alloc);
+        while let Some(piece) = claims.take(&mut pass) {
+            if let Flow::Stop = self.work_on_piece(piece, &mut bench)? {
+                return Ok(());
+            }
+        }
+        Ok(())
+    }
+
+    fn give_up(&self) {
+        self.in_order.lock(self.rt).give_up();
+    }
+}
+
+impl<'a, J: Heard<H>, H: Drop, R: Wait, W: Work<H>, L: Listener<H> + Drop> Shop<'a, J, H, R, W, L> {
+    // Makes a piece, and hands it on. After a refusal of memory the other workers end, too.
+    fn work_on_piece(&self, piece: u64, bench: &mut Workbench) -> Result<Flow, AllocError>
+        requires piece { piece < piece_count (W.jobs self.now.work.now) self.now.group }
+        requires results { AreMade (W.is_made self.now.work.now) J.is_result }
+        requires bench { W.is_bench self.now.work.now bench.old }
+        ensures { OnOk result (W.is_bench self.now.work.now bench.new) }
+    {
+        let made = make_piece::<H, W>(self.alloc, self.work, self.group, piece, bench);
+        let mut in_order = self.in_order.lock(self.rt);
+        match made {
+            Ok(results) => Ok(in_order.take_piece(piece, results)),
+            Err(error) => {
+                in_order.give_up();
+                Err(error)
+            }
+        }
+    }
+}

@@ -1,0 +1,43 @@
+//! The table of each job of a batch, with its stacks.
+
+use crate::table::count_place_with_stacks;
+use rv_coverage::JobTable;
+use rv_engine::{Work, Workbench};
+use rv_fleet::Batch;
+use std::alloc::{AllocError, Global};
+
+/// Counts the jobs of a batch, with their stacks.
+#[derive(Drop)]
+pub(crate) struct StackWork<'a> {
+    pub(crate) batch: &'a Batch<'a>,
+}
+
+impl Work<JobTable> for StackWork<'_> {
+    ghost use Rattle.std.specs.Prelude.{◌∷◌, [], ℕ, length, slice_index_or};
+    ghost use Rattle.rv_stacks.specs.StackTables.{IsTableWithStacks};
+
+    ghost jobs = { λ s. length s.batch.now.places.now };
+
+    ghost is_made = { λ s number table. IsTableWithStacks s.batch.now.plan.now
+        (slice_index_or s.batch.now.places.now number 0 ∷ []) table };
+
+    ghost is_bench = { λ _ _. Unit {0} };
+
+    fn jobs(&self) -> usize {
+        self.batch.places.len()
+    }
+
+    fn new_bench(&self, alloc: Global) -> Workbench {
+        Workbench::new(alloc)
+    }
+
+    fn make(
+        &self,
+        alloc: Global,
+        number: usize,
+        _bench: &mut Workbench,
+    ) -> Result<JobTable, AllocError> {
+        let table = count_place_with_stacks(alloc, self.batch.plan, self.batch.places[number])?;
+        Ok(JobTable::new(table))
+    }
+}

@@ -1,0 +1,38 @@
+-- Rows of a batch with what is told of them, and the first of these.
+use Rattle.std.specs.Prelude.{◌≡◌, ℕ, Bool, false, List, [], Option, map, option_map, slice_index_or}
+use Rattle.rv_fleet.specs.declared.batch.Batch.{Batch}
+use Rattle.rv_jobs.specs.Jobs.{single_job}
+use Rattle.rv_rows.specs.declared_row.Row.{Row}
+use Rattle.rv_rows.specs.Rows.{row_of}
+use Rattle.rv_stream.specs.declared.told_row.ToldRow.{ToldRow}
+use Rattle.rv_stream.specs.Limits.{failures_behind, rows_up_to}
+use Rattle.rv_expect.specs.Judgement.{Judging, fails}
+
+-- the place of the job of a number, and its row
+abbrev pub place_of_number : Batch → ℕ → ℕ
+place_of_number batch number = slice_index_or batch.places.now number 0
+
+abbrev pub row_of_number : Batch → ℕ → Row
+row_of_number batch number =
+    row_of batch.plan.now (slice_index_or batch.plan.now.jobs (place_of_number batch number) (single_job [] 0 []))
+
+-- the row of the job of a number, and what is told of it
+pub record IsToldRow (line : ℕ → Row → List ℕ) (batch : Batch) (number : ℕ) (told : ToldRow) : Type 0 where
+  pub row : told.row ≡ row_of_number batch number
+  pub text : told.text.items ≡ line (place_of_number batch number) told.row
+
+abbrev pub rows_of_told : List ToldRow → List Row
+rows_of_told told = map (λ (t : ToldRow). t.row) told
+
+abbrev pub texts_of_told : List ToldRow → List (List ℕ)
+texts_of_told told = map (λ (t : ToldRow). t.text.items) told
+
+-- how many failures are left before a run ends, where failures end it
+abbrev pub failures_left : Option ℕ → Judging → List Row → Option ℕ
+failures_left most judging rows = option_map (λ number. failures_behind (fails judging) number rows) most
+
+-- rows up to a failure that ends a run; they are kept, unless a growth was refused
+pub record AreFirstRows (most : Option ℕ) (judging : Judging) (left : Option ℕ) (refused : Bool) (kept rows : List Row) : Type 0 where
+  pub kept_all : refused ≡ false → kept ≡ rows
+  pub left_is : left ≡ failures_left most judging rows
+  pub within : rows_up_to most (fails judging) rows ≡ rows

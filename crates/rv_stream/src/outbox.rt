@@ -1,0 +1,90 @@
+//! A sink, and the text that waits to go out to it.
+
+ghost use Rattle.std.specs.Prelude.{◌≡◌, [], ℕ, List, None, OnErr, OnOk, is_some, true};
+ghost use Rattle.std.specs.Io.KnownBytes.{Appends};
+ghost use Rattle.rv_engine.specs.declared.listener.Flow.TheVariants.{GoOn, Stop};
+ghost use Rattle.rv_rows.specs.Sinks.{AppendsBeginning};
+ghost use Rattle.rv_stream.specs.Texts.{IsSent};
+
+use crate::streamed::Streamed;
+use rv_engine::Flow;
+use rv_fleet::{Sink, put_all};
+use rv_rows::WriteError;
+use std::alloc::Global;
+use std::marker::PhantomData;
+
+/// A sink, and the text that waits to go out to it.
+#[derive(Drop)]
+pub(crate) struct Outbox<J: Streamed, W: Sink + Drop> {
+    pub(crate) out: W,
+    /// What waits.
+    pub(crate) unsent: Vec<u8>,
+    /// Why no more goes out.
+    pub(crate) failed: Option<WriteError>,
+    of: PhantomData<J>,
+}
+
+impl<J: Streamed, W: Sink + Drop> Outbox<J, W> {
+    /// Nothing waits.
+    pub(crate) fn new(alloc: Global, out: W) -> Outbox<J, W>
+        requires before { J.before ≡ W.taken out }
+        requires failures { J.failures ≡ W.failed out }
+        ensures sent { IsSent J.before (W.taken result.out) J.failures (W.failed result.out) result.failed result.unsent.items [] }
+        ensures goes { result.failed ≡ None }
+    {
+        Outbox {
+            out,
+            unsent: Vec::new(alloc),
+            failed: None,
+            of: PhantomData,
+        }
+    }
+
+    /// Sends what waits, and answers whether to go on.
+    pub(crate) fn send(&mut self) -> Flow
+        requires { self.old.failed ≡ None }
+        ensures sent { (text : List ℕ)
+            → IsSent J.before (W.taken self.old.out) J.failures (W.failed self.old.out) self.old.failed self.old.unsent.items text
+            → IsSent J.before (W.taken self.new.out) J.failures (W.failed self.new.out) self.new.failed self.new.unsent.items text }
+        ensures goes { result ≡ GoOn → self.new.failed ≡ None }
+        ensures stops { result ≡ Stop → is_some self.new.failed ≡ true }
+    {
+        match put_all(&mut self.out, self.unsent.as_slice()) {
+            Ok(()) => {
+                self.unsent.clear();
+                Flow::GoOn
+            }
+            Err(_) => {
+                self.failed = Some(WriteError::Failed);
+                Flow::Stop
+            }
+        }
+    }
+
+    /// Sends what waits, and gives the sink back: it took all of the text, or a beginning.
+    pub(crate) fn finish(self) -> (W, Result<(), WriteError>)
+        ensures all { (text : List ℕ) → IsSent J.before (W.taken self.out) J.failures (W.failed self.out) self.failed self.unsent.items text
+            → OnOk result.1 (Appends J.before (W.taken result.0) text
+            × (W.failed result.0 ≡ J.failures)) }
+        ensures part { (text : List ℕ) → IsSent J.before (W.taken self.out) J.failures (W.failed self.out) self.failed self.unsent.items text
+            → OnErr result.1 (AppendsBeginning J.before (W.taken result.0) text) }
+        ensures goes { OnOk result.1 (self.failed ≡ None) }
+        ensures begun { (text : List ℕ) → IsSent J.before (W.taken self.out) J.failures (W.failed self.out) self.failed self.unsent.items text
+            → AppendsBeginning J.before (W.taken result.0) text }
+    {
+        let Outbox {
+            out,
+            unsent,
+            failed,
+            ..
+        } = self;
+        let mut out = out;
+        if let Some(error) = failed {
+            return (out, Err(error));
+        }
+        match put_all(&mut out, unsent.as_slice()) {
+            Ok(()) => (out, Ok(())),
+            Err(_) => (out, Err(WriteError::Failed)),
+        }
+    }
+}

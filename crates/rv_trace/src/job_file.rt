@@ -1,0 +1,36 @@
+//! The file of a job's image.
+
+ghost use Rattle.std.specs.Prelude.{◌≡◌, ◌<◌, IfOk, IfSome, Ok, Some, length, option_map};
+ghost use Rattle.rv_elf.specs.Image.{image_of};
+ghost use Rattle.rv_jobs.specs.declared_job.Job.{Job as AJob};
+ghost use Rattle.rv_rows.specs.Rows.{image_if_read};
+ghost use Rattle.rv_trace.specs.Trace.{image_bytes, job_at};
+
+use rv_elf::{Image, ImageError, read_image};
+use rv_isa::Isa;
+use rv_jobs::{Kept, Plan};
+use std::alloc::{AllocError, Global};
+
+/// The bytes of a job's image, where they were read.
+pub fn image_bytes(plan: &Plan, place: usize) -> Option<&[u8]>
+    requires { place < length plan.now.jobs }
+    ensures { (d : AJob) → option_map (λ bytes. bytes.now) result
+        ≡ image_bytes plan.now.answers (job_at plan.now place d) }
+{
+    match plan.image(place) {
+        Kept::Content(bytes) => Some(bytes.as_slice()),
+        Kept::Unreadable | Kept::TooLong => None,
+    }
+}
+
+/// The image that bytes are read as, where they are one.
+pub fn image_of_bytes(alloc: Global, isa: Isa, bytes: &[u8]) -> Result<Option<Image>, AllocError>
+    ensures value { IfOk result (λ image. image ≡ image_if_read isa (Some bytes.now)) }
+    ensures read { IfOk result (λ found. IfSome found (λ image. image_of isa bytes.now ≡ Ok image)) }
+{
+    match read_image(alloc, bytes, isa) {
+        Ok(image) => Ok(Some(image)),
+        Err(ImageError::OutOfMemory) => Err(AllocError),
+        Err(_) => Ok(None),
+    }
+}
