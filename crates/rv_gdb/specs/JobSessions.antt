@@ -1,5 +1,5 @@
 -- The session over the run of a job of a plan.
-use Rattle.std.specs.Prelude.{◌≡◌, ℕ, List, Option, Some, Ok}
+use Rattle.std.specs.Prelude.{◌≡◌, ℕ, List, Some, Ok}
 use Rattle.rv_history.specs.Starts.{start_of}
 use Rattle.rv_history.specs.declared.start.Start.{Start}
 use Rattle.rv_jobs.specs.declared.answers.Answer.{Answer}

@@ -1,6 +1,5 @@
 -- Steps that leave the bus as it was, told before they are done.
 use Rattle.std.specs.Prelude.{ℕ, ◌+◌, ◌/◌, ◌%◌, ◌==◌, ◌&&◌, ◌||◌, Bool, true, false, nat_le, not, length, Option, Some, None}
-use Rattle.std.specs.Ordering.{nat_cmp}
 use Rattle.std.specs.FinMap as fin
 use Rattle.std.specs.FinSet as set
 use Rattle.rv_isa.specs.declared.instruction.Instr.{Instr}

@@ -1,28 +1,14 @@
 -- The functions in front of spots, where others come between.
-use Rattle.std.proofs.Common.{◌≡◌, ◌∙◌, ◌+◌, ◌<◌, ◌≤◌, ◌⊎◌, ℕ, cond, List, [], ◌∷◌, ◌++◌, length, take, get_or, refl, sym, ap, subst, arith, inl, inr, length-append}
+use Rattle.std.proofs.Common.{◌≡◌, ◌∙◌, ◌+◌, ◌<◌, ◌≤◌, ◌⊎◌, ℕ, List, [], ◌∷◌, ◌++◌, length, take, get_or, sym, ap, arith, inl, inr, length-append}
 use Rattle.std.proofs.lemmas.List.{take-take, take-append-le, length-take-le, get_or_append_left, get_or-take}
 use Rattle.std.proofs.Math.Seq.{get_or-append_seam}
-use Rattle.std.specs.Str.{bytes_eq}
 use Rattle.rv_spots.specs.declared.spot.Spot.{Spot}
-use Rattle.rv_spots.specs.Trees.{counted_behind, StandsBehind, StandBehind}
+use Rattle.rv_spots.specs.Trees.{StandsBehind}
 
 -- the first of the rest stands behind the one path as behind the other
 abbrev pub StandsAlike : List ℕ → List ℕ → List Spot → Type 0
 StandsAlike front other [] = Unit {0}
 StandsAlike front other (s ∷ ss) = (take s.depth front ≡ take s.depth other) × StandsBehind other s
-
-pub counted_alike : (count : Spot → ℕ) (path front other : List ℕ) (ss : List Spot) → StandsAlike front other ss
-    → counted_behind count path front ss ≡ counted_behind count path other ss
-counted_alike count path front other [] h = refl
-counted_alike count path front other (s ∷ ss) h =
-    ap (λ (first : List ℕ). (cond (bytes_eq (first ++ s.function ∷ []) path) (count s) 0)
-    + counted_behind count path (first ++ s.function ∷ []) ss) h.0
-
-pub stand_alike : (front other : List ℕ) (ss : List Spot) → StandsAlike front other ss → StandBehind front ss
-    → StandBehind other ss
-stand_alike front other [] h old = tt
-stand_alike front other (s ∷ ss) h old =
-    (h.1, subst (λ (first : List ℕ). StandBehind (first ++ s.function ∷ []) ss) h.0 old.1)
 
 -- behind a spot that is deeper, or as deep and of a lower function, another stands as behind what is in front of that spot
 pub behind_other : (depth function : ℕ) (front : List ℕ) (s : Spot) → depth ≤ length front → StandsBehind front s

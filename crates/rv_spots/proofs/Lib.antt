@@ -1,14 +1,10 @@
 pub mod Tests
 pub mod Parts
 pub mod Fronts
-pub mod Children
-pub mod Counted
-pub mod Trails
 pub mod Merged
 pub mod Profiled
 pub mod Descended
 pub mod ByFunction
 pub mod Functions
-pub mod Walked
 pub mod Unique
 pub mod Public

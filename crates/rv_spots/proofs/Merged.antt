@@ -11,8 +11,7 @@ use Rattle.rv_spots.specs.declared.sum.NextSpot.{NextSpot}
 use Rattle.rv_spots.specs.declared.sum.SpotSumError.{SpotSumError}
 use Rattle.rv_spots.specs.declared.sum.SpotSumError.TheVariants.{OutOfMemory, Count}
 use Rattle.rv_spots.specs.Sums.{both_of, goes_first, next_of, next_of_both, of_first, of_second, IsSumOfSpots, IsTooGreat, IsTooGreatHere, IsTooGreatOf}
-use Rattle.rv_spots.specs.Trees.{path_behind, last_path, arrivals_of, steps_of, counted_behind, HasArrivals, IsTree, StandsBehind, StandBehind}
-use Rattle.rv_spots.proofs.Counted.{last_of}
+use Rattle.rv_spots.specs.Trees.{path_behind, last_path, arrivals_of, steps_of, counted_behind, ends_with, HasArrivals, IsTree, StandsBehind, StandBehind}
 use Rattle.rv_spots.proofs.Fronts.{StandsAlike, behind_other}
 use Rattle.rv_spots.proofs.Tests.{equal_by, equal_test, less_by, not_less_by}
 use Rattle.rv_spots.proofs.Parts.{last_parts, counted_parts, some_of_parts, some_parts, stand_of_parts}
@@ -28,6 +27,11 @@ pub record SoFar (xs ms ys bs sums : List Spot) : Type 0 where
       → counted_behind count path [] sums ≡ counted_behind count path [] xs + counted_behind count path [] ys
   pub first : StandsAlike (last_path [] xs) (last_path [] sums) ms
   pub second : StandsAlike (last_path [] ys) (last_path [] sums) bs
+
+last_of : (f : ℕ) (xs : List ℕ) (x : ℕ) → ends_with f (xs ++ x ∷ []) ≡ (x == f)
+last_of f [] x = refl
+last_of f (y ∷ []) x = refl
+last_of f (y ∷ z ∷ zs) x = last_of f (z ∷ zs) x
 
 -- ---- one more
 

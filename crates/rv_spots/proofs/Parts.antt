@@ -1,6 +1,6 @@
 -- Spots in two parts.
-use Rattle.std.proofs.Common.{◌≡◌, ◌∙◌, ◌+◌, ◌<◌, ◌≤◌, ℕ, suc, List, [], ◌∷◌, ◌++◌, length, take, drop, get_or, refl, sym, ap, subst, arith, length-append, take-suc, append_assoc}
-use Rattle.std.proofs.lemmas.List.{drop_at, take_at, take-take, length-take-le}
+use Rattle.std.proofs.Common.{◌≡◌, ◌∙◌, ◌+◌, ◌≤◌, ℕ, List, [], ◌∷◌, ◌++◌, length, take, refl, sym, ap, arith, length-append}
+use Rattle.std.proofs.lemmas.List.{take-take, length-take-le}
 use Rattle.rv_spots.specs.declared.spot.Spot.{Spot}
 use Rattle.rv_spots.specs.Trees.{path_behind, last_path, path_of_first, counted_behind, counted_in_all, HasArrivals, StandBehind}
 
@@ -27,35 +27,10 @@ pub some_of_parts : (xs ys : List Spot) → HasArrivals xs → HasArrivals ys �
 some_of_parts [] ys h k = k
 some_of_parts (s ∷ ss) ys h k = (h.0, some_of_parts ss ys h.1 k)
 
--- all but the first of the second part
-pub some_beside : (xs ys : List Spot) (s : Spot) (place : ℕ) → length xs ≡ place → HasArrivals xs → HasArrivals ys
-    → HasArrivals (take place (xs ++ s ∷ ys)) × HasArrivals (drop (suc place) (xs ++ s ∷ ys))
-some_beside xs ys s place long h k =
-    let one = length-append xs (s ∷ []) in
-    let next : length (xs ++ s ∷ []) ≡ suc place = omega (arith, one, long) in (
-      subst (λ (zs : List Spot). HasArrivals zs) (sym (take_at xs (s ∷ ys) place long)) h,
-      subst (λ (zs : List Spot). HasArrivals (drop (suc place) zs)) (append_assoc xs (s ∷ []) ys)
-          (subst (λ (zs : List Spot). HasArrivals zs) (sym (drop_at (xs ++ s ∷ []) ys (suc place) next)) k),
-    )
-
-pub stand_parts : (front : List ℕ) (xs ys : List Spot) → StandBehind front (xs ++ ys)
-    → StandBehind front xs × StandBehind (last_path front xs) ys
-stand_parts front [] ys h = (tt, h)
-stand_parts front (s ∷ ss) ys h = let k = stand_parts (path_behind front s) ss ys h.1 in ((h.0, k.0), k.1)
-
 pub stand_of_parts : (front : List ℕ) (xs ys : List Spot) → StandBehind front xs → StandBehind (last_path front xs) ys
     → StandBehind front (xs ++ ys)
 stand_of_parts front [] ys h k = k
 stand_of_parts front (s ∷ ss) ys h k = (h.0, stand_of_parts (path_behind front s) ss ys h.1 k)
-
--- the spots up to a place and with it
-pub path_with : (spots : List Spot) (place : ℕ) (d : Spot) → place < length spots
-    → path_of_first (place + 1) spots ≡ path_behind (path_of_first place spots) (get_or spots place d)
-path_with spots place d within =
-    let one : place + 1 ≡ suc place = omega arith in
-    ap (λ (n : ℕ). last_path [] (take n spots)) one
-    ∙ ap (last_path []) (take-suc spots place d within)
-    ∙ last_parts [] (take place spots) (get_or spots place d ∷ [])
 
 -- a spot's functions are one more than it is deep
 pub length_behind : (front : List ℕ) (s : Spot) → s.depth ≤ length front → length (path_behind front s) ≡ s.depth + 1

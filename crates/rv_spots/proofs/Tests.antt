@@ -6,9 +6,6 @@ use Rattle.std.specs.Prelude.{nat_lt}
 pub equal_by : (x y : ℕ) → (x == y) ≡ true → x ≡ y
 equal_by x y h = grind (arith, nat_tests)
 
-pub unequal_by : (x y : ℕ) → (x == y) ≡ false → x ≡ y → ⊥
-unequal_by x y h e = grind (arith, nat_tests)
-
 pub equal_test : (x y : ℕ) → x ≡ y → (x == y) ≡ true
 equal_test x y h = grind (arith, nat_tests)
 

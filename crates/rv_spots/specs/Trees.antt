@@ -1,5 +1,5 @@
 -- Spots in preorder: of which functions each is, and what is counted in a list of functions.
-use Rattle.std.specs.Prelude.{◌≡◌, ◌==◌, ◌+◌, ◌<◌, ◌≤◌, ℕ, suc, Bool, false, ◌&&◌, ◌||◌, nat_lt, if◌then◌else◌, List, [], ◌∷◌, ◌++◌, length, take, drop, slice_index_or}
+use Rattle.std.specs.Prelude.{◌==◌, ◌+◌, ◌<◌, ◌≤◌, ℕ, Bool, false, if◌then◌else◌, List, [], ◌∷◌, ◌++◌, length, take, slice_index_or}
 use Rattle.std.specs.Coded.{×_prop, Unit-prop, le_prop}
 use Rattle.std.specs.Str.{bytes_eq}
 use Rattle.rv_spots.specs.declared.spot.Spot.{Spot}
@@ -96,59 +96,3 @@ StandBehind-prop front (s ∷ ss) = ×_prop (StandsBehind-prop front s) (StandBe
 abbrev pub HasArrivals : List Spot → Type 0
 HasArrivals [] = Unit {0}
 HasArrivals (s ∷ ss) = (0 < s.arrivals) × HasArrivals ss
-
--- ---- a spot more
-
--- what stands in front of the child of a spot by the function, behind that spot: all below its lower children
-abbrev pub is_passed : ℕ → ℕ → Spot → Bool
-is_passed depth function s = nat_lt depth s.depth || ((s.depth == depth) && nat_lt s.function function)
-
-abbrev pub is_spot : ℕ → ℕ → Spot → Bool
-is_spot depth function s = (s.depth == depth) && (s.function == function)
-
-abbrev pub begins_with_spot : ℕ → ℕ → List Spot → Bool
-begins_with_spot depth function [] = false
-begins_with_spot depth function (s ∷ ss) = is_spot depth function s
-
--- the child of the last of the first spots by a function stands at a place; nothing else is another
-pub record HasChild (start function : ℕ) (old : List Spot) (place : ℕ) (new : List Spot) : Type 0 where
-  pub behind : start ≤ place
-  pub within : place < length new
-  pub first : take start new ≡ take start old
-  pub path : path_of_first (place + 1) new ≡ path_of_first start old ++ function ∷ []
-  pub tree : IsTree new
-  pub arrivals : (path : List ℕ) → arrivals_at path new ≡ arrivals_at path old
-  pub steps : (path : List ℕ) → steps_at path new ≡ steps_at path old
-  pub own : (f : ℕ) → own_in f new ≡ own_in f old
-  pub all_arrivals : all_arrivals new ≡ all_arrivals old
-  pub all_steps : all_steps new ≡ all_steps old
-  pub some : HasArrivals old → HasArrivals (take place new) × HasArrivals (drop (suc place) new)
-
--- ---- one more in a spot
-
--- the functions of each spot stay
-pub record KeepsPaths (old new : List Spot) : Type 0 where
-  pub long : length new ≡ length old
-  pub paths : (count : ℕ) → path_of_first count new ≡ path_of_first count old
-  pub tree : IsTree old → IsTree new
-
-pub record ArrivesOnce (place : ℕ) (old new : List Spot) : Type 0 where
-  pub kept : KeepsPaths old new
-  pub arrivals : (path : List ℕ) → arrivals_at path new
-      ≡ arrivals_at path old + once_if (bytes_eq (path_of_first (place + 1) old) path)
-  pub steps : (path : List ℕ) → steps_at path new ≡ steps_at path old
-  pub own : (function : ℕ) → own_in function new ≡ own_in function old
-  pub all_arrivals : all_arrivals new ≡ all_arrivals old + 1
-  pub all_steps : all_steps new ≡ all_steps old
-  pub some : HasArrivals (take place old) → HasArrivals (drop (suc place) old) → HasArrivals new
-
-pub record StepsOnce (place : ℕ) (old new : List Spot) : Type 0 where
-  pub kept : KeepsPaths old new
-  pub arrivals : (path : List ℕ) → arrivals_at path new ≡ arrivals_at path old
-  pub steps : (path : List ℕ) → steps_at path new
-      ≡ steps_at path old + once_if (bytes_eq (path_of_first (place + 1) old) path)
-  pub own : (function : ℕ) → own_in function new
-      ≡ own_in function old + once_if (ends_with function (path_of_first (place + 1) old))
-  pub all_arrivals : all_arrivals new ≡ all_arrivals old
-  pub all_steps : all_steps new ≡ all_steps old + 1
-  pub some : HasArrivals old → HasArrivals new

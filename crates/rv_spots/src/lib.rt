@@ -4,19 +4,15 @@
 //! a run goes from spot to spot: it arrives, returns, and counts instructions. [`sum_of_spots`] adds two trees.
 #![tactic(auto)]
 
-mod counting;
-mod growth;
 mod index;
 mod law;
 mod profile;
 mod spot;
 mod subtree;
 mod sum;
-mod walk;
 
 pub use index::SpotIndex;
 pub use law::{one_tree_has_these_counts, own_steps_sum_to_all};
 pub use profile::{FunctionSteps, functions_of};
 pub use spot::{Spot, Spots};
 pub use sum::{SpotSumError, sum_of_spots};
-pub use walk::Walk;

@@ -1,5 +1,5 @@
 -- From block to block.
-use Rattle.std.proofs.Common.{◌≡◌, ◌+◌, ◌-◌, ◌≤◌, sym, subst, arith}
+use Rattle.std.proofs.Common.{◌≡◌, ◌+◌, ◌-◌, sym, subst, arith}
 use Rattle.rv_machine.specs.Machine.{state_of}
 use Rattle.rv_coverage.specs.Counters.{IsCounting}
 use Rattle.rv_coverage.proofs.Counters.{counted_all, equal_tests, unequal_tests}

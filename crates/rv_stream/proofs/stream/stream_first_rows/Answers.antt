@@ -1,5 +1,5 @@
 -- What was heard of a run.
-use Rattle.std.proofs.Common.{◌≡◌, ◌∙◌, ◌⊎◌, ℕ, Bool, true, false, List, None, Some, Option, length, inl, inr, sym, ap, subst, arith}
+use Rattle.std.proofs.Common.{◌≡◌, ◌∙◌, ◌⊎◌, true, false, List, None, Some, Option, length, inl, inr, sym, ap, subst, arith}
 use Rattle.std.proofs.lemmas.Bool.{false≢true}
 use Rattle.std.specs.Prelude.{is_ok, is_some}
 use Rattle.std.specs.Io.KnownBytes.{Appends}
@@ -7,7 +7,6 @@ use Rattle.std.specs.List.{concat}
 use Rattle.rv_expect.specs.Judgement.{fails, judging_of}
 use Rattle.rv_fleet.specs.Batches.{batch_rows}
 use Rattle.rv_rows.specs.declared_report.WriteError.{WriteError}
-use Rattle.rv_rows.specs.declared_row.Row.{Row}
 use Rattle.rv_rows.specs.Sinks.{AppendsBeginning}
 use Rattle.rv_stream.specs.declared.told_row.ToldRow.{ToldRow}
 use Rattle.rv_stream.specs.Limits.{rows_up_to}

@@ -1,5 +1,5 @@
 -- One text more waits.
-use Rattle.std.proofs.Common.{◌∙◌, ◌++◌, ℕ, List, None, Some, ap, subst}
+use Rattle.std.proofs.Common.{◌∙◌, ◌++◌, ℕ, List, Some, ap, subst}
 use Rattle.std.specs.List.{concat}
 use Rattle.rv_rows.specs.declared_report.WriteError.TheVariants.{OutOfMemory}
 use Rattle.rv_stream.specs.Texts.{IsSent}
