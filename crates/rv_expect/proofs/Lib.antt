@@ -3,3 +3,5 @@ pub mod References
 pub mod Tellings
 pub mod OfPlans
 pub mod TwoEnds
+mod KnownLines
+mod KnownPlaces

@@ -1,7 +1,7 @@
 -- What a run counts a row as: by a rule, and by a list of jobs that are known to fail.
 use Rattle.std.specs.Prelude.{ℕ, Bool, true, false, List, Option, Some, None, option_map}
-use Rattle.rv_known.specs.declared.known_jobs.KnownJobs.{KnownJobs}
-use Rattle.rv_known.specs.KnownJobs.{reason_of}
+use Rattle.rv_expect.specs.declared.known_jobs.KnownJobs.{KnownJobs}
+use Rattle.rv_expect.specs.KnownJobs.{reason_of}
 use Rattle.rv_rows.specs.declared_row.Row.{Row}
 use Rattle.rv_expect.specs.Passing.{has_passed}
 use Rattle.rv_expect.specs.declared.judgement.Judge.{Judge}

@@ -1,3 +1,5 @@
+pub mod KnownLines
+pub mod KnownJobs
 pub mod Difference
 pub mod Reference
 pub mod Comparisons

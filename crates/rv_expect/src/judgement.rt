@@ -4,10 +4,10 @@ ghost use Rattle.std.specs.Prelude.{◌≡◌};
 ghost use Rattle.std.specs.List.{list_any};
 ghost use Rattle.rv_expect.specs.Judgement.{fails, is_failing, is_known_failure, is_passed, is_unknown_failure, judged_in_file, judged_of, judged_unknown};
 ghost use Rattle.rv_expect.specs.Judgement.{judgement, judging_by_rule, judging_of};
-ghost use Rattle.rv_known.specs.KnownJobs.{reason_of};
+ghost use Rattle.rv_expect.specs.KnownJobs.{reason_of};
 
+use crate::known_jobs::KnownJobs;
 use crate::passing::{Rule, has_passed};
-use rv_known::KnownJobs;
 use rv_rows::Row;
 
 /// How the rows of a run are counted.

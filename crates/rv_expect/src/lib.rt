@@ -7,12 +7,19 @@
 //! ([`nothing_is_unmet_where_a_job_passes`]). What is said to differ is the first that does ([`differences_are_first`]),
 //! and a reference is words exactly where it is their lines ([`references_are_lines_of_words`]). A job that
 //! [`expects_two_ends`] never passes ([`two_ends_fail`]).
+//!
+//! [`read_known_jobs`] reads the list of known failures: names of jobs that are known to fail, each with a reason. It gives a
+//! [`KnownJob`] for each, or the first fault of the text ([`KnownFault`]). [`KnownJobs`] are those of a file; they answer why a job is
+//! known to fail.
 #![tactic(auto)]
 
 mod comparison;
 mod difference;
 mod end_kind;
 mod judgement;
+mod known_jobs;
+mod known_lines;
+mod known_reader;
 mod law;
 mod met_expectations;
 mod passing;
@@ -26,6 +33,8 @@ pub use comparison::Comparison;
 pub use difference::{Difference, SameDifference, SignatureDifference};
 pub use end_kind::{EndKind, fails_with_end_kind};
 pub use judgement::{Judge, Judgement};
+pub use known_jobs::{KnownFault, KnownFaultKind, KnownJob, KnownJobs};
+pub use known_reader::read_known_jobs;
 pub use law::{
     differences_are_first, nothing_is_unmet_where_a_job_passes, references_are_lines_of_words,
     unmet_is_what_does_not_hold, unmet_of_a_plan_is_what_does_not_hold,

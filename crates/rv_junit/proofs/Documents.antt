@@ -9,9 +9,9 @@ use Rattle.rv_rows.specs.declared_row.Row.{Row}
 use Rattle.rv_rows.specs.Verdict.{did_run}
 use Rattle.rv_expect.specs.Judgement.{Judged, Judging, failed, judged_by_known, judged_in_file, judged_unknown, judgement, known, now_passes, passed}
 use Rattle.rv_expect.specs.Passing.{has_passed}
-use Rattle.rv_known.specs.KnownJobs.{known_job_of, reason_of}
-use Rattle.rv_known.specs.declared.known_jobs.KnownJob.{KnownJob}
-use Rattle.rv_known.specs.declared.known_jobs.KnownJobs.{KnownJobs}
+use Rattle.rv_expect.specs.KnownJobs.{known_job_of, reason_of}
+use Rattle.rv_expect.specs.declared.known_jobs.KnownJob.{KnownJob}
+use Rattle.rv_expect.specs.declared.known_jobs.KnownJobs.{KnownJobs}
 use Rattle.rv_job_text.specs.ConsoleTail.{is_feed}
 use Rattle.rv_job_text.specs.TotalsLine.{known_count}
 use Rattle.rv_text.specs.declared.xml.Within.TheVariants.{Attribute, Element}

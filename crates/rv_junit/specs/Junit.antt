@@ -4,7 +4,7 @@ use Rattle.std.specs.Prelude.{IfSome, count_by, if◌then◌else◌, length, pos
 use Rattle.std.specs.Fmt.{decimal}
 use Rattle.std.specs.List.{AllByRecursion, flat_map}
 use Rattle.hex.specs.Hex.{IsBytes}
-use Rattle.rv_known.specs.declared.known_jobs.KnownJob.{KnownJob}
+use Rattle.rv_expect.specs.declared.known_jobs.KnownJob.{KnownJob}
 use Rattle.rv_rows.specs.declared_row.Row.{Row}
 use Rattle.rv_rows.specs.Verdict.{did_run}
 use Rattle.rv_job_text.specs.ConsoleTail.{is_feed}

@@ -1,9 +1,9 @@
 -- What holds of each element holds of the one that is found, and none that is found is none there.
 use Rattle.std.proofs.Common.{◌≡◌, ◌∙◌, ◌<◌, ◌∷◌, [], ℕ, zero, suc, Bool, true, false, List, Option, Some, None, ap, arith, cond, find, get_or, length, option_map, refl, subst, sym}
 use Rattle.std.specs.List.{AllByRecursion}
-use Rattle.rv_cover.specs.JobImages.{FileImage, image_of_file, images_of_files}
-use Rattle.rv_cover.specs.declared.image_file.ImageFile.{ImageFile}
-use Rattle.rv_counts.specs.declared.table.CountTable.{CountTable}
+use Rattle.rv_cover_view.specs.JobImages.{FileImage, image_of_file, images_of_files}
+use Rattle.rv_cover_view.specs.declared.image_file.ImageFile.{ImageFile}
+use Rattle.rv_count_tables.specs.declared.table.CountTable.{CountTable}
 use Rattle.rv_profile.specs.ImageStacks.{image_past_64_bits, is_past_64_bits}
 
 module _ {X : Type 0} where

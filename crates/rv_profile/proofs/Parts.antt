@@ -1,13 +1,13 @@
 -- What functions have of the steps of all spots is no more than that.
 use Rattle.std.proofs.Common.{◌==◌, ◌≤◌, Bool, true, false, ℕ, List, [], ◌∷◌, arith}
-use Rattle.rv_spots.specs.Profiles.{has_function, inclusive_behind}
-use Rattle.rv_spots.specs.Trees.{all_steps, own_in, path_behind, steps_if}
-use Rattle.rv_spots.specs.declared.spot.Spot.{Spot}
+use Rattle.rv_call_tree.specs.Profiles.{has_function, inclusive_behind}
+use Rattle.rv_call_tree.specs.Trees.{all_steps, own_in, path_behind, steps_if}
+use Rattle.rv_call_tree.specs.declared.spot.Spot.{Spot}
 use Rattle.std.specs.List.Sorted.{IsPermutation}
 use Rattle.std.specs.Prelude.{map}
 use Rattle.std.proofs.lemmas.List.Elements.{All-cons, All-nil}
 use Rattle.std.proofs.lemmas.List.Sorted.{All-permutation}
-use Rattle.rv_counts.specs.declared.table.FunctionName.{FunctionName}
+use Rattle.rv_count_tables.specs.declared.table.FunctionName.{FunctionName}
 use Rattle.rv_profile.specs.Profile.{AreWithin, IsWithin, Profiled, profiled}
 
 if_at_most : (test : Bool) (n : ℕ) → steps_if test n ≤ n

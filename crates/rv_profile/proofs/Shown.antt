@@ -1,9 +1,9 @@
 -- What is shown of one image more.
 use Rattle.std.proofs.Common.{◌≡◌, ◌∙◌, ◌+◌, ◌<◌, ◌≤◌, ◌∷◌, ◌++◌, [], ℕ, List, Result, Ok, Err, ap, append-nil, append_assoc, get_or, length, refl, subst, sym, take}
 use Rattle.std.proofs.lemmas.List.{map-append, take_all, take_more}
-use Rattle.rv_counts.specs.declared.table.CountTable.{CountTable}
-use Rattle.rv_cover.specs.JobImages.{FileImage, image_of_file, images_of_files}
-use Rattle.rv_cover.specs.declared.image_file.ImageFile.{ImageFile}
+use Rattle.rv_count_tables.specs.declared.table.CountTable.{CountTable}
+use Rattle.rv_cover_view.specs.JobImages.{FileImage, image_of_file, images_of_files}
+use Rattle.rv_cover_view.specs.declared.image_file.ImageFile.{ImageFile}
 use Rattle.std.specs.Prelude.{OnOk}
 use Rattle.rv_profile.specs.ProfileText.{AreShown, IsShownOf}
 use Rattle.rv_profile.specs.declared.format.ProfileFormat.{ProfileFormat}

@@ -2,12 +2,12 @@
 use Rattle.std.specs.Prelude.{◌+◌, ◌&&◌, ◌^◌, ℕ, Bool, true, false, nat_lt, not, if◌then◌else◌, List, [], ◌∷◌, Option, Some, None, find, option_map}
 use Rattle.std.specs.List.{list_any}
 use Rattle.std.specs.Option.{option_map_or}
-use Rattle.rv_counts.specs.declared.table.CountTable.{CountTable}
-use Rattle.rv_counts.specs.declared.table.FunctionName.{FunctionName}
-use Rattle.rv_cover.specs.ImageCounts.{counted_image}
-use Rattle.rv_cover.specs.JobImages.{FileImage}
-use Rattle.rv_spots.specs.Trees.{all_arrivals, all_steps}
-use Rattle.rv_spots.specs.declared.spot.Spot.{Spot}
+use Rattle.rv_count_tables.specs.declared.table.CountTable.{CountTable}
+use Rattle.rv_count_tables.specs.declared.table.FunctionName.{FunctionName}
+use Rattle.rv_cover_view.specs.ImageCounts.{counted_image}
+use Rattle.rv_cover_view.specs.JobImages.{FileImage}
+use Rattle.rv_call_tree.specs.Trees.{all_arrivals, all_steps}
+use Rattle.rv_call_tree.specs.declared.spot.Spot.{Spot}
 use Rattle.rv_profile.specs.declared.sums.Sums.{Sums}
 
 -- the spots of the image with the digest of a file, and the names of their functions; none where a table has no such image

@@ -2,10 +2,10 @@
 use Rattle.std.specs.Prelude.{◌==◌, ◌≤◌, ◌&&◌, ◌||◌, ℕ, Bool, nat_lt, List, [], map}
 use Rattle.std.specs.List.{All, sum_by}
 use Rattle.std.specs.List.Sorted.{IsPermutation, IsSortedBy}
-use Rattle.rv_counts.specs.declared.table.FunctionName.{FunctionName}
-use Rattle.rv_spots.specs.Profiles.{arrivals_in, inclusive_behind}
-use Rattle.rv_spots.specs.Trees.{own_in}
-use Rattle.rv_spots.specs.declared.spot.Spot.{Spot}
+use Rattle.rv_count_tables.specs.declared.table.FunctionName.{FunctionName}
+use Rattle.rv_call_tree.specs.Profiles.{arrivals_in, inclusive_behind}
+use Rattle.rv_call_tree.specs.Trees.{own_in}
+use Rattle.rv_call_tree.specs.declared.spot.Spot.{Spot}
 use Rattle.rv_profile.specs.declared.function.FunctionProfile.{FunctionProfile}
 
 -- a function by its name: the steps of the spots of which it is the last; those of the spots of which it is one, each once; and how often

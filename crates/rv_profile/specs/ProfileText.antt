@@ -1,7 +1,7 @@
 -- What is shown of images by the stacks of a table: a head for tools, and then where the steps of each went.
 use Rattle.std.specs.Prelude.{◌≡◌, ◌++◌, ℕ, if◌then◌else◌, List, [], ◌∷◌}
-use Rattle.rv_counts.specs.declared.table.CountTable.{CountTable}
-use Rattle.rv_cover.specs.JobImages.{FileImage}
+use Rattle.rv_count_tables.specs.declared.table.CountTable.{CountTable}
+use Rattle.rv_cover_view.specs.JobImages.{FileImage}
 use Rattle.rv_profile.specs.Csv.{csv_head, csv_rows}
 use Rattle.rv_profile.specs.ImageStacks.{names_of, spots_of, sums_of}
 use Rattle.rv_profile.specs.Profile.{IsProfileOf, Profiled}

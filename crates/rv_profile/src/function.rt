@@ -3,8 +3,8 @@
 ghost use Rattle.std.specs.Prelude.{◌≡◌};
 ghost use Rattle.rv_profile.specs.Profile.{profile_of, profiled};
 
-use rv_counts::FunctionName;
-use rv_spots::{FunctionSteps, SpotIndex};
+use rv_call_tree::{FunctionSteps, SpotIndex};
+use rv_count_tables::FunctionName;
 
 /// What runs did in a function.
 #[derive(Clone, Copy)]

@@ -2,12 +2,12 @@
 
 ghost use Rattle.std.specs.Prelude.{◌≡◌, IfOk, map, true};
 ghost use Rattle.rv_profile.specs.ImageStacks.{are_few, sums_of};
-ghost use Rattle.rv_spots.specs.Trees.{IsTree};
+ghost use Rattle.rv_call_tree.specs.Trees.{IsTree};
 ghost use Rattle.rv_profile.specs.Profile.{IsProfileOf, profiled, profiles_of};
 
 use crate::function::{FunctionProfile, profile_of_function};
 use crate::image_stacks::ImageStacks;
-use rv_spots::SpotIndex;
+use rv_call_tree::SpotIndex;
 use std::alloc::{AllocError, Global};
 
 /// The functions of an image by its stacks: those with the most steps of their own first, and of those with as many the one at the lower

@@ -2,15 +2,15 @@
 
 ghost use Rattle.std.specs.Prelude.{◌≡◌, [], find, option_map, true};
 ghost use Rattle.std.specs.List.{list_any};
-ghost use Rattle.rv_counts.specs.Table.{IsImage, IsTable, names_rise};
-ghost use Rattle.rv_cover.specs.JobImages.{image_of_file, images_of_files};
-ghost use Rattle.rv_spots.specs.Trees.{IsTree};
+ghost use Rattle.rv_count_tables.specs.Table.{IsImage, IsTable, names_rise};
+ghost use Rattle.rv_cover_view.specs.JobImages.{image_of_file, images_of_files};
+ghost use Rattle.rv_call_tree.specs.Trees.{IsTree};
 ghost use Rattle.rv_profile.specs.ImageStacks.{has_stacks, image_past_64_bits, is_past_64_bits, is_some_spot, names_of, spots_of};
 
 use crate::sums::sums_of;
-use rv_counts::{CountTable, FunctionName, ImageCounts};
-use rv_cover::{ImageFile, counted_image};
-use rv_spots::Spot;
+use rv_call_tree::Spot;
+use rv_count_tables::{CountTable, FunctionName, ImageCounts};
+use rv_cover_view::{ImageFile, counted_image};
 
 /// The stacks of an image.
 #[derive(Clone, Copy)]
@@ -46,7 +46,7 @@ fn stacks_of_image(counted: &ImageCounts) -> ImageStacks<'_>
     }
 }
 
-#[tactic(auto, unfolding(rv_counts::specs::Table::names_rise))]
+#[tactic(auto, unfolding(rv_count_tables::specs::Table::names_rise))]
 fn no_stacks<'t>() -> ImageStacks<'t>
     ensures spots { result.spots.now ≡ [] }
     ensures names { result.names.now ≡ [] }

@@ -1,8 +1,8 @@
 //! What is shown of images, by the stacks of a table.
 
 ghost use Rattle.std.specs.Prelude.{◌≡◌, ◌++◌, IfOk, List, None, OnOk, false, ℕ};
-ghost use Rattle.rv_counts.specs.Table.{IsTable};
-ghost use Rattle.rv_cover.specs.JobImages.{image_of_file, images_of_files};
+ghost use Rattle.rv_count_tables.specs.Table.{IsTable};
+ghost use Rattle.rv_cover_view.specs.JobImages.{image_of_file, images_of_files};
 ghost use Rattle.rv_profile.specs.ImageStacks.{image_past_64_bits, is_past_64_bits};
 ghost use Rattle.rv_profile.specs.Profile.{profiles_of};
 ghost use Rattle.rv_profile.specs.ProfileText.{IsProfileText, IsShownOf, head_text, image_text};
@@ -13,8 +13,8 @@ use crate::image_lines::push_image_lines;
 use crate::image_profile::{ImageProfile, profile_of_image};
 use crate::image_stacks::stacks_of;
 use crate::top::first_of;
-use rv_counts::CountTable;
-use rv_cover::ImageFile;
+use rv_count_tables::CountTable;
+use rv_cover_view::ImageFile;
 use std::alloc::{AllocError, Global};
 
 /// What is shown of images by the stacks of a table: rows for tools behind a head, or lines for people.

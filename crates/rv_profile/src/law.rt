@@ -1,13 +1,13 @@
 //! A law of profiles, with nothing to run.
 
 ghost use Rattle.std.specs.Prelude.{◌≡◌, ℕ, List};
-ghost use Rattle.rv_counts.specs.Table.{IsTable};
-ghost use Rattle.rv_counts.specs.declared.table.CountTable.{CountTable as ATable};
+ghost use Rattle.rv_count_tables.specs.Table.{IsTable};
+ghost use Rattle.rv_count_tables.specs.declared.table.CountTable.{CountTable as ATable};
 ghost use Rattle.rv_profile.specs.ImageStacks.{names_of, spots_of};
 ghost use Rattle.rv_profile.specs.Profile.{IsProfileOf, Profiled, own_steps};
-ghost use Rattle.rv_spots.specs.Trees.{all_steps};
+ghost use Rattle.rv_call_tree.specs.Trees.{all_steps};
 
-use rv_spots::own_steps_sum_to_all;
+use rv_call_tree::own_steps_sum_to_all;
 
 /// The own steps of all functions of an image are the steps of its stacks.
 pub fn own_steps_sum_to_all_steps()

@@ -3,7 +3,7 @@
 ghost use Rattle.std.specs.Prelude.{◌≡◌};
 ghost use Rattle.rv_profile.specs.ImageStacks.{fitting, sums_of, with_spot};
 
-use rv_spots::Spot;
+use rv_call_tree::Spot;
 
 /// How many instructions began in spots, and how often runs came to them.
 #[derive(Clone, Copy)]

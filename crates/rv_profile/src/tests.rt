@@ -1,6 +1,6 @@
 //! Profiles that another tool made of the same stacks, and some that a person counted.
 
-ghost use Rattle.rv_counts.specs.Table.{IsTable};
+ghost use Rattle.rv_count_tables.specs.Table.{IsTable};
 
 use crate::csv::{push_csv_head, push_csv_rows};
 use crate::image_lines::push_image_lines;
@@ -8,7 +8,7 @@ use crate::image_profile::{ImageProfile, profile_of_image};
 use crate::image_stacks::{has_stacks, stacks_of};
 use crate::sums::sums_of;
 use crate::top::first_of;
-use rv_counts::{CountTable, read_table};
+use rv_count_tables::{CountTable, read_table};
 use std::alloc::Global;
 use std::rt::HostRuntime;
 use std::test::Fail;

@@ -1,10 +1,10 @@
 -- Answers that change nothing.
 use Rattle.std.proofs.Common.{◌≡◌, ℕ, List, refl}
-use Rattle.rv_remote.specs.declared.request.Move.{Move}
-use Rattle.rv_remote.specs.declared.request.Register.{Register}
-use Rattle.rv_remote.specs.declared.request.Request.{Request}
-use Rattle.rv_remote.specs.declared.request.Request.TheVariants as ask
-use Rattle.rv_remote.specs.declared.request.Trap.{Trap}
+use Rattle.rv_gdb_protocol.specs.declared.request.Move.{Move}
+use Rattle.rv_gdb_protocol.specs.declared.request.Register.{Register}
+use Rattle.rv_gdb_protocol.specs.declared.request.Request.{Request}
+use Rattle.rv_gdb_protocol.specs.declared.request.Request.TheVariants as ask
+use Rattle.rv_gdb_protocol.specs.declared.request.Trap.{Trap}
 use Rattle.rv_session.specs.Answers.{IsAnswered, shown_reply}
 use Rattle.rv_session.specs.declared.reply.Reply.{Reply}
 use Rattle.rv_session.specs.declared.session.Session.{Session}

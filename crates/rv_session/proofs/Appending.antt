@@ -2,9 +2,9 @@
 use Rattle.std.proofs.Common.{◌≡◌, ◌∙◌, ◌++◌, [], ℕ, Bool, true, false, List, Some, ap, append-nil, append_assoc, refl, subst, sym}
 use Rattle.std.specs.Prelude.{Option, Result, Ok, Err}
 use Rattle.std.specs.Result.{IfOk, OnOk}
-use Rattle.rv_remote.specs.Frames.{Frame, frame_behind, heard_at}
-use Rattle.rv_remote.specs.Packets.{request_of}
-use Rattle.rv_remote.specs.declared.frame.Heard.{Heard}
+use Rattle.rv_gdb_protocol.specs.Frames.{Frame, frame_behind, heard_at}
+use Rattle.rv_gdb_protocol.specs.Packets.{request_of}
+use Rattle.rv_gdb_protocol.specs.declared.frame.Heard.{Heard}
 use Rattle.rv_session.specs.Answers.{IsAnswered}
 use Rattle.rv_session.specs.Heard.{IsAppended, IsByteFed, IsRespondedTo, IsResponse, IsResponseUnless, IsTaken, acknowledgement, packets_of, with_sent}
 use Rattle.rv_session.specs.declared.reply.Reply.{Reply}

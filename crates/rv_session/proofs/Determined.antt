@@ -13,22 +13,22 @@ use Rattle.rv_history.specs.declared.stops.Watch.{Watch}
 use Rattle.rv_history.proofs.Public.{one_first_with, one_next_step, one_next_stop, one_step_before, one_stop_before}
 use Rattle.rv_machine.specs.State.{State}
 use Rattle.rv_memory.specs.Bus.{Contents}
-use Rattle.rv_remote.specs.Frames.{frame_behind, heard_at}
-use Rattle.rv_remote.specs.Packets.{request_of}
-use Rattle.rv_remote.specs.Stops.{stop_text}
-use Rattle.rv_remote.specs.declared.frame.Heard.{Heard}
-use Rattle.rv_remote.specs.declared.frame.Heard.TheVariants as heard
-use Rattle.rv_remote.specs.declared.request.Move.{Move}
-use Rattle.rv_remote.specs.declared.request.Move.TheVariants as move
-use Rattle.rv_remote.specs.declared.request.Range.{Range}
-use Rattle.rv_remote.specs.declared.request.Refusal.{Refusal}
-use Rattle.rv_remote.specs.declared.request.Refusal.TheVariants as refusal
-use Rattle.rv_remote.specs.declared.request.Register.{Register}
-use Rattle.rv_remote.specs.declared.request.Register.TheVariants as reg
-use Rattle.rv_remote.specs.declared.request.Request.{Request}
-use Rattle.rv_remote.specs.declared.request.Request.TheVariants as ask
-use Rattle.rv_remote.specs.declared.request.Trap.{Trap}
-use Rattle.rv_remote.specs.declared.request.Trap.TheVariants as trap
+use Rattle.rv_gdb_protocol.specs.Frames.{frame_behind, heard_at}
+use Rattle.rv_gdb_protocol.specs.Packets.{request_of}
+use Rattle.rv_gdb_protocol.specs.Stops.{stop_text}
+use Rattle.rv_gdb_protocol.specs.declared.frame.Heard.{Heard}
+use Rattle.rv_gdb_protocol.specs.declared.frame.Heard.TheVariants as heard
+use Rattle.rv_gdb_protocol.specs.declared.request.Move.{Move}
+use Rattle.rv_gdb_protocol.specs.declared.request.Move.TheVariants as move
+use Rattle.rv_gdb_protocol.specs.declared.request.Range.{Range}
+use Rattle.rv_gdb_protocol.specs.declared.request.Refusal.{Refusal}
+use Rattle.rv_gdb_protocol.specs.declared.request.Refusal.TheVariants as refusal
+use Rattle.rv_gdb_protocol.specs.declared.request.Register.{Register}
+use Rattle.rv_gdb_protocol.specs.declared.request.Register.TheVariants as reg
+use Rattle.rv_gdb_protocol.specs.declared.request.Request.{Request}
+use Rattle.rv_gdb_protocol.specs.declared.request.Request.TheVariants as ask
+use Rattle.rv_gdb_protocol.specs.declared.request.Trap.{Trap}
+use Rattle.rv_gdb_protocol.specs.declared.request.Trap.TheVariants as trap
 use Rattle.rv_session.specs.Answers.{IsAnswered, IsSet, IsSought, IsSoughtAs, IsTrapAsked, IsWritten}
 use Rattle.rv_session.specs.Heard.{HasNoInterrupt, IsByteFed, IsFed, IsJudged, IsRespondedTo, IsResponse, IsResponseUnless, IsTaken, IsWorked, acknowledgement, byte_first, is_interrupted, is_wrong, move_first, no_bytes, packets_of, with_sent}
 use Rattle.rv_session.specs.Moved.{IsGone, IsMoved, end_text_at, printed_on, shown_on, stop_of}

@@ -9,8 +9,8 @@ use Rattle.rv_machine.specs.declared.ending.Ending.{Ending}
 use Rattle.rv_machine.specs.declared.ending.Ending.TheVariants as ending
 use Rattle.rv_machine.specs.declared.ending.FaultKind.{FaultKind}
 use Rattle.rv_machine.specs.declared.ending.FaultKind.TheVariants as fault
-use Rattle.rv_remote.specs.Stops.{NoEnding, Told, told_by, told_by_fault}
-use Rattle.rv_remote.specs.declared.request.Move.{Move}
+use Rattle.rv_gdb_protocol.specs.Stops.{NoEnding, Told, told_by, told_by_fault}
+use Rattle.rv_gdb_protocol.specs.declared.request.Move.{Move}
 use Rattle.rv_session.specs.Endings.{text_with, told_by_ending, told_by_found}
 use Rattle.rv_session.specs.Moved.{IsMoved, end_stop, end_text_at, is_forward, stop_of, watch_between, watch_told}
 use Rattle.rv_session.specs.declared.reply.Reply.{Reply}

@@ -9,10 +9,10 @@ use Rattle.rv_history.specs.declared.found.Found.{Found}
 use Rattle.rv_history.specs.declared.found.Found.TheVariants as found
 use Rattle.rv_history.specs.declared.stops.Stops.{Stops}
 use Rattle.rv_machine.specs.State.{State}
-use Rattle.rv_remote.specs.Stops.{stop_text}
-use Rattle.rv_remote.specs.declared.request.Move.{Move}
-use Rattle.rv_remote.specs.declared.request.Move.TheVariants as move
-use Rattle.rv_remote.specs.declared.stop.Stop.{Stop}
+use Rattle.rv_gdb_protocol.specs.Stops.{stop_text}
+use Rattle.rv_gdb_protocol.specs.declared.request.Move.{Move}
+use Rattle.rv_gdb_protocol.specs.declared.request.Move.TheVariants as move
+use Rattle.rv_gdb_protocol.specs.declared.stop.Stop.{Stop}
 use Rattle.rv_trace.proofs.Public.{completes}
 use Rattle.rv_trace.specs.Trace.{state_after}
 use Rattle.rv_session.specs.Moved.{CanTell, IsGone, IsMoved, end_text_at, is_forward, printed_on, shown_on, stop_of}

@@ -2,17 +2,17 @@
 use Rattle.std.proofs.Common.{◌≡◌, ◌∙◌, ◌&&◌, ℕ, List, Bool, true, false, Some, None, ap, refl}
 use Rattle.std.specs.Prelude.{Result, Ok, Err, Option, if◌then◌else◌, nat_le}
 use Rattle.rv_history.specs.Places.{last_place}
-use Rattle.rv_remote.specs.Frames.{frame_behind, heard_at}
-use Rattle.rv_remote.specs.Packets.{request_of}
-use Rattle.rv_remote.specs.declared.frame.Heard.{Heard}
-use Rattle.rv_remote.specs.declared.frame.Heard.TheVariants as heard
-use Rattle.rv_remote.specs.declared.request.Refusal.{Refusal}
-use Rattle.rv_remote.specs.declared.request.Register.{Register}
-use Rattle.rv_remote.specs.declared.request.Register.TheVariants as reg
-use Rattle.rv_remote.specs.declared.request.Request.{Request}
-use Rattle.rv_remote.specs.declared.request.Request.TheVariants as ask
+use Rattle.rv_gdb_protocol.specs.Frames.{frame_behind, heard_at}
+use Rattle.rv_gdb_protocol.specs.Packets.{request_of}
+use Rattle.rv_gdb_protocol.specs.declared.frame.Heard.{Heard}
+use Rattle.rv_gdb_protocol.specs.declared.frame.Heard.TheVariants as heard
+use Rattle.rv_gdb_protocol.specs.declared.request.Refusal.{Refusal}
+use Rattle.rv_gdb_protocol.specs.declared.request.Register.{Register}
+use Rattle.rv_gdb_protocol.specs.declared.request.Register.TheVariants as reg
+use Rattle.rv_gdb_protocol.specs.declared.request.Request.{Request}
+use Rattle.rv_gdb_protocol.specs.declared.request.Request.TheVariants as ask
 use Rattle.rv_history.specs.declared.stops.Stops.{Stops}
-use Rattle.rv_remote.specs.declared.request.Refusal.TheVariants as refusal
+use Rattle.rv_gdb_protocol.specs.declared.request.Refusal.TheVariants as refusal
 use Rattle.rv_session.specs.Answers.{IsAnswered, IsSet, IsWritten, is_reset}
 use Rattle.rv_session.specs.Heard.{IsByteFed, IsFed, IsJudged, IsRespondedTo, IsResponse, IsResponseUnless, IsTaken, IsWorked, byte_first, is_interrupted, is_wrong, move_first, no_bytes, with_sent}
 use Rattle.rv_session.specs.Replies.{refused}

@@ -5,9 +5,9 @@ use Rattle.std.proofs.lemmas.Bool.{and_from}
 use Rattle.rv_history.specs.declared.stops.Stops.{Stops}
 use Rattle.rv_history.specs.declared.stops.Watch.{Watch}
 use Rattle.rv_memory.specs.Bus.{Contents}
-use Rattle.rv_remote.specs.declared.request.Range.{Range}
-use Rattle.rv_remote.specs.declared.request.Refusal.TheVariants as refusal
-use Rattle.rv_remote.specs.declared.request.Trap.{Trap}
+use Rattle.rv_gdb_protocol.specs.declared.request.Range.{Range}
+use Rattle.rv_gdb_protocol.specs.declared.request.Refusal.TheVariants as refusal
+use Rattle.rv_gdb_protocol.specs.declared.request.Trap.{Trap}
 use Rattle.rv_session.specs.Traps.{IsAdded, IsTrapped, IsWatchAdded, can_be_set, is_full, is_set}
 
 pub cannot_be : (stops : Stops) (bus : Contents) (place : Trap) → can_be_set bus place ≡ false

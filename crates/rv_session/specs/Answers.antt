@@ -11,19 +11,19 @@ use Rattle.rv_history.specs.declared.counts.Count.{Count}
 use Rattle.rv_history.specs.declared.counts.Count.TheVariants as count
 use Rattle.rv_history.specs.declared.stops.Stops.{Stops}
 use Rattle.rv_machine.specs.State.{register}
-use Rattle.rv_remote.specs.Replies.{fixed_reply, part_text}
-use Rattle.rv_remote.specs.Shown.{register_text, registers_text}
-use Rattle.rv_remote.specs.Stops.{stop_text}
-use Rattle.rv_remote.specs.declared.request.Part.{Part}
-use Rattle.rv_remote.specs.declared.request.Refusal.{Refusal}
-use Rattle.rv_remote.specs.declared.request.Refusal.TheVariants as refusal
-use Rattle.rv_remote.specs.declared.request.Register.{Register}
-use Rattle.rv_remote.specs.declared.request.Register.TheVariants as reg
-use Rattle.rv_remote.specs.declared.request.Request.{Request}
-use Rattle.rv_remote.specs.declared.request.Request.TheVariants as ask
-use Rattle.rv_remote.specs.declared.request.Trap.{Trap}
-use Rattle.rv_remote.specs.declared.stop.Stop.TheVariants as stop
-use Rattle.rv_remote.specs.declared.target.TheConstants.{TARGET}
+use Rattle.rv_gdb_protocol.specs.Replies.{fixed_reply, part_text}
+use Rattle.rv_gdb_protocol.specs.Shown.{register_text, registers_text}
+use Rattle.rv_gdb_protocol.specs.Stops.{stop_text}
+use Rattle.rv_gdb_protocol.specs.declared.request.Part.{Part}
+use Rattle.rv_gdb_protocol.specs.declared.request.Refusal.{Refusal}
+use Rattle.rv_gdb_protocol.specs.declared.request.Refusal.TheVariants as refusal
+use Rattle.rv_gdb_protocol.specs.declared.request.Register.{Register}
+use Rattle.rv_gdb_protocol.specs.declared.request.Register.TheVariants as reg
+use Rattle.rv_gdb_protocol.specs.declared.request.Request.{Request}
+use Rattle.rv_gdb_protocol.specs.declared.request.Request.TheVariants as ask
+use Rattle.rv_gdb_protocol.specs.declared.request.Trap.{Trap}
+use Rattle.rv_gdb_protocol.specs.declared.stop.Stop.TheVariants as stop
+use Rattle.rv_gdb_protocol.specs.declared.target.TheConstants.{TARGET}
 use Rattle.rv_session.specs.Memory.{bytes_from, stand_at}
 use Rattle.rv_session.specs.Replies.{granted, granted_if, printing, refused, saying, silent}
 use Rattle.rv_session.specs.Sessions.{at_place, here}

@@ -2,15 +2,15 @@
 use Rattle.std.specs.Prelude.{ℕ, List, ⊤, [], ◌∷◌, ◌++◌, ◌≡◌, ◌≢◌, ◌&&◌, ◌+◌, ◌*◌, ◌-◌, ◌/◌, ◌==◌, Bool, true, false, Option, Some, None, drop, if◌then◌else◌, length, take}
 use Rattle.std.specs.List.{flat_map, range_with_len}
 use Rattle.hex.specs.Hex.{encode_lower}
-use Rattle.rv_remote.specs.Frames.{frame_behind, heard_at}
-use Rattle.rv_remote.specs.Packets.{request_of}
-use Rattle.rv_remote.specs.Sums.{framed}
-use Rattle.rv_remote.specs.declared.frame.Heard.{Heard}
-use Rattle.rv_remote.specs.declared.frame.Heard.TheVariants as heard
-use Rattle.rv_remote.specs.declared.frame.Sum.{Sum}
-use Rattle.rv_remote.specs.declared.frame.Sum.TheVariants as verdict
-use Rattle.rv_remote.specs.declared.request.Move.{Move}
-use Rattle.rv_remote.specs.declared.request.Refusal.TheVariants as refusal
+use Rattle.rv_gdb_protocol.specs.Frames.{frame_behind, heard_at}
+use Rattle.rv_gdb_protocol.specs.Packets.{request_of}
+use Rattle.rv_gdb_protocol.specs.Sums.{framed}
+use Rattle.rv_gdb_protocol.specs.declared.frame.Heard.{Heard}
+use Rattle.rv_gdb_protocol.specs.declared.frame.Heard.TheVariants as heard
+use Rattle.rv_gdb_protocol.specs.declared.frame.Sum.{Sum}
+use Rattle.rv_gdb_protocol.specs.declared.frame.Sum.TheVariants as verdict
+use Rattle.rv_gdb_protocol.specs.declared.request.Move.{Move}
+use Rattle.rv_gdb_protocol.specs.declared.request.Refusal.TheVariants as refusal
 use Rattle.rv_session.specs.Answers.{IsAnswered}
 use Rattle.rv_session.specs.Moved.{IsMoved}
 use Rattle.rv_session.specs.Replies.{refused}

@@ -3,7 +3,7 @@ use Rattle.std.specs.Prelude.{ℕ, List, [], ◌∷◌, ◌==◌, ◌&&◌, ◌+
 use Rattle.std.specs.FinMap as fin
 use Rattle.std.specs.List.{range_with_len}
 use Rattle.rv_memory.specs.Bus.{Contents}
-use Rattle.rv_remote.specs.declared.request.Range.{Range}
+use Rattle.rv_gdb_protocol.specs.declared.request.Range.{Range}
 
 -- what stands in front of the first that is not there
 unfoldable pub leading : List (Option ℕ) → List ℕ

@@ -12,12 +12,12 @@ use Rattle.rv_history.specs.declared.stops.Stops.{Stops}
 use Rattle.rv_machine.specs.State.{State}
 use Rattle.rv_machine.specs.declared.ending.Ending.{Ending}
 use Rattle.rv_machine.specs.declared.ending.Ending.TheVariants as ending
-use Rattle.rv_remote.specs.Stops.{stop_text}
-use Rattle.rv_remote.specs.declared.request.Move.{Move}
-use Rattle.rv_remote.specs.declared.request.Move.TheVariants as move
-use Rattle.rv_remote.specs.declared.request.Watched.TheVariants as watch
-use Rattle.rv_remote.specs.declared.stop.Stop.{Stop}
-use Rattle.rv_remote.specs.declared.stop.Stop.TheVariants as stop
+use Rattle.rv_gdb_protocol.specs.Stops.{stop_text}
+use Rattle.rv_gdb_protocol.specs.declared.request.Move.{Move}
+use Rattle.rv_gdb_protocol.specs.declared.request.Move.TheVariants as move
+use Rattle.rv_gdb_protocol.specs.declared.request.Watched.TheVariants as watch
+use Rattle.rv_gdb_protocol.specs.declared.stop.Stop.{Stop}
+use Rattle.rv_gdb_protocol.specs.declared.stop.Stop.TheVariants as stop
 use Rattle.rv_session.specs.Replies.{stopping}
 use Rattle.rv_session.specs.Sessions.{state_at}
 use Rattle.rv_session.specs.declared.reply.Reply.{Reply}

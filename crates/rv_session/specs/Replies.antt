@@ -1,7 +1,7 @@
 -- Replies, before they are framed.
 use Rattle.std.specs.Prelude.{ℕ, List, [], Some, None, Bool, codes, if◌then◌else◌}
-use Rattle.rv_remote.specs.Replies.{refusal_text}
-use Rattle.rv_remote.specs.declared.request.Refusal.{Refusal}
+use Rattle.rv_gdb_protocol.specs.Replies.{refusal_text}
+use Rattle.rv_gdb_protocol.specs.declared.request.Refusal.{Refusal}
 use Rattle.rv_session.specs.declared.reply.Reply.{Reply}
 
 -- a body alone

@@ -5,13 +5,13 @@ use Rattle.std.specs.List.{filter, list_any, range_with_len}
 use Rattle.rv_history.specs.declared.stops.Stops.{Stops}
 use Rattle.rv_history.specs.declared.stops.Watch.{Watch}
 use Rattle.rv_memory.specs.Bus.{Contents}
-use Rattle.rv_remote.specs.declared.request.Range.{Range}
-use Rattle.rv_remote.specs.declared.request.Refusal.{Refusal}
-use Rattle.rv_remote.specs.declared.request.Refusal.TheVariants as refusal
-use Rattle.rv_remote.specs.declared.request.Trap.{Trap}
-use Rattle.rv_remote.specs.declared.request.Trap.TheVariants as trap
-use Rattle.rv_remote.specs.declared.request.Watched.{Watched}
-use Rattle.rv_remote.specs.declared.request.Watched.TheVariants as watch
+use Rattle.rv_gdb_protocol.specs.declared.request.Range.{Range}
+use Rattle.rv_gdb_protocol.specs.declared.request.Refusal.{Refusal}
+use Rattle.rv_gdb_protocol.specs.declared.request.Refusal.TheVariants as refusal
+use Rattle.rv_gdb_protocol.specs.declared.request.Trap.{Trap}
+use Rattle.rv_gdb_protocol.specs.declared.request.Trap.TheVariants as trap
+use Rattle.rv_gdb_protocol.specs.declared.request.Watched.{Watched}
+use Rattle.rv_gdb_protocol.specs.declared.request.Watched.TheVariants as watch
 
 -- the most breakpoints and watches, together
 abbrev pub most_traps : ℕ

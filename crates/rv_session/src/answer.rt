@@ -1,9 +1,9 @@
 //! What a session answers to each request.
 
 ghost use Rattle.std.specs.Prelude.{◌≡◌, IfOk, Some, false, true};
-ghost use Rattle.rv_remote.specs.Replies.{part_text};
-ghost use Rattle.rv_remote.specs.Stops.{stop_text};
-ghost use Rattle.rv_remote.specs.declared.stop.Stop.TheVariants as stop;
+ghost use Rattle.rv_gdb_protocol.specs.Replies.{part_text};
+ghost use Rattle.rv_gdb_protocol.specs.Stops.{stop_text};
+ghost use Rattle.rv_gdb_protocol.specs.declared.stop.Stop.TheVariants as stop;
 ghost use Rattle.rv_session.specs.Answers.{IsAnswered, IsTrapAsked, fixed_answer, shown_reply};
 ghost use Rattle.rv_session.specs.Replies.{granted, saying, silent};
 ghost use Rattle.rv_session.specs.Sessions.{at_place};
@@ -12,7 +12,7 @@ ghost use Rattle.rv_session.specs.Traps.{without_trap};
 use crate::reply::Reply;
 use crate::session::Session;
 use crate::traps::{with_trap, without_trap};
-use rv_remote::{Move, Part, Request, Stop, TARGET, Trap, fixed_reply, push_part, push_stop};
+use rv_gdb_protocol::{Move, Part, Request, Stop, TARGET, Trap, fixed_reply, push_part, push_stop};
 use std::alloc::{AllocError, Global};
 
 impl Session {

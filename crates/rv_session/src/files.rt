@@ -4,14 +4,14 @@ ghost use Rattle.std.specs.Prelude.{◌≡◌, ◌≤◌, ◌++◌, IfOk, OnOk, 
 ghost use Rattle.std.specs.Int.{w32, to_be_bytes};
 ghost use Rattle.std.specs.List.{flat_map};
 ghost use Rattle.std.specs.Str.{bytes_eq};
-ghost use Rattle.rv_remote.specs.declared.request.Refusal.TheVariants as refusal;
+ghost use Rattle.rv_gdb_protocol.specs.declared.request.Refusal.TheVariants as refusal;
 ghost use Rattle.rv_session.specs.Answers.{counted, file_part, file_reply, size_reply, stat_words};
 ghost use Rattle.rv_session.specs.Replies.{refused, saying};
 
 use crate::reading::{are_same, shown_count};
 use crate::reply::Reply;
 use crate::session::Session;
-use rv_remote::{Part, Refusal};
+use rv_gdb_protocol::{Part, Refusal};
 use std::alloc::{AllocError, Global};
 
 /// The most bytes of a part, each of which may have to be escaped.

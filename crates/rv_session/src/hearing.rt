@@ -1,16 +1,16 @@
 //! What is heard from gdb, and the packets that go out.
 
 ghost use Rattle.std.specs.Prelude.{◌≡◌, ◌++◌, ◌∷◌, ◌&&◌, [], IfOk, None, OnOk, Some};
-ghost use Rattle.rv_remote.specs.Sums.{framed};
+ghost use Rattle.rv_gdb_protocol.specs.Sums.{framed};
 ghost use Rattle.rv_session.specs.Heard.{IsAppended, IsByteFed, IsRespondedTo, IsTaken, acknowledgement, is_wrong, packets_of, printed_packet, printed_packets, printed_part, sent_again, with_sent};
 ghost use Rattle.rv_session.specs.Replies.{refused};
 ghost use Rattle.rv_session.specs.Sessions.{IsSameRun, MayAsk};
-ghost use Rattle.rv_remote.specs.declared.request.Refusal.TheVariants as refusal;
+ghost use Rattle.rv_gdb_protocol.specs.declared.request.Refusal.TheVariants as refusal;
 
 use crate::reply::Reply;
 use crate::session::Session;
 use rv_base::Bytes;
-use rv_remote::{Heard, Refusal, Sum, parse_request, push_frame, push_printed};
+use rv_gdb_protocol::{Heard, Refusal, Sum, parse_request, push_frame, push_printed};
 use std::alloc::{AllocError, Global};
 
 /// The most printed bytes of a packet, two digits each.

@@ -1,8 +1,8 @@
 //! Laws of sessions, with nothing to run.
 
 ghost use Rattle.std.specs.Prelude.{◌≡◌, ◌++◌, ℕ, Bool, List, None, false};
-ghost use Rattle.rv_remote.specs.Stops.{told_by};
-ghost use Rattle.rv_remote.specs.declared.request.Move.{Move};
+ghost use Rattle.rv_gdb_protocol.specs.Stops.{told_by};
+ghost use Rattle.rv_gdb_protocol.specs.declared.request.Move.{Move};
 ghost use Rattle.rv_session.specs.Console.{HasShown};
 ghost use Rattle.rv_session.specs.Endings.{text_with, told_by_found};
 ghost use Rattle.rv_session.specs.Heard.{HasNoInterrupt, IsByteFed, IsFed, is_interrupted};

@@ -3,7 +3,7 @@
 ghost use Rattle.std.specs.Prelude.{◌≡◌, IfOk, None, OnOk, is_some, true};
 ghost use Rattle.rv_history.specs.Moves.{IsBroken};
 ghost use Rattle.rv_history.specs.declared.found.Found.TheVariants as found;
-ghost use Rattle.rv_remote.specs.Stops.{stop_text};
+ghost use Rattle.rv_gdb_protocol.specs.Stops.{stop_text};
 ghost use Rattle.rv_session.specs.Moved.{CanTell, IsGone, IsMoved, end_stop, end_text_at, is_forward, printed_on, shown_on, stop_of, watch_stop, watch_told};
 ghost use Rattle.rv_session.specs.Heard.{IsWorked};
 ghost use Rattle.rv_session.specs.Replies.{stopping};
@@ -13,9 +13,9 @@ use crate::end_text::EndText;
 use crate::reply::Reply;
 use crate::session::Session;
 use rv_base::Bytes;
+use rv_gdb_protocol::{Move, Stop, Watched, push_stop};
 use rv_history::{Bounds, Found, Interrupt, SetOff};
 use rv_machine::Ending;
-use rv_remote::{Move, Stop, Watched, push_stop};
 use std::alloc::{AllocError, Global};
 
 impl Session {

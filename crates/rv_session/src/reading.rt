@@ -2,7 +2,7 @@
 
 ghost use Rattle.std.specs.Prelude.{◌≡◌, IfOk};
 ghost use Rattle.std.specs.Str.{bytes_eq};
-ghost use Rattle.rv_remote.specs.Shown.{register_text};
+ghost use Rattle.rv_gdb_protocol.specs.Shown.{register_text};
 ghost use Rattle.rv_session.specs.Answers.{hart_value, memory_reply, registers_here, shown_count, taken_here, value_of};
 ghost use Rattle.rv_session.specs.Memory.{bytes_asked, bytes_from};
 ghost use Rattle.rv_session.specs.Replies.{saying};
@@ -10,8 +10,8 @@ ghost use Rattle.rv_session.specs.Sessions.{here};
 
 use crate::reply::Reply;
 use crate::session::Session;
+use rv_gdb_protocol::{Range, Refusal, Register, push_memory, push_register, push_registers};
 use rv_memory::Bus;
-use rv_remote::{Range, Refusal, Register, push_memory, push_register, push_registers};
 use std::alloc::{AllocError, Global};
 
 /// The most bytes of memory in a reply, two digits each.

@@ -3,7 +3,7 @@
 ghost use Rattle.std.specs.Prelude.{◌≡◌, IfOk, codes};
 
 use rv_base::Bytes;
-use rv_remote::{Refusal, refusal_text};
+use rv_gdb_protocol::{Refusal, refusal_text};
 use std::alloc::{AllocError, Global};
 
 /// What is sent for a request.

@@ -6,8 +6,8 @@ ghost use Rattle.rv_session.specs.Sessions.{at_place};
 
 use crate::reply::Reply;
 use crate::session::Session;
+use rv_gdb_protocol::Refusal;
 use rv_history::Count;
-use rv_remote::Refusal;
 use std::alloc::{AllocError, Global};
 
 impl Session {

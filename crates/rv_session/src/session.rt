@@ -6,8 +6,8 @@ ghost use Rattle.rv_session.specs.Sessions.{at_first};
 
 use crate::program::Program;
 use rv_base::{Bytes, Sequence};
+use rv_gdb_protocol::{Move, Reader, Stop};
 use rv_history::{History, Start, Stops};
-use rv_remote::{Move, Reader, Stop};
 use std::alloc::{AllocError, Global};
 
 /// A session with gdb over the run from a start within a budget.

@@ -3,12 +3,12 @@
 ghost use Rattle.std.specs.Prelude.{◌≡◌, ◌≤◌, ◌+◌, ◌^◌, IfOk};
 ghost use Rattle.rv_session.specs.Traps.{IsTrapped, has_byte, is_full, is_on, is_set, watches_of, with_watches, without_trap};
 ghost use Rattle.rv_memory.specs.Bus.{Contents};
-ghost use Rattle.rv_remote.specs.declared.request.Trap.TheVariants as trap;
+ghost use Rattle.rv_gdb_protocol.specs.declared.request.Trap.TheVariants as trap;
 
 use rv_base::Sequence;
+use rv_gdb_protocol::{Range, Refusal, Trap, Watched};
 use rv_history::{Stops, Watch};
 use rv_memory::Bus;
-use rv_remote::{Range, Refusal, Trap, Watched};
 use std::alloc::{AllocError, Global};
 
 /// The most breakpoints and watches, together.

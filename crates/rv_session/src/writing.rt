@@ -4,7 +4,7 @@ ghost use Rattle.std.specs.Prelude.{◌≡◌, ◌&&◌, IfOk, nat_lt};
 ghost use Rattle.std.specs.FinMap as fin;
 ghost use Rattle.std.specs.Str.{bytes_eq};
 ghost use Rattle.hex.specs.Hex.{encode_lower};
-ghost use Rattle.rv_remote.specs.declared.request.Refusal.TheVariants as refusal;
+ghost use Rattle.rv_gdb_protocol.specs.declared.request.Refusal.TheVariants as refusal;
 ghost use Rattle.rv_session.specs.Answers.{IsWritten, registers_here};
 ghost use Rattle.rv_session.specs.Memory.{end_of_addresses, is_byte, stand_at};
 ghost use Rattle.rv_session.specs.Replies.{granted_if};
@@ -13,9 +13,9 @@ ghost use Rattle.rv_session.specs.Sessions.{here};
 use crate::reading::are_same;
 use crate::reply::Reply;
 use crate::session::Session;
+use rv_gdb_protocol::{Refusal, Register, push_memory, push_registers};
 use rv_history::Count;
 use rv_memory::Bus;
-use rv_remote::{Refusal, Register, push_memory, push_registers};
 use std::alloc::{AllocError, Global};
 
 /// One past the last address.

@@ -7,11 +7,11 @@ ghost use Rattle.rv_machine.proofs.Public.{state_code};
 ghost use Rattle.rv_session_tests.specs.Talks.{IsReady};
 
 use rv_base::Bytes;
+use rv_gdb_protocol::push_frame;
 use rv_history::{Interrupt, Start};
 use rv_isa::Isa;
 use rv_machine::Machine;
 use rv_memory::{Bus, Map, Misaligned, Region};
-use rv_remote::push_frame;
 use rv_session::{EndText, Program, Session};
 use samples::{agree, cell_of, has_lines, numbers};
 use std::alloc::{AllocError, Global};

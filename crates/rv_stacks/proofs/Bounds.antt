@@ -5,8 +5,8 @@ use Rattle.rv_calls.specs.declared.frames.Frame.{Frame}
 use Rattle.rv_calls.specs.declared.transfer.Transfer.{Transfer}
 use Rattle.rv_calls.specs.Calls.{transfer_of}
 use Rattle.rv_calls.specs.Stack.{after_transfer}
-use Rattle.rv_coverage.specs.Coverage.{behind, begun_in_run, fetch_at, is_begun, once_if}
-use Rattle.rv_coverage.specs.JobTables.{begun_from}
+use Rattle.rv_counting.specs.Coverage.{behind, begun_in_run, fetch_at, is_begun, once_if}
+use Rattle.rv_counting.specs.JobTables.{begun_from}
 use Rattle.rv_machine.specs.declared.ending.Ending.{Ending}
 use Rattle.rv_machine.specs.Run.{step_of}
 use Rattle.rv_machine.specs.State.{State}

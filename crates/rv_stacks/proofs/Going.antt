@@ -4,7 +4,7 @@ use Rattle.std.proofs.lemmas.Bool.{cases_Bool}
 use Rattle.std.proofs.lemmas.Bool.Decides.{nat_tests}
 use Rattle.std.proofs.lemmas.List.{get_or_default, take_more}
 use Rattle.std.specs.Str.{bytes_eq}
-use Rattle.rv_coverage.specs.Coverage.{once_if}
+use Rattle.rv_counting.specs.Coverage.{once_if}
 use Rattle.rv_stacks.specs.declared.walk.Walk.{Walk}
 use Rattle.rv_stacks.specs.Nodes.{all_arrivals, all_steps, arrivals_at, own_in, steps_at}
 use Rattle.rv_stacks.specs.Walks.{Arrives, Returns}

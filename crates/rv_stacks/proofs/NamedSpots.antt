@@ -5,16 +5,16 @@ use Rattle.std.specs.Cmp.Lexicographic.{bytes_decides}
 use Rattle.std.specs.List.{AllByRecursion}
 use Rattle.std.specs.Prelude.{◌||◌}
 use Rattle.std.specs.Str.{bytes_eq, IsUtf8}
-use Rattle.rv_counts.proofs.Public.{are_more, last_of_more, name_with, not_named}
-use Rattle.rv_counts.specs.declared.table.FunctionName.{FunctionName}
-use Rattle.rv_counts.specs.Lines.{lacks}
-use Rattle.rv_counts.specs.ReadSteps.{with_name, AgreesWith}
-use Rattle.rv_counts.specs.Table.{has_name, name_of, IsSpot}
-use Rattle.rv_coverage.proofs.Public.{no_names}
-use Rattle.rv_spots.specs.declared.spot.Spot.{Spot}
-use Rattle.rv_spots.specs.Profiles.{is_last_of_some}
-use Rattle.rv_spots.specs.Sums.{FitsSpot}
-use Rattle.rv_spots.specs.Trees.{arrivals_of, counted_behind, ends_with, path_behind, HasArrivals}
+use Rattle.rv_count_tables.proofs.Public.{are_more, last_of_more, name_with, not_named}
+use Rattle.rv_count_tables.specs.declared.table.FunctionName.{FunctionName}
+use Rattle.rv_count_tables.specs.Lines.{lacks}
+use Rattle.rv_count_tables.specs.ReadSteps.{with_name, AgreesWith}
+use Rattle.rv_count_tables.specs.Table.{has_name, name_of, IsSpot}
+use Rattle.rv_counting.proofs.Public.{no_names}
+use Rattle.rv_call_tree.specs.declared.spot.Spot.{Spot}
+use Rattle.rv_call_tree.specs.Profiles.{is_last_of_some}
+use Rattle.rv_call_tree.specs.Sums.{FitsSpot}
+use Rattle.rv_call_tree.specs.Trees.{arrivals_of, counted_behind, ends_with, path_behind, HasArrivals}
 use Rattle.rv_stacks.specs.StackTables.{AreNamesBy}
 use Rattle.rv_stacks.proofs.Steps.{last_of}
 

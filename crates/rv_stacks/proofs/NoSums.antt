@@ -6,13 +6,13 @@ use Rattle.std.specs.List.{AllByRecursion, sum_by}
 use Rattle.std.specs.Result.{result_ok}
 use Rattle.std.specs.Prelude.{is_ok}
 use Rattle.rv_base.specs.Limits.{most_jobs}
-use Rattle.rv_counts.specs.declared.sum.SumError.{SumError}
-use Rattle.rv_counts.specs.declared.sum.SumError.TheVariants.{OutOfMemory, Count, Spot, Names, Runs}
-use Rattle.rv_counts.specs.declared.table.CountTable.{CountTable}
-use Rattle.rv_counts.specs.Sum.{HaveNoSum}
-use Rattle.rv_counts.specs.Table.{begun_in, arrivals_in, steps_in}
-use Rattle.rv_coverage.specs.JobTables.{begun_by, begun_from, jobs_at, runs_by, start_over}
-use Rattle.rv_coverage.proofs.Public.{not_over}
+use Rattle.rv_count_tables.specs.declared.sum.SumError.{SumError}
+use Rattle.rv_count_tables.specs.declared.sum.SumError.TheVariants.{OutOfMemory, Count, Spot, Names, Runs}
+use Rattle.rv_count_tables.specs.declared.table.CountTable.{CountTable}
+use Rattle.rv_count_tables.specs.Sum.{HaveNoSum}
+use Rattle.rv_count_tables.specs.Table.{begun_in, arrivals_in, steps_in}
+use Rattle.rv_counting.specs.JobTables.{begun_by, begun_from, jobs_at, runs_by, start_over}
+use Rattle.rv_counting.proofs.Public.{not_over}
 use Rattle.rv_jobs.specs.declared.answers.Answer.{Answer}
 use Rattle.rv_machine.specs.State.{State}
 use Rattle.rv_report.specs.declared.row.Refusal.{Refusal}

@@ -3,23 +3,23 @@ use Rattle.std.proofs.Common.{◌≡◌, ◌∙◌, ◌<◌, ℕ, Bool, true, fa
 use Rattle.std.specs.Prelude.{is_ok}
 use Rattle.std.specs.Str.{bytes_eq}
 use Rattle.sha2.specs.Sha256.{sha256}
-use Rattle.rv_counts.proofs.Public.{first_is}
-use Rattle.rv_counts.specs.declared.table.AddressCounts.{AddressCounts}
-use Rattle.rv_counts.specs.declared.table.CountTable.{CountTable}
-use Rattle.rv_counts.specs.declared.table.FunctionName.{FunctionName}
-use Rattle.rv_counts.specs.Sum.{no_counts}
-use Rattle.rv_counts.specs.Table.{begun_at, name_at, taken_at, least_path_of, IsTable}
-use Rattle.rv_coverage.proofs.Public.{no_counts_is_table, none_if_no_ok, not_ok_if_none, not_over, over, picked_begun, picked_path, picked_taken}
-use Rattle.rv_coverage.specs.Coverage.{once_if, AreCountsOf}
-use Rattle.rv_coverage.specs.JobTables.{begun_from, taken_from}
+use Rattle.rv_count_tables.proofs.Public.{first_is}
+use Rattle.rv_count_tables.specs.declared.table.AddressCounts.{AddressCounts}
+use Rattle.rv_count_tables.specs.declared.table.CountTable.{CountTable}
+use Rattle.rv_count_tables.specs.declared.table.FunctionName.{FunctionName}
+use Rattle.rv_count_tables.specs.Sum.{no_counts}
+use Rattle.rv_count_tables.specs.Table.{begun_at, name_at, taken_at, least_path_of, IsTable}
+use Rattle.rv_counting.proofs.Public.{no_counts_is_table, none_if_no_ok, not_ok_if_none, not_over, over, picked_begun, picked_path, picked_taken}
+use Rattle.rv_counting.specs.Coverage.{once_if, AreCountsOf}
+use Rattle.rv_counting.specs.JobTables.{begun_from, taken_from}
 use Rattle.rv_elf.specs.declared.image.Image.{Image}
 use Rattle.rv_jobs.specs.declared.answers.Answer.{Answer}
 use Rattle.rv_jobs.specs.declared_job.Job.{Job}
 use Rattle.rv_machine.specs.State.{State}
 use Rattle.rv_report.specs.declared.row.Refusal.{Refusal}
 use Rattle.rv_rows.specs.Rows.{image_in, start_in}
-use Rattle.rv_spots.specs.declared.spot.Spot.{Spot}
-use Rattle.rv_spots.specs.Trees.{arrivals_at, steps_at, HasArrivals, IsTree}
+use Rattle.rv_call_tree.specs.declared.spot.Spot.{Spot}
+use Rattle.rv_call_tree.specs.Trees.{arrivals_at, steps_at, HasArrivals, IsTree}
 use Rattle.rv_stacks.specs.Stacks.{function_at, AreCountsAndStacksOfJob, AreStacksOf}
 use Rattle.rv_stacks.specs.StackTables.{arrivals_by_job, arrivals_from, function_in, function_of_job, name_in_image, name_of_function, steps_by_job, steps_from, table_of_run, AreNamesBy, IsNamedBy, IsTableOfRun, RunsWithinABudget}
 use Rattle.rv_text.specs.Printable.{printable_text}

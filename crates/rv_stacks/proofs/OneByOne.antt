@@ -3,13 +3,13 @@ use Rattle.std.proofs.Common.{◌≡◌, ◌⊎◌, ℕ, List, [], ◌∷◌, �
 use Rattle.std.proofs.lemmas.List.{map-append}
 use Rattle.std.proofs.lemmas.Result.{IfErr-weaker}
 use Rattle.std.specs.Prelude.{is_some, true, IfErr, IfOk}
-use Rattle.rv_counts.specs.declared.sum.SumError.{SumError}
-use Rattle.rv_counts.specs.declared.sum.SumError.TheVariants.{OutOfMemory}
-use Rattle.rv_counts.specs.declared.table.CountTable.{CountTable}
-use Rattle.rv_counts.specs.Sum.{IsSum, no_counts}
-use Rattle.rv_coverage.proofs.Public.{run_added, run_ended, NextRefused}
-use Rattle.rv_coverage.specs.JobTables.{jobs_at}
-use Rattle.rv_coverage.specs.TableSums.{sum_of_run, Added, AreAdded}
+use Rattle.rv_count_tables.specs.declared.sum.SumError.{SumError}
+use Rattle.rv_count_tables.specs.declared.sum.SumError.TheVariants.{OutOfMemory}
+use Rattle.rv_count_tables.specs.declared.table.CountTable.{CountTable}
+use Rattle.rv_count_tables.specs.Sum.{IsSum, no_counts}
+use Rattle.rv_counting.proofs.Public.{run_added, run_ended, NextRefused}
+use Rattle.rv_counting.specs.JobTables.{jobs_at}
+use Rattle.rv_counting.specs.TableSums.{sum_of_run, Added, AreAdded}
 use Rattle.rv_engine.specs.declared.engine.RunError.{RunError}
 use Rattle.rv_engine.specs.declared.listener.Flow.{Flow}
 use Rattle.rv_engine.specs.Results.{HeardRun}

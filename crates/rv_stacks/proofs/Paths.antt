@@ -9,7 +9,7 @@ use Rattle.rv_calls.specs.declared.action.StackAction.TheVariants as action
 use Rattle.rv_calls.specs.declared.frames.Frame.{Frame}
 use Rattle.rv_calls.specs.declared.transfer.Transfer.{Transfer}
 use Rattle.rv_calls.specs.Stack.{after_transfer, depth_below, depth_left, depth_up_to_return, frame_of, is_pushed, popped}
-use Rattle.rv_coverage.specs.Coverage.{once_if}
+use Rattle.rv_counting.specs.Coverage.{once_if}
 use Rattle.rv_stacks.specs.declared.walk.Walk.{Walk}
 use Rattle.rv_stacks.specs.Walks.{Arrives}
 use Rattle.rv_stacks.specs.Stacks.{back_at, calls_to, goes_on_at, jumps_to, path_at}

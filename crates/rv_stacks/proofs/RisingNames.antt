@@ -8,14 +8,14 @@ use Rattle.std.specs.Prelude.{nat_lt}
 use Rattle.std.specs.List.{AllByRecursion, insert, prefix_len}
 use Rattle.std.specs.List.Sorted.{IsPermutation}
 use Rattle.std.specs.Str.{IsUtf8}
-use Rattle.rv_counts.proofs.Public.{last_of_more}
-use Rattle.rv_counts.specs.declared.table.FunctionName.{FunctionName}
-use Rattle.rv_counts.specs.Lines.{lacks}
-use Rattle.rv_counts.specs.ReadSteps.{inserted, with_name}
-use Rattle.rv_counts.specs.Table.{has_name, name_of}
-use Rattle.rv_spots.specs.declared.spot.Spot.{Spot}
-use Rattle.rv_spots.specs.Profiles.{is_last_of_some}
-use Rattle.rv_spots.specs.Sums.{FitsSpot}
+use Rattle.rv_count_tables.proofs.Public.{last_of_more}
+use Rattle.rv_count_tables.specs.declared.table.FunctionName.{FunctionName}
+use Rattle.rv_count_tables.specs.Lines.{lacks}
+use Rattle.rv_count_tables.specs.ReadSteps.{inserted, with_name}
+use Rattle.rv_count_tables.specs.Table.{has_name, name_of}
+use Rattle.rv_call_tree.specs.declared.spot.Spot.{Spot}
+use Rattle.rv_call_tree.specs.Profiles.{is_last_of_some}
+use Rattle.rv_call_tree.specs.Sums.{FitsSpot}
 use Rattle.rv_stacks.specs.StackTables.{AreNamedUpTo, AreNamesBy}
 use Rattle.rv_stacks.proofs.NamedSpots.{each_push, none_named, one_known, one_named, or_with}
 

@@ -4,11 +4,11 @@ use Rattle.std.proofs.lemmas.List.{map-append}
 use Rattle.std.proofs.lemmas.List.Sorted.{IsPermutation-append_comm, IsPermutation-append_left, IsPermutation-append_right, IsPermutation-keeps, IsPermutation-map, IsPermutation-refl, IsPermutation-sym, IsPermutation-trans}
 use Rattle.std.specs.List.{flat_map, range_with_len}
 use Rattle.std.specs.List.Sorted.{IsPermutation}
-use Rattle.rv_counts.specs.declared.table.CountTable.{CountTable}
-use Rattle.rv_counts.specs.Sum.{no_counts}
-use Rattle.rv_counts.specs.Text.{table_text}
-use Rattle.rv_coverage.proofs.Public.{all_parts, joined_parts}
-use Rattle.rv_coverage.specs.JobTables.{jobs_at, SumsTo}
+use Rattle.rv_count_tables.specs.declared.table.CountTable.{CountTable}
+use Rattle.rv_count_tables.specs.Sum.{no_counts}
+use Rattle.rv_count_tables.specs.Text.{table_text}
+use Rattle.rv_counting.proofs.Public.{all_parts, joined_parts}
+use Rattle.rv_counting.specs.JobTables.{jobs_at, SumsTo}
 use Rattle.rv_jobs.specs.declared_job.Job.{Job}
 use Rattle.rv_jobs.specs.Plans.{Planned}
 use Rattle.rv_stacks.specs.StackTables.{places_of_shard, AreTablesWithStacksOfParts, IsTableWithStacks}

@@ -3,19 +3,19 @@ use Rattle.std.proofs.Common.{◌≡◌, ◌∙◌, ◌+◌, ◌<◌, ℕ, Bool,
 use Rattle.std.specs.List.{AllByRecursion}
 use Rattle.std.specs.Str.{IsUtf8}
 use Rattle.sha2.specs.Sha256.{sha256}
-use Rattle.rv_counts.specs.declared.table.AddressCounts.{AddressCounts}
-use Rattle.rv_counts.specs.declared.table.CountTable.{CountTable}
-use Rattle.rv_counts.specs.declared.table.FunctionName.{FunctionName}
-use Rattle.rv_counts.specs.declared.table.ImageCounts.{ImageCounts}
-use Rattle.rv_counts.specs.Lines.{lacks}
-use Rattle.rv_counts.specs.Sum.{Agree, IsSum}
-use Rattle.rv_counts.specs.Table.{name_in, least_path_of, rise_from, AreCounts, IsImage, IsTable}
-use Rattle.rv_coverage.proofs.Public.{one_rises}
+use Rattle.rv_count_tables.specs.declared.table.AddressCounts.{AddressCounts}
+use Rattle.rv_count_tables.specs.declared.table.CountTable.{CountTable}
+use Rattle.rv_count_tables.specs.declared.table.FunctionName.{FunctionName}
+use Rattle.rv_count_tables.specs.declared.table.ImageCounts.{ImageCounts}
+use Rattle.rv_count_tables.specs.Lines.{lacks}
+use Rattle.rv_count_tables.specs.Sum.{Agree, IsSum}
+use Rattle.rv_count_tables.specs.Table.{name_in, least_path_of, rise_from, AreCounts, IsImage, IsTable}
+use Rattle.rv_counting.proofs.Public.{one_rises}
 use Rattle.rv_jobs.specs.declared.answers.Answer.{Answer}
 use Rattle.rv_jobs.specs.declared_job.Job.{Job}
-use Rattle.rv_spots.specs.declared.spot.Spot.{Spot}
-use Rattle.rv_spots.specs.Sums.{FitsSpot}
-use Rattle.rv_spots.specs.Trees.{HasArrivals, IsTree}
+use Rattle.rv_call_tree.specs.declared.spot.Spot.{Spot}
+use Rattle.rv_call_tree.specs.Sums.{FitsSpot}
+use Rattle.rv_call_tree.specs.Trees.{HasArrivals, IsTree}
 use Rattle.rv_stacks.specs.StackTables.{name_of_job, AreNamesBy, IsNamedBy, IsTableOfRun, RunsWithinABudget}
 use Rattle.rv_text.specs.Printable.{printable_text}
 use Rattle.rv_stacks.proofs.NamedSpots.{can_stand}

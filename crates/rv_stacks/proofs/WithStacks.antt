@@ -5,16 +5,16 @@ use Rattle.std.proofs.lemmas.List.Sorted.{All-permutation, IsPermutation-map, su
 use Rattle.std.proofs.lemmas.List.Sums.{sum_by-append, sum_by-cons}
 use Rattle.std.specs.List.{AllByRecursion, sum_by}
 use Rattle.std.specs.List.Sorted.{IsPermutation}
-use Rattle.rv_counts.proofs.Public.{one_table_of}
-use Rattle.rv_counts.specs.declared.table.CountTable.{CountTable}
-use Rattle.rv_counts.specs.Sum.{IsSum, no_counts}
-use Rattle.rv_counts.specs.Table.{begun_in, taken_in, path_in, name_in, arrivals_in, steps_in, has_name, is_before, least_path_of, IsTable}
-use Rattle.rv_coverage.proofs.Public.{first_moved, first_path-append, no_counts_is_table}
-use Rattle.rv_coverage.specs.JobTables.{begun_by, first_path, jobs_at, runs_by, taken_by}
+use Rattle.rv_count_tables.proofs.Public.{one_table_of}
+use Rattle.rv_count_tables.specs.declared.table.CountTable.{CountTable}
+use Rattle.rv_count_tables.specs.Sum.{IsSum, no_counts}
+use Rattle.rv_count_tables.specs.Table.{begun_in, taken_in, path_in, name_in, arrivals_in, steps_in, has_name, is_before, least_path_of, IsTable}
+use Rattle.rv_counting.proofs.Public.{first_moved, first_path-append, no_counts_is_table}
+use Rattle.rv_counting.specs.JobTables.{begun_by, first_path, jobs_at, runs_by, taken_by}
 use Rattle.rv_jobs.specs.declared.answers.Answer.{Answer}
 use Rattle.rv_jobs.specs.declared_job.Job.{Job}
 use Rattle.rv_jobs.specs.Plans.{Planned}
-use Rattle.rv_spots.specs.Trees.{ends_with}
+use Rattle.rv_call_tree.specs.Trees.{ends_with}
 use Rattle.rv_stacks.specs.StackTables.{arrivals_by_job, steps_by_job, IsNamedBy, IsTableWithStacks, RunsWithinABudget}
 use Rattle.rv_stacks.proofs.Named.{come_to}
 use Rattle.rv_stacks.proofs.Tables.{budgets_of_both, names_of_both, same_either}

@@ -1,7 +1,7 @@
 -- Nodes: lists of functions of which each called the next, each by the number of the node that has all but its last function.
 use Rattle.std.specs.Prelude.{◌≡◌, ◌==◌, ◌+◌, ◌<◌, ◌≤◌, ◌&&◌, ℕ, Bool, if◌then◌else◌, List, [], ◌∷◌, ◌++◌, length, slice_index_or}
 use Rattle.std.specs.Str.{bytes_eq}
-use Rattle.rv_spots.specs.Trees.{ends_with, once_if, steps_if}
+use Rattle.rv_call_tree.specs.Trees.{ends_with, once_if, steps_if}
 use Rattle.rv_stacks.specs.declared.node.Node.{Node}
 
 -- ---- of which functions a node is

@@ -5,16 +5,16 @@ use Rattle.std.specs.Prelude.{length, map, slice_index_or, take, Ok}
 use Rattle.std.specs.List.{AllByRecursion, filter, sum_by}
 use Rattle.std.specs.Str.{bytes_eq}
 use Rattle.sha2.specs.Sha256.{sha256}
-use Rattle.rv_counts.specs.declared.sum.SumError.{SumError}
-use Rattle.rv_counts.specs.declared.sum.SumError.TheVariants.{Names, OutOfMemory}
-use Rattle.rv_counts.specs.declared.table.AddressCounts.{AddressCounts}
-use Rattle.rv_counts.specs.declared.table.CountTable.{CountTable}
-use Rattle.rv_counts.specs.declared.table.FunctionName.{FunctionName}
-use Rattle.rv_counts.specs.declared.table.ImageCounts.{ImageCounts}
-use Rattle.rv_counts.specs.Sum.{HaveNoSum, IsSum}
-use Rattle.rv_counts.specs.Table.{begun_in, taken_in, path_in, name_in, arrivals_in, steps_in, has_name, name_of, AreNames, AreNamesOf, IsTable}
-use Rattle.rv_coverage.specs.Coverage.{once_if}
-use Rattle.rv_coverage.specs.JobTables.{first_path, jobs_at, start_over, IsTableOfPlaces}
+use Rattle.rv_count_tables.specs.declared.sum.SumError.{SumError}
+use Rattle.rv_count_tables.specs.declared.sum.SumError.TheVariants.{Names, OutOfMemory}
+use Rattle.rv_count_tables.specs.declared.table.AddressCounts.{AddressCounts}
+use Rattle.rv_count_tables.specs.declared.table.CountTable.{CountTable}
+use Rattle.rv_count_tables.specs.declared.table.FunctionName.{FunctionName}
+use Rattle.rv_count_tables.specs.declared.table.ImageCounts.{ImageCounts}
+use Rattle.rv_count_tables.specs.Sum.{HaveNoSum, IsSum}
+use Rattle.rv_count_tables.specs.Table.{begun_in, taken_in, path_in, name_in, arrivals_in, steps_in, has_name, name_of, AreNames, AreNamesOf, IsTable}
+use Rattle.rv_counting.specs.Coverage.{once_if}
+use Rattle.rv_counting.specs.JobTables.{first_path, jobs_at, start_over, IsTableOfPlaces}
 use Rattle.rv_elf.specs.declared.image.Image.{Image}
 use Rattle.rv_elf.specs.SymbolSearch.{symbol_at}
 use Rattle.rv_jobs.specs.declared.answers.Answer.{Answer}
@@ -22,9 +22,9 @@ use Rattle.rv_jobs.specs.declared_job.Job.{Job}
 use Rattle.rv_jobs.specs.Plans.{Planned}
 use Rattle.rv_machine.specs.State.{State}
 use Rattle.rv_rows.specs.Rows.{image_in, start_in}
-use Rattle.rv_spots.specs.declared.spot.Spot.{Spot}
-use Rattle.rv_spots.specs.Profiles.{is_last_of_some}
-use Rattle.rv_spots.specs.Trees.{ends_with}
+use Rattle.rv_call_tree.specs.declared.spot.Spot.{Spot}
+use Rattle.rv_call_tree.specs.Profiles.{is_last_of_some}
+use Rattle.rv_call_tree.specs.Trees.{ends_with}
 use Rattle.rv_stacks.specs.Stacks as run
 use Rattle.rv_text.specs.Printable.{printable_text}
 use Rattle.rv_trace.specs.Trace.{image_bytes}

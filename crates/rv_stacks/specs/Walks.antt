@@ -1,9 +1,9 @@
 -- A walk from node to node, as calls, jumps and returns lead it, and its nodes as spots.
 use Rattle.std.specs.Prelude.{◌≡◌, ◌+◌, ◌<◌, ◌≤◌, ℕ, List, [], length, take, slice_index_or}
 use Rattle.std.specs.Str.{bytes_eq}
-use Rattle.rv_spots.specs.declared.spot.Spot.{Spot}
-use Rattle.rv_spots.specs.Trees as spots
-use Rattle.rv_spots.specs.Trees.{ends_with, last_path, once_if, HasArrivals, IsTree}
+use Rattle.rv_call_tree.specs.declared.spot.Spot.{Spot}
+use Rattle.rv_call_tree.specs.Trees as spots
+use Rattle.rv_call_tree.specs.Trees.{ends_with, last_path, once_if, HasArrivals, IsTree}
 use Rattle.rv_stacks.specs.declared.flat.Flat.{Flat}
 use Rattle.rv_stacks.specs.declared.node.Node.{Node}
 use Rattle.rv_stacks.specs.declared.walk.Walk.{Walk}

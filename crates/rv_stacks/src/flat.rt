@@ -8,7 +8,7 @@ ghost use Rattle.rv_stacks.specs.Walks.{AreSpotsOf, GoesBack, IsFlat, IsNext, Mo
 
 use crate::children::Children;
 use crate::node::Node;
-use rv_spots::{Spot, Spots};
+use rv_call_tree::{Spot, Spots};
 use std::alloc::{AllocError, Global};
 
 /// Spots to which nodes' counts are moved, and the node up to which that is done.

@@ -1,13 +1,13 @@
 //! Functions by the addresses of their instructions.
 
 ghost use Rattle.std.specs.Prelude.{◌≡◌, ◌+◌, ◌<◌, ◌≤◌, ℕ, IfOk, length};
-ghost use Rattle.rv_coverage.specs.Blocks.{address_at};
+ghost use Rattle.rv_counting.specs.Blocks.{address_at};
 ghost use Rattle.rv_stacks.specs.StackSteps.{AreKnown};
 ghost use Rattle.rv_elf.specs.SymbolSearch.{symbol_at};
 ghost use Rattle.rv_stacks.specs.Stacks.{function_at, no_function, start_of};
 
-use rv_counts::AddressCounts;
-use rv_coverage::Block;
+use rv_count_tables::AddressCounts;
+use rv_counting::Block;
 use rv_elf::CodeSymbols;
 use std::alloc::{AllocError, Global};
 

@@ -1,7 +1,7 @@
 //! The counts and the stacks of a job.
 
 ghost use Rattle.std.specs.Prelude.{IfOk, IfSome};
-ghost use Rattle.rv_counts.specs.Table.{AreCounts};
+ghost use Rattle.rv_count_tables.specs.Table.{AreCounts};
 ghost use Rattle.rv_jobs.specs.declared_job.Job.{Job as AJob};
 ghost use Rattle.rv_rows.specs.Rows.{start_in};
 ghost use Rattle.rv_stacks.specs.Stacks.{function_at, AreCountsAndStacksOfJob};
@@ -9,10 +9,10 @@ ghost use Rattle.rv_stacks.specs.StackTables.{RunsWithinABudget};
 ghost use Rattle.rv_trace.specs.Trace.{job_at};
 
 use crate::run::count_with_stacks;
-use rv_counts::Addresses;
+use rv_call_tree::Spots;
+use rv_count_tables::Addresses;
 use rv_elf::CodeSymbols;
 use rv_rows::machine_at;
-use rv_spots::Spots;
 use rv_trace::JobImage;
 use std::alloc::{AllocError, Global};
 

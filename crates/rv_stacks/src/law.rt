@@ -3,22 +3,22 @@
 ghost use Rattle.std.specs.Prelude.{◌≡◌, ◌<◌, ◌≤◌, ℕ, List, length, map};
 ghost use Rattle.std.specs.List.{flat_map, range_with_len};
 ghost use Rattle.std.specs.List.Sorted.{IsPermutation};
-ghost use Rattle.rv_counts.specs.declared.table.AddressCounts.{AddressCounts};
-ghost use Rattle.rv_counts.specs.declared.sum.SumError.{SumError as Refused};
-ghost use Rattle.rv_counts.specs.declared.table.CountTable.{CountTable};
-ghost use Rattle.rv_counts.specs.Sum.{no_counts};
-ghost use Rattle.rv_counts.specs.Text.{table_text};
-ghost use Rattle.rv_coverage.specs.Coverage.{AreCountsOf};
-ghost use Rattle.rv_coverage.specs.JobTables.{IsTableOfPlaces, SumsTo};
+ghost use Rattle.rv_count_tables.specs.declared.table.AddressCounts.{AddressCounts};
+ghost use Rattle.rv_count_tables.specs.declared.sum.SumError.{SumError as Refused};
+ghost use Rattle.rv_count_tables.specs.declared.table.CountTable.{CountTable};
+ghost use Rattle.rv_count_tables.specs.Sum.{no_counts};
+ghost use Rattle.rv_count_tables.specs.Text.{table_text};
+ghost use Rattle.rv_counting.specs.Coverage.{AreCountsOf};
+ghost use Rattle.rv_counting.specs.JobTables.{IsTableOfPlaces, SumsTo};
 ghost use Rattle.rv_jobs.specs.Limits.{most_jobs};
 ghost use Rattle.rv_jobs.specs.Plans.{Planned};
 ghost use Rattle.rv_machine.specs.State.{State};
-ghost use Rattle.rv_spots.specs.declared.spot.Spot.{Spot};
-ghost use Rattle.rv_spots.specs.Trees.{own_in};
+ghost use Rattle.rv_call_tree.specs.declared.spot.Spot.{Spot};
+ghost use Rattle.rv_call_tree.specs.Trees.{own_in};
 ghost use Rattle.rv_stacks.specs.Stacks.{counts_of_function, AreStacksOf};
 ghost use Rattle.rv_stacks.specs.StackTables.{places_of_shard, without_stacks, AreTablesWithStacksOfParts, HaveNoTableWithStacks, IsOfNamesOrMemory, IsTableWithStacks};
 
-use rv_spots::one_tree_has_these_counts;
+use rv_call_tree::one_tree_has_these_counts;
 
 /// A run has one list of spots.
 pub fn run_has_one_list_of_spots()

@@ -4,8 +4,8 @@ ghost use Rattle.std.specs.Prelude.{IfErr, IfOk};
 ghost use Rattle.rv_stacks.specs.StackTables.{HaveNoTableWithStacks, IsOfNamesOrMemory, IsTableWithStacks};
 
 use crate::stack_work::StackWork;
-use rv_counts::{CountTable, SumError};
-use rv_coverage::{JobTable, TableSum};
+use rv_count_tables::{CountTable, SumError};
+use rv_counting::{JobTable, TableSum};
 use rv_engine::{Crew, run_jobs};
 use rv_fleet::Batch;
 use std::sync::Wait;

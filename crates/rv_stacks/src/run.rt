@@ -1,18 +1,18 @@
 //! The counts and the stacks of a run.
 
 ghost use Rattle.std.specs.Prelude.{◌≡◌, IfOk};
-ghost use Rattle.rv_coverage.specs.Counters.{HasCounted};
-ghost use Rattle.rv_coverage.specs.Coverage.{AreCountsOf};
+ghost use Rattle.rv_counting.specs.Counters.{HasCounted};
+ghost use Rattle.rv_counting.specs.Coverage.{AreCountsOf};
 ghost use Rattle.rv_machine.specs.Machine.{state_of};
 ghost use Rattle.rv_stacks.specs.StackSteps.{AreNodesOf};
 ghost use Rattle.rv_stacks.specs.Stacks.{function_at, AreStacksOf};
 
 use crate::stacks::Stacks;
-use rv_counts::Addresses;
-use rv_coverage::Counter;
+use rv_call_tree::Spots;
+use rv_count_tables::Addresses;
+use rv_counting::Counter;
 use rv_elf::CodeSymbols;
 use rv_machine::Machine;
-use rv_spots::Spots;
 use std::alloc::{AllocError, Global};
 
 /// The counts of a machine's run of at most so many steps, and its stacks by the functions of a file. It takes the time of that run

@@ -1,7 +1,7 @@
 //! The table of each job of a batch, with its stacks.
 
 use crate::table::count_place_with_stacks;
-use rv_coverage::JobTable;
+use rv_counting::JobTable;
 use rv_engine::{Work, Workbench};
 use rv_fleet::Batch;
 use std::alloc::{AllocError, Global};

@@ -1,17 +1,17 @@
 //! The table of one job of a plan, with its stacks.
 
 ghost use Rattle.std.specs.Prelude.{◌<◌, ◌∷◌, [], IfOk, length};
-ghost use Rattle.rv_counts.specs.Table.{AreCounts};
-ghost use Rattle.rv_spots.specs.Trees.{HasArrivals, IsTree};
+ghost use Rattle.rv_count_tables.specs.Table.{AreCounts};
+ghost use Rattle.rv_call_tree.specs.Trees.{HasArrivals, IsTree};
 ghost use Rattle.rv_stacks.specs.StackTables.{name_of_function, IsTableOfRun, IsTableWithStacks};
 
 use crate::job::count_job_with_stacks;
 use crate::names::names_of_spots;
-use rv_counts::{Addresses, CountTable, ImageCounts};
-use rv_coverage::{digest_of, empty_table, images_of_one, shown_text};
+use rv_call_tree::Spots;
+use rv_count_tables::{Addresses, CountTable, ImageCounts};
+use rv_counting::{digest_of, empty_table, images_of_one, shown_text};
 use rv_elf::CodeSymbols;
 use rv_jobs::Plan;
-use rv_spots::Spots;
 use rv_trace::{JobImage, image_bytes, image_of_bytes};
 use std::alloc::{AllocError, Global};
 

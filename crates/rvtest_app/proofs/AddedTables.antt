@@ -5,8 +5,8 @@ use Rattle.std.proofs.lemmas.List.{take-append-drop}
 use Rattle.std.specs.Borrow.{Bor}
 use Rattle.rv_base.specs.Files.{FileContents}
 use Rattle.rv_command.specs.declared.stop.Stop.{Stop}
-use Rattle.rv_counts.specs.Sum.{no_counts}
-use Rattle.rv_counts.specs.declared.table.CountTable.{CountTable}
+use Rattle.rv_count_tables.specs.Sum.{no_counts}
+use Rattle.rv_count_tables.specs.declared.table.CountTable.{CountTable}
 use Rattle.rvtest_app.specs.CountStops.{IsSumStop, IsUnaddedStop}
 use Rattle.rvtest_app.specs.CountSums.{AreAdded, IsAdded}
 

@@ -10,7 +10,7 @@ use Rattle.rv_files.specs.declared.noting_store.Unread.{Unread}
 use Rattle.rv_job_text.specs.Telling.{Telling}
 use Rattle.rv_job_text.specs.declared.verbosity.Verbosity.{Verbosity}
 use Rattle.rv_jobs.specs.Plans.{Planned}
-use Rattle.rv_known.specs.declared.known_jobs.KnownJobs.{KnownJobs}
+use Rattle.rv_expect.specs.declared.known_jobs.KnownJobs.{KnownJobs}
 use Rattle.rv_report.specs.declared.row.Row.{Row}
 use Rattle.rv_report.specs.declared.saved.Shard.{Shard}
 use Rattle.rvtest_app.specs.Commands.{failure_rule, requested_verbosity}

@@ -8,10 +8,10 @@ use Rattle.std.proofs.lemmas.List.{map-append, take_more}
 use Rattle.std.proofs.lemmas.List.Elements.{All-head, All-tail}
 use Rattle.rv_base.specs.Files.{FileContents}
 use Rattle.rv_base.specs.Limits.{most_bytes}
-use Rattle.rv_counts.specs.Table.{IsTable}
-use Rattle.rv_counts.specs.declared.table.CountTable.{CountTable}
-use Rattle.rv_cover.specs.JobImages.{AreSmall}
-use Rattle.rv_coverage.specs.JobTables.{jobs_at}
+use Rattle.rv_count_tables.specs.Table.{IsTable}
+use Rattle.rv_count_tables.specs.declared.table.CountTable.{CountTable}
+use Rattle.rv_cover_view.specs.JobImages.{AreSmall}
+use Rattle.rv_counting.specs.JobTables.{jobs_at}
 use Rattle.rv_expect.specs.Judgement.{Judging}
 use Rattle.rv_files.specs.declared.noting_store.Unread.{Unread}
 use Rattle.rv_jobs.specs.Jobs.{single_job}

@@ -3,9 +3,9 @@ use Rattle.std.specs.Prelude.{◌≡◌, ℕ, Bool, List, Option, Some, None, co
 use Rattle.std.specs.Str.{bytes_eq}
 use Rattle.rvtest_cli.specs.declared.requests.Asked.{Asked}
 use Rattle.rvtest_cli.specs.declared.requests.Asked.TheVariants as asked
-use Rattle.rv_colors.specs.ColorSinks.{IsOut}
-use Rattle.rv_colors.specs.declared.colors.Colors.{Colors}
-use Rattle.rv_colors.specs.declared.colors.Colors.TheVariants as colors
+use Rattle.rv_terminal.specs.ColorSinks.{IsOut}
+use Rattle.rv_terminal.specs.declared.colors.Colors.{Colors}
+use Rattle.rv_terminal.specs.declared.colors.Colors.TheVariants as colors
 use Rattle.rv_command.specs.Texts.{optional_text}
 use Rattle.rvtest_app.specs.IntoReports.{uses_run_stdout}
 use Rattle.rvtest_app.specs.Outlets.{is_stdout_at}

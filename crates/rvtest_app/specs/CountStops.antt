@@ -8,15 +8,15 @@ use Rattle.rv_command.specs.Stops.{IsStop, IsResultUnreadStop}
 use Rattle.rv_command.specs.Texts.{IsTextAt, optional_text}
 use Rattle.rv_command.specs.declared.stop.Stop.{Stop}
 use Rattle.rv_command.specs.declared.stop.Stop.TheVariants as stop
-use Rattle.rv_counts.specs.Read.{IsLeast}
-use Rattle.rv_counts.specs.Sum.{HaveNoSum, no_counts}
-use Rattle.rv_counts.specs.Table.{IsTable}
-use Rattle.rv_counts.specs.Text.{table_text}
-use Rattle.rv_counts.specs.declared.read.ReadError.{ReadError}
-use Rattle.rv_counts.specs.declared.read.ReadError.TheVariants as read
-use Rattle.rv_counts.specs.declared.sum.SumError.{SumError}
-use Rattle.rv_counts.specs.declared.sum.SumError.TheVariants as sum
-use Rattle.rv_counts.specs.declared.table.CountTable.{CountTable}
+use Rattle.rv_count_tables.specs.Read.{IsLeast}
+use Rattle.rv_count_tables.specs.Sum.{HaveNoSum, no_counts}
+use Rattle.rv_count_tables.specs.Table.{IsTable}
+use Rattle.rv_count_tables.specs.Text.{table_text}
+use Rattle.rv_count_tables.specs.declared.read.ReadError.{ReadError}
+use Rattle.rv_count_tables.specs.declared.read.ReadError.TheVariants as read
+use Rattle.rv_count_tables.specs.declared.sum.SumError.{SumError}
+use Rattle.rv_count_tables.specs.declared.sum.SumError.TheVariants as sum
+use Rattle.rv_count_tables.specs.declared.table.CountTable.{CountTable}
 use Rattle.rv_text.specs.Printable.{printable_text}
 use Rattle.rv_text.specs.Words.{word_digits}
 use Rattle.rvtest_app.specs.CountSums.{AreAdded, IsTableAt}

@@ -5,12 +5,12 @@ use Rattle.std.specs.Fmt.{decimal}
 use Rattle.rv_base.specs.Files.{FileContents}
 use Rattle.rvtest_cli.specs.declared.counts.CountsAsked.{CountsAsked}
 use Rattle.rv_command.specs.Texts.{IsTextAt, optional_text}
-use Rattle.rv_counts.specs.Sum.{IsSum, no_counts}
-use Rattle.rv_counts.specs.Table.{IsTable}
-use Rattle.rv_counts.specs.Text.{table_text}
-use Rattle.rv_counts.specs.declared.table.AddressCounts.{AddressCounts}
-use Rattle.rv_counts.specs.declared.table.CountTable.{CountTable}
-use Rattle.rv_counts.specs.declared.table.ImageCounts.{ImageCounts}
+use Rattle.rv_count_tables.specs.Sum.{IsSum, no_counts}
+use Rattle.rv_count_tables.specs.Table.{IsTable}
+use Rattle.rv_count_tables.specs.Text.{table_text}
+use Rattle.rv_count_tables.specs.declared.table.AddressCounts.{AddressCounts}
+use Rattle.rv_count_tables.specs.declared.table.CountTable.{CountTable}
+use Rattle.rv_count_tables.specs.declared.table.ImageCounts.{ImageCounts}
 use Rattle.rvtest_app.specs.Said.{IsOnlyTold, Said}
 use Rattle.rvtest_app.specs.WrittenTexts.{IsWrittenAt, written_path}
 

@@ -3,11 +3,11 @@ use Rattle.std.specs.Prelude.{◌≡◌, ◌++◌, ℕ, IsSomeAnd, List, Ok, Opt
 use Rattle.std.specs.Fmt.{decimal}
 use Rattle.rv_base.specs.Files.{FileContents}
 use Rattle.rv_command.specs.Texts.{IsTextAt}
-use Rattle.rv_known.specs.declared.known_jobs.KnownFault.{KnownFault}
-use Rattle.rv_known.specs.declared.known_jobs.KnownFaultKind.{KnownFaultKind}
-use Rattle.rv_known.specs.declared.known_jobs.KnownFaultKind.TheVariants as kind
-use Rattle.rv_known.specs.declared.known_jobs.KnownJobs.{KnownJobs}
-use Rattle.rv_known.specs.KnownJobs.{known_jobs_of}
+use Rattle.rv_expect.specs.declared.known_jobs.KnownFault.{KnownFault}
+use Rattle.rv_expect.specs.declared.known_jobs.KnownFaultKind.{KnownFaultKind}
+use Rattle.rv_expect.specs.declared.known_jobs.KnownFaultKind.TheVariants as kind
+use Rattle.rv_expect.specs.declared.known_jobs.KnownJobs.{KnownJobs}
+use Rattle.rv_expect.specs.KnownJobs.{known_jobs_of}
 use Rattle.rv_lists.specs.JobList.{names_of_jobs}
 use Rattle.rv_lists.specs.declared.job.Job.{Job}
 use Rattle.rv_text.specs.Printable.{printable_text, printable_value}

@@ -6,8 +6,8 @@ use Rattle.rv_command.specs.Stops.{IsStop, IsListUnreadStop}
 use Rattle.rv_command.specs.Texts.{IsTextAt}
 use Rattle.rv_command.specs.declared.stop.Stop.{Stop}
 use Rattle.rv_command.specs.declared.stop.Stop.TheVariants as stop
-use Rattle.rv_known.specs.KnownJobs.{known_jobs_of}
-use Rattle.rv_known.specs.declared.known_jobs.KnownFault.{KnownFault}
+use Rattle.rv_expect.specs.KnownJobs.{known_jobs_of}
+use Rattle.rv_expect.specs.declared.known_jobs.KnownFault.{KnownFault}
 use Rattle.rv_lists.specs.JobList.{names_of_jobs}
 use Rattle.rv_lists.specs.declared.job.Job.{Job}
 use Rattle.rvtest_app.specs.KnownFiles.{known_fault_message}

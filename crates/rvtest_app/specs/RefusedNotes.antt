@@ -3,7 +3,7 @@ use Rattle.std.specs.Prelude.{◌++◌, ℕ, if◌then◌else◌, List, [], leng
 use Rattle.std.specs.List.{flat_map}
 use Rattle.rvtest_cli.specs.declared.run.RunAsked.{RunAsked}
 use Rattle.rv_command.specs.Texts.{optional_text}
-use Rattle.rv_coverage.specs.JobTables.{jobs_at}
+use Rattle.rv_counting.specs.JobTables.{jobs_at}
 use Rattle.rv_expect.specs.Judgement.{Judging}
 use Rattle.rv_files.specs.declared.noting_store.Unread.{Unread}
 use Rattle.rv_job_text.specs.Telling.{row_line}

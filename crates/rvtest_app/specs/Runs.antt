@@ -21,13 +21,13 @@ use Rattle.rv_report.specs.declared.saved.Shard.{Shard}
 use Rattle.rv_report.specs.declared.row.Row.{Row}
 use Rattle.rv_rows.specs.Rows.{rows_at}
 use Rattle.rv_stream.specs.Streams.{row_text_list}
-use Rattle.rv_counts.specs.Text.{table_text}
-use Rattle.rv_counts.specs.declared.table.CountTable.{CountTable}
-use Rattle.rv_coverage.specs.JobTables.{IsTableOfPlaces}
+use Rattle.rv_count_tables.specs.Text.{table_text}
+use Rattle.rv_count_tables.specs.declared.table.CountTable.{CountTable}
+use Rattle.rv_counting.specs.JobTables.{IsTableOfPlaces}
 use Rattle.rv_stacks.specs.StackTables.{IsTableWithStacks}
 use Rattle.rv_expect.specs.Judgement.{Judging, fails}
 use Rattle.rv_stream.specs.Limits.{rows_up_to}
-use Rattle.rv_known.specs.declared.known_jobs.KnownJobs.{KnownJobs}
+use Rattle.rv_expect.specs.declared.known_jobs.KnownJobs.{KnownJobs}
 use Rattle.rvtest_app.specs.Commands.{failure_rule, requested_verbosity}
 use Rattle.rvtest_app.specs.KnownFiles.{IsKnownAt}
 use Rattle.rvtest_app.specs.MissingImages.{missing_images_note}

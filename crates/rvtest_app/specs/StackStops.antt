@@ -4,7 +4,7 @@ use Rattle.rvtest_cli.specs.declared.run.RunAsked.{RunAsked}
 use Rattle.rv_command.specs.Texts.{optional_text}
 use Rattle.rv_command.specs.declared.stop.Stop.{Stop}
 use Rattle.rv_command.specs.declared.stop.Stop.TheVariants as stop
-use Rattle.rv_counts.specs.declared.sum.SumError.{SumError}
+use Rattle.rv_count_tables.specs.declared.sum.SumError.{SumError}
 use Rattle.rvtest_app.specs.CountStops.{IsSumErrorStop}
 use Rattle.rvtest_app.specs.PutStops.{IsFileStop}
 use Rattle.rvtest_app.specs.WrittenTexts.{written_path}

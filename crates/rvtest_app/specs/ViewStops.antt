@@ -7,11 +7,11 @@ use Rattle.rv_command.specs.Stops.{IsStop, IsResultUnreadStop}
 use Rattle.rv_command.specs.Texts.{IsTextAt, optional_text}
 use Rattle.rv_command.specs.declared.stop.Stop.{Stop}
 use Rattle.rv_command.specs.declared.stop.Stop.TheVariants as stop
-use Rattle.rv_counts.specs.declared.sum.SumError.{SumError}
-use Rattle.rv_counts.specs.declared.table.CountTable.{CountTable}
-use Rattle.rv_cover.specs.ImageCounts.{other_image}
-use Rattle.rv_cover.specs.JobImages.{FileImage, images_of}
-use Rattle.rv_coverage.specs.JobTables.{jobs_at}
+use Rattle.rv_count_tables.specs.declared.sum.SumError.{SumError}
+use Rattle.rv_count_tables.specs.declared.table.CountTable.{CountTable}
+use Rattle.rv_cover_view.specs.ImageCounts.{other_image}
+use Rattle.rv_cover_view.specs.JobImages.{FileImage, images_of}
+use Rattle.rv_counting.specs.JobTables.{jobs_at}
 use Rattle.rv_files.specs.UnreadPaths.{contents_below}
 use Rattle.rv_files.specs.declared.noting_store.Unread.{Unread}
 use Rattle.rv_jobs.specs.Plans.{Planned}

@@ -3,11 +3,11 @@ use Rattle.std.specs.Prelude.{◌≡◌, ℕ, Bool, true, List, None, Option, So
 use Rattle.rv_base.specs.Files.{FileContents}
 use Rattle.rvtest_cli.specs.declared.run.RunAsked.{RunAsked}
 use Rattle.rv_command.specs.Texts.{optional_text}
-use Rattle.rv_counts.specs.declared.table.CountTable.{CountTable}
-use Rattle.rv_cover.specs.ImageCounts.{other_image}
-use Rattle.rv_cover.specs.ImagesText.{IsCoverText}
-use Rattle.rv_cover.specs.JobImages.{FileImage, images_of}
-use Rattle.rv_coverage.specs.JobTables.{IsTableOfPlaces, jobs_at}
+use Rattle.rv_count_tables.specs.declared.table.CountTable.{CountTable}
+use Rattle.rv_cover_view.specs.ImageCounts.{other_image}
+use Rattle.rv_cover_view.specs.ImagesText.{IsCoverText}
+use Rattle.rv_cover_view.specs.JobImages.{FileImage, images_of}
+use Rattle.rv_counting.specs.JobTables.{IsTableOfPlaces, jobs_at}
 use Rattle.rv_files.specs.UnreadPaths.{contents_below}
 use Rattle.rv_files.specs.declared.noting_store.Unread.{Unread}
 use Rattle.rv_jobs.specs.Plans.{Planned}

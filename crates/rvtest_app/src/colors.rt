@@ -6,7 +6,7 @@ ghost use Rattle.rvtest_app.specs.Colors.{asked_colors, beside_file, colors_of_w
 
 use crate::into_report::uses_run_stdout;
 use crate::outlets::is_stdout_at;
-use rv_colors::Colors;
+use rv_terminal::Colors;
 use rvtest_cli::Asked;
 
 /// Whether what words ask for has colours, where standard output is a terminal for colours, or is none.

@@ -2,9 +2,9 @@
 
 ghost use Rattle.std.specs.Prelude.{◌≡◌, ◌⊎◌, ◌≤◌, IfErr, IfOk, IfSome, OnErr, OnOk, true};
 ghost use Rattle.rv_command.specs.Texts.{optional_text};
-ghost use Rattle.rv_counts.specs.Sum.{no_counts};
-ghost use Rattle.rv_counts.specs.Table.{IsTable};
-ghost use Rattle.rv_counts.specs.Text.{table_text};
+ghost use Rattle.rv_count_tables.specs.Sum.{no_counts};
+ghost use Rattle.rv_count_tables.specs.Table.{IsTable};
+ghost use Rattle.rv_count_tables.specs.Text.{table_text};
 ghost use Rattle.rvtest_app.specs.CountStops.{IsCountsStop, IsReadErrorStop, IsSumErrorStop, IsSumStop, IsTableFaultStop, IsUnaddedStop, great_count_message, two_names_message};
 ghost use Rattle.rvtest_app.specs.CountSums.{AreAdded, IsAdded, IsSumPut};
 ghost use Rattle.rvtest_app.specs.Outlets.{is_stdout};
@@ -17,7 +17,9 @@ use crate::destinations::Destinations;
 use crate::overwrites::{look_up_files, read_paths_of_words, refuse_overwrite};
 use crate::written_text::write_text;
 use rv_command::{DONE, Stop, path_message, path_number_message, put_message, read_result_file};
-use rv_counts::{CountTable, Images, ReadError, SumError, read_table, sum_of_tables, table_text};
+use rv_count_tables::{
+    CountTable, Images, ReadError, SumError, read_table, sum_of_tables, table_text,
+};
 use rv_files::{Inputs, Outputs};
 use rv_rows::Sink;
 use rv_text::{Span, text_of_spans};

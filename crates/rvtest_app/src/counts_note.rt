@@ -3,7 +3,7 @@
 ghost use Rattle.std.specs.Prelude.{◌≡◌, ◌+◌, IfOk};
 ghost use Rattle.rvtest_app.specs.CountSums.{begun_of_addresses, begun_of_images, image_word, instruction_word, number_head, run_word, shown_number, sum_note};
 
-use rv_counts::{AddressCounts, CountTable, ImageCounts};
+use rv_count_tables::{AddressCounts, CountTable, ImageCounts};
 use rv_text::{Span, text_of_spans};
 use std::alloc::{AllocError, Global};
 

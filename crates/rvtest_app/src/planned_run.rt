@@ -8,10 +8,10 @@ ghost use Rattle.rv_job_text.specs.Telling.{telling_of};
 ghost use Rattle.rvtest_app.specs.FailureLines.{failure_lines};
 
 use crate::into_report::ReportFrame;
+use rv_expect::KnownJobs;
 use rv_job_text::RowTelling;
 use rv_jobs::JobList;
 use rv_kept_lines::{KeptLines, RowLines};
-use rv_known::KnownJobs;
 use std::sync::Mutex;
 
 /// The jobs of a list, with a mark for each that words ask for.

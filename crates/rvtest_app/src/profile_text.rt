@@ -1,14 +1,14 @@
 //! What `profile` shows by a table, and refuses.
 
 ghost use Rattle.std.specs.Prelude.{◌≡◌, ◌⊎◌, IfErr, IfOk};
-ghost use Rattle.rv_counts.specs.Table.{IsTable};
-ghost use Rattle.rv_cover.specs.JobImages.{images_of_files};
+ghost use Rattle.rv_count_tables.specs.Table.{IsTable};
+ghost use Rattle.rv_cover_view.specs.JobImages.{images_of_files};
 ghost use Rattle.rv_profile.specs.ProfileText.{IsProfileText};
 ghost use Rattle.rvtest_app.specs.ViewStops.{IsPast64BitsStop, past_64_bits_message};
 
 use rv_command::Stop;
-use rv_counts::CountTable;
-use rv_cover::ImageFile;
+use rv_count_tables::CountTable;
+use rv_cover_view::ImageFile;
 use rv_profile::{ProfileFormat, image_past_64_bits, profile_text};
 use rv_text::{Span, text_of_spans};
 use std::alloc::{AllocError, Global};

@@ -2,8 +2,8 @@
 
 ghost use Rattle.std.specs.Prelude.{◌≡◌, ◌⊎◌, ◌≤◌, IfErr, IfOk, length};
 ghost use Rattle.std.specs.List.Sorted.{IsStrictlyIncreasing};
-ghost use Rattle.rv_counts.specs.Table.{IsTable};
-ghost use Rattle.rv_cover.specs.JobImages.{AreSmall, images_of_files};
+ghost use Rattle.rv_count_tables.specs.Table.{IsTable};
+ghost use Rattle.rv_cover_view.specs.JobImages.{AreSmall, images_of_files};
 ghost use Rattle.rv_fleet.specs.Choices.{AreJobPlaces};
 ghost use Rattle.rvtest_app.specs.Runs.{places_of_marks};
 ghost use Rattle.rvtest_app.specs.Said.{said};
@@ -18,8 +18,8 @@ use crate::refused_note::refused_note;
 use crate::rules::failure_rule;
 use crate::run::{ListRun, gather_jobs_at};
 use rv_command::{DONE, Stop, put_message, put_results};
-use rv_counts::CountTable;
-use rv_cover::{ImageFile, cover_text, images_of_places};
+use rv_count_tables::CountTable;
+use rv_cover_view::{ImageFile, cover_text, images_of_places};
 use rv_files::{Inputs, NotingStore, Outputs};
 use rv_jobs::{JobList, Plan, marked_places};
 use rv_profile::ProfileFormat;

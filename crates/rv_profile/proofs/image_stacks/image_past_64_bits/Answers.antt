@@ -1,5 +1,5 @@
 use Rattle.std.proofs.Common.{◌∙◌, ap, option_map, sym}
-use Rattle.rv_cover.specs.declared.image_file.ImageFile.{ImageFile}
+use Rattle.rv_cover_view.specs.declared.image_file.ImageFile.{ImageFile}
 use Rattle.rv_profile.proofs.Found.{path_past_64_bits}
 use Rattle.rv_profile.proofs.image_stacks.image_past_64_bits.Goals as goal
 

@@ -1,6 +1,6 @@
 use Rattle.sha2.specs.Sha256.{sha256}
-use Rattle.rv_counts.specs.Table.{IsImage}
-use Rattle.rv_cover.specs.ImageCounts.{is_of_digest}
+use Rattle.rv_count_tables.specs.Table.{IsImage}
+use Rattle.rv_cover_view.specs.ImageCounts.{is_of_digest}
 use Rattle.rv_profile.proofs.Found.{found_is}
 use Rattle.rv_profile.proofs.image_stacks.stacks_of.Goals as goal
 

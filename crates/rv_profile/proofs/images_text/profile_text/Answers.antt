@@ -1,6 +1,6 @@
 use Rattle.std.proofs.Common.{◌∙◌, ◌++◌, ap, append_assoc, arith}
-use Rattle.rv_cover.specs.JobImages.{image_of_file}
-use Rattle.rv_cover.specs.declared.image_file.ImageFile.{ImageFile}
+use Rattle.rv_cover_view.specs.JobImages.{image_of_file}
+use Rattle.rv_cover_view.specs.declared.image_file.ImageFile.{ImageFile}
 use Rattle.rv_profile.specs.ImageStacks.{is_past_64_bits}
 use Rattle.rv_profile.proofs.Found.{file_is_few}
 use Rattle.rv_profile.proofs.Shown.{all_shown, file_more}

@@ -1,5 +1,5 @@
 use Rattle.std.proofs.Common.{◌≡◌, ◌++◌, List, ℕ, take}
-use Rattle.rv_cover.specs.JobImages.{images_of_files}
+use Rattle.rv_cover_view.specs.JobImages.{images_of_files}
 use Rattle.rv_profile.specs.ProfileText.{AreShown, head_text}
 use Rattle.rv_profile.proofs.images_text.profile_text.Given as goal
 

@@ -1,6 +1,6 @@
 -- Those so far are of the function.
 use Rattle.std.proofs.Common.{◌≡◌, ◌+◌, ◌≤◌, ℕ}
-use Rattle.rv_coverage.specs.Blocks.{address_at}
+use Rattle.rv_counting.specs.Blocks.{address_at}
 use Rattle.rv_stacks.specs.Stacks.{function_at}
 use Rattle.rv_stacks.specs.StackSteps.{AreKnown}
 use Rattle.rv_stacks.proofs.functions.steps_in_function.Given as goal

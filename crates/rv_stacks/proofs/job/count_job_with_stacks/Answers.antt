@@ -1,8 +1,8 @@
 -- The counts and the stacks are those of the run that begins where the job's does.
 use Rattle.std.proofs.Common.{◌∙◌, Some, None, Result, get_or, sym, ap, subst, arith}
 use Rattle.std.proofs.lemmas.List.{get_or_read}
-use Rattle.rv_coverage.proofs.Public.{counts_even, start_even}
-use Rattle.rv_coverage.specs.Coverage.{AreCountsOf}
+use Rattle.rv_counting.proofs.Public.{counts_even, start_even}
+use Rattle.rv_counting.specs.Coverage.{AreCountsOf}
 use Rattle.rv_jobs.specs.declared_job.Job.{Job}
 use Rattle.rv_machine.specs.Machine.{state_of}
 use Rattle.rv_machine.specs.State.{State}

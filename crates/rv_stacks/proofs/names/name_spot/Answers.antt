@@ -1,6 +1,6 @@
 -- A function without a name gets its own, behind the others.
 use Rattle.std.proofs.Common.{◌+◌, ◌++◌, ◌∷◌, ◌^◌, ◌<◌, List, [], rules, Fits, w32, sym, subst, arith}
-use Rattle.rv_counts.specs.declared.table.FunctionName.{FunctionName}
+use Rattle.rv_count_tables.specs.declared.table.FunctionName.{FunctionName}
 use Rattle.rv_stacks.specs.StackTables.{name_of_function, AreNamedUpTo}
 use Rattle.rv_stacks.proofs.RisingNames.{gets_name, stays_named}
 use Rattle.rv_stacks.proofs.names.name_spot.Goals as goal

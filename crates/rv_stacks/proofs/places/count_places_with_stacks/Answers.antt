@@ -2,8 +2,8 @@
 use Rattle.std.proofs.Common.{Result, sym, subst}
 use Rattle.std.proofs.lemmas.Result.{IfErr-weaker}
 use Rattle.std.specs.Prelude.{IfErr, IfOk}
-use Rattle.rv_counts.specs.declared.sum.SumError.{SumError}
-use Rattle.rv_counts.specs.declared.table.CountTable.{CountTable}
+use Rattle.rv_count_tables.specs.declared.sum.SumError.{SumError}
+use Rattle.rv_count_tables.specs.declared.table.CountTable.{CountTable}
 use Rattle.rv_stacks.specs.StackTables.{HaveNoTableWithStacks, IsOfNamesOrMemory, IsTableWithStacks}
 use Rattle.rv_stacks.proofs.NoSums.{no_other_reason}
 use Rattle.rv_stacks.proofs.OneByOne.{all_added, next_refused}

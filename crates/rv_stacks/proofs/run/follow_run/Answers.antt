@@ -1,8 +1,8 @@
 -- From block to block, and from step to step.
 use Rattle.std.proofs.Common.{◌≡◌, ◌+◌, ◌-◌, ℕ, List, [], sym, subst, arith}
 use Rattle.rv_calls.specs.declared.frames.Frame.{Frame}
-use Rattle.rv_coverage.proofs.Public.{counted_all}
-use Rattle.rv_coverage.specs.Counters.{IsCounting}
+use Rattle.rv_counting.proofs.Public.{counted_all}
+use Rattle.rv_counting.specs.Counters.{IsCounting}
 use Rattle.rv_machine.specs.Machine.{state_of}
 use Rattle.rv_stacks.specs.Stacks.{function_at}
 use Rattle.rv_stacks.specs.StackSteps.{BeginsAt, SoFar}

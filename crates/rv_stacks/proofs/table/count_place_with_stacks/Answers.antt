@@ -3,15 +3,15 @@ use Rattle.std.proofs.Common.{◌≡◌, ◌∙◌, ◌∷◌, [], ℕ, Some, Op
 use Rattle.std.proofs.lemmas.List.{get_or_read}
 use Rattle.std.proofs.lemmas.Result.{IfOk-weaker}
 use Rattle.std.specs.Result.{result_ok}
-use Rattle.rv_counts.specs.declared.table.AddressCounts.{AddressCounts}
-use Rattle.rv_coverage.proofs.Public.{no_bytes, no_image}
+use Rattle.rv_count_tables.specs.declared.table.AddressCounts.{AddressCounts}
+use Rattle.rv_counting.proofs.Public.{no_bytes, no_image}
 use Rattle.rv_elf.specs.Image.{image_of}
 use Rattle.rv_elf.specs.declared.error.ImageError.{ImageError}
 use Rattle.rv_elf.specs.declared.image.Image.{Image}
 use Rattle.rv_jobs.specs.declared_job.Job.{Job}
 use Rattle.rv_jobs.specs.Jobs.{single_job}
 use Rattle.rv_rows.specs.Rows.{image_if_read, start_in}
-use Rattle.rv_spots.specs.declared.spot.Spot.{Spot}
+use Rattle.rv_call_tree.specs.declared.spot.Spot.{Spot}
 use Rattle.rv_stacks.specs.Stacks.{function_at, AreCountsAndStacksOfJob}
 use Rattle.rv_stacks.specs.StackTables.{name_of_function, IsTableOfRun, IsTableWithStacks}
 use Rattle.rv_stacks.proofs.Apart.{counts_and_stacks}

@@ -1,6 +1,6 @@
 use Rattle.std.proofs.Common.{arith, refl}
 use Rattle.std.proofs.lemmas.Result.{err_from_is_err_and}
-use Rattle.rv_counts.proofs.Public.{no_images_rise}
+use Rattle.rv_count_tables.proofs.Public.{no_images_rise}
 use Rattle.rvtest_app.proofs.AddedTables.{one_more_table, unadded_table}
 use Rattle.rvtest_app.proofs.counts.sum_of_paths.Goals as goal
 

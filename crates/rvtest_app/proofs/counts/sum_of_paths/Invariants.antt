@@ -1,6 +1,6 @@
 use Rattle.std.proofs.Common.{take}
-use Rattle.rv_counts.specs.Sum.{no_counts}
-use Rattle.rv_counts.specs.Table.{IsTable}
+use Rattle.rv_count_tables.specs.Sum.{no_counts}
+use Rattle.rv_count_tables.specs.Table.{IsTable}
 use Rattle.rvtest_app.specs.CountSums.{AreAdded}
 use Rattle.rvtest_app.proofs.counts.sum_of_paths.Given as goal
 

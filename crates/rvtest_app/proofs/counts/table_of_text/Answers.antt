@@ -1,10 +1,10 @@
 use Rattle.std.proofs.Common.{◌≡◌, ℕ, List, Err, subst}
 use Rattle.rv_command.specs.declared.stop.Stop.{Stop}
-use Rattle.rv_counts.specs.Read.{AnswersUnlessMemory, IsLeast}
-use Rattle.rv_counts.specs.Table.{IsTable}
-use Rattle.rv_counts.specs.Text.{table_text}
-use Rattle.rv_counts.specs.declared.read.ReadError.{ReadError}
-use Rattle.rv_counts.specs.declared.table.CountTable.{CountTable}
+use Rattle.rv_count_tables.specs.Read.{AnswersUnlessMemory, IsLeast}
+use Rattle.rv_count_tables.specs.Table.{IsTable}
+use Rattle.rv_count_tables.specs.Text.{table_text}
+use Rattle.rv_count_tables.specs.declared.read.ReadError.{ReadError}
+use Rattle.rv_count_tables.specs.declared.table.CountTable.{CountTable}
 use Rattle.rvtest_app.specs.CountStops.{IsReadErrorStop, IsTableFaultStop}
 use Rattle.rvtest_app.proofs.counts.table_of_text.Goals as goal
 

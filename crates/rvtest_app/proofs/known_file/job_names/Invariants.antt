@@ -1,5 +1,5 @@
 use Rattle.std.proofs.Common.{◌≡◌, take}
-use Rattle.rv_known.specs.KnownJobs.{job_names}
+use Rattle.rv_expect.specs.KnownJobs.{job_names}
 use Rattle.rv_lists.specs.JobList.{names_of_jobs}
 use Rattle.rvtest_app.proofs.known_file.job_names.Given as goal
 

@@ -1,8 +1,8 @@
 use Rattle.std.proofs.Common.{◌≡◌, ◌⊎◌, ◌∙◌, ℕ, true, false, Result, Ok, Err, IfErr, IfOk, ap, refl, ⊎_elim}
 use Rattle.std.specs.Prelude.{MatchResult, is_err}
-use Rattle.rv_colors.specs.ColorSinks.{first_course, is_cut_off}
-use Rattle.rv_colors.specs.declared.colors.Colors.{Colors}
-use Rattle.rv_colors.specs.declared.colors.Colors.TheVariants as colors
+use Rattle.rv_terminal.specs.ColorSinks.{first_course, is_cut_off}
+use Rattle.rv_terminal.specs.declared.colors.Colors.{Colors}
+use Rattle.rv_terminal.specs.declared.colors.Colors.TheVariants as colors
 use Rattle.rv_command.specs.declared.stop.Stop.{Stop}
 use Rattle.rv_command.specs.declared.stop.Stop.TheVariants as stop
 use Rattle.rvtest_app.proofs.program.run_in_colors.Goals as goal

@@ -1,5 +1,5 @@
 use Rattle.std.proofs.Common.{◌∙◌, ℕ, List, ap}
-use Rattle.rv_remote.specs.Stops.{stop_text}
+use Rattle.rv_gdb_protocol.specs.Stops.{stop_text}
 use Rattle.rv_session.specs.Replies.{stopping}
 use Rattle.rv_session.specs.Moved.{printed_on}
 use Rattle.rv_session.specs.Sessions.{here}

@@ -1,7 +1,7 @@
 use Rattle.std.proofs.Common.{◌∙◌, Bool, ap}
 use Rattle.std.proofs.lemmas.Result.{IfOk-weaker}
 use Rattle.rv_history.specs.Places.{last_place}
-use Rattle.rv_remote.specs.declared.request.Refusal.TheVariants as refusal
+use Rattle.rv_gdb_protocol.specs.declared.request.Refusal.TheVariants as refusal
 use Rattle.rv_session.specs.Replies.{granted_if}
 use Rattle.rv_session.proofs.Sought.{granted_is, sought_where}
 use Rattle.rv_session.proofs.session.Session.seek_place.Goals as goal

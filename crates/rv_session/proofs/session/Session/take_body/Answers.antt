@@ -1,5 +1,5 @@
 use Rattle.std.proofs.Common.{subst}
-use Rattle.rv_remote.specs.declared.request.Request.{Request}
+use Rattle.rv_gdb_protocol.specs.declared.request.Request.{Request}
 use Rattle.rv_session.specs.Answers.{IsAnswered}
 use Rattle.rv_session.proofs.Appending.{both_ok, taken}
 use Rattle.rv_session.proofs.session.Session.take_body.Goals as goal

@@ -2,7 +2,7 @@ use Rattle.std.proofs.Common.{◌≡◌, ◌∙◌, ap, inl, inr, length, refl, 
 use Rattle.std.specs.Borrow.{Bor}
 use Rattle.std.specs.Prelude.{option_map}
 use Rattle.rv_job_text.specs.Telling.{Telling}
-use Rattle.rv_known.specs.declared.known_jobs.KnownJobs.{KnownJobs}
+use Rattle.rv_expect.specs.declared.known_jobs.KnownJobs.{KnownJobs}
 use Rattle.rvtest_app.specs.Runs.{places_of_marks, run_judging, run_rows, run_telling}
 use Rattle.rvtest_app.specs.Said.{said}
 use Rattle.rvtest_app.proofs.RunTellings.{known_behind, same_part, same_rows, told_as_asked, told_by}

@@ -1,0 +1,170 @@
+-- Each function of spots once, and the sum of their steps.
+use Rattle.std.proofs.Common.{◌≡◌, ◌∙◌, ◌==◌, ◌+◌, ◌<◌, ◌||◌, ℕ, zero, suc, Bool, true, false, cond, List, [], ◌∷◌, ◌++◌, length, take, get_or, refl, sym, ap, subst, arith, inl, inr}
+use Rattle.std.proofs.lemmas.Bool.{false≢true, or_cases, or_parts}
+use Rattle.std.proofs.lemmas.List.{take_more}
+use Rattle.std.specs.List.{AllByRecursion}
+use Rattle.rv_call_tree.specs.declared.spot.Spot.{Spot}
+use Rattle.rv_call_tree.specs.Profiles.{has_function, is_last_of_some, own_of_all, times, with_function, AreFunctionsOf}
+use Rattle.rv_call_tree.specs.Trees.{all_steps, once_if, steps_if}
+use Rattle.rv_call_tree.proofs.Tests.{equal_by, equal_test, turned}
+
+-- ---- the sum
+
+-- a number so many times
+abbrev scaled : ℕ → ℕ → ℕ
+scaled zero n = 0
+scaled (suc k) n = n + scaled k n
+
+more_times : (b : Bool) (m n : ℕ) → cond b n 0 + scaled m n ≡ scaled (cond b 1 0 + m) n
+more_times true m n = let one : suc m ≡ 1 + m = omega arith in ap (λ (k : ℕ). scaled k n) one
+more_times false m n =
+    let none : m ≡ 0 + m = omega arith in
+    let same = ap (λ (k : ℕ). scaled k n) none in
+    omega (arith, same)
+
+one_spot_more : (fs : List ℕ) (s : Spot) (ss : List Spot)
+    → own_of_all fs (s ∷ ss) ≡ scaled (times s.function fs) s.steps + own_of_all fs ss
+one_spot_more [] s ss = refl
+one_spot_more (f ∷ fs) s ss =
+    let rest = one_spot_more fs s ss in
+    let here = more_times (f == s.function) (times s.function fs) s.steps in
+    let same = ap (λ (b : Bool). steps_if b s.steps) (turned s.function f) in
+    omega (arith, rest, here, same)
+
+none_of_all : (fs : List ℕ) → own_of_all fs [] ≡ 0
+none_of_all [] = refl
+none_of_all (f ∷ fs) = let h = none_of_all fs in omega (arith, h)
+
+summed : (fs : List ℕ) (spots : List Spot) → AllByRecursion (λ (s : Spot). times s.function fs ≡ 1) spots
+    → own_of_all fs spots ≡ all_steps spots
+summed fs [] h = none_of_all fs
+summed fs (s ∷ ss) h =
+    let rest = summed fs ss h.1 in
+    let more = one_spot_more fs s ss in
+    let once = ap (λ (n : ℕ). scaled n s.steps) h.0 in
+    omega (arith, rest, more, once)
+
+-- each spot's function is that of some spot
+or_second : (a b : Bool) → b ≡ true → (a || b) ≡ true
+or_second true b h = refl
+or_second false b h = h
+
+or_first : (a b : Bool) → a ≡ true → (a || b) ≡ true
+or_first a b h = ap (λ (t : Bool). t || b) h
+
+same_test : (x : ℕ) → (x == x) ≡ true
+same_test x = equal_test x x refl
+
+each_once : (fs : List ℕ) (all some : List Spot)
+    → ((f : ℕ) → times f fs ≡ once_if (is_last_of_some f all))
+    → ((f : ℕ) → is_last_of_some f some ≡ true → is_last_of_some f all ≡ true)
+    → AllByRecursion (λ (s : Spot). times s.function fs ≡ 1) some
+each_once fs all [] h within = tt
+each_once fs all (s ∷ ss) h within = (
+  h s.function ∙ ap once_if (within s.function (or_first (s.function == s.function) (is_last_of_some s.function ss) (same_test s.function))),
+  each_once fs all ss h (λ f there. within f (or_second (s.function == f) (is_last_of_some f ss) there)),
+)
+
+pub own_sums : (spots : List Spot) (functions : List ℕ) → AreFunctionsOf spots functions
+    → own_of_all functions spots ≡ all_steps spots
+own_sums spots functions h = summed functions spots (each_once functions spots spots h.once (λ f there. there))
+
+-- ---- one function more
+
+or_moved : (a b c d : Bool) → d ≡ (b || c) → (a || d) ≡ ((a || b) || c)
+or_moved true b c d h = refl
+or_moved false b c d h = h
+
+or_none : (b : Bool) → (b || false) ≡ (false || b)
+or_none true = refl
+or_none false = refl
+
+or_none_behind : (b : Bool) → (b || false) ≡ b
+or_none_behind true = refl
+or_none_behind false = refl
+
+times_more : (f : ℕ) (xs ys : List ℕ) → times f (xs ++ ys) ≡ times f xs + times f ys
+times_more f [] ys = omega arith
+times_more f (x ∷ xs) ys = let h = times_more f xs ys in omega (arith, h)
+
+any_more : (f : ℕ) (xs : List Spot) (s : Spot) → is_last_of_some f (xs ++ s ∷ []) ≡ (is_last_of_some f xs || (s.function == f))
+any_more f [] s = or_none (s.function == f)
+any_more f (x ∷ xs) s = or_moved (x.function == f) (is_last_of_some f xs) (s.function == f) (is_last_of_some f (xs ++ s ∷ [])) (any_more f xs s)
+
+-- a list has what stands in it
+has_times : (f : ℕ) (fs : List ℕ) → has_function f fs ≡ false → times f fs ≡ 0
+has_times f [] h = refl
+has_times f (x ∷ xs) h =
+    let p = or_parts (x == f) (has_function f xs) h in
+    let rest = has_times f xs p.1 in
+    let here = ap once_if p.0 in
+    omega (arith, rest, here)
+
+times_has : (f : ℕ) (fs : List ℕ) → has_function f fs ≡ true → 0 < times f fs
+times_has f [] h = absurd (false≢true h)
+times_has f (x ∷ xs) h = elim (or_cases (x == f) (has_function f xs) h) [
+  | inl here ↦ let one = ap once_if here in omega (arith, one)
+  | inr there ↦ let rest = times_has f xs there in omega (arith, rest)
+]
+
+once_true : (b : Bool) → 0 < once_if b → b ≡ true
+once_true true h = refl
+once_true false h = absurd (omega arith)
+
+once_false : (b : Bool) → once_if b ≡ 0 → b ≡ false
+once_false true h = absurd (omega (arith, h))
+once_false false h = refl
+
+-- a function that is there is of some spot, so another spot of it changes nothing
+there_already : (f g : ℕ) (before : Bool) (test : Bool) → (g == f) ≡ test → (g ≡ f → before ≡ true)
+    → once_if (before || (g == f)) ≡ once_if before
+there_already f g before true is seen =
+    let same = equal_by g f is in
+    let was = seen same in
+    ap once_if (or_first before (g == f) was ∙ sym was)
+there_already f g before false is seen = ap once_if (ap (λ (b : Bool). before || b) is ∙ or_none_behind before)
+
+new_there : (f g : ℕ) (before : Bool) (test : Bool) → (g == f) ≡ test → (g ≡ f → before ≡ false)
+    → once_if (before || (g == f)) ≡ once_if before + once_if (g == f)
+new_there f g before true is unseen =
+    let same = equal_by g f is in
+    let was = unseen same in
+    let left = ap once_if (ap (λ (b : Bool). b || (g == f)) was ∙ is) in
+    let right = ap once_if was in
+    let one = ap once_if is in
+    omega (arith, left, right, one)
+new_there f g before false is unseen =
+    let left = ap once_if (ap (λ (b : Bool). before || b) is ∙ or_none_behind before) in
+    let none = ap once_if is in
+    omega (arith, left, none)
+
+-- one spot more
+with_spot : (fs : List ℕ) (xs : List Spot) (s : Spot) (there : Bool) → has_function s.function fs ≡ there
+    → AreFunctionsOf xs fs → AreFunctionsOf (xs ++ s ∷ []) (cond there fs (fs ++ s.function ∷ []))
+with_spot fs xs s true is h = record {
+  once = λ f.
+      let seen : s.function ≡ f → is_last_of_some f xs ≡ true = λ same.
+      let some = times_has s.function fs is in
+      let so = h.once s.function in
+      subst (λ (g : ℕ). is_last_of_some g xs ≡ true) same (once_true (is_last_of_some s.function xs) (omega (arith, some, so))) in
+      h.once f ∙ sym (ap once_if (any_more f xs s) ∙ there_already f s.function (is_last_of_some f xs) (s.function == f) refl seen);
+}
+with_spot fs xs s false is h = record {
+  once = λ f.
+      let unseen : s.function ≡ f → is_last_of_some f xs ≡ false = λ same.
+      let none = has_times s.function fs is in
+      subst (λ (g : ℕ). is_last_of_some g xs ≡ false) same (once_false (is_last_of_some s.function xs) (sym (h.once s.function) ∙ none)) in
+      let more = times_more f fs (s.function ∷ []) in
+      let so = h.once f in
+      let new = ap once_if (any_more f xs s) ∙ new_there f s.function (is_last_of_some f xs) (s.function == f) refl unseen in
+      omega (arith, more, so, new);
+}
+
+pub next_functions : (spots : List Spot) (fs : List ℕ) (k : ℕ) (d : Spot) → k < length spots → AreFunctionsOf (take k spots) fs
+    → AreFunctionsOf (take (k + 1) spots) (with_function (get_or spots k d).function fs)
+next_functions spots fs k d within h =
+    subst (λ (zs : List Spot). AreFunctionsOf zs (with_function (get_or spots k d).function fs)) (sym (take_more spots k d within))
+    (with_spot fs (take k spots) (get_or spots k d) (has_function (get_or spots k d).function fs) refl h)
+
+pub no_functions : AreFunctionsOf [] []
+no_functions = record { once = λ f. refl }

@@ -1,0 +1,357 @@
+-- Two trees, merged from the front.
+use Rattle.std.proofs.Common.{◌≡◌, ◌∙◌, ◌==◌, ◌+◌, ◌<◌, ◌≤◌, ◌&&◌, ◌⊎◌, ℕ, Bool, true, false, cond, List, [], ◌∷◌, ◌++◌, length, take, drop, refl, sym, ap, subst, arith, inl, inr, append-nil, take-add, drop-drop}
+use Rattle.std.proofs.lemmas.Bool.{false≢true, and_parts, cases_Bool, or_cases, or_parts}
+use Rattle.std.proofs.lemmas.List.{take_all, take-append-drop}
+use Rattle.std.proofs.lemmas.Slice.Eq.{bytes_eq-Decides}
+use Rattle.std.specs.Prelude.{nat_lt}
+use Rattle.std.specs.List.{AllByRecursion}
+use Rattle.std.specs.Str.{bytes_eq}
+use Rattle.rv_call_tree.specs.declared.spot.Spot.{Spot}
+use Rattle.rv_call_tree.specs.declared.sum.NextSpot.{NextSpot}
+use Rattle.rv_call_tree.specs.declared.sum.SpotSumError.{SpotSumError}
+use Rattle.rv_call_tree.specs.declared.sum.SpotSumError.TheVariants.{OutOfMemory, Count}
+use Rattle.rv_call_tree.specs.Sums.{both_of, goes_first, next_of, next_of_both, of_first, of_second, IsSumOfSpots, IsTooGreat, IsTooGreatHere, IsTooGreatOf}
+use Rattle.rv_call_tree.specs.Trees.{path_behind, last_path, arrivals_of, steps_of, counted_behind, ends_with, HasArrivals, IsTree, StandsBehind, StandBehind}
+use Rattle.rv_call_tree.proofs.Fronts.{StandsAlike, behind_other}
+use Rattle.rv_call_tree.proofs.Tests.{equal_by, equal_test, less_by, not_less_by}
+use Rattle.rv_call_tree.proofs.Parts.{last_parts, counted_parts, some_of_parts, some_parts, stand_of_parts}
+
+-- so much of both is added: the spots in front of a rest are xs and ys
+pub record SoFar (xs ms ys bs sums : List Spot) : Type 0 where
+  pub rest_of_a : StandBehind (last_path [] xs) ms
+  pub rest_of_b : StandBehind (last_path [] ys) bs
+  pub tree : IsTree sums
+  pub some : HasArrivals xs → HasArrivals ys → HasArrivals sums
+  pub counted : (count : Spot → ℕ) (path : List ℕ)
+      → ((s t : Spot) → count (both_of s t).spot ≡ count s + count t)
+      → counted_behind count path [] sums ≡ counted_behind count path [] xs + counted_behind count path [] ys
+  pub first : StandsAlike (last_path [] xs) (last_path [] sums) ms
+  pub second : StandsAlike (last_path [] ys) (last_path [] sums) bs
+
+last_of : (f : ℕ) (xs : List ℕ) (x : ℕ) → ends_with f (xs ++ x ∷ []) ≡ (x == f)
+last_of f [] x = refl
+last_of f (y ∷ []) x = refl
+last_of f (y ∷ z ∷ zs) x = last_of f (z ∷ zs) x
+
+-- ---- one more
+
+more_counted : (count : Spot → ℕ) (path : List ℕ) (xs : List Spot) (s : Spot) → counted_behind count path [] (xs ++ s ∷ [])
+    ≡ counted_behind count path [] xs + cond (bytes_eq (path_behind (last_path [] xs) s) path) (count s) 0
+more_counted count path xs s = let h = counted_parts count path [] xs (s ∷ []) in omega (arith, h)
+
+more_tree : (xs : List Spot) (s : Spot) → IsTree xs → StandsBehind (last_path [] xs) s → IsTree (xs ++ s ∷ [])
+more_tree xs s h k = stand_of_parts [] xs (s ∷ []) h (k, tt)
+
+order_of : (s t : Spot) → goes_first t s ≡ true → (s.depth < t.depth) ⊎ ((s.depth ≡ t.depth) × (t.function < s.function))
+order_of s t h = elim (or_cases (nat_lt s.depth t.depth) ((t.depth == s.depth) && nat_lt t.function s.function) h) [
+  | inl deep ↦ inl (less_by s.depth t.depth deep)
+  | inr low ↦ let both = and_parts (t.depth == s.depth) (nat_lt t.function s.function) low in
+      inr (sym (equal_by t.depth s.depth both.0), less_by t.function s.function both.1)
+]
+
+-- the rest of the tree whose spot it was
+own_rest : (own front : List ℕ) (s : Spot) (ss : List Spot) → take s.depth own ≡ take s.depth front
+    → StandBehind (path_behind own s) ss → StandsAlike (path_behind own s) (path_behind front s) ss
+own_rest own front s [] same h = tt
+own_rest own front s (x ∷ xs) same h = (
+  ap (λ (path : List ℕ). take x.depth (path ++ s.function ∷ [])) same,
+  subst (λ (path : List ℕ). StandsBehind (path ++ s.function ∷ []) x) same h.0,
+)
+
+-- a spot goes before the first of a list
+abbrev AheadOf : Spot → List Spot → Type 0
+AheadOf t [] = Unit {0}
+AheadOf t (s ∷ ss) = goes_first t s ≡ true
+
+-- the rest of the other tree
+other_rest : (own front : List ℕ) (t : Spot) (ss : List Spot) → StandsBehind front t → StandsAlike own front ss
+    → AheadOf t ss → StandsAlike own (path_behind front t) ss
+other_rest own front t [] stands h ahead = tt
+other_rest own front t (s ∷ ss) stands h ahead =
+    let k = behind_other t.depth t.function front s stands.within h.1 (order_of s t ahead) in (h.0 ∙ k.0, k.1)
+
+-- what is counted of a spot behind its own front and behind that of the sum
+same_here : (count : Spot → ℕ) (path own front : List ℕ) (s : Spot) → take s.depth own ≡ take s.depth front
+    → cond (bytes_eq (path_behind own s) path) (count s) 0 ≡ cond (bytes_eq (path_behind front s) path) (count s) 0
+same_here count path own front s same = ap (λ (p : List ℕ). cond (bytes_eq (p ++ s.function ∷ []) path) (count s) 0) same
+
+-- the first spot of the first tree
+take_first : (xs ss ys bs sums : List Spot) (s : Spot) → SoFar xs (s ∷ ss) ys bs sums → AheadOf s bs
+    → SoFar (xs ++ s ∷ []) ss ys bs (sums ++ s ∷ [])
+take_first xs ss ys bs sums s h ahead =
+    let own = last_path [] xs in
+    let front = last_path [] sums in
+    let of_own = last_parts [] xs (s ∷ []) in
+    let of_sum = last_parts [] sums (s ∷ []) in record {
+      rest_of_a = subst (λ (path : List ℕ). StandBehind path ss) (sym of_own) h.rest_of_a.1;
+      rest_of_b = h.rest_of_b;
+      tree = more_tree sums s h.tree h.first.1;
+      some = λ some_a some_b.
+          let parts = some_parts xs (s ∷ []) some_a in some_of_parts sums (s ∷ []) (h.some parts.0 some_b) parts.1;
+      counted = λ count path adds.
+          let so_far = h.counted count path adds in
+          let a = more_counted count path xs s in
+          let b = more_counted count path sums s in
+          let same = same_here count path own front s h.first.0 in
+          omega (arith, so_far, a, b, same);
+      first = subst (λ (path : List ℕ). StandsAlike path (last_path [] (sums ++ s ∷ [])) ss) (sym of_own)
+          (subst (λ (path : List ℕ). StandsAlike (path_behind own s) path ss) (sym of_sum)
+          (own_rest own front s ss h.first.0 h.rest_of_a.1));
+      second = subst (λ (path : List ℕ). StandsAlike (last_path [] ys) path bs) (sym of_sum)
+          (other_rest (last_path [] ys) front s bs h.first.1 h.second ahead);
+    }
+
+-- that of the second
+take_second : (xs ms ys ts sums : List Spot) (t : Spot) → SoFar xs ms ys (t ∷ ts) sums → AheadOf t ms
+    → SoFar xs ms (ys ++ t ∷ []) ts (sums ++ t ∷ [])
+take_second xs ms ys ts sums t h ahead =
+    let own = last_path [] ys in
+    let front = last_path [] sums in
+    let of_own = last_parts [] ys (t ∷ []) in
+    let of_sum = last_parts [] sums (t ∷ []) in record {
+      rest_of_a = h.rest_of_a;
+      rest_of_b = subst (λ (path : List ℕ). StandBehind path ts) (sym of_own) h.rest_of_b.1;
+      tree = more_tree sums t h.tree h.second.1;
+      some = λ some_a some_b.
+          let parts = some_parts ys (t ∷ []) some_b in some_of_parts sums (t ∷ []) (h.some some_a parts.0) parts.1;
+      counted = λ count path adds.
+          let so_far = h.counted count path adds in
+          let a = more_counted count path ys t in
+          let b = more_counted count path sums t in
+          let same = same_here count path own front t h.second.0 in
+          omega (arith, so_far, a, b, same);
+      first = subst (λ (path : List ℕ). StandsAlike (last_path [] xs) path ms) (sym of_sum)
+          (other_rest (last_path [] xs) front t ms h.second.1 h.first ahead);
+      second = subst (λ (path : List ℕ). StandsAlike path (last_path [] (sums ++ t ∷ [])) ts) (sym of_own)
+          (subst (λ (path : List ℕ). StandsAlike (path_behind own t) path ts) (sym of_sum)
+          (own_rest own front t ts h.second.0 h.rest_of_b.1));
+    }
+
+-- neither goes before the other
+and_rest : (a b : Bool) → a ≡ true → (a && b) ≡ false → b ≡ false
+and_rest true b h k = k
+and_rest false b h k = absurd (false≢true h)
+
+same_order : (s t : Spot) → goes_first s t ≡ false → goes_first t s ≡ false → (t.depth ≡ s.depth) × (t.function ≡ s.function)
+same_order s t one other =
+    let p = or_parts (nat_lt t.depth s.depth) ((s.depth == t.depth) && nat_lt s.function t.function) one in
+    let q = or_parts (nat_lt s.depth t.depth) ((t.depth == s.depth) && nat_lt t.function s.function) other in
+    let not_deeper = not_less_by t.depth s.depth p.0 in
+    let not_higher = not_less_by s.depth t.depth q.0 in
+    let deep : t.depth ≡ s.depth = omega (arith, not_deeper, not_higher) in
+    let not_below = and_rest (s.depth == t.depth) (nat_lt s.function t.function) (equal_test s.depth t.depth (sym deep)) p.1 in
+    let not_above = and_rest (t.depth == s.depth) (nat_lt t.function s.function) (equal_test t.depth s.depth deep) q.1 in
+    let low = not_less_by s.function t.function not_below in
+    let high = not_less_by t.function s.function not_above in
+    (deep, omega (arith, low, high))
+
+same_spot : (front : List ℕ) (s t : Spot) → t.depth ≡ s.depth → t.function ≡ s.function
+    → path_behind front t ≡ path_behind front s
+same_spot front s t deep own =
+    ap (λ (n : ℕ). take n front ++ t.function ∷ []) deep ∙ ap (λ (f : ℕ). take s.depth front ++ f ∷ []) own
+
+sum_if : (b : Bool) (n m : ℕ) → cond b (n + m) 0 ≡ cond b n 0 + cond b m 0
+sum_if true n m = refl
+sum_if false n m = omega arith
+
+-- both
+take_both : (xs ss ys ts sums : List Spot) (s t : Spot) → SoFar xs (s ∷ ss) ys (t ∷ ts) sums → t.depth ≡ s.depth
+    → t.function ≡ s.function → SoFar (xs ++ s ∷ []) ss (ys ++ t ∷ []) ts (sums ++ (both_of s t).spot ∷ [])
+take_both xs ss ys ts sums s t h deep function =
+    let new = (both_of s t).spot in
+    let of_a = last_path [] xs in
+    let of_b = last_path [] ys in
+    let front = last_path [] sums in
+    let ends_a = last_parts [] xs (s ∷ []) in
+    let ends_b = last_parts [] ys (t ∷ []) in
+    let ends = last_parts [] sums (new ∷ []) in
+    let alike : path_behind front t ≡ path_behind front new = same_spot front s t deep function in record {
+      rest_of_a = subst (λ (path : List ℕ). StandBehind path ss) (sym ends_a) h.rest_of_a.1;
+      rest_of_b = subst (λ (path : List ℕ). StandBehind path ts) (sym ends_b) h.rest_of_b.1;
+      tree = more_tree sums new h.tree (record { within = h.first.1.within; rising = h.first.1.rising });
+      some = λ some_a some_b.
+          let of_first = some_parts xs (s ∷ []) some_a in
+          let of_second = some_parts ys (t ∷ []) some_b in
+          let here = of_first.1.0 in
+          some_of_parts sums (new ∷ []) (h.some of_first.0 of_second.0) (omega (arith, here), tt);
+      counted = λ count path adds.
+          let so_far = h.counted count path adds in
+          let a = more_counted count path xs s in
+          let b = more_counted count path ys t in
+          let c = more_counted count path sums new in
+          let same_a = same_here count path of_a front s h.first.0 in
+          let same_b = same_here count path of_b front t h.second.0 in
+          let moved = ap (λ (p : List ℕ). cond (bytes_eq p path) (count t) 0) alike in
+          let both = ap (λ (n : ℕ). cond (bytes_eq (path_behind front new) path) n 0) (adds s t) in
+          let parts = sum_if (bytes_eq (path_behind front new) path) (count s) (count t) in
+          omega (arith, so_far, a, b, c, same_a, same_b, moved, both, parts);
+      first = subst (λ (path : List ℕ). StandsAlike path (last_path [] (sums ++ new ∷ [])) ss) (sym ends_a)
+          (subst (λ (path : List ℕ). StandsAlike (path_behind of_a s) path ss) (sym ends)
+          (own_rest of_a front s ss h.first.0 h.rest_of_a.1));
+      second = subst (λ (path : List ℕ). StandsAlike path (last_path [] (sums ++ new ∷ [])) ts) (sym ends_b)
+          (subst (λ (path : List ℕ). StandsAlike (path_behind of_b t) path ts) (alike ∙ sym ends)
+          (own_rest of_b front t ts h.second.0 h.rest_of_b.1));
+    }
+
+-- ---- the next of both
+
+abbrev Goes : List Spot → List Spot → List Spot → List Spot → List Spot → NextSpot → Type 0
+Goes xs ms ys bs sums next = SoFar (xs ++ take next.of_a ms) (drop next.of_a ms) (ys ++ take next.of_b bs) (drop next.of_b bs)
+    (sums ++ next.spot ∷ [])
+
+goes_first_alone : (xs ss ys bs sums : List Spot) (s : Spot) → SoFar (xs ++ s ∷ []) ss ys bs (sums ++ s ∷ [])
+    → Goes xs (s ∷ ss) ys bs sums (of_first s)
+goes_first_alone xs ss ys bs sums s h =
+    subst (λ (zs : List Spot). SoFar (xs ++ s ∷ []) ss zs bs (sums ++ s ∷ [])) (sym (append-nil ys)) h
+
+goes_second_alone : (xs ms ys ts sums : List Spot) (t : Spot) → SoFar xs ms (ys ++ t ∷ []) ts (sums ++ t ∷ [])
+    → Goes xs ms ys (t ∷ ts) sums (of_second t)
+goes_second_alone xs ms ys ts sums t h =
+    subst (λ (zs : List Spot). SoFar zs ms (ys ++ t ∷ []) ts (sums ++ t ∷ [])) (sym (append-nil xs)) h
+
+goes_both : (xs ss ys ts sums : List Spot) (s t : Spot) → SoFar xs (s ∷ ss) ys (t ∷ ts) sums
+    → Goes xs (s ∷ ss) ys (t ∷ ts) sums (next_of_both s t)
+goes_both xs ss ys ts sums s t h =
+    let P : NextSpot → Type 0 = λ next. Goes xs (s ∷ ss) ys (t ∷ ts) sums next in
+    elim (cases_Bool (goes_first s t)) [
+      | inl one ↦ subst P (sym (ap (λ (b : Bool). cond b (of_first s) (cond (goes_first t s) (of_second t) (both_of s t))) one))
+          (goes_first_alone xs ss ys (t ∷ ts) sums s (take_first xs ss ys (t ∷ ts) sums s h one))
+      | inr not_one ↦
+          let rest = ap (λ (b : Bool). cond b (of_first s) (cond (goes_first t s) (of_second t) (both_of s t))) not_one in
+          elim (cases_Bool (goes_first t s)) [
+            | inl other ↦ subst P (sym (rest ∙ ap (λ (b : Bool). cond b (of_second t) (both_of s t)) other))
+                (goes_second_alone xs (s ∷ ss) ys ts sums t (take_second xs (s ∷ ss) ys ts sums t h other))
+            | inr not_other ↦ let same = same_order s t not_one not_other in
+                subst P (sym (rest ∙ ap (λ (b : Bool). cond b (of_second t) (both_of s t)) not_other))
+                (take_both xs ss ys ts sums s t h same.0 same.1)
+          ]
+    ]
+
+goes : (xs ms ys bs sums : List Spot) → 0 < length ms + length bs → SoFar xs ms ys bs sums
+    → Goes xs ms ys bs sums (next_of ms bs)
+goes xs [] ys [] sums some h = absurd (omega arith)
+goes xs (s ∷ ss) ys [] sums some h = goes_first_alone xs ss ys [] sums s (take_first xs ss ys [] sums s h tt)
+goes xs [] ys (t ∷ ts) sums some h = goes_second_alone xs [] ys ts sums t (take_second xs [] ys ts sums t h tt)
+goes xs (s ∷ ss) ys (t ∷ ts) sums some h = goes_both xs ss ys ts sums s t h
+
+pub each_push : (P : Spot → Type 0) (xs : List Spot) (s : Spot) → AllByRecursion P xs → P s → AllByRecursion P (xs ++ s ∷ [])
+each_push P [] s h p = (p, tt)
+each_push P (x ∷ xs) s h p = (h.0, each_push P xs s h.1 p)
+
+-- ---- by places
+
+-- so much of both is added
+abbrev pub Added : List Spot → List Spot → ℕ → ℕ → List Spot → Type 0
+Added a b i j sums = SoFar (take i a) (drop i a) (take j b) (drop j b) sums
+
+alike_at_first : (ss : List Spot) → IsTree ss → StandsAlike [] [] ss
+alike_at_first [] h = tt
+alike_at_first (s ∷ ss) h = (refl, h.0)
+
+pub none_added : (a b : List Spot) → IsTree a → IsTree b → Added a b 0 0 []
+none_added a b tree_a tree_b = record {
+  rest_of_a = tree_a;
+  rest_of_b = tree_b;
+  tree = tt;
+  some = λ some_a some_b. tt;
+  counted = λ count path adds. refl;
+  first = alike_at_first a tree_a;
+  second = alike_at_first b tree_b;
+}
+
+pub more_added : (a b sums : List Spot) (i j : ℕ) (next : NextSpot) → Added a b i j sums
+    → 0 < length (drop i a) + length (drop j b) → next ≡ next_of (drop i a) (drop j b)
+    → Added a b (i + next.of_a) (j + next.of_b) (sums ++ next.spot ∷ [])
+more_added a b sums i j next h some is =
+    let g = goes (take i a) (drop i a) (take j b) (drop j b) sums some h in
+    let there : Goes (take i a) (drop i a) (take j b) (drop j b) sums next =
+    subst (λ (n : NextSpot). Goes (take i a) (drop i a) (take j b) (drop j b) sums n) (sym is) g in
+    subst (λ (zs : List Spot). SoFar (take (i + next.of_a) a) (drop (i + next.of_a) a) zs (drop (j + next.of_b) b) (sums ++ next.spot ∷ []))
+    (sym (take-add j next.of_b b))
+    (subst (λ (zs : List Spot). SoFar zs (drop (i + next.of_a) a) (take j b ++ take next.of_b (drop j b)) (drop (j + next.of_b) b) (sums ++ next.spot ∷ []))
+    (sym (take-add i next.of_a a))
+    (subst (λ (zs : List Spot). SoFar (take i a ++ take next.of_a (drop i a)) (drop (i + next.of_a) a) (take j b ++ take next.of_b (drop j b)) zs (sums ++ next.spot ∷ []))
+    (drop-drop next.of_b j b)
+    (subst (λ (zs : List Spot). SoFar (take i a ++ take next.of_a (drop i a)) zs (take j b ++ take next.of_b (drop j b)) (drop next.of_b (drop j b)) (sums ++ next.spot ∷ []))
+    (drop-drop next.of_a i a) there)))
+
+pub all_added : (a b sums : List Spot) (i j : ℕ) → Added a b i j sums → length a ≤ i → length b ≤ j → IsSumOfSpots a b sums
+all_added a b sums i j h over_a over_b =
+    let whole = λ (count : Spot → ℕ) (path : List ℕ) (adds : (s t : Spot) → count (both_of s t).spot ≡ count s + count t).
+    h.counted count path adds
+    ∙ (λ k. counted_behind count path [] (take_all i a over_a k) + counted_behind count path [] (take_all j b over_b k)) in record {
+      tree = h.tree;
+      some = λ some_a some_b. h.some (subst HasArrivals (sym (take_all i a over_a)) some_a)
+          (subst HasArrivals (sym (take_all j b over_b)) some_b);
+      arrivals = λ path. whole arrivals_of path (λ s t. refl);
+      steps = λ path. whole steps_of path (λ s t. refl);
+    }
+
+-- ---- numbers that do not fit
+
+same_bytes : (p : List ℕ) → bytes_eq p p ≡ true
+same_bytes p = (bytes_eq-Decides p p).1 refl
+
+counted_here : (count : Spot → ℕ) (path : List ℕ) (xs ss : List Spot) (s : Spot) → path_behind (last_path [] xs) s ≡ path
+    → count s ≤ counted_behind count path [] (xs ++ s ∷ ss)
+counted_here count path xs ss s is =
+    let parts = counted_parts count path [] xs (s ∷ ss) in
+    let here = ap (λ (b : Bool). cond b (count s) 0) (ap (λ (p : List ℕ). bytes_eq p path) is ∙ same_bytes path) in
+    omega (arith, parts, here)
+
+too_great_of : (xs ss ys ts sums : List Spot) (s t : Spot) → SoFar xs (s ∷ ss) ys (t ∷ ts) sums → goes_first s t ≡ false
+    → goes_first t s ≡ false → (function : ℕ) → function ≡ s.function → IsTooGreatOf s t
+    → IsTooGreat (Count function) (xs ++ s ∷ ss) (ys ++ t ∷ ts)
+too_great_of xs ss ys ts sums s t h one other function is great =
+    let same = same_order s t one other in
+    let path = path_behind (last_path [] sums) s in
+    let at_a : path_behind (last_path [] xs) s ≡ path = ap (λ (p : List ℕ). p ++ s.function ∷ []) h.first.0 in
+    let at_b : path_behind (last_path [] ys) t ≡ path =
+    ap (λ (p : List ℕ). p ++ t.function ∷ []) h.second.0 ∙ same_spot (last_path [] sums) s t same.0 same.1 in
+    let a = λ (count : Spot → ℕ). counted_here count path xs ss s at_a in
+    let b = λ (count : Spot → ℕ). counted_here count path ys ts t at_b in (
+      path,
+      last_of function (take s.depth (last_path [] sums)) s.function ∙ equal_test s.function function (sym is),
+      elim great [
+        | inl arrivals ↦ let m = a arrivals_of in let n = b arrivals_of in inl (omega (arith, arrivals, m, n))
+        | inr steps ↦ let m = a steps_of in let n = b steps_of in inr (omega (arith, steps, m, n))
+      ],
+    )
+
+too_great_there : (xs ms ys bs sums : List Spot) (error : SpotSumError) → SoFar xs ms ys bs sums
+    → IsTooGreatHere error ms bs → IsTooGreat error (xs ++ ms) (ys ++ bs)
+too_great_there xs ms ys bs sums OutOfMemory h great = tt
+too_great_there xs [] ys bs sums (Count function) h great = absurd great
+too_great_there xs (s ∷ ss) ys [] sums (Count function) h great = absurd great
+too_great_there xs (s ∷ ss) ys (t ∷ ts) sums (Count function) h great =
+    too_great_of xs ss ys ts sums s t h great.0 great.1 function great.2 great.3
+
+pub too_great : (a b sums : List Spot) (i j : ℕ) (error : SpotSumError) → Added a b i j sums
+    → IsTooGreatHere error (drop i a) (drop j b) → IsTooGreat error a b
+too_great a b sums i j error h great =
+    subst (λ (zs : List Spot). IsTooGreat error a zs) (take-append-drop j b)
+    (subst (λ (zs : List Spot). IsTooGreat error zs (take j b ++ drop j b)) (take-append-drop i a)
+    (too_great_there (take i a) (drop i a) (take j b) (drop j b) sums error h great))
+
+-- ---- how many of each
+
+one_of_both : (b d : Bool) (s t : Spot) → let next = cond b (of_first s) (cond d (of_second t) (both_of s t)) in
+    (next.of_a ≤ 1) × (next.of_b ≤ 1) × (0 < next.of_a + next.of_b)
+one_of_both true d s t = (omega arith, omega arith, omega arith)
+one_of_both false true s t = (omega arith, omega arith, omega arith)
+one_of_both false false s t = (omega arith, omega arith, omega arith)
+
+-- of each list at most what it has, and of one of them one
+pub record FewOf (ms bs : List Spot) (next : NextSpot) : Type 0 where
+  pub of_a : next.of_a ≤ length ms
+  pub of_b : next.of_b ≤ length bs
+  pub some : 0 < next.of_a + next.of_b
+
+pub few_of : (ms bs : List Spot) → 0 < length ms + length bs → FewOf ms bs (next_of ms bs)
+few_of [] [] some = absurd (omega arith)
+few_of (s ∷ ss) [] some = record { of_a = omega arith; of_b = omega arith; some = omega arith }
+few_of [] (t ∷ ts) some = record { of_a = omega arith; of_b = omega arith; some = omega arith }
+few_of (s ∷ ss) (t ∷ ts) some =
+    let h = one_of_both (goes_first s t) (goes_first t s) s t in
+    let a = h.0 in
+    let b = h.1 in record { of_a = omega (arith, a); of_b = omega (arith, b); some = h.2 }

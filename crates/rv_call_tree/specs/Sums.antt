@@ -1,0 +1,75 @@
+-- The sum of two trees of spots: each number of each list of functions is the sum of both.
+use Rattle.std.specs.Prelude.{◌≡◌, ◌==◌, ◌+◌, ◌^◌, ◌<◌, ◌≤◌, ◌⊎◌, ℕ, Bool, true, false, ◌&&◌, ◌||◌, nat_lt, if◌then◌else◌, List, [], ◌∷◌}
+use Rattle.rv_call_tree.specs.declared.spot.Spot.{Spot}
+use Rattle.rv_call_tree.specs.declared.sum.NextSpot.{NextSpot}
+use Rattle.rv_call_tree.specs.declared.sum.SpotSumError.{SpotSumError}
+use Rattle.rv_call_tree.specs.declared.sum.SpotSumError.TheVariants.{OutOfMemory, Count}
+use Rattle.rv_call_tree.specs.Trees.{arrivals_at, ends_with, steps_at, HasArrivals, IsTree}
+
+pub record IsSumOfSpots (a b sum : List Spot) : Type 0 where
+  pub tree : IsTree sum
+  pub some : HasArrivals a → HasArrivals b → HasArrivals sum
+  pub arrivals : (path : List ℕ) → arrivals_at path sum ≡ arrivals_at path a + arrivals_at path b
+  pub steps : (path : List ℕ) → steps_at path sum ≡ steps_at path a + steps_at path b
+
+-- its numbers are such as a spot can have
+pub record FitsSpot (s : Spot) : Type 0 where
+  pub depth : s.depth < 2 ^ 64
+  pub function : s.function < 2 ^ 32
+  pub arrivals : s.arrivals < 2 ^ 64
+  pub steps : s.steps < 2 ^ 64
+
+-- a number of some list of functions, of which the one that is told is the last, is of 2^64 or more
+abbrev pub IsTooGreat : SpotSumError → List Spot → List Spot → Type 0
+IsTooGreat OutOfMemory a b = Unit {0}
+IsTooGreat (Count function) a b = (path : List ℕ) × (ends_with function path ≡ true)
+    × ((2 ^ 64 ≤ arrivals_at path a + arrivals_at path b) ⊎ (2 ^ 64 ≤ steps_at path a + steps_at path b))
+
+-- ---- spots from the front
+
+-- the deeper goes first, and of equal depth the one of the lower function
+abbrev pub goes_first : Spot → Spot → Bool
+goes_first s t = nat_lt t.depth s.depth || ((s.depth == t.depth) && nat_lt s.function t.function)
+
+abbrev pub of_first : Spot → NextSpot
+of_first s = record { spot = s; of_a = 1; of_b = 0 }
+
+abbrev pub of_second : Spot → NextSpot
+of_second t = record { spot = t; of_a = 0; of_b = 1 }
+
+abbrev pub both_of : Spot → Spot → NextSpot
+both_of s t = record {
+  spot = record {
+    depth = s.depth;
+    function = s.function;
+    arrivals = s.arrivals + t.arrivals;
+    steps = s.steps + t.steps;
+  };
+  of_a = 1;
+  of_b = 1;
+}
+
+abbrev pub next_of_both : Spot → Spot → NextSpot
+next_of_both s t = if goes_first s t then of_first s else if goes_first t s then of_second t else both_of s t
+
+-- the first of a sum, and of how many of each list it is the sum; of two empty lists this says nothing
+abbrev pub next_of : List Spot → List Spot → NextSpot
+next_of (s ∷ ss) [] = of_first s
+next_of (s ∷ ss) (t ∷ ts) = next_of_both s t
+next_of [] (t ∷ ts) = of_second t
+next_of [] [] = record { spot = record { depth = 0; function = 0; arrivals = 0; steps = 0 }; of_a = 0; of_b = 0 }
+
+-- a sum of two spots is of 2^64 or more
+abbrev pub IsTooGreatOf : Spot → Spot → Type 0
+IsTooGreatOf s t = (2 ^ 64 ≤ s.arrivals + t.arrivals) ⊎ (2 ^ 64 ≤ s.steps + t.steps)
+
+abbrev pub IsTooGreatOfBoth : SpotSumError → Spot → Spot → Type 0
+IsTooGreatOfBoth OutOfMemory s t = ⊥
+IsTooGreatOfBoth (Count function) s t = (function ≡ s.function) × IsTooGreatOf s t
+
+-- a sum of the first two, which are of one depth and function
+abbrev pub IsTooGreatHere : SpotSumError → List Spot → List Spot → Type 0
+IsTooGreatHere OutOfMemory a b = ⊥
+IsTooGreatHere (Count function) (s ∷ ss) (t ∷ ts) = (goes_first s t ≡ false) × (goes_first t s ≡ false)
+    × (function ≡ s.function) × IsTooGreatOf s t
+IsTooGreatHere (Count function) _ _ = ⊥

@@ -1,0 +1,98 @@
+-- Spots in preorder: of which functions each is, and what is counted in a list of functions.
+use Rattle.std.specs.Prelude.{◌==◌, ◌+◌, ◌<◌, ◌≤◌, ℕ, Bool, false, if◌then◌else◌, List, [], ◌∷◌, ◌++◌, length, take, slice_index_or}
+use Rattle.std.specs.Coded.{×_prop, Unit-prop, le_prop}
+use Rattle.std.specs.Str.{bytes_eq}
+use Rattle.rv_call_tree.specs.declared.spot.Spot.{Spot}
+
+-- ---- of which functions a spot is
+
+-- as many of those of the spot in front as it is deep, and its own
+abbrev pub path_behind : List ℕ → Spot → List ℕ
+path_behind front s = take s.depth front ++ s.function ∷ []
+
+-- those of the last of some spots
+abbrev pub last_path : List ℕ → List Spot → List ℕ
+last_path front [] = front
+last_path front (s ∷ ss) = last_path (path_behind front s) ss
+
+-- those of the last of so many spots
+abbrev pub path_of_first : ℕ → List Spot → List ℕ
+path_of_first count spots = last_path [] (take count spots)
+
+-- ---- what is counted
+
+abbrev pub once_if : Bool → ℕ
+once_if test = if test then 1 else 0
+
+-- the sum over the spots of these functions
+abbrev pub counted_behind : (Spot → ℕ) → List ℕ → List ℕ → List Spot → ℕ
+counted_behind count path front [] = 0
+counted_behind count path front (s ∷ ss) =
+    (if bytes_eq (path_behind front s) path then count s else 0) + counted_behind count path (path_behind front s) ss
+
+abbrev pub arrivals_of : Spot → ℕ
+arrivals_of s = s.arrivals
+
+abbrev pub steps_of : Spot → ℕ
+steps_of s = s.steps
+
+-- how often a run came to a list of functions, and how many instructions began in it
+abbrev pub arrivals_at : List ℕ → List Spot → ℕ
+arrivals_at path spots = counted_behind arrivals_of path [] spots
+
+abbrev pub steps_at : List ℕ → List Spot → ℕ
+steps_at path spots = counted_behind steps_of path [] spots
+
+-- the sum over all spots
+abbrev pub counted_in_all : (Spot → ℕ) → List Spot → ℕ
+counted_in_all count [] = 0
+counted_in_all count (s ∷ ss) = count s + counted_in_all count ss
+
+abbrev pub all_arrivals : List Spot → ℕ
+all_arrivals spots = counted_in_all arrivals_of spots
+
+abbrev pub all_steps : List Spot → ℕ
+all_steps spots = counted_in_all steps_of spots
+
+abbrev pub steps_if : Bool → ℕ → ℕ
+steps_if test steps = if test then steps else 0
+
+-- how many instructions began in a function itself: in the spots of which it is the last
+abbrev pub own_in : ℕ → List Spot → ℕ
+own_in function spots = counted_in_all (λ s. steps_if (s.function == function) s.steps) spots
+
+abbrev pub ends_with : ℕ → List ℕ → Bool
+ends_with function [] = false
+ends_with function (f ∷ []) = f == function
+ends_with function (f ∷ g ∷ gs) = ends_with function (g ∷ gs)
+
+-- ---- spots that are a tree
+
+-- a spot is at most one deeper than the one in front; where that one has a function at its depth, its own is above that
+pub record StandsBehind (front : List ℕ) (s : Spot) : Type 0 where
+  pub within : s.depth ≤ length front
+  pub rising : s.depth < length front → slice_index_or front s.depth 0 < s.function
+
+abbrev pub StandBehind : List ℕ → List Spot → Type 0
+StandBehind front [] = Unit {0}
+StandBehind front (s ∷ ss) = StandsBehind front s × StandBehind (path_behind front s) ss
+
+-- so each list of functions stands once, the lower function first, and behind the list without its last function
+abbrev pub IsTree : List Spot → Type 0
+IsTree spots = StandBehind [] spots
+
+-- and they stand so in one way
+StandsBehind-prop : (front : List ℕ) (s : Spot) → IsProp (StandsBehind front s)
+StandsBehind-prop front s h k = λ i. record {
+  within = le_prop h.within k.within i;
+  rising = λ low. le_prop (h.rising low) (k.rising low) i;
+}
+
+pub StandBehind-prop : (front : List ℕ) (spots : List Spot) → IsProp (StandBehind front spots)
+StandBehind-prop front [] = Unit-prop
+StandBehind-prop front (s ∷ ss) = ×_prop (StandsBehind-prop front s) (StandBehind-prop (path_behind front s) ss)
+
+-- a run came to each of them
+abbrev pub HasArrivals : List Spot → Type 0
+HasArrivals [] = Unit {0}
+HasArrivals (s ∷ ss) = (0 < s.arrivals) × HasArrivals ss

@@ -1,0 +1,71 @@
+//! Spots by their functions.
+
+ghost use Rattle.std.specs.Prelude.{◌≡◌, ◌^◌, ◌<◌, [], IfOk};
+ghost use Rattle.std.specs.List.Sorted.{IsNonDecreasingBy};
+ghost use Rattle.rv_call_tree.specs.Profiles.{IsStepsOf};
+ghost use Rattle.rv_call_tree.specs.Subtrees.{subtrees_of_function, AreSubtreesByFunction};
+ghost use Rattle.rv_call_tree.specs.Trees.{all_arrivals, all_steps, IsTree, StandBehind-prop};
+
+use crate::profile::FunctionSteps;
+use crate::spot::Spot;
+use crate::subtree::{Subtree, subtrees_of};
+use std::alloc::{AllocError, Global};
+
+/// Spots sorted by function, so that what ran in a function is told without a pass over all of them.
+#[derive(Drop)]
+pub struct SpotIndex<'s> {
+    pub spots: &'s [Spot],
+    // Those of a function in the order of their spots.
+    subtrees: Vec<Subtree>,
+    ghost tree: { IsTree spots.now } by { StandBehind-prop [] spots.now },
+    ghost few_steps: { all_steps spots.now < 2 ^ 64 },
+    ghost few_arrivals: { all_arrivals spots.now < 2 ^ 64 },
+    ghost rising: { IsNonDecreasingBy (λ s. s.function) subtrees.items },
+    ghost each: { AreSubtreesByFunction spots.now subtrees.items },
+}
+
+impl<'s> SpotIndex<'s> {
+    /// Takes the time of a sort of the spots, and memory for 48 bytes a spot.
+    pub fn new(alloc: Global, spots: &'s [Spot]) -> Result<SpotIndex<'s>, AllocError>
+        requires tree { IsTree spots.now }
+        requires steps { all_steps spots.now < 2 ^ 64 }
+        requires arrivals { all_arrivals spots.now < 2 ^ 64 }
+        ensures { IfOk result (λ index. index.spots.now ≡ spots.now) }
+    {
+        let mut subtrees = subtrees_of(alloc, spots)?;
+        subtrees.sort_by_key(|subtree| subtree.function)?;
+        Ok(SpotIndex { spots, subtrees })
+    }
+
+    /// What ran in a function. Its time grows with the logarithm of the number of spots, and with the number of spots of the function.
+    pub fn steps_of(&self, function: u32) -> FunctionSteps
+        ensures { IsStepsOf function self.now.spots.now result }
+    {
+        let mut found = FunctionSteps {
+            own: 0,
+            inclusive: 0,
+            arrivals: 0,
+        };
+        // Where the last subtree ends whose steps are counted: those that begin in front of it are parts of it.
+        let mut end = 0;
+        for subtree in self.subtrees_of_function(function) {
+            found.own += subtree.own;
+            found.arrivals += subtree.arrivals;
+            if end <= subtree.place {
+                found.inclusive += subtree.inclusive;
+                end = subtree.end;
+            }
+        }
+        found
+    }
+
+    // In the order of their spots.
+    fn subtrees_of_function(&self, function: u32) -> &[Subtree]
+        ensures { result.now ≡ subtrees_of_function function self.now.spots.now }
+    {
+        let subtrees = self.subtrees.as_slice();
+        let start = subtrees.partition_point(|subtree| subtree.function < function);
+        let behind = &subtrees[start..];
+        &behind[..behind.partition_point(|subtree| subtree.function <= function)]
+    }
+}

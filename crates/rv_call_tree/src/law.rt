@@ -1,0 +1,19 @@
+//! Laws of spots, with nothing to run.
+
+ghost use Rattle.std.specs.Prelude.{◌≡◌, ℕ, List};
+ghost use Rattle.rv_call_tree.specs.declared.spot.Spot.{Spot};
+ghost use Rattle.rv_call_tree.specs.Profiles.{own_of_all, AreFunctionsOf};
+ghost use Rattle.rv_call_tree.specs.Trees.{all_steps, arrivals_at, steps_at, HasArrivals, IsTree};
+
+/// Trees that have the same counts in each list of functions are one, where a run came to each of their spots.
+pub fn one_tree_has_these_counts()
+    ensures { (a b : List Spot) → IsTree a → IsTree b → HasArrivals a → HasArrivals b
+        → ((path : List ℕ) → arrivals_at path a ≡ arrivals_at path b)
+        → ((path : List ℕ) → steps_at path a ≡ steps_at path b) → a ≡ b }
+{}
+
+/// The own steps of the functions of spots sum to all their steps.
+pub fn own_steps_sum_to_all()
+    ensures { (spots : List Spot) (functions : List ℕ) → AreFunctionsOf spots functions
+        → own_of_all functions spots ≡ all_steps spots }
+{}

@@ -1,0 +1,137 @@
+//! The sum of two trees of spots.
+
+ghost use Rattle.std.specs.Prelude.{◌≡◌, ◌+◌, ◌<◌, ◌++◌, ◌∷◌, [], IfOk, IfErr, OnOk, length};
+ghost use Rattle.std.specs.List.{AllByRecursion};
+ghost use Rattle.rv_call_tree.specs.Sums.{both_of, goes_first, next_of, of_first, of_second, FitsSpot, IsTooGreat, IsTooGreatHere, IsTooGreatOfBoth, IsSumOfSpots};
+ghost use Rattle.rv_call_tree.specs.Trees.{IsTree};
+ghost use Rattle.rv_call_tree.specs.declared.sum.SpotSumError.TheVariants.{OutOfMemory};
+
+use crate::spot::{Spot, Spots};
+use std::alloc::{AllocError, Global};
+
+/// Why spots were not added.
+#[derive(Clone, Copy, Debug, PartialEq, Eq)]
+pub enum SpotSumError {
+    /// A growth was refused.
+    OutOfMemory,
+    /// The sum of a number of a spot of this function is of 2^64 or more.
+    Count(u32),
+}
+
+impl From<AllocError> for SpotSumError {
+    ghost from_gives = { λ _ error. error ≡ OutOfMemory };
+
+    fn from(_: AllocError) -> SpotSumError {
+        SpotSumError::OutOfMemory
+    }
+}
+
+/// The spots of both trees, each list of functions once. Takes memory for the sum alone.
+pub fn sum_of_spots(alloc: Global, a: &[Spot], b: &[Spot]) -> Result<Spots, SpotSumError>
+    requires a { IsTree a.now }
+    requires b { IsTree b.now }
+    ensures value { IfOk result (λ sum. IsSumOfSpots a.now b.now sum) }
+    ensures fits { IfOk result (λ sum. AllByRecursion FitsSpot sum) }
+    ensures refused { IfErr result (λ error. IsTooGreat error a.now b.now) }
+{
+    let mut sums = Vec::new(alloc);
+    let mut from_a = 0;
+    let mut from_b = 0;
+    while from_a < a.len() || from_b < b.len() {
+        let next = next_spot(&a[from_a..], &b[from_b..])?;
+        push_spot(&mut sums, next.spot)?;
+        from_a += next.of_a;
+        from_b += next.of_b;
+    }
+    Ok(Spots::new(sums))
+}
+
+/// The first spot of a sum, and of how many spots of each tree it is the sum.
+#[derive(Clone, Copy)]
+pub(crate) struct NextSpot {
+    pub(crate) spot: Spot,
+    pub(crate) of_a: usize,
+    pub(crate) of_b: usize,
+}
+
+fn push_spot(spots: &mut Vec<Spot>, spot: Spot) -> Result<(), AllocError>
+    ensures { OnOk result (spots.new.items ≡ spots.old.items ++ spot ∷ []) }
+{
+    spots.push(spot)?;
+    Ok(())
+}
+
+// The deeper of the first spots of both goes first, and of equal depth the one of the lower function.
+fn next_spot(a: &[Spot], b: &[Spot]) -> Result<NextSpot, SpotSumError>
+    requires { 0 < length a.now + length b.now }
+    ensures value { IfOk result (λ next. next ≡ next_of a.now b.now) }
+    ensures fits { IfOk result (λ next. FitsSpot next.spot) }
+    ensures refused { IfErr result (λ error. IsTooGreatHere error a.now b.now) }
+{
+    if b.is_empty() {
+        return Ok(of_first(a[0]));
+    }
+    if a.is_empty() {
+        return Ok(of_second(b[0]));
+    }
+    let (first, second) = (a[0], b[0]);
+    if goes_first(first, second) {
+        return Ok(of_first(first));
+    }
+    if goes_first(second, first) {
+        return Ok(of_second(second));
+    }
+    both_of(first, second)
+}
+
+fn goes_first(spot: Spot, other: Spot) -> bool
+    ensures { result ≡ goes_first spot other }
+{
+    other.depth < spot.depth || (spot.depth == other.depth && spot.function < other.function)
+}
+
+fn of_first(spot: Spot) -> NextSpot
+    ensures value { result ≡ of_first spot }
+    ensures fits { FitsSpot result.spot }
+{
+    NextSpot {
+        spot,
+        of_a: 1,
+        of_b: 0,
+    }
+}
+
+fn of_second(spot: Spot) -> NextSpot
+    ensures value { result ≡ of_second spot }
+    ensures fits { FitsSpot result.spot }
+{
+    NextSpot {
+        spot,
+        of_a: 0,
+        of_b: 1,
+    }
+}
+
+// The sum of two spots of one depth and function.
+fn both_of(spot: Spot, other: Spot) -> Result<NextSpot, SpotSumError>
+    ensures value { IfOk result (λ next. next ≡ both_of spot other) }
+    ensures fits { IfOk result (λ next. FitsSpot next.spot) }
+    ensures refused { IfErr result (λ error. IsTooGreatOfBoth error spot other) }
+{
+    match (
+        spot.arrivals.checked_add(other.arrivals),
+        spot.steps.checked_add(other.steps),
+    ) {
+        (Some(arrivals), Some(steps)) => Ok(NextSpot {
+            spot: Spot {
+                depth: spot.depth,
+                function: spot.function,
+                arrivals,
+                steps,
+            },
+            of_a: 1,
+            of_b: 1,
+        }),
+        _ => Err(SpotSumError::Count(spot.function)),
+    }
+}

@@ -1,2 +1,0 @@
-pub mod ColorSinks
-pub mod Colors

@@ -1,0 +1,131 @@
+-- The functions of a sum of spots are those of both, and so are the names of a sum of names.
+use Rattle.std.proofs.Common.{◌≡◌, ◌∙◌, ◌==◌, ◌+◌, ◌<◌, ◌⊎◌, ℕ, zero, suc, Bool, true, false, cond, List, [], ◌∷◌, ◌++◌, Option, Some, None, refl, sym, ap, arith, inl, inr, take}
+use Rattle.std.proofs.lemmas.Bool.{cases_Bool, false≢true}
+use Rattle.std.specs.Cmp.Lexicographic.{bytes_decides}
+use Rattle.std.specs.Prelude.{◌||◌}
+use Rattle.std.specs.Str.{bytes_eq}
+use Rattle.rv_count_tables.specs.declared.table.FunctionName.{FunctionName}
+use Rattle.rv_count_tables.specs.declared.table.ImageCounts.{ImageCounts}
+use Rattle.rv_count_tables.specs.Sum.{IsSumOfNames}
+use Rattle.rv_count_tables.specs.Table.{has_name, least_path_of, name_at, AreNamesOf, IsImage}
+use Rattle.rv_count_tables.proofs.AddingImages.{all_come_to}
+use Rattle.rv_count_tables.proofs.NamesOfSpots.{first_is, further}
+use Rattle.rv_call_tree.specs.Profiles.{is_last_of_some}
+use Rattle.rv_call_tree.specs.declared.spot.Spot.{Spot}
+use Rattle.rv_call_tree.specs.Sums.{IsSumOfSpots}
+use Rattle.rv_call_tree.specs.Trees.{arrivals_at, arrivals_of, counted_behind, ends_with, path_behind, HasArrivals}
+
+-- ---- a function is one of spots where a run came to a list that ends with it
+
+ends_with_last : (f g : ℕ) (path : List ℕ) → ends_with f (path ++ g ∷ []) ≡ (g == f)
+ends_with_last f g [] = refl
+ends_with_last f g (h ∷ []) = refl
+ends_with_last f g (h ∷ k ∷ ks) = ends_with_last f g (k ∷ ks)
+
+itself : (path : List ℕ) → bytes_eq path path ≡ true
+itself path = (bytes_decides path path).1 refl
+
+here_or_further : (b : Bool) (n m : ℕ) → 0 < m → 0 < cond b n 0 + m
+here_or_further b n m h = omega (arith, h)
+
+here_counts : (b : Bool) (n m : ℕ) → b ≡ true → 0 < n → 0 < cond b n 0 + m
+here_counts true n m h k = omega (arith, k)
+here_counts false n m h k = absurd (false≢true h)
+
+further_counts : (b : Bool) (n m : ℕ) → b ≡ false → 0 < cond b n 0 + m → 0 < m
+further_counts true n m h k = absurd (false≢true (sym h))
+further_counts false n m h k = omega (arith, k)
+
+pub record IsComeTo (f : ℕ) (front : List ℕ) (ss : List Spot) : Type 0 where
+  pub path : List ℕ
+  pub ends : ends_with f path ≡ true
+  pub some : 0 < counted_behind arrivals_of path front ss
+
+come_to : (f : ℕ) (front : List ℕ) (ss : List Spot) → HasArrivals ss → is_last_of_some f ss ≡ true → IsComeTo f front ss
+come_to f front [] h some = absurd (false≢true some)
+come_to f front (s ∷ ss) h some = elim (cases_Bool (s.function == f)) [
+  | inl t ↦ record {
+    path = path_behind front s;
+    ends = ends_with_last f s.function (take s.depth front) ∙ t;
+    some = here_counts (bytes_eq (path_behind front s) (path_behind front s)) s.arrivals
+        (counted_behind arrivals_of (path_behind front s) (path_behind front s) ss) (itself (path_behind front s)) h.0;
+  }
+  | inr t ↦
+      let k = come_to f (path_behind front s) ss h.1 (sym (ap (λ (b : Bool). b || is_last_of_some f ss) t) ∙ some) in
+      record {
+        path = k.path;
+        ends = k.ends;
+        some = here_or_further (bytes_eq (path_behind front s) k.path) s.arrivals
+            (counted_behind arrivals_of k.path (path_behind front s) ss) k.some;
+      }
+]
+
+is_last : (f : ℕ) (path front : List ℕ) (ss : List Spot) → ends_with f path ≡ true
+    → 0 < counted_behind arrivals_of path front ss → is_last_of_some f ss ≡ true
+is_last f path front [] ends some = absurd (omega (arith, some))
+is_last f path front (s ∷ ss) ends some = elim (cases_Bool (bytes_eq (path_behind front s) path)) [
+  | inl t ↦
+      let e = (bytes_decides (path_behind front s) path).0 t in
+      let g : (s.function == f) ≡ true = sym (ends_with_last f s.function (take s.depth front)) ∙ ap (ends_with f) e ∙ ends in
+      ap (λ (b : Bool). b || is_last_of_some f ss) g
+  | inr t ↦ further f s ss (is_last f path (path_behind front s) ss ends
+      (further_counts (bytes_eq (path_behind front s) path) s.arrivals (counted_behind arrivals_of path (path_behind front s) ss) t some))
+]
+
+-- ---- sums
+
+cases_nat : (n : ℕ) → (n ≡ 0) ⊎ (0 < n)
+cases_nat zero = inl refl
+cases_nat (suc n) = inr (omega arith)
+
+either_of_both : (s a b : Bool) → (a ≡ true → s ≡ true) → (b ≡ true → s ≡ true)
+    → (s ≡ true → a ≡ false → b ≡ true) → s ≡ (a || b)
+either_of_both s true b h k m = h refl
+either_of_both s false true h k m = k refl
+either_of_both true false false h k m = sym (m refl refl)
+either_of_both false false false h k m = refl
+
+module _ (a b sum : List Spot) (h : HasArrivals a) (k : HasArrivals b) (is : IsSumOfSpots a b sum) where
+  pub functions_of_sum : (f : ℕ) → is_last_of_some f sum ≡ (is_last_of_some f a || is_last_of_some f b)
+  functions_of_sum f = either_of_both (is_last_of_some f sum) (is_last_of_some f a) (is_last_of_some f b) of_first of_second of_sum
+    where
+      of_first : is_last_of_some f a ≡ true → is_last_of_some f sum ≡ true
+      of_first some =
+          let c = come_to f [] a h some in
+          let e = is.arrivals c.path in
+          let more = c.some in
+          is_last f c.path [] sum c.ends (omega (arith, e, more))
+
+      of_second : is_last_of_some f b ≡ true → is_last_of_some f sum ≡ true
+      of_second some =
+          let c = come_to f [] b k some in
+          let e = is.arrivals c.path in
+          let more = c.some in
+          is_last f c.path [] sum c.ends (omega (arith, e, more))
+
+      by_first : (path : List ℕ) → ends_with f path ≡ true → is_last_of_some f a ≡ false → arrivals_at path a ≡ 0
+      by_first path ends none = elim (cases_nat (arrivals_at path a)) [
+        | inl e ↦ e
+        | inr more ↦ absurd (false≢true (sym none ∙ is_last f path [] a ends more))
+      ]
+
+      of_sum : is_last_of_some f sum ≡ true → is_last_of_some f a ≡ false → is_last_of_some f b ≡ true
+      of_sum some none =
+          let c = come_to f [] sum (is.some h k) some in
+          let e = is.arrivals c.path in
+          let more = c.some in
+          let nothing = by_first c.path c.ends none in
+          is_last f c.path [] b c.ends (omega (arith, e, more, nothing))
+
+has_either : (o p : Option (List ℕ)) → has_name (least_path_of o p) ≡ (has_name o || has_name p)
+has_either None p = refl
+has_either (Some name) None = refl
+has_either (Some name) (Some other) = refl
+
+pub names_of_sum : (x y : ImageCounts) (functions : List FunctionName) (spots : List Spot) → IsImage x → IsImage y
+    → IsSumOfNames x.functions y.functions functions → IsSumOfSpots x.spots y.spots spots → AreNamesOf spots functions
+names_of_sum x y functions spots h k names is f =
+    ap has_name (first_is functions 0 f names.names.rising ∙ names.each f) ∙ has_either (name_at f x.functions) (name_at f y.functions)
+    ∙ (λ i. has_name ((sym (first_is x.functions 0 f h.names.rising)) i) || has_name ((sym (first_is y.functions 0 f k.names.rising)) i))
+    ∙ (λ i. h.of_spots f i || k.of_spots f i)
+    ∙ sym (functions_of_sum x.spots y.spots spots (all_come_to x.spots h.spots.each) (all_come_to y.spots k.spots.each) is f)

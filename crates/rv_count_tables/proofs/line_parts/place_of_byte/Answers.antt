@@ -1,0 +1,21 @@
+-- Each byte is the one, or is passed.
+use Rattle.std.proofs.Common.{arith}
+use Rattle.rv_count_tables.proofs.LineLoops.{place_here, place_later, place_end}
+use Rattle.rv_count_tables.proofs.line_parts.place_of_byte.Goals as goal
+
+pub returns-then-b-byte-clause-place : goal.returns-then-b-byte-clause-place
+returns-then-b-byte-clause-place c = omega (
+  arith,
+  place_here c.args.byte c.args.text.now c.loop-place.place
+      (omega arith) (omega arith),
+)
+
+pub loop-place-preserved : goal.loop-place-preserved
+loop-place-preserved c = omega (
+  arith,
+  place_later c.args.byte c.args.text.now c.loop-place.place (omega arith)
+      c.if-b-byte.false,
+)
+
+pub returns-clause-place : goal.returns-clause-place
+returns-clause-place c = omega (arith, place_end c.args.byte c.args.text.now c.loop-place.place (omega arith))

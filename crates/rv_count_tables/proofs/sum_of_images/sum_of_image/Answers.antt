@@ -1,0 +1,37 @@
+-- The spots are a tree, a run came to each, and their functions have names.
+use Rattle.std.proofs.Common.{List, subst}
+use Rattle.std.proofs.lemmas.Result.{err_from_is_err_and}
+use Rattle.rv_count_tables.specs.declared.table.FunctionName.{FunctionName}
+use Rattle.rv_count_tables.specs.Sum.{IsSumOfNames}
+use Rattle.rv_count_tables.proofs.AddingImages.{are_spots, no_sum_of_named}
+use Rattle.rv_count_tables.proofs.SumsOfStacks.{names_of_sum}
+use Rattle.rv_count_tables.proofs.sum_of_images.sum_of_image.Goals as goal
+use Rattle.rv_call_tree.specs.declared.spot.Spot.{Spot}
+use Rattle.rv_call_tree.specs.Sums.{IsSumOfSpots}
+
+pub returns-clause-tree : goal.returns-clause-tree
+returns-clause-tree c =
+    are_spots _ _ _ _ _ c.requires.a.spots c.requires.b.spots c.as_slice-6.ensures c.as_slice-7.ensures
+    c.in_ok-spots.ensures.value c.in_ok-spots.ensures.fits
+
+pub returns-clause-of_spots : goal.returns-clause-of_spots
+returns-clause-of_spots c =
+    let a = c.args.a.now in
+    let b = c.args.b.now in
+    let functions = c.in_ok-functions.functions in
+    let spots = c.in_ok-spots.spots in
+    names_of_sum a b functions spots c.requires.a c.requires.b
+    (subst (λ (ns : List FunctionName). IsSumOfNames a.functions ns functions) c.as_slice-5.ensures
+    (subst (λ (ns : List FunctionName). IsSumOfNames ns c.as_slice-5.result.now functions) c.as_slice-4.ensures
+    c.in_ok-functions.ensures.value))
+    (subst (λ (ss : List Spot). IsSumOfSpots a.spots ss spots) c.as_slice-7.ensures
+    (subst (λ (ss : List Spot). IsSumOfSpots ss c.as_slice-7.result.now spots) c.as_slice-6.ensures
+    c.in_ok-spots.ensures.value))
+
+pub returns-in_err-functions-clause-refused : goal.returns-in_err-functions-clause-refused
+returns-in_err-functions-clause-refused c =
+    let a = c.args.a.now in
+    let b = c.args.b.now in
+    let error = err_from_is_err_and c.from_residual-in_err-functions.result c.from_residual-in_err-functions.ensures.1 in
+    rw (error.1, error.2)
+    (no_sum_of_named _ a b _ _ c.as_slice-4.ensures c.as_slice-5.ensures c.in_err-functions.ensures.refused)

@@ -1,0 +1,9 @@
+-- The entries of a map as a list of names.
+use Rattle.std.specs.Prelude.{ℕ, List, map}
+use Rattle.rv_count_tables.specs.declared.table.FunctionName.{FunctionName}
+
+abbrev pub named_entry : ℕ × List ℕ → FunctionName
+named_entry e = record { function = e.0; name = e.1 }
+
+abbrev pub names_of_entries : List (ℕ × List ℕ) → List FunctionName
+names_of_entries es = map named_entry es

@@ -1,0 +1,94 @@
+-- Sums from the front: the first of a sum, ahead of the sum of what both lists have behind it.
+use Rattle.std.specs.Prelude.{◌≡◌, ◌+◌, ◌≤◌, ◌<◌, ◌^◌, ◌⊎◌, ℕ, true, List, ◌∷◌, Option, length, drop}
+use Rattle.std.specs.List.{AllByRecursion}
+use Rattle.rv_count_tables.specs.declared.table.AddressCounts.{AddressCounts}
+use Rattle.rv_count_tables.specs.declared.table.FunctionName.{FunctionName}
+use Rattle.rv_count_tables.specs.declared.table.ImageCounts.{ImageCounts}
+use Rattle.rv_count_tables.specs.declared.sum.SumError.{SumError}
+use Rattle.rv_count_tables.specs.declared.sum.SumError.TheVariants.{OutOfMemory, Count, Spot, Names, Runs}
+use Rattle.rv_count_tables.specs.declared.sum_of_counts.NextCount.{NextCount}
+use Rattle.rv_count_tables.specs.declared.sum_of_images.NextImage.{NextImage}
+use Rattle.rv_count_tables.specs.declared.sum_of_names.NextName.{NextName}
+use Rattle.rv_count_tables.specs.Sum.{Agree, CountsHaveNoSum, HasNameIn, NamesHaveNoSum}
+use Rattle.rv_count_tables.specs.Table.{begun_at, taken_at, name_at, begun_in, taken_in, path_in, name_in, arrivals_in, steps_in, least_path_of}
+use Rattle.rv_count_tables.specs.Table.{rise_from, names_rise, digests_rise, IsCounted, IsImage, IsName}
+use Rattle.rv_call_tree.specs.Trees.{arrivals_at, ends_with, steps_at}
+
+-- at each address the sum of both counts; it rises from where both lists do
+pub record AddsUp (a b sum : List AddressCounts) : Type 0 where
+  pub each : AllByRecursion IsCounted sum
+  pub rising : (lowest : ℕ) → rise_from lowest a ≡ true → rise_from lowest b ≡ true → rise_from lowest sum ≡ true
+  pub begun : (address : ℕ) → begun_at address sum ≡ begun_at address a + begun_at address b
+  pub taken : (address : ℕ) → taken_at address sum ≡ taken_at address a + taken_at address b
+
+-- an entry, and of how many of each list it is the sum: ahead of the sum of the others it makes the
+-- sum of both lists
+pub record IsNextCount (a b : List AddressCounts) (next : NextCount) : Type 0 where
+  pub of_a : next.of_a ≤ length a
+  pub of_b : next.of_b ≤ length b
+  pub some : 0 < next.of_a + next.of_b
+  pub ahead : (others : List AddressCounts) → AddsUp (drop next.of_a a) (drop next.of_b b) others
+      → AddsUp a b (next.sum ∷ others)
+
+-- the same of names: for each function that of either; both have the same
+pub record NamesAddUp (a b sum : List FunctionName) : Type 0 where
+  pub each : AllByRecursion IsName sum
+  pub rising : (lowest : ℕ) → names_rise lowest a ≡ true → names_rise lowest b ≡ true → names_rise lowest sum ≡ true
+  pub agree : (lowest : ℕ) → names_rise lowest a ≡ true → names_rise lowest b ≡ true
+      → (function : ℕ) → Agree (name_at function a) (name_at function b)
+  pub names : (function : ℕ) → name_at function sum ≡ least_path_of (name_at function a) (name_at function b)
+
+pub record IsNextName (a b : List FunctionName) (next : NextName) : Type 0 where
+  pub of_a : next.of_a ≤ length a
+  pub of_b : next.of_b ≤ length b
+  pub some : 0 < next.of_a + next.of_b
+  pub ahead : (others : List FunctionName) → NamesAddUp (drop next.of_a a) (drop next.of_b b) others
+      → NamesAddUp a b (next.name ∷ others)
+
+-- the same of images: in the image of each digest the sum of both counts at each address and in each list of functions; of two
+-- paths the first; the name of each function, in which both agree
+pub record ImagesAddUp (a b sum : List ImageCounts) : Type 0 where
+  pub each : AllByRecursion IsImage sum
+  pub rising : (last : Option (List ℕ)) → digests_rise last a ≡ true → digests_rise last b ≡ true
+      → digests_rise last sum ≡ true
+  pub begun : (digest : List ℕ) (address : ℕ)
+      → begun_in digest address sum ≡ begun_in digest address a + begun_in digest address b
+  pub taken : (digest : List ℕ) (address : ℕ)
+      → taken_in digest address sum ≡ taken_in digest address a + taken_in digest address b
+  pub paths : (digest : List ℕ) → path_in digest sum ≡ least_path_of (path_in digest a) (path_in digest b)
+  pub agree : (last : Option (List ℕ)) → digests_rise last a ≡ true → digests_rise last b ≡ true
+      → (digest : List ℕ) (function : ℕ) → Agree (name_in digest function a) (name_in digest function b)
+  pub names : (digest : List ℕ) (function : ℕ)
+      → name_in digest function sum ≡ least_path_of (name_in digest function a) (name_in digest function b)
+  pub arrivals : (digest path : List ℕ)
+      → arrivals_in digest path sum ≡ arrivals_in digest path a + arrivals_in digest path b
+  pub steps : (digest path : List ℕ) → steps_in digest path sum ≡ steps_in digest path a + steps_in digest path b
+
+pub record IsNextImage (a b : List ImageCounts) (next : NextImage) : Type 0 where
+  pub of_a : next.of_a ≤ length a
+  pub of_b : next.of_b ≤ length b
+  pub some : 0 < next.of_a + next.of_b
+  pub ahead : (others : List ImageCounts) → ImagesAddUp (drop next.of_a a) (drop next.of_b b) others
+      → ImagesAddUp a b (next.image ∷ others)
+
+-- for the reason that is told some image of both has no sum
+abbrev pub ImagesHaveNoSum : SumError → List ImageCounts → List ImageCounts → Type 0
+ImagesHaveNoSum OutOfMemory a b = Unit {0}
+ImagesHaveNoSum (Count address) a b = (digest : List ℕ)
+    × (2 ^ 64 ≤ begun_in digest address a + begun_in digest address b)
+ImagesHaveNoSum (Spot function) a b = (digest : List ℕ) × (path : List ℕ) × (ends_with function path ≡ true)
+    × ((2 ^ 64 ≤ arrivals_in digest path a + arrivals_in digest path b)
+    ⊎ (2 ^ 64 ≤ steps_in digest path a + steps_in digest path b))
+ImagesHaveNoSum (Names function) a b = (digest : List ℕ) × (name : List ℕ) × (other : List ℕ)
+    × HasNameIn digest function name a × HasNameIn digest function other b × (name ≡ other → ⊥)
+ImagesHaveNoSum Runs a b = ⊥
+
+-- two images have none
+abbrev pub ImageHasNoSum : SumError → ImageCounts → ImageCounts → Type 0
+ImageHasNoSum OutOfMemory a b = Unit {0}
+ImageHasNoSum (Count address) a b = CountsHaveNoSum (Count address) a.addresses b.addresses
+ImageHasNoSum (Spot function) a b = (path : List ℕ) × (ends_with function path ≡ true)
+    × ((2 ^ 64 ≤ arrivals_at path a.spots + arrivals_at path b.spots)
+    ⊎ (2 ^ 64 ≤ steps_at path a.spots + steps_at path b.spots))
+ImageHasNoSum (Names function) a b = NamesHaveNoSum (Names function) a.functions b.functions
+ImageHasNoSum Runs a b = ⊥

@@ -1,0 +1,176 @@
+-- Tables of counts: how often each instruction of each image began, in which stacks, and which tables can be.
+use Rattle.std.specs.Prelude.{◌≡◌, ◌==◌, ◌+◌, ◌%◌, ◌^◌, ◌<◌, ◌≤◌, ℕ, if◌then◌else◌, List, [], ◌∷◌, length}
+use Rattle.std.specs.Prelude.{Option, Some, None, Bool, true, false, ◌&&◌, ◌||◌, nat_le, nat_lt}
+use Rattle.std.specs.List.{AllByRecursion}
+use Rattle.std.specs.Str.{bytes_eq, IsUtf8}
+use Rattle.rv_count_tables.specs.Lines.{lacks}
+use Rattle.rv_count_tables.specs.declared.table.AddressCounts.{AddressCounts}
+use Rattle.rv_count_tables.specs.declared.table.FunctionName.{FunctionName}
+use Rattle.rv_count_tables.specs.declared.table.ImageCounts.{ImageCounts}
+use Rattle.rv_count_tables.specs.declared.table.NamedSpot.{NamedSpot}
+use Rattle.rv_count_tables.specs.declared.table.CountTable.{CountTable}
+use Rattle.rv_call_tree.specs.declared.spot.Spot.{Spot}
+use Rattle.rv_call_tree.specs.Profiles.{is_last_of_some}
+use Rattle.rv_call_tree.specs.Trees.{arrivals_at, steps_at, IsTree}
+
+-- ---- what a table says
+
+-- how often the instruction at an address began
+abbrev pub begun_at : ℕ → List AddressCounts → ℕ
+begun_at address [] = 0
+begun_at address (c ∷ cs) = (if c.address == address then c.begun else 0) + begun_at address cs
+
+-- how often it was a conditional branch that was taken
+abbrev pub taken_at : ℕ → List AddressCounts → ℕ
+taken_at address [] = 0
+taken_at address (c ∷ cs) = (if c.address == address then c.taken else 0) + taken_at address cs
+
+-- the same in the image of a digest
+abbrev pub begun_in : List ℕ → ℕ → List ImageCounts → ℕ
+begun_in digest address [] = 0
+begun_in digest address (i ∷ is) =
+    (if bytes_eq i.digest digest then begun_at address i.addresses else 0) + begun_in digest address is
+
+abbrev pub taken_in : List ℕ → ℕ → List ImageCounts → ℕ
+taken_in digest address [] = 0
+taken_in digest address (i ∷ is) =
+    (if bytes_eq i.digest digest then taken_at address i.addresses else 0) + taken_in digest address is
+
+-- the order of bytes, as words in a dictionary
+unfoldable pub is_before : List ℕ → List ℕ → Bool
+is_before xs [] = false
+is_before [] (y ∷ ys) = true
+is_before (x ∷ xs) (y ∷ ys) = nat_lt x y || ((x == y) && is_before xs ys)
+
+-- the one that comes first
+abbrev pub least_path : List ℕ → List ℕ → List ℕ
+least_path path other = if is_before other path then other else path
+
+abbrev pub least_path_of : Option (List ℕ) → Option (List ℕ) → Option (List ℕ)
+least_path_of None other = other
+least_path_of (Some path) None = Some path
+least_path_of (Some path) (Some other) = Some (least_path path other)
+
+-- the path of the image of a digest, if there is such an image
+abbrev pub path_in : List ℕ → List ImageCounts → Option (List ℕ)
+path_in digest [] = None
+path_in digest (i ∷ is) =
+    least_path_of (if bytes_eq i.digest digest then Some i.path else None) (path_in digest is)
+
+-- the name of a function, if it has one
+abbrev pub name_at : ℕ → List FunctionName → Option (List ℕ)
+name_at function [] = None
+name_at function (n ∷ ns) = least_path_of (if n.function == function then Some n.name else None) (name_at function ns)
+
+-- the same in the image of a digest
+abbrev pub name_in : List ℕ → ℕ → List ImageCounts → Option (List ℕ)
+name_in digest function [] = None
+name_in digest function (i ∷ is) =
+    least_path_of (if bytes_eq i.digest digest then name_at function i.functions else None) (name_in digest function is)
+
+-- how often runs came to a list of functions of the image of a digest, and how many instructions began in it
+abbrev pub arrivals_in : List ℕ → List ℕ → List ImageCounts → ℕ
+arrivals_in digest path [] = 0
+arrivals_in digest path (i ∷ is) =
+    (if bytes_eq i.digest digest then arrivals_at path i.spots else 0) + arrivals_in digest path is
+
+abbrev pub steps_in : List ℕ → List ℕ → List ImageCounts → ℕ
+steps_in digest path [] = 0
+steps_in digest path (i ∷ is) =
+    (if bytes_eq i.digest digest then steps_at path i.spots else 0) + steps_in digest path is
+
+-- ---- tables that can be
+
+-- an instruction that began, at an even address; taken as often as it began, or less often
+pub record IsCounted (c : AddressCounts) : Type 0 where
+  pub address : c.address < 2 ^ 32
+  pub even : c.address % 2 ≡ 0
+  pub begun : 0 < c.begun
+  pub fits : c.begun < 2 ^ 64
+  pub taken : c.taken ≤ c.begun
+
+-- addresses rise, and none is below the lowest
+unfoldable pub rise_from : ℕ → List AddressCounts → Bool
+rise_from lowest [] = true
+rise_from lowest (c ∷ cs) = nat_le lowest c.address && rise_from (c.address + 1) cs
+
+-- each address stands once, in order
+pub record AreCounts (cs : List AddressCounts) : Type 0 where
+  pub each : AllByRecursion IsCounted cs
+  pub rising : rise_from 0 cs ≡ true
+
+-- the name of a function, which ends where its line does
+pub record IsName (n : FunctionName) : Type 0 where
+  pub function : n.function < 2 ^ 32
+  pub name : lacks 10 n.name ≡ true
+  pub text : IsUtf8 n.name
+
+-- functions rise, and none is below the lowest
+unfoldable pub names_rise : ℕ → List FunctionName → Bool
+names_rise lowest [] = true
+names_rise lowest (n ∷ ns) = nat_le lowest n.function && names_rise (n.function + 1) ns
+
+-- each function stands once, in order
+pub record AreNames (ns : List FunctionName) : Type 0 where
+  pub each : AllByRecursion IsName ns
+  pub rising : names_rise 0 ns ≡ true
+
+-- a list of functions that a run came to
+pub record IsSpot (s : Spot) : Type 0 where
+  pub depth : s.depth < 2 ^ 64
+  pub function : s.function < 2 ^ 32
+  pub some : 0 < s.arrivals
+  pub arrivals : s.arrivals < 2 ^ 64
+  pub steps : s.steps < 2 ^ 64
+
+-- with the name of its function
+pub record IsNamedSpot (n : NamedSpot) : Type 0 where
+  pub spot : IsSpot n.spot
+  pub name : lacks 10 n.name ≡ true
+  pub text : IsUtf8 n.name
+
+abbrev pub has_name : Option (List ℕ) → Bool
+has_name None = false
+has_name (Some name) = true
+
+-- the name that a list has of a function, if it has one
+abbrev pub name_of : ℕ → List FunctionName → Option (List ℕ)
+name_of function [] = None
+name_of function (n ∷ ns) = if n.function == function then Some n.name else name_of function ns
+
+-- each function of the spots has a name, and no other one
+abbrev pub AreNamesOf : List Spot → List FunctionName → Type 0
+AreNamesOf spots names = (function : ℕ) → has_name (name_of function names) ≡ is_last_of_some function spots
+
+-- each list of functions stands once, in order
+pub record AreSpots (ss : List Spot) : Type 0 where
+  pub each : AllByRecursion IsSpot ss
+  pub tree : IsTree ss
+
+-- a path has no line feed, for it ends where its line does
+pub record IsImage (i : ImageCounts) : Type 0 where
+  pub digest : length i.digest ≡ 32
+  pub bytes : AllByRecursion (λ b. b < 256) i.digest
+  pub path : lacks 10 i.path ≡ true
+  pub text : IsUtf8 i.path
+  pub counts : AreCounts i.addresses
+  pub names : AreNames i.functions
+  pub spots : AreSpots i.spots
+  pub of_spots : AreNamesOf i.spots i.functions
+
+-- a digest stands behind the last one, if there is one
+abbrev pub is_behind : Option (List ℕ) → List ℕ → Bool
+is_behind None digest = true
+is_behind (Some last) digest = is_before last digest
+
+-- each digest stands once, in order, behind the last one
+unfoldable pub digests_rise : Option (List ℕ) → List ImageCounts → Bool
+digests_rise last [] = true
+digests_rise last (i ∷ is) = is_behind last i.digest && digests_rise (Some i.digest) is
+
+-- a table that can be
+pub record IsTable (t : CountTable) : Type 0 where
+  pub images : AllByRecursion IsImage t.images
+  pub rising : digests_rise None t.images ≡ true
+  pub few : length t.images < 2 ^ 64
+  pub runs : t.runs < 2 ^ 64

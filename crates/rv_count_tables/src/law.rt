@@ -1,0 +1,56 @@
+//! Laws of tables and sums, with nothing to run.
+
+ghost use Rattle.std.specs.Prelude.{◌≡◌, ℕ, List};
+ghost use Rattle.rv_count_tables.specs.declared.table.AddressCounts.{AddressCounts};
+ghost use Rattle.rv_count_tables.specs.declared.table.CountTable.{CountTable};
+ghost use Rattle.rv_count_tables.specs.Table.{AreCounts, IsTable, begun_at, taken_at, begun_in, taken_in, path_in, name_in, arrivals_in, steps_in};
+ghost use Rattle.rv_count_tables.specs.Text.{table_text};
+ghost use Rattle.rv_count_tables.specs.Sum.{IsSumOfCounts, IsSum, no_counts};
+
+/// Lists of counts that have the same numbers at each address are one.
+pub fn one_list_has_these_counts()
+    ensures { (a b : List AddressCounts) → AreCounts a → AreCounts b
+        → ((address : ℕ) → begun_at address a ≡ begun_at address b)
+        → ((address : ℕ) → taken_at address a ≡ taken_at address b) → a ≡ b }
+{}
+
+/// The sum of one image's counts doesn't depend on their order.
+pub fn sums_of_counts_commute()
+    ensures { (a b ab ba : List AddressCounts) → IsSumOfCounts a b ab → IsSumOfCounts b a ba → ab ≡ ba }
+{}
+
+/// Of three it doesn't matter which two are added first.
+pub fn sums_of_counts_associate()
+    ensures { (a b c ab bc first last : List AddressCounts) → IsSumOfCounts a b ab → IsSumOfCounts ab c first
+        → IsSumOfCounts b c bc → IsSumOfCounts a bc last → first ≡ last }
+{}
+
+/// Tables that have the same numbers at each address and in each list of functions of each image, the same paths and names, and
+/// the same runs are one.
+pub fn one_table_has_these_counts()
+    ensures { (t u : CountTable) → IsTable t → IsTable u
+        → ((digest : List ℕ) (address : ℕ) → begun_in digest address t.images ≡ begun_in digest address u.images)
+        → ((digest : List ℕ) (address : ℕ) → taken_in digest address t.images ≡ taken_in digest address u.images)
+        → ((digest : List ℕ) → path_in digest t.images ≡ path_in digest u.images)
+        → ((digest : List ℕ) (function : ℕ) → name_in digest function t.images ≡ name_in digest function u.images)
+        → ((digest path : List ℕ) → arrivals_in digest path t.images ≡ arrivals_in digest path u.images)
+        → ((digest path : List ℕ) → steps_in digest path t.images ≡ steps_in digest path u.images)
+        → t.runs ≡ u.runs → t ≡ u }
+{}
+
+/// The sum of two tables does not depend on their order, nor that of three on which two are added first.
+pub fn sums_of_tables_are_sums()
+    ensures commute { (a b ab ba : CountTable) → IsSum a b ab → IsSum b a ba → ab ≡ ba }
+    ensures associate { (a b c ab bc first last : CountTable) → IsSum a b ab → IsSum ab c first
+        → IsSum b c bc → IsSum a bc last → first ≡ last }
+{}
+
+/// A text is that of one table at most: what two tables write alike is one table.
+pub fn one_table_has_this_text()
+    ensures { (t u : CountTable) → IsTable t → IsTable u → table_text t ≡ table_text u → t ≡ u }
+{}
+
+/// The table of no run changes nothing.
+pub fn empty_table_adds_nothing()
+    ensures { (t : CountTable) → IsTable t → IsSum no_counts t t }
+{}

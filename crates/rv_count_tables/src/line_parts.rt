@@ -1,0 +1,103 @@
+//! What the parts of a line say. Any text says something: whether a table has the line is seen by writing it.
+
+ghost use Rattle.std.specs.Prelude.{◌≡◌, ◌≤◌, ◌<◌, ◌^◌, ℕ, IfOk, take, length};
+ghost use Rattle.std.specs.Fmt.{decimal};
+ghost use Rattle.rv_text.specs.Words.{word_digits};
+ghost use Rattle.rv_count_tables.specs.Lines.{place_of_byte, text_before_byte, text_after_byte, whole_line, hex_digit_value, hex_bytes};
+
+use hex::FromHexError;
+use rv_text::tail_from;
+use std::alloc::{AllocError, Global};
+
+/// The first bytes, or all where there are fewer.
+pub(crate) fn leading_bytes(text: &[u8], count: usize) -> &[u8]
+    ensures { result.now ≡ take count text.now }
+{
+    if count <= text.len() {
+        &text[..count]
+    } else {
+        text
+    }
+}
+
+/// The place of a byte, or the length.
+pub(crate) fn place_of_byte(byte: u8, text: &[u8]) -> usize
+    ensures place { result ≡ place_of_byte byte text.now }
+    ensures within { result ≤ length text.now }
+{
+    for (place, b) in text.iter().enumerate() {
+        if *b == byte {
+            return place;
+        }
+    }
+    text.len()
+}
+
+pub(crate) fn text_before_byte(byte: u8, text: &[u8]) -> &[u8]
+    ensures { result.now ≡ text_before_byte byte text.now }
+{
+    leading_bytes(text, place_of_byte(byte, text))
+}
+
+pub(crate) fn text_after_byte(byte: u8, text: &[u8]) -> &[u8]
+    ensures { result.now ≡ text_after_byte byte text.now }
+{
+    tail_from(text, place_of_byte(byte, text) + 1)
+}
+
+/// The first line with its line feed, or nothing where no line feed is ahead.
+#[tactic(auto, unfolding(crate::specs::Lines::whole_line))]
+pub(crate) fn whole_line(text: &[u8]) -> &[u8]
+    ensures { result.now ≡ whole_line text.now }
+{
+    let place = place_of_byte(b'\n', text);
+    if place == text.len() {
+        &[]
+    } else {
+        leading_bytes(text, place + 1)
+    }
+}
+
+/// The number that decimal digits write.
+pub(crate) fn decimal_number(text: &[u8]) -> u64
+    ensures { (number : ℕ) → number < 2 ^ 64 → text.now ≡ decimal number → result ≡ number }
+{
+    let mut value: u64 = 0;
+    for b in text {
+        value = value
+            .saturating_mul(10)
+            .saturating_add(u64::from(b.saturating_sub(48)));
+    }
+    value
+}
+
+/// The word that lower-case hexadecimal digits write.
+pub(crate) fn hex_word(digits: &[u8]) -> u32
+    ensures { (word : ℕ) → word < 2 ^ 32 → digits.now ≡ word_digits word → result ≡ word }
+{
+    let mut value: u32 = 0;
+    for b in digits {
+        value = value
+            .saturating_mul(16)
+            .saturating_add(u32::from(hex_digit_value(*b)));
+    }
+    value
+}
+
+fn hex_digit_value(b: u8) -> u8
+    ensures { result ≡ hex_digit_value b }
+{
+    if b < 97 { b.saturating_sub(48) } else { b - 87 }
+}
+
+/// The bytes that hexadecimal digits write; none where they write none.
+#[tactic(auto, unfolding(crate::specs::Lines::hex_bytes))]
+pub(crate) fn hex_bytes(alloc: Global, text: &[u8]) -> Result<Vec<u8>, AllocError>
+    ensures { IfOk result (λ bytes. bytes.items ≡ hex_bytes text.now) }
+{
+    match hex::decode(alloc, text) {
+        Ok(bytes) => Ok(bytes),
+        Err(FromHexError::OutOfMemory) => Err(AllocError),
+        Err(_) => Ok(Vec::new(alloc)),
+    }
+}

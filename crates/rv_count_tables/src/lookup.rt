@@ -1,0 +1,54 @@
+//! Counts by address.
+
+ghost use Rattle.std.specs.Prelude.{◌≡◌, ◌<◌, ◌≤◌, ◌&&◌, ℕ, length, nat_le, nat_lt, slice_index_or, true};
+ghost use Rattle.std.specs.List.{list_any};
+ghost use Rattle.rv_count_tables.specs.declared.table.AddressCounts.{AddressCounts as Counts};
+ghost use Rattle.rv_count_tables.specs.Table.{begun_at, rise_from, taken_at};
+
+use crate::table::AddressCounts;
+
+/// How often the instruction at an address began, and how often it was a branch that was taken.
+pub fn counts_at(counts: &[AddressCounts], address: u32) -> AddressCounts
+    requires { rise_from 0 counts.now ≡ true }
+    ensures { result ≡ record { address = address; begun = begun_at address counts.now; taken = taken_at address counts.now } }
+{
+    let place = place_of_address(counts, address);
+    if place < counts.len() && counts[place].address == address {
+        return counts[place];
+    }
+    AddressCounts {
+        address,
+        begun: 0,
+        taken: 0,
+    }
+}
+
+/// Whether an instruction began at one of the addresses from one on, in front of another.
+pub fn has_begun_within(counts: &[AddressCounts], from: u32, behind: u64) -> bool
+    requires { rise_from 0 counts.now ≡ true }
+    ensures { result ≡ list_any (λ c. nat_le from c.address && nat_lt c.address behind) counts.now }
+{
+    let place = place_of_address(counts, from);
+    place < counts.len() && u64::from(counts[place].address) < behind
+}
+
+/// How many entries have lower addresses: these stand first.
+pub fn place_of_address(counts: &[AddressCounts], address: u32) -> usize
+    requires { rise_from 0 counts.now ≡ true }
+    ensures within { result ≤ length counts.now }
+    ensures lower { (k : ℕ) (d : Counts) → k < result → (slice_index_or counts.now k d).address < address }
+    ensures higher { (d : Counts) → result < length counts.now
+        → address ≤ (slice_index_or counts.now result d).address }
+{
+    let mut low = 0;
+    let mut high = counts.len();
+    while low < high {
+        let middle = low + (high - low) / 2;
+        if counts[middle].address < address {
+            low = middle + 1;
+        } else {
+            high = middle;
+        }
+    }
+    low
+}

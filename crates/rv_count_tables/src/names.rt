@@ -1,0 +1,48 @@
+//! The names of one image's functions, looked up and added.
+
+ghost use Rattle.std.specs.Prelude.{◌≡◌, ◌==◌, nat_lt, option_map, OnOk};
+ghost use Rattle.std.specs.List.{find, prefix_len};
+ghost use Rattle.rv_count_tables.specs.ReadSteps.{with_name};
+ghost use Rattle.rv_count_tables.specs.Table.{name_of};
+
+use crate::table::FunctionName;
+use std::alloc::AllocError;
+
+/// The name of a function, if it has one. Takes the time of one pass.
+pub fn name_of(names: &[FunctionName], function: u32) -> Option<&str>
+    ensures { option_map (λ name. name.now) result ≡ name_of function names.now }
+{
+    match first_of(names, function) {
+        Some(found) => Some(found.name.as_str()),
+        None => None,
+    }
+}
+
+fn first_of(names: &[FunctionName], function: u32) -> Option<&FunctionName>
+    ensures { option_map (λ found. found.now) result ≡ find (λ name. name.function == function) names.now }
+{
+    names.iter().find(|name| name.function == function)
+}
+
+/// Adds a name behind those of lower functions, where its function has none.
+pub fn add_name(names: &mut Vec<FunctionName>, name: FunctionName) -> Result<(), AllocError>
+    ensures { OnOk result (names.new.items ≡ with_name name names.old.items) }
+{
+    if name_of(names.as_slice(), name.function).is_some() {
+        return Ok(());
+    }
+    let place = lower_functions(names.as_slice(), name.function);
+    names.insert(place, name)?;
+    Ok(())
+}
+
+// How many names of lower functions stand first.
+fn lower_functions(names: &[FunctionName], function: u32) -> usize
+    ensures { result ≡ prefix_len (λ m. nat_lt m.function function) names.now }
+{
+    let mut count = 0;
+    while count < names.len() && names[count].function < function {
+        count += 1;
+    }
+    count
+}

@@ -1,0 +1,30 @@
+//! The order of bytes.
+
+ghost use Rattle.std.specs.Prelude.{◌≡◌};
+ghost use Rattle.rv_count_tables.specs.Table.{is_before, least_path};
+
+/// Whether bytes come before others, as words do in a dictionary.
+pub(crate) fn is_before(a: &[u8], b: &[u8]) -> bool
+    ensures { result ≡ is_before a.now b.now }
+{
+    for (at, other) in b.iter().enumerate() {
+        if at == a.len() || a[at] < *other {
+            return true;
+        }
+        if *other < a[at] {
+            return false;
+        }
+    }
+    false
+}
+
+/// The path that comes first in the order of bytes.
+pub(crate) fn least_path<'a>(path: &'a str, other: &'a str) -> &'a str
+    ensures { result.now ≡ least_path path.now other.now }
+{
+    if is_before(other.as_bytes(), path.as_bytes()) {
+        other
+    } else {
+        path
+    }
+}

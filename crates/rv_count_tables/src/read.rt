@@ -1,0 +1,96 @@
+//! Reading: the table whose text it is, or the first line that no table has there.
+
+ghost use Rattle.std.specs.Prelude.{◌≡◌, ◌+◌, ◌≤◌, IfOk, IfErr, length, take, drop};
+ghost use Rattle.rv_count_tables.specs.declared.table.CountTable.{CountTable as Counted};
+ghost use Rattle.rv_count_tables.specs.Lines.{count_of_line_feeds, whole_line};
+ghost use Rattle.rv_count_tables.specs.Table.{IsTable};
+ghost use Rattle.rv_count_tables.specs.Text.{table_text};
+ghost use Rattle.rv_count_tables.specs.Read.{AnswersUnlessMemory, IsLeast, read_error_at};
+ghost use Rattle.rv_count_tables.specs.declared.read.ReadError.TheVariants.{OutOfMemory, CutOff};
+
+use crate::line_parts::{leading_bytes, whole_line};
+use crate::read_lines::{read_images, runs_of_last_line};
+use crate::table::CountTable;
+use rv_text::tail_from;
+use std::alloc::{AllocError, Global};
+use thiserror::Error;
+
+/// Why a text was not read.
+#[derive(Clone, Copy, Debug, Error, PartialEq, Eq)]
+pub enum ReadError {
+    /// A growth was refused.
+    #[error("out of memory")]
+    OutOfMemory,
+    /// The first line, from 1, that no table has there.
+    #[error("no table of counts has line {0} here")]
+    Line(usize),
+    /// The text ends before its table does: its whole lines are those of some table.
+    #[error("the table is cut off")]
+    CutOff,
+}
+
+impl From<AllocError> for ReadError {
+    ghost from_gives = { λ _ error. error ≡ OutOfMemory };
+
+    fn from(_: AllocError) -> ReadError {
+        ReadError::OutOfMemory
+    }
+}
+
+/// The table whose text this is. Takes memory for the table, and for one line more.
+pub fn read_table(alloc: Global, bytes: &[u8]) -> Result<CountTable, ReadError>
+    // What is read has this text, and is a table that can be.
+    ensures found { IfOk result (λ table. IsTable table) }
+    ensures text { IfOk result (λ table. table_text table ≡ bytes.now) }
+    // What has this text is read.
+    ensures only { (table : Counted) → IsTable table → table_text table ≡ bytes.now
+        → AnswersUnlessMemory table result }
+    // Some table begins with the lines before the one that the error names, and none with those and it.
+    ensures least { IfErr result (λ error. IsLeast error bytes.now) }
+{
+    if whole_line(bytes) != "rvcounts 1\n".as_bytes() {
+        return Err(refused_at(bytes, 0));
+    }
+    let read = read_images(alloc, tail_from(bytes, 11))?;
+    let place = 11 + read.length;
+    let line = whole_line(tail_from(bytes, place));
+    match runs_of_last_line(alloc, line, read.images.as_slice().len())? {
+        None => Err(refused_at(bytes, place)),
+        Some(runs) => {
+            let end = place + line.len();
+            if end == bytes.len() {
+                Ok(CountTable {
+                    images: read.images,
+                    runs,
+                })
+            } else {
+                Err(ReadError::Line(number_of_line(bytes, end)))
+            }
+        }
+    }
+}
+
+// What is told where the line at a place is refused.
+fn refused_at(bytes: &[u8], place: usize) -> ReadError
+    ensures { result ≡ read_error_at place bytes.now }
+{
+    if whole_line(tail_from(bytes, place)).is_empty() {
+        ReadError::CutOff
+    } else {
+        ReadError::Line(number_of_line(bytes, place))
+    }
+}
+
+// The number of the line at a place, from 1.
+fn number_of_line(bytes: &[u8], place: usize) -> usize
+    ensures { result ≡ count_of_line_feeds (take place bytes.now) + 1 }
+{
+    let front = leading_bytes(bytes, place);
+    let mut number = 1;
+    for b in front {
+        if *b == b'\n' {
+            number += 1;
+        }
+    }
+    number
+}

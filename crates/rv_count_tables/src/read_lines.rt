@@ -1,0 +1,231 @@
+//! Lines of a table, read as far as they can stand there. Each line is taken for what it seems to say, that is written,
+//! and both lines are compared.
+
+ghost use Rattle.std.specs.Prelude.{◌≡◌, ◌≤◌, ◌<◌, ◌^◌, ℕ, Some, None, IfOk, IfSome, IfNone, length, true, IsTrue, ◌↔◌, ◌&&◌, ◌==◌, nat_le, nat_lt};
+ghost use Rattle.std.specs.List.{AllByRecursion};
+ghost use Rattle.std.specs.Str.{bytes_eq, IsUtf8};
+ghost use Rattle.rv_count_tables.specs.declared.table.AddressCounts.{AddressCounts as Counts};
+ghost use Rattle.rv_count_tables.specs.declared.table.ImageCounts.{ImageCounts as Image};
+ghost use Rattle.rv_count_tables.specs.Lines.{whole_line};
+ghost use Rattle.rv_count_tables.specs.Table.{IsCounted, IsImage, is_behind};
+ghost use Rattle.rv_count_tables.specs.Text.{address_line, image_line, last_line};
+ghost use Rattle.rv_count_tables.specs.ReadSteps.{AreAddressLines, AreImageLines, IsOneImage, IsNoAddress, IsNoImage, last_digest};
+
+use crate::growth::push_item;
+use crate::line_parts::{
+    decimal_number, hex_bytes, hex_word, leading_bytes, text_after_byte, text_before_byte,
+    whole_line,
+};
+use crate::order::is_before;
+use crate::read_stacks::read_spots;
+use crate::table::{AddressCounts, Addresses, Digest, FunctionNames, ImageCounts, Images};
+use crate::text::{push_address_line, push_image_line, push_last_line};
+use rv_base::Text;
+use rv_call_tree::Spots;
+use rv_text::tail_from;
+use std::alloc::{AllocError, Global};
+
+/// Addresses that were read, and how many bytes their lines have.
+#[derive(Drop)]
+pub(crate) struct AddressLines {
+    pub(crate) addresses: Addresses,
+    pub(crate) length: usize,
+}
+
+/// An image that was read, and how many bytes its lines have.
+#[derive(Drop)]
+pub(crate) struct OneImage {
+    pub(crate) image: ImageCounts,
+    pub(crate) length: usize,
+}
+
+/// Images that were read, and how many bytes their lines have.
+#[derive(Drop)]
+pub(crate) struct ImageLines {
+    pub(crate) images: Images,
+    pub(crate) length: usize,
+}
+
+/// The images of the first lines, as many as there are.
+pub(crate) fn read_images(alloc: Global, text: &[u8]) -> Result<ImageLines, AllocError>
+    ensures { IfOk result (λ read. AreImageLines text.now read) }
+{
+    let mut images = Vec::new(alloc);
+    let mut length = 0;
+    'images: loop {
+        match read_image(alloc, tail_from(text, length), images.as_slice())? {
+            Some(read) => {
+                length += read.length;
+                push_item(&mut images, read.image)?;
+            }
+            None => {
+                return Ok(ImageLines {
+                    images: Images::new(images),
+                    length,
+                });
+            }
+        }
+    }
+}
+
+// The image whose lines stand first, if it can stand behind the earlier ones.
+fn read_image(
+    alloc: Global,
+    text: &[u8],
+    earlier: &[ImageCounts],
+) -> Result<Option<OneImage>, AllocError>
+    ensures found { IfOk result (λ read. IfSome read (IsOneImage (last_digest None earlier.now) text.now)) }
+    ensures none { IfOk result (λ read. IfNone read (IsNoImage (last_digest None earlier.now) (whole_line text.now))) }
+{
+    let line = whole_line(text);
+    let mut image = image_of_line(alloc, line)?;
+    if !can_follow(image.digest.as_slice(), earlier) {
+        return Ok(None);
+    }
+    if !has_image_line(alloc, &image, line)? {
+        return Ok(None);
+    }
+    let lines = read_addresses(alloc, tail_from(text, line.len()))?;
+    let addresses_end = line.len() + lines.length;
+    let spots = read_spots(alloc, tail_from(text, addresses_end))?;
+    let length = addresses_end + spots.length;
+    image.addresses = lines.addresses;
+    image.functions = spots.functions;
+    image.spots = spots.spots;
+    Ok(Some(OneImage { image, length }))
+}
+
+// Whether it is a digest, and greater than those before.
+fn can_follow(digest: &[u8], earlier: &[ImageCounts]) -> bool
+    ensures value { result ≡ ((length digest.now == 32) && is_behind (last_digest None earlier.now) digest.now) }
+    ensures bytes { AllByRecursion (λ b. b < 256) digest.now }
+{
+    digest.len() == 32
+        && match earlier.last() {
+            Some(last) => is_before(last.digest.as_slice(), digest),
+            None => true,
+        }
+}
+
+// The addresses of the first lines, as many as there are.
+fn read_addresses(alloc: Global, text: &[u8]) -> Result<AddressLines, AllocError>
+    ensures { IfOk result (λ read. AreAddressLines text.now read) }
+{
+    let mut addresses = Vec::new(alloc);
+    let mut length = 0;
+    let mut lowest = 0;
+    'lines: loop {
+        let line = whole_line(tail_from(text, length));
+        match next_counts(alloc, line, lowest)? {
+            Some(counts) => {
+                length += line.len();
+                lowest = u64::from(counts.address) + 1;
+                push_item(&mut addresses, counts)?;
+            }
+            None => {
+                return Ok(AddressLines {
+                    addresses: Addresses::new(addresses),
+                    length,
+                });
+            }
+        }
+    }
+}
+
+// The counts of a line, if it is of an address that can stand there.
+fn next_counts(alloc: Global, line: &[u8], lowest: u64) -> Result<Option<AddressCounts>, AllocError>
+    ensures counted { IfOk result (λ read. IfSome read IsCounted) }
+    ensures low { IfOk result (λ read. IfSome read (λ c. lowest ≤ c.address)) }
+    ensures line { IfOk result (λ read. IfSome read (λ c. line.now ≡ address_line c)) }
+    ensures none { IfOk result (λ read. IfNone read (IsNoAddress lowest line.now)) }
+{
+    let counts = counts_of_line(line);
+    if can_stand(counts, lowest) && has_address_line(alloc, counts, line)? {
+        Ok(Some(counts))
+    } else {
+        Ok(None)
+    }
+}
+
+// Whether a table can have these counts behind lower addresses.
+fn can_stand(counts: AddressCounts, lowest: u64) -> bool
+    ensures { IsTrue result ↔ (IsCounted counts × (lowest ≤ counts.address)) }
+{
+    counts.address % 2 == 0
+        && 0 < counts.begun
+        && counts.taken <= counts.begun
+        && lowest <= u64::from(counts.address)
+}
+
+// ADDRESS BEGUN TAKEN
+fn counts_of_line(line: &[u8]) -> AddressCounts
+    ensures { (c : Counts) → IsCounted c → line.now ≡ address_line c → result ≡ c }
+{
+    let numbers = tail_from(line, 9);
+    AddressCounts {
+        address: hex_word(leading_bytes(line, 8)),
+        begun: decimal_number(text_before_byte(b' ', numbers)),
+        taken: decimal_number(text_before_byte(b'\n', text_after_byte(b' ', numbers))),
+    }
+}
+
+fn has_address_line(alloc: Global, counts: AddressCounts, line: &[u8]) -> Result<bool, AllocError>
+    ensures { IfOk result (λ same. same ≡ bytes_eq line.now (address_line counts)) }
+{
+    let mut text = String::new(alloc);
+    push_address_line(alloc, &mut text, counts)?;
+    Ok(line == text.as_bytes())
+}
+
+// image DIGEST PATH
+fn image_of_line(alloc: Global, line: &[u8]) -> Result<ImageCounts, AllocError>
+    ensures digest { (i : Image) → IsImage i → line.now ≡ image_line i
+        → IfOk result (λ read. read.digest ≡ i.digest) }
+    ensures path { (i : Image) → IsImage i → line.now ≡ image_line i
+        → IfOk result (λ read. read.path ≡ i.path) }
+    ensures text { IfOk result (λ read. IsUtf8 read.path) }
+{
+    let words = tail_from(line, 6);
+    let digest = hex_bytes(alloc, text_before_byte(b' ', words))?;
+    let path = String::from_utf8_lossy(
+        alloc,
+        text_before_byte(b'\n', text_after_byte(b' ', words)),
+    )?;
+    Ok(ImageCounts {
+        digest: Digest::new(digest),
+        path: Text::new(path),
+        addresses: Addresses::new(Vec::new(alloc)),
+        functions: FunctionNames::new(Vec::new(alloc)),
+        spots: Spots::new(Vec::new(alloc)),
+    })
+}
+
+fn has_image_line(alloc: Global, image: &ImageCounts, line: &[u8]) -> Result<bool, AllocError>
+    ensures { IfOk result (λ same. same ≡ bytes_eq line.now (image_line image.now)) }
+{
+    let mut text = String::new(alloc);
+    push_image_line(alloc, &mut text, image)?;
+    Ok(line == text.as_bytes())
+}
+
+/// The number of runs, if the line is the last one of so many images.
+pub(crate) fn runs_of_last_line(
+    alloc: Global,
+    line: &[u8],
+    images: usize,
+) -> Result<Option<u64>, AllocError>
+    ensures few { images < 2 ^ 64 }
+    ensures fits { IfOk result (λ read. IfSome read (λ runs. runs < 2 ^ 64)) }
+    ensures line { IfOk result (λ read. IfSome read (λ runs. line.now ≡ last_line images runs)) }
+    ensures none { IfOk result (λ read. IfNone read ((runs : ℕ) → runs < 2 ^ 64 → line.now ≡ last_line images runs → ⊥)) }
+{
+    let words = tail_from(line, 5);
+    let runs = decimal_number(text_before_byte(b'\n', text_after_byte(b' ', words)));
+    let mut text = String::new(alloc);
+    push_last_line(&mut text, images, runs)?;
+    if line == text.as_bytes() {
+        Ok(Some(runs))
+    } else {
+        Ok(None)
+    }
+}

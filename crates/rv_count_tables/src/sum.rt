@@ -1,0 +1,76 @@
+//! The sum of two tables.
+
+ghost use Rattle.std.specs.Prelude.{◌≡◌, IfOk, IfErr};
+ghost use Rattle.rv_count_tables.specs.Sum.{IsSum, HaveNoSum, sum_error_of};
+ghost use Rattle.rv_count_tables.specs.Table.{IsTable};
+ghost use Rattle.rv_count_tables.specs.declared.sum.SumError.TheVariants.{OutOfMemory};
+
+use crate::sum_of_images::{add_images, sum_of_images};
+use crate::table::CountTable;
+use rv_call_tree::SpotSumError;
+use std::alloc::{AllocError, Global};
+use thiserror::Error;
+
+/// Why two tables have no sum.
+#[derive(Clone, Copy, Debug, Error, PartialEq, Eq)]
+pub enum SumError {
+    /// A growth was refused.
+    #[error("out of memory")]
+    OutOfMemory,
+    /// The instruction at the address began 2^64 times or more, in one image.
+    #[error("a count of {0:08x} does not fit in 64 bits")]
+    Count(u32),
+    /// A number of a spot of the function is of 2^64 or more, in one image.
+    #[error("a count in the stacks of {0:08x} does not fit in 64 bits")]
+    Spot(u32),
+    /// The function has one name in one table, and another in the other, in one image.
+    #[error("{0:08x} has two names in one image")]
+    Names(u32),
+    /// There are 2^64 runs or more.
+    #[error("the number of runs does not fit in 64 bits")]
+    Runs,
+}
+
+impl From<AllocError> for SumError {
+    ghost from_gives = { λ _ error. error ≡ OutOfMemory };
+
+    fn from(_: AllocError) -> SumError {
+        SumError::OutOfMemory
+    }
+}
+
+impl From<SpotSumError> for SumError {
+    ghost from_gives = { λ why error. error ≡ sum_error_of why };
+
+    fn from(why: SpotSumError) -> SumError {
+        match why {
+            SpotSumError::OutOfMemory => SumError::OutOfMemory,
+            SpotSumError::Count(function) => SumError::Spot(function),
+        }
+    }
+}
+
+/// The sum of two tables: an image is known by its digest, and each of its counts is the sum of both. Takes memory for the sum
+/// alone.
+pub fn sum_of_tables(alloc: Global, a: &CountTable, b: &CountTable) -> Result<CountTable, SumError>
+    requires a { IsTable a.now }
+    requires b { IsTable b.now }
+    ensures value { IfOk result (λ sum. IsSum a.now b.now sum) }
+    ensures refused { IfErr result (λ error. HaveNoSum error a.now b.now) }
+{
+    let runs = a.runs.checked_add(b.runs).ok_or(SumError::Runs)?;
+    let images = sum_of_images(alloc, a.images.as_slice(), b.images.as_slice())?;
+    Ok(CountTable { images, runs })
+}
+
+/// The same sum of tables that are given away: where one of them has no image, the images of the other are moved, and not copied.
+pub fn add_table(alloc: Global, sum: CountTable, table: CountTable) -> Result<CountTable, SumError>
+    requires sum { IsTable sum }
+    requires table { IsTable table }
+    ensures value { IfOk result (λ total. IsSum sum table total) }
+    ensures refused { IfErr result (λ error. HaveNoSum error sum table) }
+{
+    let runs = sum.runs.checked_add(table.runs).ok_or(SumError::Runs)?;
+    let images = add_images(alloc, sum.images, table.images)?;
+    Ok(CountTable { images, runs })
+}

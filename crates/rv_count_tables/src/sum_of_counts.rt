@@ -1,0 +1,114 @@
+//! The sum of the counts of one image.
+
+ghost use Rattle.std.specs.Prelude.{◌≡◌, ◌+◌, ◌^◌, ◌≤◌, ◌<◌, IfOk, IfErr, length};
+ghost use Rattle.std.specs.List.{AllByRecursion};
+ghost use Rattle.rv_count_tables.specs.Sum.{IsSumOfCounts, CountsHaveNoSum};
+ghost use Rattle.rv_count_tables.specs.SumSteps.{IsNextCount};
+ghost use Rattle.rv_count_tables.specs.Table.{AreCounts, IsCounted};
+ghost use Rattle.rv_count_tables.specs.declared.sum.SumError.TheVariants.{Count};
+
+use crate::growth::push_item;
+use crate::sum::SumError;
+use crate::table::{AddressCounts, Addresses};
+use std::alloc::Global;
+
+/// The sum at each address. Takes memory for the sum alone.
+pub(crate) fn sum_of_counts(
+    alloc: Global,
+    a: &[AddressCounts],
+    b: &[AddressCounts],
+) -> Result<Addresses, SumError>
+    requires a { AreCounts a.now }
+    requires b { AreCounts b.now }
+    ensures value { IfOk result (λ sum. IsSumOfCounts a.now b.now sum) }
+    ensures refused { IfErr result (λ error. CountsHaveNoSum error a.now b.now) }
+{
+    let mut sums = Vec::new(alloc);
+    let mut from_a = 0;
+    let mut from_b = 0;
+    while from_a < a.len() || from_b < b.len() {
+        let next = next_count(&a[from_a..], &b[from_b..])?;
+        push_item(&mut sums, next.sum)?;
+        from_a += next.of_a;
+        from_b += next.of_b;
+    }
+    Ok(Addresses::new(sums))
+}
+
+/// The first entry of a sum, and of how many entries of each list it is the sum.
+#[derive(Clone, Copy)]
+pub(crate) struct NextCount {
+    pub(crate) sum: AddressCounts,
+    pub(crate) of_a: usize,
+    pub(crate) of_b: usize,
+}
+
+// The entry of the lowest address in both lists.
+fn next_count(a: &[AddressCounts], b: &[AddressCounts]) -> Result<NextCount, SumError>
+    requires a { AllByRecursion IsCounted a.now }
+    requires b { AllByRecursion IsCounted b.now }
+    requires some { 0 < length a.now + length b.now }
+    ensures value { IfOk result (λ next. IsNextCount a.now b.now next) }
+    ensures refused { IfErr result (λ error. CountsHaveNoSum error a.now b.now) }
+{
+    if b.is_empty() {
+        return Ok(count_of_first(a[0]));
+    }
+    if a.is_empty() {
+        return Ok(count_of_second(b[0]));
+    }
+    if a[0].address < b[0].address {
+        return Ok(count_of_first(a[0]));
+    }
+    if b[0].address < a[0].address {
+        return Ok(count_of_second(b[0]));
+    }
+    let sum = sum_at_address(a[0], b[0])?;
+    Ok(NextCount {
+        sum,
+        of_a: 1,
+        of_b: 1,
+    })
+}
+
+fn count_of_first(sum: AddressCounts) -> NextCount
+    ensures { result ≡ record { sum = sum; of_a = 1; of_b = 0 } }
+{
+    NextCount {
+        sum,
+        of_a: 1,
+        of_b: 0,
+    }
+}
+
+fn count_of_second(sum: AddressCounts) -> NextCount
+    ensures { result ≡ record { sum = sum; of_a = 0; of_b = 1 } }
+{
+    NextCount {
+        sum,
+        of_a: 0,
+        of_b: 1,
+    }
+}
+
+// The sum of two counts of one address.
+fn sum_at_address(a: AddressCounts, b: AddressCounts) -> Result<AddressCounts, SumError>
+    requires a { IsCounted a }
+    requires b { IsCounted b }
+    ensures address { IfOk result (λ sum. sum.address ≡ a.address) }
+    ensures begun { IfOk result (λ sum. sum.begun ≡ a.begun + b.begun) }
+    ensures taken { IfOk result (λ sum. sum.taken ≡ a.taken + b.taken) }
+    ensures error { IfErr result (λ error. error ≡ Count a.address) }
+    ensures too_great { IfErr result (λ error. 2 ^ 64 ≤ a.begun + b.begun) }
+    ensures fits { IfOk result (λ sum. sum.begun < 2 ^ 64) }
+{
+    match a.begun.checked_add(b.begun) {
+        // It was taken as often as it began, or less often: so this sum fits too.
+        Some(begun) => Ok(AddressCounts {
+            address: a.address,
+            begun,
+            taken: a.taken + b.taken,
+        }),
+        None => Err(SumError::Count(a.address)),
+    }
+}

@@ -1,0 +1,131 @@
+//! The sum of the names of one image's functions.
+
+ghost use Rattle.std.specs.Prelude.{◌≡◌, ◌+◌, ◌<◌, ◌↔◌, IfOk, IfErr, IsTrue, length};
+ghost use Rattle.std.specs.List.{AllByRecursion};
+ghost use Rattle.rv_count_tables.specs.declared.sum.SumError.TheVariants.{OutOfMemory};
+ghost use Rattle.rv_count_tables.specs.Sum.{IsSumOfNames, NamesHaveNoSum};
+ghost use Rattle.rv_count_tables.specs.SumSteps.{IsNextName};
+ghost use Rattle.rv_count_tables.specs.Table.{AreNames, IsName};
+
+use crate::growth::push_item;
+use crate::sum::SumError;
+use crate::table::{FunctionName, FunctionNames};
+use rv_base::Text;
+use std::alloc::{AllocError, Global};
+
+/// Each function of both lists, by its name. Takes memory for the sum alone.
+pub(crate) fn sum_of_names(
+    alloc: Global,
+    a: &[FunctionName],
+    b: &[FunctionName],
+) -> Result<FunctionNames, SumError>
+    requires a { AreNames a.now }
+    requires b { AreNames b.now }
+    ensures value { IfOk result (λ sum. IsSumOfNames a.now b.now sum) }
+    ensures refused { IfErr result (λ error. NamesHaveNoSum error a.now b.now) }
+{
+    let mut sums = Vec::new(alloc);
+    let mut from_a = 0;
+    let mut from_b = 0;
+    while from_a < a.len() || from_b < b.len() {
+        let next = next_name(alloc, &a[from_a..], &b[from_b..])?;
+        push_item(&mut sums, next.name)?;
+        from_a += next.of_a;
+        from_b += next.of_b;
+    }
+    Ok(FunctionNames::new(sums))
+}
+
+/// The first name of a sum, and of how many names of each list it is the sum.
+#[derive(Drop)]
+pub(crate) struct NextName {
+    pub(crate) name: FunctionName,
+    pub(crate) of_a: usize,
+    pub(crate) of_b: usize,
+}
+
+// The name of the lowest function in both lists.
+fn next_name(alloc: Global, a: &[FunctionName], b: &[FunctionName]) -> Result<NextName, SumError>
+    requires a { AllByRecursion IsName a.now }
+    requires b { AllByRecursion IsName b.now }
+    requires some { 0 < length a.now + length b.now }
+    ensures value { IfOk result (λ next. IsNextName a.now b.now next) }
+    ensures refused { IfErr result (λ error. NamesHaveNoSum error a.now b.now) }
+{
+    if b.is_empty() {
+        return name_of_first(alloc, &a[0]);
+    }
+    if a.is_empty() {
+        return name_of_second(alloc, &b[0]);
+    }
+    let first = &a[0];
+    let second = &b[0];
+    if first.function < second.function {
+        return name_of_first(alloc, first);
+    }
+    if second.function < first.function {
+        return name_of_second(alloc, second);
+    }
+    if !have_one_name(first, second) {
+        return Err(SumError::Names(first.function));
+    }
+    let name = copy_of_name(alloc, first)?;
+    Ok(NextName {
+        name,
+        of_a: 1,
+        of_b: 1,
+    })
+}
+
+fn have_one_name(a: &FunctionName, b: &FunctionName) -> bool
+    ensures { IsTrue result ↔ (a.now.name ≡ b.now.name) }
+{
+    a.name.as_str() == b.name.as_str()
+}
+
+fn name_of_first(alloc: Global, name: &FunctionName) -> Result<NextName, SumError>
+    ensures value { IfOk result (λ next. next ≡ record { name = name.now; of_a = 1; of_b = 0 }) }
+    ensures refused { IfErr result (λ error. error ≡ OutOfMemory) }
+{
+    let name = copy_of_name(alloc, name)?;
+    Ok(NextName {
+        name,
+        of_a: 1,
+        of_b: 0,
+    })
+}
+
+fn name_of_second(alloc: Global, name: &FunctionName) -> Result<NextName, SumError>
+    ensures value { IfOk result (λ next. next ≡ record { name = name.now; of_a = 0; of_b = 1 }) }
+    ensures refused { IfErr result (λ error. error ≡ OutOfMemory) }
+{
+    let name = copy_of_name(alloc, name)?;
+    Ok(NextName {
+        name,
+        of_a: 0,
+        of_b: 1,
+    })
+}
+
+fn copy_of_name(alloc: Global, name: &FunctionName) -> Result<FunctionName, AllocError>
+    ensures { IfOk result (λ copy. copy ≡ name.now) }
+{
+    Ok(FunctionName {
+        function: name.function,
+        name: Text::copy(alloc, name.name.as_str())?,
+    })
+}
+
+/// The same names.
+pub(crate) fn copy_of_names(
+    alloc: Global,
+    names: &[FunctionName],
+) -> Result<FunctionNames, AllocError>
+    ensures { IfOk result (λ copy. copy ≡ names.now) }
+{
+    let mut copies = Vec::new(alloc);
+    for name in names {
+        push_item(&mut copies, copy_of_name(alloc, name)?)?;
+    }
+    Ok(FunctionNames::new(copies))
+}

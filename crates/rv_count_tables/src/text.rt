@@ -1,0 +1,224 @@
+//! The text of a table.
+
+ghost use Rattle.std.specs.Prelude.{◌≡◌, ◌++◌, IfOk, OnOk, codes, string_bytes, length};
+ghost use Rattle.std.specs.Fmt.{decimal};
+ghost use Rattle.std.specs.List.{flat_map};
+ghost use Rattle.rv_count_tables.specs.SpotLines.{words_of_function, words_with_digits, line_with_digits, line_by_index, IsIndexOf};
+ghost use Rattle.rv_count_tables.specs.Text.{address_line, image_line, image_text, last_line, line_of_spot, spot_line, table_text};
+
+use crate::table::{AddressCounts, CountTable, FunctionName, ImageCounts};
+use itoa::Buffer;
+use rv_base::Text;
+use rv_call_tree::Spot;
+use std::alloc::{AllocError, Global};
+use std::collections::BTreeMap;
+
+/// The text of a table.
+#[tactic(auto, unfolding(crate::specs::Text::table_text))]
+pub fn table_text(alloc: Global, table: &CountTable) -> Result<String, AllocError>
+    ensures { IfOk result (λ text. string_bytes text ≡ table_text table.now) }
+{
+    let images = table.images.as_slice();
+    let mut text = String::from_str(alloc, "rvcounts 1\n")?;
+    push_images(alloc, &mut text, images)?;
+    push_last_line(&mut text, images.len(), table.runs)?;
+    Ok(text)
+}
+
+fn push_images(alloc: Global, text: &mut String, images: &[ImageCounts]) -> Result<(), AllocError>
+    ensures { OnOk result (string_bytes text.new ≡ string_bytes text.old ++ flat_map image_text images.now) }
+{
+    for image in images {
+        push_image(alloc, text, image)?;
+    }
+    Ok(())
+}
+
+#[tactic(auto, unfolding(crate::specs::Text::image_text))]
+fn push_image(alloc: Global, text: &mut String, image: &ImageCounts) -> Result<(), AllocError>
+    ensures { OnOk result (string_bytes text.new ≡ string_bytes text.old ++ image_text image.now) }
+{
+    push_image_line(alloc, text, image)?;
+    push_addresses(alloc, text, image.addresses.as_slice())?;
+    push_spots(
+        alloc,
+        text,
+        image.functions.as_slice(),
+        image.spots.as_slice(),
+    )
+}
+
+fn push_addresses(
+    alloc: Global,
+    text: &mut String,
+    addresses: &[AddressCounts],
+) -> Result<(), AllocError>
+    ensures { OnOk result (string_bytes text.new ≡ string_bytes text.old ++ flat_map address_line addresses.now) }
+{
+    for counts in addresses {
+        push_address_line(alloc, text, *counts)?;
+    }
+    Ok(())
+}
+
+fn push_spots(
+    alloc: Global,
+    text: &mut String,
+    names: &[FunctionName],
+    spots: &[Spot],
+) -> Result<(), AllocError>
+    ensures { OnOk result (string_bytes text.new ≡ string_bytes text.old ++ flat_map (line_of_spot names.now) spots.now) }
+{
+    let index = index_of_functions(alloc, names)?;
+    for spot in spots {
+        push_indexed_line(alloc, text, *spot, &index)?;
+    }
+    Ok(())
+}
+
+/// What the lines of a function's spots have in common.
+#[derive(Drop)]
+pub(crate) struct FunctionWords {
+    pub(crate) digits: Text,
+    pub(crate) name: Text,
+}
+
+// The words of each function, by its first name.
+fn index_of_functions(
+    alloc: Global,
+    names: &[FunctionName],
+) -> Result<BTreeMap<u32, FunctionWords>, AllocError>
+    ensures { IfOk result (λ index. IsIndexOf names.now index) }
+{
+    let mut index = BTreeMap::new(alloc);
+    for name in names {
+        if !index.contains_key(&name.function) {
+            let words = words_of_function(alloc, name)?;
+            index.insert(name.function, words)?;
+        }
+    }
+    Ok(index)
+}
+
+#[tactic(auto, unfolding(rv_text::specs::Words::word_digits))]
+fn words_of_function(alloc: Global, name: &FunctionName) -> Result<FunctionWords, AllocError>
+    ensures { IfOk result (λ words. words ≡ words_of_function name.now.function name.now.name) }
+{
+    let digits = hex::encode(alloc, name.function.to_be_bytes().as_slice())?;
+    Ok(FunctionWords {
+        digits: Text::new(digits),
+        name: Text::copy(alloc, name.name.as_str())?,
+    })
+}
+
+// Each function of a table's spots has a name; one without any has the line of an empty name.
+#[tactic(auto, unfolding(crate::specs::SpotLines::line_by_index))]
+fn push_indexed_line(
+    alloc: Global,
+    text: &mut String,
+    spot: Spot,
+    index: &BTreeMap<u32, FunctionWords>,
+) -> Result<(), AllocError>
+    ensures { OnOk result (string_bytes text.new ≡ string_bytes text.old ++ line_by_index index.now spot) }
+{
+    match index.get(&spot.function) {
+        Some(words) => {
+            push_line_with_digits(text, spot, words.digits.as_str(), words.name.as_str())
+        }
+        None => push_spot_line(alloc, text, spot, ""),
+    }
+}
+
+/// Appends the line of an image, without its counts.
+#[tactic(auto, unfolding(crate::specs::Text::image_line))]
+pub(crate) fn push_image_line(
+    alloc: Global,
+    text: &mut String,
+    image: &ImageCounts,
+) -> Result<(), AllocError>
+    ensures { OnOk result (string_bytes text.new ≡ string_bytes text.old ++ image_line image.now) }
+{
+    let digits = hex::encode(alloc, image.digest.as_slice())?;
+    let digest = digits.as_str();
+    let path = image.path.as_str();
+    write!(text, "image {digest} {path}\n")
+}
+
+/// Appends the line of an address.
+#[tactic(auto, unfolding(crate::specs::Text::address_line, rv_text::specs::Words::word_digits))]
+pub(crate) fn push_address_line(
+    alloc: Global,
+    text: &mut String,
+    counts: AddressCounts,
+) -> Result<(), AllocError>
+    ensures { OnOk result (string_bytes text.new ≡ string_bytes text.old ++ address_line counts) }
+{
+    let digits = hex::encode(alloc, counts.address.to_be_bytes().as_slice())?;
+    let address = digits.as_str();
+    let begun = counts.begun;
+    let taken = counts.taken;
+    write!(text, "{address} {begun} {taken}\n")
+}
+
+/// Appends the line of a spot.
+#[tactic(auto, unfolding(crate::specs::SpotLines::line_with_digits, crate::specs::SpotLines::words_with_digits, crate::specs::Text::spot_line, crate::specs::Text::words_of_spot, rv_text::specs::Words::word_digits))]
+pub(crate) fn push_spot_line(
+    alloc: Global,
+    text: &mut String,
+    spot: Spot,
+    name: &str,
+) -> Result<(), AllocError>
+    ensures { OnOk result (string_bytes text.new ≡ string_bytes text.old ++ spot_line (record { spot = spot; name = name.now })) }
+{
+    let digits = hex::encode(alloc, spot.function.to_be_bytes().as_slice())?;
+    push_line_with_digits(text, spot, digits.as_str(), name)
+}
+
+// Appends the line of a spot whose function has these digits.
+#[tactic(auto, unfolding(crate::specs::SpotLines::line_with_digits))]
+fn push_line_with_digits(
+    text: &mut String,
+    spot: Spot,
+    digits: &str,
+    name: &str,
+) -> Result<(), AllocError>
+    ensures { OnOk result (string_bytes text.new ≡ string_bytes text.old ++ line_with_digits digits.now spot name.now) }
+{
+    push_words_with_digits(text, spot, digits)?;
+    push_word(text, name)?;
+    text.push_str("\n")
+}
+
+#[tactic(auto, unfolding(crate::specs::SpotLines::words_with_digits))]
+fn push_words_with_digits(text: &mut String, spot: Spot, digits: &str) -> Result<(), AllocError>
+    ensures { OnOk result (string_bytes text.new ≡ string_bytes text.old ++ words_with_digits digits.now spot) }
+{
+    text.push_str("spot")?;
+    push_number(text, spot.depth as u64)?;
+    push_word(text, digits)?;
+    push_number(text, spot.arrivals)?;
+    push_number(text, spot.steps)
+}
+
+fn push_word(text: &mut String, word: &str) -> Result<(), AllocError>
+    ensures { OnOk result (string_bytes text.new ≡ string_bytes text.old ++ codes " " ++ word.now) }
+{
+    text.push_str(" ")?;
+    text.push_str(word)
+}
+
+// With `write!` a line takes about a third longer, and a table can have hundreds of thousands.
+fn push_number(text: &mut String, number: u64) -> Result<(), AllocError>
+    ensures { OnOk result (string_bytes text.new ≡ string_bytes text.old ++ codes " " ++ decimal number) }
+{
+    let mut digits = Buffer::new();
+    push_word(text, digits.format(number))
+}
+
+/// Appends the last line of a table of so many images and runs.
+#[tactic(auto, unfolding(crate::specs::Text::last_line))]
+pub(crate) fn push_last_line(text: &mut String, images: usize, runs: u64) -> Result<(), AllocError>
+    ensures { OnOk result (string_bytes text.new ≡ string_bytes text.old ++ last_line images runs) }
+{
+    write!(text, "done {images} {runs}\n")
+}

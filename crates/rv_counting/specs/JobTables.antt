@@ -1,0 +1,130 @@
+-- The table of the jobs of a plan: how often each instruction of their images began, and was taken.
+use Rattle.std.specs.Prelude.{◌≡◌, ◌==◌, ◌*◌, ◌%◌, ◌^◌, ◌<◌, ◌≤◌, ℕ, Bool, false, if◌then◌else◌, is_ok, List, [], ◌∷◌}
+use Rattle.std.specs.Prelude.{Option, Some, None, option_map, map, length, slice_index_or}
+use Rattle.std.specs.List.{filter, sum_by}
+use Rattle.std.specs.Result.{result_ok}
+use Rattle.std.specs.Str.{bytes_eq}
+use Rattle.sha2.specs.Sha256.{sha256}
+use Rattle.rv_count_tables.specs.declared.table.AddressCounts.{AddressCounts}
+use Rattle.rv_count_tables.specs.declared.table.CountTable.{CountTable}
+use Rattle.rv_count_tables.specs.Sum.{IsSum}
+use Rattle.rv_count_tables.specs.Table.{begun_in, taken_in, path_in, name_in, arrivals_in, steps_in, least_path_of, IsTable}
+use Rattle.rv_jobs.specs.declared.answers.Answer.{Answer}
+use Rattle.rv_jobs.specs.declared_job.Job.{Job}
+use Rattle.rv_jobs.specs.Jobs.{single_job}
+use Rattle.rv_jobs.specs.Plans.{Planned}
+use Rattle.rv_machine.specs.State.{State}
+use Rattle.rv_rows.specs.Rows.{start_in}
+use Rattle.rv_text.specs.Printable.{printable_text}
+use Rattle.rv_trace.specs.Trace.{image_bytes}
+use Rattle.rv_counting.specs.Coverage.{once_if, begun_in_run, taken_in_run}
+
+-- the bytes have this SHA-256 digest
+abbrev pub has_digest : List ℕ → Option (List ℕ) → Bool
+has_digest digest None = false
+has_digest digest (Some bytes) = bytes_eq (sha256 bytes) digest
+
+-- the state in which the run of a job begins that is not refused, if the digest is that of its image
+unfoldable pub start_over : List Answer → List ℕ → Job → Option State
+start_over answers digest job =
+    if has_digest digest (image_bytes answers job) then result_ok (start_in answers job) else None
+
+-- of an optional run within a budget of n steps
+abbrev pub begun_from : ℕ → ℕ → Option State → ℕ
+begun_from address n None = 0
+begun_from address n (Some s) = begun_in_run address n s
+
+abbrev pub taken_from : ℕ → ℕ → Option State → ℕ
+taken_from address n None = 0
+taken_from address n (Some s) = taken_in_run address n s
+
+-- how often the instruction at an address of the image of a digest begins in the run of a job
+abbrev pub begun_by : List Answer → List ℕ → ℕ → Job → ℕ
+begun_by answers digest address job = begun_from address job.budget (start_over answers digest job)
+
+-- how often it is a branch that is taken
+abbrev pub taken_by : List Answer → List ℕ → ℕ → Job → ℕ
+taken_by answers digest address job = taken_from address job.budget (start_over answers digest job)
+
+-- the path of that image as it is shown, where the job runs
+abbrev pub path_by : List Answer → List ℕ → Job → Option (List ℕ)
+path_by answers digest job = option_map (λ s. printable_text job.image) (start_over answers digest job)
+
+-- a refused job is no run
+abbrev pub runs_by : List Answer → Job → ℕ
+runs_by answers job = once_if (is_ok (start_in answers job))
+
+-- the path of that image which comes first in the order of bytes
+abbrev pub first_path : List Answer → List ℕ → List Job → Option (List ℕ)
+first_path answers digest [] = None
+first_path answers digest (j ∷ js) = least_path_of (path_by answers digest j) (first_path answers digest js)
+
+-- the table of one run, over the image of a path with these bytes
+abbrev pub table_of_run : List ℕ → List ℕ → List AddressCounts → CountTable
+table_of_run path bytes addresses = record {
+  images = record {
+    digest = sha256 bytes;
+    path = printable_text path;
+    addresses = addresses;
+    functions = [];
+    spots = [];
+  } ∷ [];
+  runs = 1;
+}
+
+-- no stacks were counted
+pub record HasNoStacks (t : CountTable) : Type 0 where
+  pub names : (digest : List ℕ) (function : ℕ) → name_in digest function t.images ≡ None
+  pub arrivals : (digest path : List ℕ) → arrivals_in digest path t.images ≡ 0
+  pub steps : (digest path : List ℕ) → steps_in digest path t.images ≡ 0
+
+-- the table of jobs: each of its numbers is the sum over the jobs
+pub record IsTableOfJobs (answers : List Answer) (jobs : List Job) (t : CountTable) : Type 0 where
+  pub table : IsTable t
+  pub begun : (digest : List ℕ) (address : ℕ)
+      → begun_in digest address t.images ≡ sum_by (begun_by answers digest address) jobs
+  pub taken : (digest : List ℕ) (address : ℕ)
+      → taken_in digest address t.images ≡ sum_by (taken_by answers digest address) jobs
+  pub paths : (digest : List ℕ) → path_in digest t.images ≡ first_path answers digest jobs
+  pub runs : t.runs ≡ sum_by (runs_by answers) jobs
+  pub stacks : HasNoStacks t
+
+-- the jobs at some places of a plan, each of which is that of a job
+abbrev pub jobs_at : Planned → List ℕ → List Job
+jobs_at plan places = map (λ place. slice_index_or plan.jobs place (single_job [] 0 [])) places
+
+-- the table of the jobs at some places
+abbrev pub IsTableOfPlaces : Planned → List ℕ → CountTable → Type 0
+IsTableOfPlaces plan places t = IsTableOfJobs plan.answers (jobs_at plan places) t
+
+-- ---- sums that fit
+
+-- the greatest numbers that so many jobs can have
+pub record IsTableOfFew (jobs : ℕ) (t : CountTable) : Type 0 where
+  pub begun : (digest : List ℕ) (address : ℕ) → begun_in digest address t.images ≤ jobs * 2 ^ 32
+  pub runs : t.runs ≤ jobs
+  pub stacks : HasNoStacks t
+
+-- the table of one job
+pub record IsTableOfOne (answers : List Answer) (job : Job) (t : CountTable) : Type 0 where
+  pub table : IsTableOfJobs answers (job ∷ []) t
+  pub few : IsTableOfFew 1 t
+
+-- ---- parts
+
+-- a table for each part of the jobs
+abbrev pub AreTablesOfParts : List Answer → List (List Job) → List CountTable → Type 0
+AreTablesOfParts answers [] [] = Unit {0}
+AreTablesOfParts answers (p ∷ ps) (t ∷ ts) = IsTableOfJobs answers p t × AreTablesOfParts answers ps ts
+AreTablesOfParts answers _ _ = ⊥
+
+-- a table, and tables that are added to it one after another
+abbrev pub SumsTo : CountTable → List CountTable → CountTable → Type 0
+SumsTo sum [] t = sum ≡ t
+SumsTo sum (u ∷ us) t = (next : CountTable) × IsSum sum u next × SumsTo next us t
+
+-- a table for each of so many shards: a shard has every so-many-th place
+pub record AreTablesOfShards (plan : Planned) (shards : ℕ) (places : List ℕ) (ts : List CountTable) : Type 0 where
+  pub count : length ts ≡ shards
+  pub each : (k : ℕ) (d : CountTable) → k < shards
+      → IsTableOfPlaces plan (filter (λ place. place % shards == k) places) (slice_index_or ts k d)

@@ -1,0 +1,67 @@
+//! The counts of a run.
+
+ghost use Rattle.std.specs.Prelude.{◌^◌, ◌<◌, ℕ, IfOk, IfSome};
+ghost use Rattle.rv_count_tables.specs.Table.{AreCounts, begun_at};
+ghost use Rattle.rv_jobs.specs.declared_job.Job.{Job as AJob};
+ghost use Rattle.rv_machine.specs.Machine.{state_of};
+ghost use Rattle.rv_rows.specs.Rows.{start_in};
+ghost use Rattle.rv_trace.specs.Trace.{job_at};
+ghost use Rattle.rv_counting.specs.Counters.{HasCounted};
+ghost use Rattle.rv_counting.specs.Coverage.{AreCountsOf, AreCountsOfJob};
+
+use crate::counter::Counter;
+use rv_count_tables::Addresses;
+use rv_machine::Machine;
+use rv_rows::machine_at;
+use rv_trace::JobImage;
+use std::alloc::{AllocError, Global};
+
+/// The counts of a machine's run of at most so many steps. It takes the time of that run and more, and a look-up among the addresses so
+/// far for each instruction that is not run as part of a known block. Now and then it sorts the counts by address. Memory is 128 KiB for
+/// what is known of code, and for each address where an instruction began that of its counts and of an index.
+pub fn count_run(alloc: Global, machine: Machine, budget: u32) -> Result<Addresses, AllocError>
+    ensures { IfOk result (λ counts. AreCountsOf budget (state_of machine) counts) }
+{
+    Ok(counter_of_run(alloc, machine, budget)?.into_addresses())
+}
+
+// A counter of the run, which is done.
+fn counter_of_run(alloc: Global, machine: Machine, budget: u32) -> Result<Counter, AllocError>
+    ensures { IfOk result (HasCounted budget (state_of machine)) }
+{
+    let mut machine = machine;
+    let mut counter = Counter::new(alloc)?;
+    let mut left = budget;
+    'steps: while left > 0 {
+        let block = counter.find_block(&machine, left);
+        if block.steps == 0 {
+            if !counter.step_anew(&mut machine)?.completed {
+                return Ok(counter);
+            }
+            left -= 1;
+        } else {
+            if counter.run_block(&mut machine, block)?.steps != block.steps {
+                return Ok(counter);
+            }
+            left -= block.steps;
+        }
+    }
+    Ok(counter)
+}
+
+/// The counts of the run of a job within its budget; nothing where the job is refused. They can stand in a table.
+pub fn count_job(alloc: Global, job: &JobImage<'_>) -> Result<Option<Addresses>, AllocError>
+    ensures counts { IfOk result (λ counts. (d : AJob) → AreCountsOfJob
+        (job_at job.now.plan.now job.now.place d).budget
+        (start_in job.now.plan.now.answers (job_at job.now.plan.now job.now.place d)) counts) }
+    ensures table { IfOk result (λ counts. IfSome counts AreCounts) }
+    ensures few { IfOk result (λ counts. IfSome counts (λ counts. (address : ℕ) → begun_at address counts < 2 ^ 32)) }
+{
+    match machine_at(alloc, job.plan, job.place, job.image)? {
+        Ok(machine) => {
+            let budget = job.plan.job(job.place).budget;
+            Ok(Some(count_run(alloc, machine, budget)?))
+        }
+        Err(_) => Ok(None),
+    }
+}

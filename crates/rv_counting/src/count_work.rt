@@ -1,0 +1,85 @@
+//! The table of each job of a batch.
+
+ghost use Rattle.std.specs.Prelude.{◌≡◌};
+ghost use Rattle.rv_count_tables.specs.Table.{IsTable};
+
+use crate::table_of_job::count_place;
+use crate::table_sum::HasTable;
+use rv_count_tables::CountTable;
+use rv_engine::{Work, Workbench};
+use rv_fleet::Batch;
+use std::alloc::{AllocError, Global};
+use std::marker::Model;
+
+/// The table of a job.
+#[derive(Drop)]
+pub struct JobTable {
+    table: CountTable,
+}
+
+impl Model for JobTable {
+    ghost use Rattle.rv_count_tables.specs.Table.{IsTable};
+    ghost use Rattle.rv_count_tables.specs.declared.table.CountTable.{CountTable as Counted};
+
+    ghost Value = { Counted };
+
+    ghost view = { λ s. s.table };
+
+    ghost invariant = { λ s. IsTable s.table };
+}
+
+impl JobTable {
+    /// The table of a run.
+    pub fn new(table: CountTable) -> JobTable
+        requires { IsTable table }
+        ensures { result ≡ table }
+    {
+        JobTable { table }
+    }
+}
+
+impl HasTable for JobTable {
+    ghost table = { λ s. s };
+
+    fn table(&self) -> &CountTable {
+        &self.table
+    }
+}
+
+/// Counts the jobs of a batch.
+#[derive(Drop)]
+pub(crate) struct CountWork<'a> {
+    pub(crate) batch: &'a Batch<'a>,
+}
+
+impl Work<JobTable> for CountWork<'_> {
+    ghost use Rattle.std.specs.Prelude.{ℕ, length, slice_index_or};
+    ghost use Rattle.rv_jobs.specs.declared_job.Job.{Job as AJob};
+    ghost use Rattle.rv_counting.specs.JobTables.{IsTableOfOne};
+    ghost use Rattle.rv_trace.specs.Trace.{job_at};
+
+    ghost jobs = { λ s. length s.batch.now.places.now };
+
+    ghost is_made = { λ s number table. (d : AJob) → IsTableOfOne s.batch.now.plan.now.answers
+        (job_at s.batch.now.plan.now (slice_index_or s.batch.now.places.now number 0) d) table };
+
+    ghost is_bench = { λ _ _. Unit {0} };
+
+    fn jobs(&self) -> usize {
+        self.batch.places.len()
+    }
+
+    fn new_bench(&self, alloc: Global) -> Workbench {
+        Workbench::new(alloc)
+    }
+
+    fn make(
+        &self,
+        alloc: Global,
+        number: usize,
+        _bench: &mut Workbench,
+    ) -> Result<JobTable, AllocError> {
+        let table = count_place(alloc, self.batch.plan, self.batch.places[number])?;
+        Ok(JobTable::new(table))
+    }
+}

@@ -1,0 +1,70 @@
+//! Laws of counts, with nothing to run.
+
+ghost use Rattle.std.specs.Prelude.{◌≡◌, ◌+◌, ◌%◌, ◌<◌, ℕ, List, Ok, Err, true};
+ghost use Rattle.std.specs.List.{All, flat_map};
+ghost use Rattle.std.specs.List.Sorted.{IsPermutation};
+ghost use Rattle.rv_count_tables.specs.declared.table.AddressCounts.{AddressCounts};
+ghost use Rattle.rv_count_tables.specs.declared.table.CountTable.{CountTable};
+ghost use Rattle.rv_count_tables.specs.Sum.{no_counts};
+ghost use Rattle.rv_count_tables.specs.Table.{AreCounts};
+ghost use Rattle.rv_count_tables.specs.Text.{table_text};
+ghost use Rattle.rv_jobs.specs.declared.answers.Answer.{Answer};
+ghost use Rattle.rv_jobs.specs.declared_job.Job.{Job};
+ghost use Rattle.rv_jobs.specs.Plans.{Planned};
+ghost use Rattle.rv_machine.specs.declared.ending.Ending.{Ending};
+ghost use Rattle.rv_machine.specs.Run.{run_of, step_of};
+ghost use Rattle.rv_machine.specs.State.{State};
+ghost use Rattle.rv_rows.specs.Wholes.{KeepSame};
+ghost use Rattle.rv_counting.specs.Coverage.{fetch_at, is_begun, once_if, begins_at_end, begun_total, AreCountsOf};
+ghost use Rattle.rv_counting.specs.JobTables.{AreTablesOfParts, AreTablesOfShards, IsTableOfJobs, IsTableOfPlaces, SumsTo};
+
+/// An instruction that completes has begun.
+pub fn run_begins_its_steps()
+    ensures { (s t : State) → step_of s ≡ Ok t → is_begun (fetch_at s) ≡ true }
+{}
+
+/// Where a step ends a run, it had begun an instruction if the ending says so.
+pub fn run_begins_its_end()
+    ensures { (s : State) (e : Ending) → step_of s ≡ Err e → is_begun (fetch_at s) ≡ begins_at_end e }
+{}
+
+/// The counts of a run sum to the steps that it completed, and one where it ended by an exit or by a fault that is none of the
+/// fetch.
+pub fn counts_sum_to_the_steps()
+    ensures { (n : ℕ) (s : State) (cs : List AddressCounts) → AreCountsOf n s cs
+        → begun_total cs ≡ (run_of n s).steps + once_if (begins_at_end (run_of n s).ending) }
+{}
+
+/// The counts of a run that begins at an even address can stand in a table: each address is even.
+pub fn counts_stand_at_even_addresses()
+    ensures { (n : ℕ) (s : State) (cs : List AddressCounts) → AreCountsOf n s cs → s.pc % 2 ≡ 0 → AreCounts cs }
+{}
+
+/// Jobs have one table, whatever their order.
+pub fn jobs_have_one_table()
+    ensures { (answers : List Answer) (jobs others : List Job) (t u : CountTable) → IsPermutation jobs others
+        → IsTableOfJobs answers jobs t → IsTableOfJobs answers others u → t ≡ u }
+{}
+
+/// The tables of the parts of a list sum to the table of the list, however the jobs are parted, and so have its text.
+pub fn tables_of_parts_sum_to_that_of_the_list()
+    ensures { (answers : List Answer) (jobs : List Job) (parts : List (List Job)) (ts : List CountTable)
+        (sum whole : CountTable) → IsPermutation (flat_map (λ part. part) parts) jobs
+        → AreTablesOfParts answers parts ts → SumsTo no_counts ts sum → IsTableOfJobs answers jobs whole
+        → table_text sum ≡ table_text whole }
+{}
+
+/// The tables of the shards of some places, each of which has every so-many-th, sum to the table of all, and so have its
+/// text.
+pub fn tables_of_shards_sum_to_that_of_all()
+    ensures { (plan : Planned) (shards : ℕ) (places : List ℕ) (ts : List CountTable) (sum whole : CountTable)
+        → 0 < shards → AreTablesOfShards plan shards places ts → SumsTo no_counts ts sum
+        → IsTableOfPlaces plan places whole → table_text sum ≡ table_text whole }
+{}
+
+/// Jobs have one table over all answers that keep the same of their paths, as over those that were gathered for these jobs
+/// alone.
+pub fn jobs_have_one_table_over_the_same_files()
+    ensures { (some others : List Answer) (jobs : List Job) (t : CountTable) → All (KeepSame some others) jobs
+        → IsTableOfJobs some jobs t → IsTableOfJobs others jobs t }
+{}

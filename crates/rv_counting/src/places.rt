@@ -1,0 +1,47 @@
+//! The table of the jobs at some places of a plan.
+
+ghost use Rattle.std.specs.Prelude.{◌≡◌, IfOk};
+ghost use Rattle.rv_count_tables.specs.declared.sum.SumError.TheVariants.{OutOfMemory};
+ghost use Rattle.rv_counting.specs.JobTables.{IsTableOfPlaces};
+
+use crate::count_work::{CountWork, JobTable};
+use crate::table_sum::TableSum;
+use rv_count_tables::{CountTable, SumError};
+use rv_engine::{Crew, run_jobs};
+use rv_fleet::Batch;
+use std::alloc::AllocError;
+use std::sync::Wait;
+use std::thread::Threads;
+
+/// The table of the jobs of a batch: the sum of the tables of their runs, the same for every crew. Each job is run once more,
+/// by the threads of the crew; it takes memory for the tables that wait to be added, for two sums, and 128 KiB for what a thread
+/// knows of code. No number of so few jobs reaches 2^64.
+pub fn count_places<R: Threads + Wait + Sync>(
+    crew: &Crew<'_, R>,
+    batch: &Batch<'_>,
+) -> Result<CountTable, AllocError>
+    ensures { IfOk result (λ table. IsTableOfPlaces batch.now.plan.now batch.now.places.now table) }
+{
+    let work = CountWork { batch };
+    let (sum, ran) = run_jobs::<JobTable, R, CountWork<'_>, TableSum>(
+        crew,
+        &work,
+        TableSum::new(crew.alloc),
+    );
+    match sum.into_sum_of_run(ran) {
+        Ok(table) => Ok(table),
+        Err(error) => Err(want_of_memory(error)),
+    }
+}
+
+// Why jobs have no table: their tables have no stacks, and so few of these have a sum unless memory is wanting.
+fn want_of_memory(error: SumError) -> AllocError
+    requires { error ≡ OutOfMemory }
+{
+    match error {
+        SumError::OutOfMemory => AllocError,
+        SumError::Count(_) | SumError::Spot(_) | SumError::Names(_) | SumError::Runs => {
+            unreachable!()
+        }
+    }
+}

@@ -1,0 +1,109 @@
+//! One instruction of a machine.
+
+ghost use Rattle.std.specs.Prelude.{◌≡◌};
+ghost use Rattle.rv_machine.specs.Machine.{state_of};
+ghost use Rattle.rv_trace.specs.Code.{code_at, size_of_code};
+ghost use Rattle.rv_counting.specs.Blocks.{is_fence, is_straight};
+ghost use Rattle.rv_counting.specs.Coverage.{is_branch, is_branch_code, is_taken_code, begins_at_end, begins_at_fault, IsStepCount};
+
+use rv_isa::Op;
+use rv_machine::{Ending, FaultKind, Machine};
+use rv_trace::{Code, code_length, instr_of};
+
+/// What is counted of a step: whether an instruction began, whether it completed, and whether it was a conditional branch
+/// that was taken.
+#[derive(Clone, Copy)]
+pub(crate) struct StepCount {
+    pub(crate) begun: bool,
+    pub(crate) completed: bool,
+    pub(crate) taken: bool,
+}
+
+/// Does the next instruction of a machine, whose code this is, if it completes.
+pub(crate) fn count_step(machine: &mut Machine, code: Option<Code>) -> StepCount
+    requires { code ≡ code_at (state_of machine.old).bus (state_of machine.old).pc }
+    ensures { IsStepCount (state_of machine.old) result (state_of machine.new) }
+{
+    let pc = machine.pc();
+    let outcome = machine.run(1);
+    if outcome.steps == 0 {
+        return StepCount {
+            begun: begins_at_end(outcome.ending),
+            completed: false,
+            taken: false,
+        };
+    }
+    StepCount {
+        begun: true,
+        completed: true,
+        taken: is_taken_code(code, pc, machine.pc()),
+    }
+}
+
+// Whether the code at a pc is that of a conditional branch which went on at another address than that behind it.
+fn is_taken_code(code: Option<Code>, pc: u32, next: u32) -> bool
+    ensures { result ≡ is_taken_code code pc next }
+{
+    match code {
+        Some(code) => is_branch_code(code) && next != pc.wrapping_add(code_length(code)),
+        None => false,
+    }
+}
+
+fn is_branch_code(code: Code) -> bool
+    ensures { result ≡ is_branch_code code }
+{
+    match instr_of(code) {
+        Some(instr) => is_branch(instr.op),
+        None => false,
+    }
+}
+
+/// Whether an instruction is a conditional branch (ISA manual, 2.5).
+pub fn is_branch(op: Op) -> bool
+    ensures { result ≡ is_branch op }
+{
+    match op {
+        Op::Beq | Op::Bne | Op::Blt | Op::Bge | Op::Bltu | Op::Bgeu => true,
+        _ => false,
+    }
+}
+
+/// Whether an instruction lets code be run that was stored.
+pub(crate) fn is_fence(op: Op) -> bool
+    ensures { result ≡ is_fence op }
+{
+    matches!(op, Op::FenceI)
+}
+
+/// Whether an instruction goes on to the one behind it whenever it completes, and lets no stored code be run.
+pub(crate) fn is_straight(op: Op) -> bool
+    ensures { result ≡ is_straight op }
+{
+    match op {
+        Op::Jal | Op::Jalr => false,
+        Op::Beq | Op::Bne | Op::Blt | Op::Bge | Op::Bltu | Op::Bgeu => false,
+        Op::FenceI | Op::Ecall | Op::Ebreak => false,
+        _ => true,
+    }
+}
+
+/// Whether a run that ended so had begun an instruction at its end: a fault of the fetch and a used-up budget have none.
+pub fn begins_at_end(ending: Ending) -> bool
+    ensures { result ≡ begins_at_end ending }
+{
+    match ending {
+        Ending::Exit(_) => true,
+        Ending::Fault(kind, _, _) => begins_at_fault(kind),
+        Ending::Budget => false,
+    }
+}
+
+fn begins_at_fault(kind: FaultKind) -> bool
+    ensures { result ≡ begins_at_fault kind }
+{
+    match kind {
+        FaultKind::FetchAccess | FaultKind::StaleCode | FaultKind::Illegal => false,
+        _ => true,
+    }
+}

@@ -1,0 +1,95 @@
+//! The sum of the tables of jobs.
+
+ghost use Rattle.std.specs.Prelude.{◌≡◌, None};
+ghost use Rattle.rv_count_tables.specs.Sum.{no_counts};
+ghost use Rattle.rv_counting.specs.TableSums.{sum_of_run};
+
+use crate::table_of_job::empty_table;
+use rv_count_tables::{CountTable, SumError, sum_of_tables};
+use rv_engine::{Flow, Listener, RunError};
+use std::alloc::Global;
+use std::marker::Model;
+
+/// A result that has a table of counts.
+pub trait HasTable {
+    ghost use Rattle.std.specs.Prelude.{◌≡◌};
+    ghost use Rattle.rv_count_tables.specs.Table.{IsTable};
+    ghost use Rattle.rv_count_tables.specs.declared.table.CountTable.{CountTable as Counted};
+
+    ghost table: { Self → Counted };
+
+    fn table(&self) -> &CountTable
+        ensures value { result.now ≡ table self.now }
+        ensures sound { IsTable (table self.now) };
+}
+
+/// Adds the tables of the results that it hears, up to one that has no sum with those before it.
+#[derive(Drop)]
+pub struct TableSum {
+    alloc: Global,
+    sum: CountTable,
+    failed: Option<SumError>,
+}
+
+impl Model for TableSum {
+    ghost use Rattle.rv_count_tables.specs.Table.{IsTable};
+    ghost use Rattle.rv_counting.specs.TableSums.{Added};
+
+    ghost Value = { Added };
+
+    ghost view = { λ s. record { sum = s.sum; failed = s.failed } };
+
+    ghost invariant = { λ s. IsTable s.sum };
+}
+
+impl TableSum {
+    /// It has heard nothing yet.
+    pub fn new(alloc: Global) -> TableSum
+        ensures { result ≡ record { sum = no_counts; failed = None } }
+    {
+        TableSum {
+            alloc,
+            sum: empty_table(alloc),
+            failed: None,
+        }
+    }
+
+    /// The sum behind a run that it heard, or why there is none. A run ends early where a growth or the start of a thread was refused.
+    pub fn into_sum_of_run(self, ran: Result<Flow, RunError>) -> Result<CountTable, SumError>
+        ensures { result ≡ sum_of_run self ran }
+    {
+        match ran {
+            Ok(_) => match self.failed {
+                None => Ok(self.sum),
+                Some(error) => Err(error),
+            },
+            Err(_) => Err(SumError::OutOfMemory),
+        }
+    }
+}
+
+impl<H: HasTable + Drop> Listener<H> for TableSum {
+    ghost use Rattle.std.specs.Prelude.{◌≡◌, true, is_some, map};
+    ghost use Rattle.rv_counting.specs.TableSums.{AreAdded};
+
+    ghost has_heard = { λ s results. AreAdded s.sum s.failed (map H.table results) };
+
+    ghost stops = { λ s. is_some s.failed ≡ true };
+
+    fn hear(&mut self, made: H) -> Flow {
+        match sum_of_tables(self.alloc, &self.sum, made.table()) {
+            Ok(sum) => {
+                self.sum = sum;
+                Flow::GoOn
+            }
+            Err(error) => {
+                self.failed = Some(error);
+                Flow::Stop
+            }
+        }
+    }
+
+    fn pause(&mut self) -> Flow {
+        Flow::GoOn
+    }
+}

@@ -1,0 +1,137 @@
+//! Tables of the jobs of a list, by one thread and by several.
+ghost use Rattle.std.specs.Prelude.{◌<◌, ◌≤◌, IfOk, None};
+ghost use Rattle.std.specs.List.Sorted.{IsStrictlyIncreasing};
+ghost use Rattle.rv_fleet.specs.Choices.{AreJobPlaces};
+
+use rv_count_tables::table_text;
+use rv_counting::count_places;
+use rv_engine::Crew;
+use rv_fleet::Batch;
+use rv_jobs::{Plan, ReadError, Store, gather, marked_places, read_jobs};
+use samples::{agree, cell_of, file, has_lines};
+use std::alloc::{AllocError, Global};
+use std::sync::Wait;
+use std::test::Fail;
+use std::thread::Threads;
+
+/// Files by their paths: two of one image, which ends by the exit call, one of a loop of three rounds, and one that is no image.
+#[derive(Drop)]
+struct Files {
+    faults: u64,
+}
+
+impl Store for Files {
+    ghost contents = { λ _. None };
+
+    ghost faulted = { λ s. s.faults };
+
+    fn read(&mut self, alloc: Global, path: &str) -> Result<Vec<u8>, ReadError> {
+        let text = match path {
+            "a" | "b" | "line\nfeed" => "one",
+            "loop" => "code 00300293 fff28293 fe029ee3 X",
+            "short" => "one 51",
+            _ => {
+                self.faults = self.faults.saturating_add(1);
+                return Err(ReadError::Unreadable);
+            }
+        };
+        match file(alloc, text) {
+            Ok(bytes) if bytes.len() <= 0x100_0000 => Ok(bytes),
+            _ => Err(ReadError::OutOfMemory),
+        }
+    }
+
+    fn faults(&self) -> u64 {
+        self.faults
+    }
+}
+
+const LIST: &str = "job = [
+{ name = 'n0', image = 'b', budget = 9, region = [{ base = 0x80000000, size = 4096 }] },
+{ name = 'n1', image = 'loop', budget = 99, region = [{ base = 0x80000000, size = 4096 }] },
+{ name = 'n2', image = 'a', budget = 1, region = [{ base = 0x80000000, size = 4096 }] },
+{ name = 'n3', image = 'short', budget = 9, region = [{ base = 0x80000000, size = 4096 }] },
+{ name = 'n4', image = 'missing', budget = 9, region = [{ base = 0x80000000, size = 4096 }] },
+{ name = 'n5', image = 'loop', budget = 3, same_as = 'n0', region = [{ base = 0x80000000, size = 4096 }] },
+{ name = 'n6', image = \"line\\nfeed\", budget = 2, region = [{ base = 0x80000000, size = 4096 }] }]";
+
+// A choice of the jobs | the text of their table, with a stroke for each line feed. The digests are those of `sha256sum`.
+const TABLES: &str = "\
+....... | rvcounts 1/done 0 0/
+...xx.. | rvcounts 1/done 0 0/
+x...... | rvcounts 1/image 3d532673a6769bd4f209aaf85d6b5ee537f98383bacb4bda774fc16e80908629 b/80000000 1 0/80000004 1 0/80000008 1 0/done 1 1/
+x.x.... | rvcounts 1/image 3d532673a6769bd4f209aaf85d6b5ee537f98383bacb4bda774fc16e80908629 a/80000000 2 0/80000004 1 0/80000008 1 0/done 1 2/
+......x | rvcounts 1/image 3d532673a6769bd4f209aaf85d6b5ee537f98383bacb4bda774fc16e80908629 line\\x0afeed/80000000 1 0/80000004 1 0/done 1 1/
+.....x. | rvcounts 1/image d24fffbfb7fd2907c5e8ad3a9c8089351ae371ea3c79687b9539f1d1708ee183 loop/80000000 1 0/80000004 1 0/80000008 1 1/done 1 1/
+xxxxxxx | rvcounts 1/image 3d532673a6769bd4f209aaf85d6b5ee537f98383bacb4bda774fc16e80908629 a/80000000 3 0/80000004 2 0/80000008 1 0/image d24fffbfb7fd2907c5e8ad3a9c8089351ae371ea3c79687b9539f1d1708ee183 loop/80000000 2 0/\
+    80000004 4 0/80000008 4 3/8000000c 1 0/80000010 1 0/done 2 5/
+";
+
+fn marks_of(alloc: Global, choice: &str) -> Result<Vec<bool>, AllocError> {
+    let mut marks = Vec::new(alloc);
+    for mark in choice.bytes() {
+        marks.push(mark == b'x')?;
+    }
+    Ok(marks)
+}
+
+// The places of the jobs of a plan that are chosen.
+fn chosen(alloc: Global, plan: &Plan, choice: &str) -> Result<Vec<usize>, Fail>
+    ensures within { IfOk result (λ places. AreJobPlaces plan.now places.items) }
+    ensures rising { IfOk result (λ places. IsStrictlyIncreasing places.items) }
+{
+    let marks = marks_of(alloc, choice)?;
+    if marks.len() != plan.jobs() {
+        return Err("a mark for each job".into());
+    }
+    Ok(marked_places(alloc, marks.as_slice())?)
+}
+
+// The text of the table of a choice, by so many threads.
+fn told<R: Threads + Wait + Sync>(
+    rt: &R,
+    alloc: Global,
+    plan: &Plan,
+    choice: &str,
+    workers: u32,
+) -> Result<String, Fail>
+    requires { (0 < workers) × (workers ≤ 64) }
+{
+    let places = chosen(alloc, plan, choice)?;
+    let crew = Crew::new(rt, alloc, workers, 1);
+    let table = count_places(&crew, &Batch::new(plan, places.as_slice()))?;
+    let text = table_text(alloc, &table)?;
+    let mut told = String::new(alloc);
+    for line in text.as_str().lines() {
+        write!(told, "{line}/")?;
+    }
+    Ok(told)
+}
+
+fn check<R: Threads + Wait + Sync>(
+    rt: &R,
+    alloc: Global,
+    plan: &Plan,
+    row: &str,
+) -> Result<(), Fail> {
+    for workers in [1, 3] {
+        let told = told(rt, alloc, plan, cell_of(row, 0), workers)?;
+        agree(row, told.as_str(), cell_of(row, 1))?;
+    }
+    Ok(())
+}
+
+#[test]
+fn jobs_are_counted(rt: HostRuntime) -> Result<(), Fail> {
+    let alloc = rt.alloc();
+    let plan = gather(
+        alloc,
+        read_jobs(alloc, LIST.as_bytes())?,
+        &mut Files { faults: 0 },
+    )?;
+    has_lines(TABLES, 7)?;
+    for row in TABLES.lines() {
+        check(&rt, alloc, &plan, row)?;
+    }
+    Ok(())
+}

@@ -1,6 +1,0 @@
--- The law is the lemma.
-use Rattle.rv_counts.proofs.Told.{associate}
-use Rattle.rv_counts.proofs.law.sums_of_counts_associate.Goals as goal
-
-pub returns : goal.returns
-returns c = associate

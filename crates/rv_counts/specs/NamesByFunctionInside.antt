@@ -1,9 +1,0 @@
--- The entries of a map as a list of names.
-use Rattle.std.specs.Prelude.{ℕ, List, map}
-use Rattle.rv_counts.specs.declared.table.FunctionName.{FunctionName}
-
-abbrev pub named_entry : ℕ × List ℕ → FunctionName
-named_entry e = record { function = e.0; name = e.1 }
-
-abbrev pub names_of_entries : List (ℕ × List ℕ) → List FunctionName
-names_of_entries es = map named_entry es

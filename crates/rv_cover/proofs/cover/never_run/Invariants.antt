@@ -1,8 +1,0 @@
--- Those of the functions so far.
-use Rattle.std.proofs.Common.{◌≡◌, map, take}
-use Rattle.rv_cover.specs.Cover.{never_run}
-use Rattle.rv_cover.specs.Functions.{named}
-use Rattle.rv_cover.proofs.cover.never_run.Given as goal
-
-abbrev pub invariant-loop-function : goal.invariant-loop-function
-invariant-loop-function l = map named l.found.items ≡ never_run l.counts (map named (take l.function-index l.functions))

@@ -1,8 +1,0 @@
-use Rattle.std.proofs.Common.{◌≡◌, ◌++◌, List, ℕ, take}
-use Rattle.rv_cover.specs.ImagesText.{AreShown, head_text}
-use Rattle.rv_cover.specs.JobImages.{images_of_files}
-use Rattle.rv_cover.proofs.images_text.cover_text.Given as goal
-
-abbrev pub invariant-loop-image : goal.invariant-loop-image
-invariant-loop-image l = (lines : List ℕ) × (AreShown l.csv l.table (images_of_files (take l.image-index l.images)) lines
-    × (l.text.items ≡ head_text l.csv ++ lines))

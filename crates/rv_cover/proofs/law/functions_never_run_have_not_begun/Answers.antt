@@ -1,5 +1,0 @@
-use Rattle.rv_cover.proofs.Ran.{never_run_has_not_begun}
-use Rattle.rv_cover.proofs.law.functions_never_run_have_not_begun.Goals as goal
-
-pub returns : goal.returns
-returns c = never_run_has_not_begun

@@ -1,0 +1,73 @@
+-- What was run of functions.
+use Rattle.std.specs.Prelude.{◌≡◌, ◌+◌, ◌≤◌, ◌<◌, ◌&&◌, ℕ, Bool, not, nat_le, nat_lt, List, filter, is_some, length}
+use Rattle.std.specs.List.{count_by, flat_map, list_any}
+use Rattle.rv_count_tables.specs.declared.table.AddressCounts.{AddressCounts}
+use Rattle.rv_count_tables.specs.Table.{begun_at, taken_at}
+use Rattle.rv_counting.specs.Coverage.{is_branch_code}
+use Rattle.rv_elf.specs.Functions.{Named}
+use Rattle.rv_trace.specs.Code.{instr_of}
+use Rattle.rv_cover_view.specs.declared.amounts.Amounts.{Amounts}
+use Rattle.rv_cover_view.specs.declared.amounts.CodeAmounts.{CodeAmounts}
+use Rattle.rv_cover_view.specs.Codes.{Placed, codes_of}
+use Rattle.rv_cover_view.specs.Functions.{address_of, bytes_of}
+
+-- ---- a function
+
+-- an instruction began at one of the addresses of its bytes
+abbrev pub has_run : List AddressCounts → Named → Bool
+has_run counts f = list_any (λ c. nat_le (address_of f) c.address && nat_lt c.address (address_of f + length (bytes_of f))) counts
+
+abbrev pub never_run : List AddressCounts → List Named → List Named
+never_run counts fs = filter (λ f. not (has_run counts f)) fs
+
+-- ---- a code at its address
+
+-- RV32IMC has an instruction for it
+abbrev pub is_instruction : Placed → Bool
+is_instruction p = is_some (instr_of p.1)
+
+-- an instruction began at its address
+abbrev pub has_begun : List AddressCounts → Placed → Bool
+has_begun counts p = nat_lt 0 (begun_at p.0 counts)
+
+abbrev pub is_run : List AddressCounts → Placed → Bool
+is_run counts p = is_instruction p && has_begun counts p
+
+-- it was taken, and began more often than that
+abbrev pub went_both_ways : List AddressCounts → Placed → Bool
+went_both_ways counts p = nat_lt 0 (taken_at p.0 counts) && nat_lt (taken_at p.0 counts) (begun_at p.0 counts)
+
+-- conditional branches that were seen both ways, one way, and never
+abbrev pub is_branch_both_ways : List AddressCounts → Placed → Bool
+is_branch_both_ways counts p = is_branch_code p.1 && went_both_ways counts p
+
+abbrev pub is_branch_one_way : List AddressCounts → Placed → Bool
+is_branch_one_way counts p = is_branch_code p.1 && (has_begun counts p && not (went_both_ways counts p))
+
+abbrev pub is_branch_never : List AddressCounts → Placed → Bool
+is_branch_never counts p = is_branch_code p.1 && not (has_begun counts p)
+
+-- ---- sums
+
+abbrev pub amounts_of_codes : List AddressCounts → List Placed → CodeAmounts
+amounts_of_codes counts ps = record {
+  instructions = count_by is_instruction ps;
+  instructions_run = count_by (is_run counts) ps;
+  branches_both_ways = count_by (is_branch_both_ways counts) ps;
+  branches_one_way = count_by (is_branch_one_way counts) ps;
+  branches_never = count_by (is_branch_never counts) ps;
+}
+
+abbrev pub amounts_of : List AddressCounts → List Named → Amounts
+amounts_of counts fs = record {
+  functions = length fs;
+  functions_run = count_by (has_run counts) fs;
+  code = amounts_of_codes counts (flat_map codes_of fs);
+}
+
+-- ---- the theorem
+
+-- no instruction began at an address of the bytes of the function
+abbrev pub HasNotBegun : List AddressCounts → Named → Type 0
+HasNotBegun counts f = (address : ℕ) → address_of f ≤ address → address < address_of f + length (bytes_of f)
+    → begun_at address counts ≡ 0

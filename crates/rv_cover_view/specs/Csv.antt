@@ -1,0 +1,36 @@
+-- What ran of images as comma-separated values (RFC 4180), each line with a line feed at its end: a row of names, and a row an image.
+use Rattle.std.specs.Prelude.{◌++◌, ◌==◌, ◌||◌, ℕ, Bool, if◌then◌else◌, List, [], ◌∷◌, codes}
+use Rattle.std.specs.Fmt.{decimal}
+use Rattle.std.specs.List.{flat_map, list_any}
+use Rattle.rv_cover_view.specs.declared.amounts.Amounts.{Amounts}
+use Rattle.rv_cover_view.specs.declared.amounts.CodeAmounts.{CodeAmounts}
+
+unfoldable pub csv_head : List ℕ
+csv_head = codes "image,functions,functions_run,instructions,instructions_run,branches_both_ways,branches_one_way,branches_never\n"
+
+-- a comma, a quote, a line feed or a carriage return
+abbrev pub is_special : ℕ → Bool
+is_special byte = (byte == 44) || ((byte == 34) || ((byte == 10) || (byte == 13)))
+
+abbrev pub quote_twice : ℕ → List ℕ
+quote_twice byte = if byte == 34 then 34 ∷ 34 ∷ [] else byte ∷ []
+
+abbrev pub with_quotes_twice : List ℕ → List ℕ
+with_quotes_twice field = flat_map quote_twice field
+
+-- a field that has one of these stands between quotes, with each of its own twice
+unfoldable pub csv_field : List ℕ → List ℕ
+csv_field field = if list_any is_special field then codes "\"" ++ with_quotes_twice field ++ codes "\"" else field
+
+unfoldable pub csv_functions : Amounts → List ℕ
+csv_functions a = codes "," ++ decimal a.functions ++ codes "," ++ decimal a.functions_run
+
+unfoldable pub csv_instructions : CodeAmounts → List ℕ
+csv_instructions a = codes "," ++ decimal a.instructions ++ codes "," ++ decimal a.instructions_run
+
+unfoldable pub csv_branches : CodeAmounts → List ℕ
+csv_branches a = codes "," ++ decimal a.branches_both_ways ++ codes "," ++ decimal a.branches_one_way
+    ++ codes "," ++ decimal a.branches_never
+
+unfoldable pub csv_row : List ℕ → Amounts → List ℕ
+csv_row path a = csv_field path ++ csv_functions a ++ csv_instructions a.code ++ csv_branches a.code ++ codes "\n"

@@ -1,0 +1,47 @@
+-- The images of jobs, each file once.
+use Rattle.std.specs.Prelude.{◌≤◌, ◌++◌, ℕ, if◌then◌else◌, List, [], ◌∷◌, Option, Some, IfSome, length, map, option_and_then, option_map}
+use Rattle.std.specs.List.{fold, list_any}
+use Rattle.std.specs.Option.{option_map_or}
+use Rattle.std.specs.Str.{bytes_eq}
+use Rattle.rv_base.specs.Limits.{most_bytes}
+use Rattle.rv_elf.specs.declared.image.Image.{Image}
+use Rattle.rv_jobs.specs.declared.answers.Answer.{Answer}
+use Rattle.rv_jobs.specs.declared_job.Job.{Job}
+use Rattle.rv_rows.specs.Rows.{image_if_read}
+use Rattle.rv_cover_view.specs.declared.image_file.ImageFile.{ImageFile}
+use Rattle.rv_trace.specs.Trace.{image_bytes}
+
+-- an image with the path that a list names it by, and its file
+pub record FileImage : Type 0 where
+  pub path : List ℕ
+  pub bytes : List ℕ
+  pub image : Image
+
+-- the image of a job, where its file was read and is one
+abbrev pub image_of_job : List Answer → Job → Option FileImage
+image_of_job answers job = option_and_then (λ bytes. option_map (λ image. record { path = job.image; bytes = bytes; image = image })
+    (image_if_read job.isa (Some bytes))) (image_bytes answers job)
+
+-- images, and this one, unless the file of one of them is the same
+abbrev pub with_image : List FileImage → FileImage → List FileImage
+with_image images image =
+    if list_any (λ other. bytes_eq image.bytes other.bytes) images then images else images ++ image ∷ []
+
+abbrev pub with_image_of : List Answer → List FileImage → Job → List FileImage
+with_image_of answers images job = option_map_or (with_image images) (image_of_job answers job) images
+
+-- the images of jobs, in the order of the jobs: each file once, by the path of the first job that has it
+abbrev pub images_of : List Answer → List Job → List FileImage
+images_of answers jobs = fold (with_image_of answers) [] jobs
+
+-- the files of images are not larger than a store reads
+abbrev pub AreSmall : List Answer → Type 0
+AreSmall answers = (job : Job) → IfSome (image_bytes answers job) (λ bytes. length bytes ≤ most_bytes)
+
+-- ---- as the program has them
+
+abbrev pub image_of_file : ImageFile → FileImage
+image_of_file file = record { path = file.path.now; bytes = file.bytes.now; image = file.image }
+
+abbrev pub images_of_files : List ImageFile → List FileImage
+images_of_files files = map image_of_file files

@@ -1,0 +1,34 @@
+//! The functions of an image, each address once.
+
+ghost use Rattle.std.specs.Prelude.{◌<◌, ◌≤◌, ◌^◌, IfOk, length, map};
+ghost use Rattle.rv_elf.specs.Functions.{functions};
+ghost use Rattle.rv_elf.specs.Image.{IsImageOf};
+ghost use Rattle.rv_cover_view.specs.Functions.{IsEachOnce, code_bytes, named};
+
+use rv_elf::{Function, Image, functions};
+use std::alloc::{AllocError, Global};
+
+/// The functions of an image by address: of those at one address the first in the table of symbols. A file has at most 16,777,216 bytes,
+/// so that their amounts are numbers of 64 bits.
+pub fn functions_by_address<'a>(
+    alloc: Global,
+    image: &Image,
+    file: &'a [u8],
+) -> Result<Vec<Function<'a>>, AllocError>
+    requires image { IsImageOf file.now image.now }
+    requires small { length file.now ≤ 0x100_0000 }
+    ensures once { IfOk result (λ found. IsEachOnce (functions image.now file.now) (map named found.items)) }
+    ensures few { IfOk result (λ found. code_bytes (map named found.items) < 2 ^ 64) }
+{
+    each_address_once(functions(alloc, image, file)?)
+}
+
+/// Functions by address: of those at one address the first.
+pub fn each_address_once(mut functions: Vec<Function<'_>>) -> Result<Vec<Function<'_>>, AllocError>
+    ensures once { IfOk result (λ found. IsEachOnce (map named functions.entry.items) (map named found.items)) }
+    ensures fewer { IfOk result (λ found. code_bytes (map named found.items) ≤ code_bytes (map named functions.entry.items)) }
+{
+    functions.sort_by_key(|function| function.address)?;
+    functions.dedup_by_key(|function| function.address);
+    Ok(functions)
+}

@@ -1,0 +1,81 @@
+//! What ran of the code of a function.
+
+ghost use Rattle.std.specs.Prelude.{◌≡◌, ◌≤◌, ◌∷◌, [], drop, length, true};
+ghost use Rattle.rv_count_tables.specs.Table.{rise_from};
+ghost use Rattle.rv_trace.specs.Code.{size_of_code};
+ghost use Rattle.rv_cover_view.specs.Codes.{codes_from, front_code, front_half};
+ghost use Rattle.rv_cover_view.specs.Cover.{amounts_of_codes};
+
+use crate::amounts::CodeAmounts;
+use rv_count_tables::{AddressCounts, counts_at};
+use rv_counting::is_branch;
+use rv_isa::is_long;
+use rv_trace::{Code, code_length, instr_of};
+
+/// What ran of code that stands at an address.
+pub(crate) fn amounts_of_code(address: u32, code: &[u8], counts: &[AddressCounts]) -> CodeAmounts
+    requires { rise_from 0 counts.now ≡ true }
+    ensures { result ≡ amounts_of_codes counts.now (codes_from (length code.now) address code.now) }
+{
+    let mut amounts = CodeAmounts::none();
+    let mut rest = code;
+    let mut address = address;
+    while let Some(code) = front_code(rest) {
+        amounts = amounts.plus(amounts_at(address, code, counts));
+        address = address.wrapping_add(code_length(code));
+        rest = bytes_behind(rest, code);
+    }
+    amounts
+}
+
+// What ran of one code: each amount is 0 or 1.
+fn amounts_at(address: u32, code: Code, counts: &[AddressCounts]) -> CodeAmounts
+    requires { rise_from 0 counts.now ≡ true }
+    ensures { result ≡ amounts_of_codes counts.now ((address, code) ∷ []) }
+{
+    let Some(instr) = instr_of(code) else {
+        return CodeAmounts::none();
+    };
+    let counts = counts_at(counts, address);
+    let has_begun = 0 < counts.begun;
+    let both_ways = 0 < counts.taken && counts.taken < counts.begun;
+    let is_branch = is_branch(instr.op);
+    CodeAmounts {
+        instructions: 1,
+        instructions_run: u64::from(has_begun),
+        branches_both_ways: u64::from(is_branch && both_ways),
+        branches_one_way: u64::from(is_branch && has_begun && !both_ways),
+        branches_never: u64::from(is_branch && !has_begun),
+    }
+}
+
+// The code at the front of bytes, unless it is cut off.
+#[tactic(auto, unfolding(crate::specs::Codes::front_code))]
+fn front_code(bytes: &[u8]) -> Option<Code>
+    ensures { result ≡ front_code bytes.now }
+{
+    let low = front_half(bytes)?;
+    if !is_long(low) {
+        return Some(Code::Half(low));
+    }
+    let high = front_half(&bytes[2..])?;
+    Some(Code::Word(u32::from(low) + 0x1_0000 * u32::from(high)))
+}
+
+// The halfword at the front of bytes, the low byte first.
+fn front_half(bytes: &[u8]) -> Option<u16>
+    ensures { result ≡ front_half bytes.now }
+{
+    match bytes {
+        [low, high, ..] => Some(u16::from(*low) + 0x100 * u16::from(*high)),
+        _ => None,
+    }
+}
+
+// The bytes behind the code at the front.
+fn bytes_behind(bytes: &[u8], code: Code) -> &[u8]
+    requires { size_of_code code ≤ length bytes.now }
+    ensures { result.now ≡ drop (size_of_code code) bytes.now }
+{
+    &bytes[code_length(code) as usize..]
+}

@@ -1,0 +1,80 @@
+//! What ran of functions.
+
+ghost use Rattle.std.specs.Prelude.{◌≡◌, ◌<◌, ◌^◌, IfOk, map, true};
+ghost use Rattle.std.specs.List.{count_by, flat_map};
+ghost use Rattle.rv_count_tables.specs.Table.{rise_from};
+ghost use Rattle.rv_cover_view.specs.Codes.{codes_of};
+ghost use Rattle.rv_cover_view.specs.Cover.{amounts_of, amounts_of_codes, has_run, never_run};
+ghost use Rattle.rv_cover_view.specs.Functions.{code_bytes, named};
+
+use crate::amounts::{Amounts, CodeAmounts};
+use crate::code::amounts_of_code;
+use rv_count_tables::{AddressCounts, has_begun_within};
+use rv_elf::Function;
+use std::alloc::{AllocError, Global};
+
+/// How many functions ran, and how many of their instructions and conditional branches, summed over the functions. Time is that of a
+/// search among the counts for each function and each code.
+pub fn cover_of_functions(functions: &[Function<'_>], counts: &[AddressCounts]) -> Amounts
+    requires rising { rise_from 0 counts.now ≡ true }
+    requires few { code_bytes (map named functions.now) < 2 ^ 64 }
+    ensures { result ≡ amounts_of counts.now (map named functions.now) }
+{
+    Amounts {
+        functions: functions.len() as u64,
+        functions_run: functions_run(functions, counts),
+        code: amounts_of_functions(functions, counts),
+    }
+}
+
+/// The functions at no address of which an instruction began, in their order.
+pub fn never_run<'a>(
+    alloc: Global,
+    functions: &[Function<'a>],
+    counts: &[AddressCounts],
+) -> Result<Vec<Function<'a>>, AllocError>
+    requires { rise_from 0 counts.now ≡ true }
+    ensures { IfOk result (λ found. map named found.items ≡ never_run counts.now (map named functions.now)) }
+{
+    let mut found = Vec::new(alloc);
+    for function in functions {
+        if !has_run(function, counts) {
+            found.push(*function)?;
+        }
+    }
+    Ok(found)
+}
+
+fn functions_run(functions: &[Function<'_>], counts: &[AddressCounts]) -> u64
+    requires { rise_from 0 counts.now ≡ true }
+    ensures { result ≡ count_by (has_run counts.now) (map named functions.now) }
+{
+    let mut count = 0;
+    for function in functions {
+        if has_run(function, counts) {
+            count += 1;
+        }
+    }
+    count
+}
+
+fn amounts_of_functions(functions: &[Function<'_>], counts: &[AddressCounts]) -> CodeAmounts
+    requires rising { rise_from 0 counts.now ≡ true }
+    requires few { code_bytes (map named functions.now) < 2 ^ 64 }
+    ensures { result ≡ amounts_of_codes counts.now (flat_map codes_of (map named functions.now)) }
+{
+    let mut amounts = CodeAmounts::none();
+    for function in functions {
+        amounts = amounts.plus(amounts_of_code(function.address, function.code, counts));
+    }
+    amounts
+}
+
+// Whether an instruction began at an address of a function.
+fn has_run(function: &Function<'_>, counts: &[AddressCounts]) -> bool
+    requires { rise_from 0 counts.now ≡ true }
+    ensures { result ≡ has_run counts.now (named function.now) }
+{
+    let behind = u64::from(function.address) + function.code.len() as u64;
+    has_begun_within(counts, function.address, behind)
+}

@@ -1,0 +1,117 @@
+//! What ran of images, for tools: comma-separated values (RFC 4180), each line with a line feed at its end.
+
+ghost use Rattle.std.specs.Prelude.{◌≡◌, ◌++◌, OnOk};
+ghost use Rattle.std.specs.List.{list_any};
+ghost use Rattle.rv_cover_view.specs.Csv.{csv_branches, csv_field, csv_functions, csv_head, csv_instructions, csv_row, is_special, with_quotes_twice};
+
+use crate::amounts::{Amounts, CodeAmounts};
+use rv_text::{Span, push_spans, push_text};
+use std::alloc::AllocError;
+
+/// Appends the row of the columns' names.
+#[tactic(auto, unfolding(crate::specs::Csv::csv_head))]
+pub fn push_csv_head(bytes: &mut Vec<u8>) -> Result<(), AllocError>
+    ensures { OnOk result (bytes.new.items ≡ bytes.old.items ++ csv_head) }
+{
+    push_text(
+        bytes,
+        "image,functions,functions_run,instructions,instructions_run,branches_both_ways,branches_one_way,branches_never\n",
+    )
+}
+
+/// Appends the row of an image: its path as it is, and its amounts.
+#[tactic(auto, unfolding(crate::specs::Csv::csv_row))]
+pub fn push_csv_row(bytes: &mut Vec<u8>, path: &[u8], amounts: &Amounts) -> Result<(), AllocError>
+    ensures { OnOk result (bytes.new.items ≡ bytes.old.items ++ csv_row path.now amounts.now) }
+{
+    push_csv_field(bytes, path)?;
+    push_csv_functions(bytes, amounts)?;
+    push_csv_instructions(bytes, &amounts.code)?;
+    push_csv_branches(bytes, &amounts.code)?;
+    push_text(bytes, "\n")
+}
+
+#[tactic(auto, unfolding(crate::specs::Csv::csv_functions))]
+fn push_csv_functions(bytes: &mut Vec<u8>, amounts: &Amounts) -> Result<(), AllocError>
+    ensures { OnOk result (bytes.new.items ≡ bytes.old.items ++ csv_functions amounts.now) }
+{
+    push_spans(
+        bytes,
+        &[
+            Span::Text(","),
+            Span::Number(amounts.functions),
+            Span::Text(","),
+            Span::Number(amounts.functions_run),
+        ],
+    )
+}
+
+#[tactic(auto, unfolding(crate::specs::Csv::csv_instructions))]
+fn push_csv_instructions(bytes: &mut Vec<u8>, amounts: &CodeAmounts) -> Result<(), AllocError>
+    ensures { OnOk result (bytes.new.items ≡ bytes.old.items ++ csv_instructions amounts.now) }
+{
+    push_spans(
+        bytes,
+        &[
+            Span::Text(","),
+            Span::Number(amounts.instructions),
+            Span::Text(","),
+            Span::Number(amounts.instructions_run),
+        ],
+    )
+}
+
+#[tactic(auto, unfolding(crate::specs::Csv::csv_branches))]
+fn push_csv_branches(bytes: &mut Vec<u8>, amounts: &CodeAmounts) -> Result<(), AllocError>
+    ensures { OnOk result (bytes.new.items ≡ bytes.old.items ++ csv_branches amounts.now) }
+{
+    push_spans(
+        bytes,
+        &[
+            Span::Text(","),
+            Span::Number(amounts.branches_both_ways),
+            Span::Text(","),
+            Span::Number(amounts.branches_one_way),
+            Span::Text(","),
+            Span::Number(amounts.branches_never),
+        ],
+    )
+}
+
+/// Appends a field: between quotes where it needs them.
+#[tactic(auto, unfolding(crate::specs::Csv::csv_field))]
+pub fn push_csv_field(bytes: &mut Vec<u8>, field: &[u8]) -> Result<(), AllocError>
+    ensures { OnOk result (bytes.new.items ≡ bytes.old.items ++ csv_field field.now) }
+{
+    if !has_special(field) {
+        return bytes.extend_from_slice(field);
+    }
+    push_text(bytes, "\"")?;
+    push_with_quotes_twice(bytes, field)?;
+    push_text(bytes, "\"")
+}
+
+fn has_special(field: &[u8]) -> bool
+    ensures { result ≡ list_any is_special field.now }
+{
+    field.iter().any(|byte| is_special(*byte))
+}
+
+// Whether a field that has the byte stands between quotes.
+fn is_special(byte: u8) -> bool
+    ensures { result ≡ is_special byte }
+{
+    byte == b',' || byte == b'"' || byte == b'\n' || byte == b'\r'
+}
+
+fn push_with_quotes_twice(bytes: &mut Vec<u8>, field: &[u8]) -> Result<(), AllocError>
+    ensures { OnOk result (bytes.new.items ≡ bytes.old.items ++ with_quotes_twice field.now) }
+{
+    for byte in field {
+        if *byte == b'"' {
+            bytes.push(b'"')?;
+        }
+        bytes.push(*byte)?;
+    }
+    Ok(())
+}

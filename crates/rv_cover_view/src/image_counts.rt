@@ -1,0 +1,90 @@
+//! The counts that a table has of images.
+
+ghost use Rattle.std.specs.Prelude.{◌≡◌, IfOk, option_map, true};
+ghost use Rattle.std.specs.List.{list_any};
+ghost use Rattle.std.specs.Str.{bytes_eq};
+ghost use Rattle.sha2.specs.Sha256.{sha256};
+ghost use Rattle.rv_count_tables.specs.Table.{IsTable, rise_from};
+ghost use Rattle.rv_cover_view.specs.ImageCounts.{counted_image, counts_of, is_of_digest, is_other_image, other_image};
+ghost use Rattle.rv_cover_view.specs.JobImages.{image_of_file, images_of_files};
+
+use crate::image_file::ImageFile;
+use rv_count_tables::{AddressCounts, CountTable, ImageCounts};
+use rv_text::push_printable_text;
+use sha2::{Digest, Sha256};
+use std::alloc::{AllocError, Global};
+
+/// The path of the first image of which a table has no counts, but has some of another image of that path.
+pub fn other_image<'a>(
+    alloc: Global,
+    table: &CountTable,
+    images: &[ImageFile<'a>],
+) -> Result<Option<&'a str>, AllocError>
+    ensures { IfOk result (λ other. option_map (λ path. path.now) other ≡ other_image table.now (images_of_files images.now)) }
+{
+    for image in images {
+        if is_other_image(alloc, table, image)? {
+            return Ok(Some(image.path));
+        }
+    }
+    Ok(None)
+}
+
+fn is_other_image(
+    alloc: Global,
+    table: &CountTable,
+    image: &ImageFile<'_>,
+) -> Result<bool, AllocError>
+    ensures { IfOk result (λ is. is ≡ is_other_image table.now (image_of_file image.now)) }
+{
+    if has_digest_of(table, image.bytes) {
+        return Ok(false);
+    }
+    let mut path = Vec::new(alloc);
+    push_printable_text(&mut path, image.path.as_bytes())?;
+    Ok(has_path(table, path.as_slice()))
+}
+
+fn has_digest_of(table: &CountTable, bytes: &[u8]) -> bool
+    ensures { result ≡ list_any (is_of_digest (sha256 bytes.now)) table.now.images }
+{
+    let digest = Sha256::digest(bytes);
+    let images = table.images.as_slice();
+    images.iter().any(|counted| is_of_digest(&digest, counted))
+}
+
+fn has_path(table: &CountTable, path: &[u8]) -> bool
+    ensures { result ≡ list_any (λ counted. bytes_eq counted.path path.now) table.now.images }
+{
+    let images = table.images.as_slice();
+    images
+        .iter()
+        .any(|counted| counted.path.as_str().as_bytes() == path)
+}
+
+/// The counts that a table has of the image with the digest of a file.
+pub(crate) fn counts_of<'t>(table: &'t CountTable, bytes: &[u8]) -> &'t [AddressCounts]
+    requires { IsTable table.now }
+    ensures counts { result.now ≡ counts_of table.now bytes.now }
+    ensures rising { rise_from 0 result.now ≡ true }
+{
+    match counted_image(table, bytes) {
+        Some(counted) => counted.addresses.as_slice(),
+        None => &[],
+    }
+}
+
+/// What a table has of the image with the digest of a file, if it has that image.
+pub fn counted_image<'t>(table: &'t CountTable, bytes: &[u8]) -> Option<&'t ImageCounts>
+    ensures { option_map (λ counted. counted.now) result ≡ counted_image table.now bytes.now }
+{
+    let digest = Sha256::digest(bytes);
+    let images = table.images.as_slice();
+    images.iter().find(|counted| is_of_digest(&digest, counted))
+}
+
+fn is_of_digest(digest: &[u8], counted: &ImageCounts) -> bool
+    ensures { result ≡ is_of_digest digest.now counted.now }
+{
+    counted.digest.as_slice() == digest
+}

@@ -1,0 +1,46 @@
+//! What ran of an image.
+
+ghost use Rattle.std.specs.Prelude.{◌≡◌, ◌≤◌, IfOk, length, true};
+ghost use Rattle.rv_count_tables.specs.Table.{rise_from};
+ghost use Rattle.rv_elf.specs.Image.{IsImageOf};
+ghost use Rattle.rv_cover_view.specs.Images.{IsCoverOf};
+
+use crate::amounts::Amounts;
+use crate::by_address::functions_by_address;
+use crate::cover::{cover_of_functions, never_run};
+use rv_count_tables::AddressCounts;
+use rv_elf::{Function, Image};
+use std::alloc::{AllocError, Global};
+
+/// What ran of an image.
+#[derive(Drop)]
+pub struct ImageCover<'a> {
+    /// The path that it is shown by.
+    pub path: &'a [u8],
+    /// How much of its functions ran, each address once.
+    pub amounts: Amounts,
+    /// Those of them that never did, by address.
+    pub never_run: Vec<Function<'a>>,
+}
+
+/// What ran of the image of a file, by the counts of its addresses.
+pub fn cover_of_image<'a>(
+    alloc: Global,
+    path: &'a [u8],
+    image: &Image,
+    file: &'a [u8],
+    counts: &[AddressCounts],
+) -> Result<ImageCover<'a>, AllocError>
+    requires image { IsImageOf file.now image.now }
+    requires small { length file.now ≤ 0x100_0000 }
+    requires rising { rise_from 0 counts.now ≡ true }
+    ensures { IfOk result (IsCoverOf path.now image.now file.now counts.now) }
+{
+    let functions = functions_by_address(alloc, image, file)?;
+    let never_run = never_run(alloc, functions.as_slice(), counts)?;
+    Ok(ImageCover {
+        path,
+        amounts: cover_of_functions(functions.as_slice(), counts),
+        never_run,
+    })
+}

@@ -1,0 +1,75 @@
+//! What is shown of images, by the counts of a table.
+
+ghost use Rattle.std.specs.Prelude.{◌≡◌, ◌++◌, IfOk, List, OnOk, ℕ};
+ghost use Rattle.rv_count_tables.specs.Table.{IsTable};
+ghost use Rattle.rv_cover_view.specs.ImagesText.{IsCoverText, IsShownOf, head_text, image_text};
+ghost use Rattle.rv_cover_view.specs.JobImages.{image_of_file, images_of_files};
+
+use crate::csv::{push_csv_head, push_csv_row};
+use crate::image_counts::counts_of;
+use crate::image_cover::{ImageCover, cover_of_image};
+use crate::image_file::ImageFile;
+use crate::text::{push_cover_head, push_image_line, push_never_run_line};
+use rv_count_tables::CountTable;
+use std::alloc::{AllocError, Global};
+
+/// What is shown of images by the counts of a table: a head, and what ran of each, as rows for tools or as lines for people.
+pub fn cover_text(
+    alloc: Global,
+    csv: bool,
+    table: &CountTable,
+    images: &[ImageFile<'_>],
+) -> Result<Vec<u8>, AllocError>
+    requires { IsTable table.now }
+    ensures { IfOk result (λ text. IsCoverText csv table.now (images_of_files images.now) text.items) }
+{
+    let mut text = Vec::new(alloc);
+    push_head(&mut text, csv)?;
+    for image in images {
+        push_image(alloc, &mut text, csv, table, image)?;
+    }
+    Ok(text)
+}
+
+fn push_head(text: &mut Vec<u8>, csv: bool) -> Result<(), AllocError>
+    ensures { OnOk result (text.new.items ≡ text.old.items ++ head_text csv) }
+{
+    if csv {
+        push_csv_head(text)
+    } else {
+        push_cover_head(text)
+    }
+}
+
+// Appends what is shown of an image.
+fn push_image(
+    alloc: Global,
+    text: &mut Vec<u8>,
+    csv: bool,
+    table: &CountTable,
+    image: &ImageFile<'_>,
+) -> Result<(), AllocError>
+    requires { IsTable table.now }
+    ensures { OnOk result ((shown : List ℕ) × (IsShownOf csv table.now (image_of_file image.now) shown
+        × (text.new.items ≡ text.old.items ++ shown))) }
+{
+    let counts = counts_of(table, image.bytes);
+    let path = image.path.as_bytes();
+    let cover = cover_of_image(alloc, path, &image.image, image.bytes, counts)?;
+    push_image_cover(alloc, text, csv, &cover)
+}
+
+fn push_image_cover(
+    alloc: Global,
+    text: &mut Vec<u8>,
+    csv: bool,
+    cover: &ImageCover<'_>,
+) -> Result<(), AllocError>
+    ensures { OnOk result (text.new.items ≡ text.old.items ++ image_text csv cover.now) }
+{
+    if csv {
+        return push_csv_row(text, cover.path, &cover.amounts);
+    }
+    push_image_line(alloc, text, cover.path, &cover.amounts)?;
+    push_never_run_line(text, cover.never_run.as_slice())
+}

@@ -1,0 +1,119 @@
+//! What ran of images, as it is shown.
+
+ghost use Rattle.std.specs.Prelude.{◌≡◌, ◌++◌, OnOk, map, replicate};
+ghost use Rattle.rv_cover_view.specs.Functions.{named};
+ghost use Rattle.rv_cover_view.specs.Text.{code_columns, cover_head, function_columns, further_names, image_line, never_run_line, right};
+
+use crate::amounts::{Amounts, CodeAmounts};
+use rv_elf::Function;
+use rv_text::{Span, push_number, push_spans, push_text};
+use std::alloc::{AllocError, Global};
+
+/// Appends the line above those of images.
+#[tactic(auto, unfolding(crate::specs::Text::cover_head))]
+pub fn push_cover_head(bytes: &mut Vec<u8>) -> Result<(), AllocError>
+    ensures { OnOk result (bytes.new.items ≡ bytes.old.items ++ cover_head) }
+{
+    push_text(
+        bytes,
+        "   functions run        instructions run  branches both ways   one way     never  image\n",
+    )
+}
+
+/// Appends the line of an image: its amounts, each at the right end of its column, and its path.
+#[tactic(auto, unfolding(crate::specs::Text::image_line))]
+pub fn push_image_line(
+    alloc: Global,
+    bytes: &mut Vec<u8>,
+    path: &[u8],
+    amounts: &Amounts,
+) -> Result<(), AllocError>
+    ensures { OnOk result (bytes.new.items ≡ bytes.old.items ++ image_line path.now amounts.now) }
+{
+    push_function_columns(alloc, bytes, amounts)?;
+    push_code_columns(alloc, bytes, &amounts.code)?;
+    push_spans(
+        bytes,
+        &[Span::Text("  "), Span::Shown(path), Span::Text("\n")],
+    )
+}
+
+/// Appends the line of the functions that never ran, if there are some: `never run: NAME, NAME`.
+#[tactic(auto, unfolding(crate::specs::Text::never_run_line))]
+pub fn push_never_run_line(
+    bytes: &mut Vec<u8>,
+    functions: &[Function<'_>],
+) -> Result<(), AllocError>
+    ensures { OnOk result (bytes.new.items ≡ bytes.old.items ++ never_run_line (map named functions.now)) }
+{
+    let Some((first, others)) = functions.split_first() else {
+        return Ok(());
+    };
+    push_spans(bytes, &[Span::Text("never run: "), Span::Name(first.name)])?;
+    push_further_names(bytes, others)?;
+    push_text(bytes, "\n")
+}
+
+fn push_further_names(bytes: &mut Vec<u8>, functions: &[Function<'_>]) -> Result<(), AllocError>
+    ensures { OnOk result (bytes.new.items ≡ bytes.old.items ++ further_names (map named functions.now)) }
+{
+    for function in functions {
+        push_spans(bytes, &[Span::Text(", "), Span::Name(function.name)])?;
+    }
+    Ok(())
+}
+
+#[tactic(auto, unfolding(crate::specs::Text::function_columns))]
+fn push_function_columns(
+    alloc: Global,
+    bytes: &mut Vec<u8>,
+    amounts: &Amounts,
+) -> Result<(), AllocError>
+    ensures { OnOk result (bytes.new.items ≡ bytes.old.items ++ function_columns amounts.now) }
+{
+    push_right(alloc, bytes, 6, amounts.functions_run)?;
+    push_text(bytes, " of ")?;
+    push_right(alloc, bytes, 6, amounts.functions)
+}
+
+#[tactic(auto, unfolding(crate::specs::Text::code_columns))]
+fn push_code_columns(
+    alloc: Global,
+    bytes: &mut Vec<u8>,
+    amounts: &CodeAmounts,
+) -> Result<(), AllocError>
+    ensures { OnOk result (bytes.new.items ≡ bytes.old.items ++ code_columns amounts.now) }
+{
+    push_right(alloc, bytes, 11, amounts.instructions_run)?;
+    push_text(bytes, " of ")?;
+    push_right(alloc, bytes, 9, amounts.instructions)?;
+    push_right(alloc, bytes, 20, amounts.branches_both_ways)?;
+    push_right(alloc, bytes, 10, amounts.branches_one_way)?;
+    push_right(alloc, bytes, 10, amounts.branches_never)
+}
+
+/// Appends a number at the right end of so many places, or of more where it has more digits.
+#[tactic(auto, unfolding(crate::specs::Text::right))]
+pub fn push_right(
+    alloc: Global,
+    bytes: &mut Vec<u8>,
+    places: usize,
+    number: u64,
+) -> Result<(), AllocError>
+    ensures { OnOk result (bytes.new.items ≡ bytes.old.items ++ right places number) }
+{
+    let mut digits = Vec::new(alloc);
+    push_number(&mut digits, number)?;
+    push_spaces(bytes, places.saturating_sub(digits.len()))?;
+    bytes.extend_from_slice(&digits)
+}
+
+/// Appends so many spaces.
+pub fn push_spaces(bytes: &mut Vec<u8>, count: usize) -> Result<(), AllocError>
+    ensures { OnOk result (bytes.new.items ≡ bytes.old.items ++ replicate count 32) }
+{
+    for _ in 0..count {
+        bytes.push(b' ')?;
+    }
+    Ok(())
+}

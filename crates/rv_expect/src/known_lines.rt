@@ -1,0 +1,58 @@
+//! The parts of a line.
+
+ghost use Rattle.std.specs.Prelude.{◌≡◌, ◌≤◌, IfOk, length, position};
+ghost use Rattle.std.specs.List.{position_or_len};
+ghost use Rattle.rv_expect.specs.KnownLines.{borrowed_lines, is_hash, lines_of, name_text, reason_text, trimmed};
+
+use std::alloc::{AllocError, Global};
+
+/// The lines of a text, without their line feeds. Takes memory for their places.
+pub(crate) fn lines_of(alloc: Global, text: &[u8]) -> Result<Vec<&[u8]>, AllocError>
+    ensures { IfOk result (λ lines. borrowed_lines lines.items ≡ lines_of text.now) }
+{
+    text.split(|byte| *byte == b'\n').collect(alloc)
+}
+
+/// The name that stands in a line, or nothing.
+#[tactic(auto, unfolding(crate::specs::KnownLines::name_text))]
+pub(crate) fn name_text(line: &[u8]) -> &[u8]
+    ensures { result.now ≡ name_text line.now }
+{
+    trimmed(&line[..hash_place(line)])
+}
+
+/// The reason that stands in a line, or nothing.
+#[tactic(auto, unfolding(crate::specs::KnownLines::reason_text))]
+pub(crate) fn reason_text(line: &[u8]) -> &[u8]
+    ensures { result.now ≡ reason_text line.now }
+{
+    let place = hash_place(line);
+    if place < line.len() {
+        trimmed(&line[place + 1..])
+    } else {
+        &line[line.len()..]
+    }
+}
+
+// The place of the first `#`, or the length.
+fn hash_place(line: &[u8]) -> usize
+    ensures place { result ≡ position_or_len is_hash line.now }
+    ensures within { result ≤ length line.now }
+{
+    match first_hash(line) {
+        Some(place) => place,
+        None => line.len(),
+    }
+}
+
+fn first_hash(line: &[u8]) -> Option<usize>
+    ensures { result ≡ position is_hash line.now }
+{
+    line.iter().position(|byte| *byte == b'#')
+}
+
+fn trimmed(text: &[u8]) -> &[u8]
+    ensures { result.now ≡ trimmed text.now }
+{
+    text.trim_ascii()
+}

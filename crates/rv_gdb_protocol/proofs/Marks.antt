@@ -1,0 +1,176 @@
+-- Texts with a mark between them, and the places of marks.
+use Rattle.std.proofs.Common.{◌≡◌, ◌∷◌, ◌+◌, ◌++◌, ◌<◌, ◌≤◌, ◌==◌, ◌∙◌, inl, inr, [], ℕ, suc, List, Bool, true, false, not, append_assoc, Option, Some, None, ltb, fold, take, drop, length, refl, ap, sym, arith, length-append}
+use Rattle.std.proofs.Math.Seq.{drop-append-add, take-append-add, take-append_seam}
+use Rattle.std.proofs.lemmas.Bool.{and_from, and_parts, cases_eq, cond-false, cond-true, eq-eqb, le-ltb, lt-ltb, ltb-false, ltb-true, ne_eqb, not_from_false}
+use Rattle.std.proofs.lemmas.List.Folds.{list_all-append}
+use Rattle.std.specs.List.{list_all, prefix_len}
+use Rattle.hex.specs.Hex.{hex_digit_value}
+use Rattle.rv_gdb_protocol.specs.Grammar.{TellsTwo, parted}
+use Rattle.rv_gdb_protocol.specs.Numbers.{digit_on, number_of, numbers_at, place_of, until, with_digit}
+use Rattle.rv_gdb_protocol.specs.Requests.{comma}
+
+-- a byte that is not a mark
+abbrev pub is_other : ℕ → ℕ → Bool
+is_other mark byte = not (byte == mark)
+
+-- ---- the place of a mark
+
+prefix_up_to : (mark : ℕ) (first second : List ℕ) → list_all (is_other mark) first ≡ true
+    → prefix_len (is_other mark) (parted mark first second) ≡ length first
+prefix_up_to mark [] second others = rw (eq-eqb mark mark refl) refl
+prefix_up_to mark (byte ∷ first) second others =
+    let parts = and_parts (is_other mark byte) (list_all (is_other mark) first) others in
+    let rest = prefix_up_to mark first second parts.1 in
+    cond-true (is_other mark byte) (1 + prefix_len (is_other mark) (parted mark first second)) 0 parts.0 ∙ omega (arith, rest)
+
+pub place_between : (mark : ℕ) (first second : List ℕ) → list_all (is_other mark) first ≡ true
+    → place_of mark (parted mark first second) ≡ Some (length first)
+place_between mark first second others =
+    let text : List ℕ = parted mark first second in
+    let at : prefix_len (is_other mark) text ≡ length first = prefix_up_to mark first second others in
+    let long : length text ≡ length first + suc (length second) = length-append first (mark ∷ second) in
+    cond-true (ltb (prefix_len (is_other mark) text) (length text)) (Some (prefix_len (is_other mark) text)) None
+    (lt-ltb (prefix_len (is_other mark) text) (length text) (omega arith))
+    ∙ ap (λ (k : ℕ). Some k) at
+
+pub before_mark : (mark : ℕ) (first second : List ℕ) → take (length first) (parted mark first second) ≡ first
+before_mark mark first second = take-append_seam first (mark ∷ second)
+
+pub behind_mark : (mark : ℕ) (first second : List ℕ) → drop (length first + 1) (parted mark first second) ≡ second
+behind_mark mark first second = drop-append-add first (mark ∷ second) 1
+
+-- ---- digits
+
+nothing_on : (text : List ℕ) → fold digit_on None text ≡ None
+nothing_on [] = refl
+nothing_on (byte ∷ text) = nothing_on text
+
+digit_or_none : (value : Option ℕ) (byte mark : ℕ) → hex_digit_value mark ≡ None → byte ≡ mark → digit_on value byte ≡ None
+digit_or_none (Some value) byte mark none same = ap (with_digit (Some value)) (ap hex_digit_value same ∙ none)
+digit_or_none None byte mark none same = refl
+
+-- a mark is no digit, so there is none in digits
+digits_lack : (mark : ℕ) → hex_digit_value mark ≡ None → (value : Option ℕ) (text : List ℕ) (number : ℕ)
+    → fold digit_on value text ≡ Some number → list_all (is_other mark) text ≡ true
+digits_lack mark none value [] number told = refl
+digits_lack mark none value (byte ∷ text) number told =
+    and_from (is_other mark byte) (list_all (is_other mark) text)
+    (elim (cases_eq byte mark) [
+      | inl same ↦
+          let lost = ap (λ (v : Option ℕ). fold digit_on v text) (digit_or_none value byte mark none same) ∙ nothing_on text in
+          absurd (cc (sym lost, told))
+      | inr other ↦ not_from_false (byte == mark) (ne_eqb byte mark other)
+    ])
+    (digits_lack mark none (digit_on value byte) text number told)
+
+folded : (text : List ℕ) (number : ℕ) → number_of text ≡ Some number → fold digit_on (Some 0) text ≡ Some number
+unfolding number_of
+folded text number told = grind arith
+
+pub number_lacks : (mark : ℕ) → hex_digit_value mark ≡ None → (text : List ℕ) (number : ℕ) → number_of text ≡ Some number
+    → list_all (is_other mark) text ≡ true
+number_lacks mark none text number told = digits_lack mark none (Some 0) text number (folded text number told)
+
+-- ---- two numbers
+
+pub two_numbers : (text : List ℕ) (first second : ℕ) → TellsTwo text first second → numbers_at comma text ≡ Some (first, second)
+unfolding numbers_at
+two_numbers text first second tells =
+    let place = place_between comma tells.front tells.behind (number_lacks comma refl tells.front first tells.front_tells) in
+    rw (
+      tells.text_is,
+      place,
+      before_mark comma tells.front tells.behind,
+      behind_mark comma tells.front tells.behind,
+      tells.front_tells,
+      tells.behind_tells,
+    ) refl
+
+-- a mark that is neither a digit nor a comma does not stand in them
+pub two_lack : (mark : ℕ) → hex_digit_value mark ≡ None → is_other mark comma ≡ true → (text : List ℕ) (first second : ℕ)
+    → TellsTwo text first second → list_all (is_other mark) text ≡ true
+two_lack mark none other text first second tells =
+    let front = number_lacks mark none tells.front first tells.front_tells in
+    let behind = number_lacks mark none tells.behind second tells.behind_tells in
+    rw (tells.text_is, list_all-append (is_other mark) tells.front (comma ∷ tells.behind))
+    (and_from (list_all (is_other mark) tells.front) (list_all (is_other mark) (comma ∷ tells.behind)) front
+    (and_from (is_other mark comma) (list_all (is_other mark) tells.behind) other behind))
+
+-- ---- where there is no mark
+
+prefix_of_all : (mark : ℕ) (text : List ℕ) → list_all (is_other mark) text ≡ true
+    → prefix_len (is_other mark) text ≡ length text
+prefix_of_all mark [] others = refl
+prefix_of_all mark (byte ∷ text) others =
+    let parts = and_parts (is_other mark byte) (list_all (is_other mark) text) others in
+    let rest = prefix_of_all mark text parts.1 in
+    cond-true (is_other mark byte) (1 + prefix_len (is_other mark) text) 0 parts.0 ∙ omega (arith, rest)
+
+no_place : (mark : ℕ) (text : List ℕ) → list_all (is_other mark) text ≡ true → place_of mark text ≡ None
+no_place mark text others =
+    let all = prefix_of_all mark text others in
+    cond-false (ltb (prefix_len (is_other mark) text) (length text)) (Some (prefix_len (is_other mark) text)) None
+    (le-ltb (prefix_len (is_other mark) text) (length text) (omega (arith, all)))
+
+pub until_all : (mark : ℕ) (text : List ℕ) → list_all (is_other mark) text ≡ true → until mark text ≡ text
+unfolding until
+until_all mark text others = rw (no_place mark text others) refl
+
+-- ---- what stands before a mark
+
+prefix_on : (mark : ℕ) (front rest : List ℕ) → list_all (is_other mark) front ≡ true
+    → prefix_len (is_other mark) (front ++ rest) ≡ length front + prefix_len (is_other mark) rest
+prefix_on mark [] rest others = omega arith
+prefix_on mark (byte ∷ front) rest others =
+    let parts = and_parts (is_other mark byte) (list_all (is_other mark) front) others in
+    let later = prefix_on mark front rest parts.1 in
+    cond-true (is_other mark byte) (1 + prefix_len (is_other mark) (front ++ rest)) 0 parts.0 ∙ omega (arith, later)
+
+-- the text before a mark, where nothing stands before it but the text
+pub until_mark : (mark : ℕ) (text rest : List ℕ) → list_all (is_other mark) text ≡ true → until mark (parted mark text rest) ≡ text
+unfolding until
+until_mark mark text rest others = rw (place_between mark text rest others) (before_mark mark text rest)
+
+-- a text in front of which a mark does not stand
+until_on_cases : (mark : ℕ) (front rest : List ℕ) (is : Bool)
+    → ltb (prefix_len (is_other mark) rest) (length rest) ≡ is → list_all (is_other mark) front ≡ true
+    → until mark (front ++ rest) ≡ front ++ until mark rest
+unfolding until
+until_on_cases mark front rest true is others =
+    let at = prefix_on mark front rest others in
+    let k = prefix_len (is_other mark) rest in
+    let within : k < length rest = ltb-true k (length rest) is in
+    let long : length (front ++ rest) ≡ length front + length rest = length-append front rest in
+    let there : place_of mark (front ++ rest) ≡ Some (length front + k) =
+    cond-true (ltb (prefix_len (is_other mark) (front ++ rest)) (length (front ++ rest)))
+    (Some (prefix_len (is_other mark) (front ++ rest))) None
+    (lt-ltb (prefix_len (is_other mark) (front ++ rest)) (length (front ++ rest)) (omega arith))
+    ∙ ap (λ (n : ℕ). Some n) at in
+    let here : place_of mark rest ≡ Some k = cond-true (ltb k (length rest)) (Some k) None is in
+    rw (there, here) (take-append-add front rest k)
+until_on_cases mark front rest false is others =
+    let at = prefix_on mark front rest others in
+    let k = prefix_len (is_other mark) rest in
+    let past : length rest ≤ k = ltb-false k (length rest) is in
+    let long : length (front ++ rest) ≡ length front + length rest = length-append front rest in
+    let there : place_of mark (front ++ rest) ≡ None =
+    cond-false (ltb (prefix_len (is_other mark) (front ++ rest)) (length (front ++ rest)))
+    (Some (prefix_len (is_other mark) (front ++ rest))) None
+    (le-ltb (prefix_len (is_other mark) (front ++ rest)) (length (front ++ rest)) (omega arith)) in
+    let here : place_of mark rest ≡ None = cond-false (ltb k (length rest)) (Some k) None is in
+    rw (there, here) refl
+
+-- what stands before the first of one mark and then of another, where neither stands in the text
+pub until_other : (mark other : ℕ) (text rest : List ℕ) → list_all (is_other mark) text ≡ true
+    → list_all (is_other other) text ≡ true → is_other mark other ≡ true
+    → until other (until mark (parted other text rest)) ≡ text
+until_other mark other text rest lacks lacks_other differ =
+    let both : list_all (is_other mark) (text ++ other ∷ []) ≡ true =
+    list_all-append (is_other mark) text (other ∷ [])
+    ∙ and_from (list_all (is_other mark) text) (list_all (is_other mark) (other ∷ [])) lacks
+    (and_from (is_other mark other) true differ refl) in
+    let split : until mark (parted other text rest) ≡ parted other text (until mark rest) =
+    ap (until mark) (sym (append_assoc text (other ∷ []) rest))
+    ∙ until_on_cases mark (text ++ other ∷ []) rest (ltb (prefix_len (is_other mark) rest) (length rest)) refl both
+    ∙ append_assoc text (other ∷ []) (until mark rest) in
+    ap (until other) split ∙ until_mark other text (until mark rest) lacks_other

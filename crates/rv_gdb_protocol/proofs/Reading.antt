@@ -1,0 +1,167 @@
+-- A text in a frame is heard alone, and a framed body is read back.
+use Rattle.std.proofs.Common.{◌≡◌, ◌++◌, ◌∷◌, ◌+◌, ◌*◌, ◌/◌, ◌%◌, ◌<◌, ◌≤◌, ◌==◌, ◌||◌, ◌⊎◌, inl, inr, [], ℕ, List, Bool, true, false, not, Option, Some, fold, length, refl, ap, append-nil, append_assoc, arith, length-append, slice_index, sym, ◌∙◌}
+use Rattle.std.specs.List.{list_all}
+use Rattle.std.proofs.lemmas.Bool.{and_from, and_parts, cases_Bool, cond-true, cond-false, eq-eqb, lt-ltb, not-true, or_parts}
+use Rattle.std.proofs.lemmas.List.Folds.{list_all-append}
+use Rattle.hex.specs.Hex.{encode_with, hex_digit_value, lower_digits}
+use Rattle.hex.proofs.HexLemmas.{IsDigits-lower_digits}
+use Rattle.rv_gdb_protocol.proofs.Hearing.{heard_in-append, heard_in-empty}
+use Rattle.rv_gdb_protocol.specs.Escapes.{begin_mark, changed, data_of, end_mark, escape, escaped, escaped_byte, has_meaning, is_escape}
+use Rattle.rv_gdb_protocol.specs.Frames.{Frame, between, frame_behind, heard_in, most_body}
+use Rattle.rv_gdb_protocol.specs.Readback.{CanBeSent, IsHeardAlone, IsReadBack, heard_in_pieces, is_plain, joined, sent, verdict_of}
+use Rattle.rv_gdb_protocol.specs.Sums.{framed, judged_sum, sum_digits, sum_of, sum_told}
+use Rattle.rv_gdb_protocol.specs.declared.frame.Heard.TheVariants.{Packet}
+use Rattle.rv_gdb_protocol.specs.declared.frame.Place.TheVariants as place
+use Rattle.rv_gdb_protocol.specs.declared.frame.Sum.TheVariants as verdict
+
+abbrev in_body : List ℕ → Frame
+in_body body = record { place = place.Body; body = body }
+
+-- ---- a text in its frame
+
+-- a plain byte makes a body longer that has room for it
+body_longer : (front : List ℕ) (byte : ℕ) → is_plain byte ≡ true → length front < most_body
+    → frame_behind (in_body front) byte ≡ in_body (front ++ byte ∷ [])
+body_longer front byte plain room =
+    let neither = or_parts (byte == begin_mark) (byte == end_mark) (not-true (byte == begin_mark || byte == end_mark) plain) in
+    rw (neither.0, neither.1, lt-ltb (length front) most_body room) refl
+
+body_heard : (front text rest : List ℕ) → list_all is_plain text ≡ true → length front + length text ≤ most_body
+    → heard_in (in_body front) (text ++ rest) ≡ heard_in (in_body (front ++ text)) rest
+unfolding heard_in
+body_heard front [] rest plain fits = ap (λ (body : List ℕ). heard_in (in_body body) rest) (sym (append-nil front))
+body_heard front (byte ∷ text) rest plain fits =
+    let parts = and_parts (is_plain byte) (list_all is_plain text) plain in
+    let grown : length (front ++ byte ∷ []) ≡ length front + 1 = length-append front (byte ∷ []) in
+    ap (λ (frame : Frame). heard_in frame (text ++ rest)) (body_longer front byte parts.0 (omega arith))
+    ∙ body_heard (front ++ byte ∷ []) text rest parts.1 (omega arith)
+    ∙ ap (λ (body : List ℕ). heard_in (in_body body) rest) (append_assoc front (byte ∷ []) text)
+
+body_behind : (front text rest : List ℕ) → list_all is_plain text ≡ true → length front + length text ≤ most_body
+    → fold frame_behind (in_body front) (text ++ rest) ≡ fold frame_behind (in_body (front ++ text)) rest
+body_behind front [] rest plain fits = ap (λ (body : List ℕ). fold frame_behind (in_body body) rest) (sym (append-nil front))
+body_behind front (byte ∷ text) rest plain fits =
+    let parts = and_parts (is_plain byte) (list_all is_plain text) plain in
+    let grown : length (front ++ byte ∷ []) ≡ length front + 1 = length-append front (byte ∷ []) in
+    ap (λ (frame : Frame). fold frame_behind frame (text ++ rest)) (body_longer front byte parts.0 (omega arith))
+    ∙ body_behind (front ++ byte ∷ []) text rest parts.1 (omega arith)
+    ∙ ap (λ (body : List ℕ). fold frame_behind (in_body body) rest) (append_assoc front (byte ∷ []) text)
+
+sent_heard : (text : List ℕ) (high low : ℕ) → CanBeSent text
+    → heard_in between (sent text high low) ≡ Packet text (verdict_of text high low) ∷ []
+unfolding heard_in
+sent_heard text high low can = body_heard [] text (end_mark ∷ high ∷ low ∷ []) can.plain (omega arith)
+
+sent_behind : (text : List ℕ) (high low : ℕ) → CanBeSent text → fold frame_behind between (sent text high low) ≡ between
+sent_behind text high low can = body_behind [] text (end_mark ∷ high ∷ low ∷ []) can.plain (omega arith)
+
+-- ---- pieces
+
+pieces_heard : (frame : Frame) (pieces : List (List ℕ)) → heard_in_pieces frame pieces ≡ heard_in frame (joined pieces)
+unfolding heard_in_pieces
+pieces_heard frame [] = sym (heard_in-empty frame)
+pieces_heard frame (piece ∷ rest) =
+    ap (λ more. heard_in frame piece ++ more) (pieces_heard (fold frame_behind frame piece) rest)
+    ∙ sym (heard_in-append frame piece (joined rest))
+
+pub sent_alone : (text : List ℕ) (high low : ℕ) → CanBeSent text
+    → IsHeardAlone (sent text high low) text (verdict_of text high low)
+sent_alone text high low can = record {
+  heard = λ pieces are. pieces_heard between pieces ∙ ap (heard_in between) are ∙ sent_heard text high low can;
+  behind = sent_behind text high low can;
+}
+
+-- ---- escapes
+
+meaning_cases : (byte : ℕ) → has_meaning byte ≡ true → (byte ≡ 36) ⊎ ((byte ≡ 35) ⊎ ((byte ≡ 125) ⊎ (byte ≡ 42)))
+meaning_cases byte is = grind arith
+
+meaning_escaped : (byte : ℕ) → has_meaning byte ≡ true → escaped_byte byte ≡ escape ∷ changed byte ∷ []
+meaning_escaped byte is = cond-true (has_meaning byte) (escape ∷ changed byte ∷ []) (byte ∷ []) is
+
+plain_escaped : (byte : ℕ) → has_meaning byte ≡ false → escaped_byte byte ≡ byte ∷ []
+plain_escaped byte is = cond-false (has_meaning byte) (escape ∷ changed byte ∷ []) (byte ∷ []) is
+
+-- what holds of the escapes of the four bytes, and of each other byte as it is, holds of each byte as it is escaped
+escapes_hold : (P : ℕ → List ℕ → Type 0) → P 36 (125 ∷ 4 ∷ []) → P 35 (125 ∷ 3 ∷ []) → P 125 (125 ∷ 93 ∷ [])
+    → P 42 (125 ∷ 10 ∷ []) → ((byte : ℕ) → has_meaning byte ≡ false → P byte (byte ∷ [])) → (byte : ℕ) → P byte (escaped_byte byte)
+escapes_hold P begins ends escapes repeats others byte =
+    elim (cases_Bool (has_meaning byte)) [
+      | inl is ↦ elim (meaning_cases byte is) [
+        | inl e ↦ rw e begins
+        | inr one ↦ elim one [
+          | inl e ↦ rw e ends
+          | inr two ↦ elim two [ inl e ↦ rw e escapes | inr e ↦ rw e repeats ]
+        ]
+      ]
+      | inr is ↦ rw (plain_escaped byte is) (others byte is)
+    ]
+
+byte_plain : (byte : ℕ) → list_all is_plain (escaped_byte byte) ≡ true
+byte_plain = escapes_hold (λ byte text. list_all is_plain text ≡ true) refl refl refl refl (λ byte is. grind arith)
+
+escaped_plain : (body : List ℕ) → list_all is_plain (escaped body) ≡ true
+escaped_plain [] = refl
+escaped_plain (byte ∷ body) =
+    list_all-append is_plain (escaped_byte byte) (escaped body)
+    ∙ and_from (list_all is_plain (escaped_byte byte)) (list_all is_plain (escaped body)) (byte_plain byte) (escaped_plain body)
+
+-- a byte with no meaning is no escape
+other_byte : (byte : ℕ) → has_meaning byte ≡ false → (byte == escape) ≡ false
+other_byte byte is = grind arith
+
+other_data : (rest : List ℕ) (byte : ℕ) → has_meaning byte ≡ false → data_of false (byte ∷ rest) ≡ byte ∷ data_of false rest
+unfolding data_of
+other_data rest byte is = rw (other_byte byte is) refl
+
+byte_data : (rest : List ℕ) (byte : ℕ) → data_of false (escaped_byte byte ++ rest) ≡ byte ∷ data_of false rest
+unfolding data_of
+byte_data rest = escapes_hold (λ byte text. data_of false (text ++ rest) ≡ byte ∷ data_of false rest) refl refl refl refl
+    (other_data rest)
+
+escaped_data : (body : List ℕ) → data_of false (escaped body) ≡ body
+unfolding data_of
+escaped_data [] = refl
+escaped_data (byte ∷ body) = byte_data (escaped body) byte ∙ ap (λ (rest : List ℕ). byte ∷ rest) (escaped_data body)
+
+byte_whole : (rest : List ℕ) (byte : ℕ) → fold is_escape false (escaped_byte byte ++ rest) ≡ fold is_escape false rest
+byte_whole rest = escapes_hold (λ byte text. fold is_escape false (text ++ rest) ≡ fold is_escape false rest) refl refl refl refl
+    (λ byte is. ap (λ (behind : Bool). fold is_escape behind rest) (other_byte byte is))
+
+escaped_whole : (body : List ℕ) → fold is_escape false (escaped body) ≡ false
+escaped_whole [] = refl
+escaped_whole (byte ∷ body) = byte_whole (escaped body) byte ∙ escaped_whole body
+
+-- ---- the sum
+
+sum_small : (text : List ℕ) → sum_of text < 256
+unfolding sum_of
+sum_small text = omega arith
+
+sum_right : (text : List ℕ) → verdict_of text (slice_index lower_digits (sum_of text / 16)) (slice_index lower_digits (sum_of text % 16))
+    ≡ verdict.Right
+sum_right text =
+    let s : ℕ = sum_of text in
+    let small : s < 256 = sum_small text in
+    let high : ℕ = s / 16 in
+    let low : ℕ = s % 16 in
+    ap (λ (told : Option ℕ). judged_sum s (sum_told told (hex_digit_value (slice_index lower_digits low))))
+    (IsDigits-lower_digits high (omega arith))
+    ∙ ap (λ (told : Option ℕ). judged_sum s (sum_told (Some high) told)) (IsDigits-lower_digits low (omega arith))
+    ∙ cond-true (high * 16 + low == s) verdict.Right verdict.Wrong (eq-eqb (high * 16 + low) s (omega arith))
+
+framed_alone : (body : List ℕ) → length (escaped body) ≤ most_body → IsHeardAlone (framed body) (escaped body) verdict.Right
+unfolding framed sum_digits encode_with
+framed_alone body fits =
+    let text : List ℕ = escaped body in
+    let high : ℕ = slice_index lower_digits (sum_of text / 16) in
+    let low : ℕ = slice_index lower_digits (sum_of text % 16) in
+    let can : CanBeSent text = record { plain = escaped_plain body; fits = fits } in
+    rw (← sum_right text) (sent_alone text high low can)
+
+pub framed_read_back : (body : List ℕ) → length (escaped body) ≤ most_body → IsReadBack body
+framed_read_back body fits = record {
+  alone = framed_alone body fits;
+  data_is = escaped_data body;
+  whole = ap not (escaped_whole body);
+}

@@ -1,0 +1,135 @@
+-- A packet that is heard was sent.
+use Rattle.std.proofs.Common.{◌≡◌, ◌++◌, ◌∷◌, ◌+◌, ◌<◌, ◌==◌, [], ℕ, List, true, false, cond, ltb, Some, fold, length, refl, ap, append-nil, append_assoc, arith, length-append, sym, ◌∙◌}
+use Rattle.std.specs.List.{list_all}
+use Rattle.std.proofs.lemmas.Bool.{and_from, cond_both, eqb-true, ltb-true, not_from_false, or_from}
+use Rattle.std.proofs.lemmas.List.Folds.{list_all-append}
+use Rattle.rv_gdb_protocol.specs.Escapes.{begin_mark, end_mark}
+use Rattle.rv_gdb_protocol.specs.Frames.{Frame, behind_byte, between, frame_behind, heard_at, heard_at_place, longer_body, most_body, opened, passed_over, signal}
+use Rattle.rv_gdb_protocol.specs.Readback.{CanBeSent, EndsWithSent, is_plain, sent, verdict_of}
+use Rattle.rv_gdb_protocol.specs.declared.frame.Heard.TheVariants as heard
+use Rattle.rv_gdb_protocol.specs.declared.frame.Place.{Place}
+use Rattle.rv_gdb_protocol.specs.declared.frame.Place.TheVariants as place
+use Rattle.rv_gdb_protocol.specs.declared.frame.Sum.{Sum}
+
+-- bytes end with `$`, a text and what has come behind the text
+pub record EndsOpen (bytes text behind : List ℕ) : Type 0 where
+  pub front : List ℕ
+  pub bytes_are : bytes ≡ front ++ begin_mark ∷ (text ++ behind)
+  pub can : CanBeSent text
+
+-- what a frame tells of the bytes that led to it
+abbrev Tells : Place → List ℕ → List ℕ → Type 0
+Tells place.Body text bytes = EndsOpen bytes text []
+Tells place.FirstDigit text bytes = EndsOpen bytes text (end_mark ∷ [])
+Tells (place.SecondDigit high) text bytes = EndsOpen bytes text (end_mark ∷ high ∷ [])
+Tells place.Between text bytes = Unit {0}
+Tells place.LongBody text bytes = Unit {0}
+Tells place.LongFirstDigit text bytes = Unit {0}
+Tells place.LongSecondDigit text bytes = Unit {0}
+
+abbrev FrameTells : List ℕ → Frame → Type 0
+FrameTells bytes frame = Tells frame.place frame.body bytes
+
+-- one byte more behind the text
+one_more : (bytes text behind : List ℕ) (byte : ℕ) → EndsOpen bytes text behind
+    → EndsOpen (bytes ++ byte ∷ []) text (behind ++ byte ∷ [])
+one_more bytes text behind byte open_ = record {
+  front = open_.front;
+  bytes_are =
+      ap (λ (all : List ℕ). all ++ byte ∷ []) open_.bytes_are
+      ∙ append_assoc open_.front (begin_mark ∷ (text ++ behind)) (byte ∷ [])
+      ∙ ap (λ (rest : List ℕ). open_.front ++ begin_mark ∷ rest) (append_assoc text behind (byte ∷ []));
+  can = open_.can;
+}
+
+-- one byte more in the text
+longer : (bytes text : List ℕ) (byte : ℕ) → EndsOpen bytes text [] → is_plain byte ≡ true → length text < most_body
+    → EndsOpen (bytes ++ byte ∷ []) (text ++ byte ∷ []) []
+longer bytes text byte open_ plain room =
+    let more = one_more bytes text [] byte open_ in
+    let grown : length (text ++ byte ∷ []) ≡ length text + 1 = length-append text (byte ∷ []) in record {
+      front = more.front;
+      bytes_are = more.bytes_are ∙ ap (λ (rest : List ℕ). more.front ++ begin_mark ∷ rest) (sym (append-nil (text ++ byte ∷ [])));
+      can = record {
+        plain = list_all-append is_plain text (byte ∷ [])
+            ∙ and_from (list_all is_plain text) (list_all is_plain (byte ∷ [])) open_.can.plain
+            (and_from (is_plain byte) true plain refl);
+        fits = omega arith;
+      };
+    }
+
+opens : (bytes : List ℕ) (byte : ℕ) → (byte == begin_mark) ≡ true → FrameTells (bytes ++ byte ∷ []) opened
+opens bytes byte is = record {
+  front = bytes;
+  bytes_are = ap (λ (last : ℕ). bytes ++ last ∷ []) (eqb-true byte begin_mark is);
+  can = record { plain = refl; fits = omega arith };
+}
+
+goes_longer : (bytes text : List ℕ) (byte : ℕ) → EndsOpen bytes text [] → (byte == begin_mark) ≡ false → (byte == end_mark) ≡ false
+    → FrameTells (bytes ++ byte ∷ []) (longer_body text byte)
+goes_longer bytes text byte open_ no_begin no_end =
+    cond_both (ltb (length text) most_body) (record { place = place.Body; body = text ++ byte ∷ [] }) passed_over
+    (FrameTells (bytes ++ byte ∷ []))
+    (λ room. longer bytes text byte open_ (not_from_false _ (or_from (byte == begin_mark) (byte == end_mark) no_begin no_end))
+    (ltb-true (length text) most_body room))
+    (λ full. tt)
+
+one_byte : (stands : Place) (text bytes : List ℕ) (byte : ℕ) → Tells stands text bytes
+    → FrameTells (bytes ++ byte ∷ []) (behind_byte stands (record { place = stands; body = text }) byte)
+one_byte place.Between text bytes byte told =
+    cond_both (byte == begin_mark) opened (record { place = place.Between; body = text }) (FrameTells (bytes ++ byte ∷ []))
+    (opens bytes byte) (λ no. tt)
+one_byte place.Body text bytes byte told =
+    cond_both (byte == begin_mark) opened
+    (cond (byte == end_mark) (record { place = place.FirstDigit; body = text }) (longer_body text byte))
+    (FrameTells (bytes ++ byte ∷ [])) (opens bytes byte)
+    (λ no_begin. cond_both (byte == end_mark) (record { place = place.FirstDigit; body = text }) (longer_body text byte)
+    (FrameTells (bytes ++ byte ∷ []))
+    (λ ends. rw (← eqb-true byte end_mark ends) (one_more bytes text [] byte told))
+    (goes_longer bytes text byte told no_begin))
+one_byte place.FirstDigit text bytes byte told = one_more bytes text (end_mark ∷ []) byte told
+one_byte (place.SecondDigit high) text bytes byte told = tt
+one_byte place.LongBody text bytes byte told =
+    cond_both (byte == begin_mark) opened
+    (cond (byte == end_mark) (record { place = place.LongFirstDigit; body = text }) (record { place = place.LongBody; body = text }))
+    (FrameTells (bytes ++ byte ∷ [])) (opens bytes byte)
+    (λ no_begin. cond_both (byte == end_mark) (record { place = place.LongFirstDigit; body = text })
+    (record { place = place.LongBody; body = text }) (FrameTells (bytes ++ byte ∷ [])) (λ ends. tt) (λ goes. tt))
+one_byte place.LongFirstDigit text bytes byte told = tt
+one_byte place.LongSecondDigit text bytes byte told = tt
+
+frames_tell : (front rest : List ℕ) (frame : Frame) → FrameTells front frame
+    → FrameTells (front ++ rest) (fold frame_behind frame rest)
+frames_tell front [] frame told = rw (append-nil front) told
+frames_tell front (byte ∷ rest) frame told =
+    rw (← append_assoc front (byte ∷ []) rest)
+    (frames_tell (front ++ byte ∷ []) rest (frame_behind frame byte) (one_byte frame.place frame.body front byte told))
+
+no_signal : (byte : ℕ) (text : List ℕ) (sum : Sum) → signal byte ≡ Some (heard.Packet text sum) → ⊥
+no_signal byte text sum is = grind arith
+
+was_sent : (stands : Place) (body bytes text : List ℕ) (byte : ℕ) (sum : Sum) → Tells stands body bytes
+    → heard_at_place stands body byte ≡ Some (heard.Packet text sum) → EndsWithSent (bytes ++ byte ∷ []) text sum
+was_sent place.Between body bytes text byte sum told is = absurd (no_signal byte text sum is)
+was_sent place.Body body bytes text byte sum told is = absurd (cc is)
+was_sent place.FirstDigit body bytes text byte sum told is = absurd (cc is)
+was_sent (place.SecondDigit high) body bytes text byte sum told is =
+    let same : body ≡ text = cc in
+    let more = one_more bytes body (end_mark ∷ high ∷ []) byte told in record {
+      front = more.front;
+      high = high;
+      low = byte;
+      bytes_are = more.bytes_are ∙ ap (λ (t : List ℕ). more.front ++ sent t high byte) same;
+      can = rw (← same) more.can;
+      sum_is = let right : sum ≡ verdict_of body high byte = cc in right ∙ ap (λ (t : List ℕ). verdict_of t high byte) same;
+    }
+was_sent place.LongBody body bytes text byte sum told is = absurd (cc is)
+was_sent place.LongFirstDigit body bytes text byte sum told is = absurd (cc is)
+was_sent place.LongSecondDigit body bytes text byte sum told is = absurd (cc is)
+
+pub heard_was_sent : (bytes text : List ℕ) (byte : ℕ) (sum : Sum)
+    → heard_at (fold frame_behind between bytes) byte ≡ Some (heard.Packet text sum)
+    → EndsWithSent (bytes ++ byte ∷ []) text sum
+heard_was_sent bytes text byte sum is =
+    let last : Frame = fold frame_behind between bytes in
+    was_sent last.place last.body bytes text byte sum (frames_tell [] bytes between tt) is

@@ -1,0 +1,91 @@
+-- What is heard in bytes that come: where the next byte stands, and what each byte ends.
+use Rattle.std.specs.Prelude.{ℕ, List, [], ◌∷◌, ◌++◌, ◌==◌, Option, Some, None, if◌then◌else◌, length, nat_lt}
+use Rattle.hex.specs.Hex.{hex_digit_value}
+use Rattle.rv_gdb_protocol.specs.Escapes.{begin_mark, end_mark}
+use Rattle.rv_gdb_protocol.specs.Sums.{judged_sum, sum_of, sum_told}
+use Rattle.rv_gdb_protocol.specs.declared.frame.Heard.{Heard}
+use Rattle.rv_gdb_protocol.specs.declared.frame.Heard.TheVariants as heard
+use Rattle.rv_gdb_protocol.specs.declared.frame.Place.{Place}
+use Rattle.rv_gdb_protocol.specs.declared.frame.Place.TheVariants as place
+
+-- the longest body that is kept
+abbrev pub most_body : ℕ
+most_body = 16384
+
+-- where the next byte stands, and the body so far
+pub record Frame : Type 0 where
+  pub place : Place
+  pub body : List ℕ
+
+-- how many bytes of a body are kept at a place, at most
+abbrev pub room : Place → ℕ
+room place.Body = most_body
+room place.FirstDigit = most_body
+room (place.SecondDigit high) = most_body
+room place.Between = 0
+room place.LongBody = 0
+room place.LongFirstDigit = 0
+room place.LongSecondDigit = 0
+
+abbrev pub between : Frame
+between = record { place = place.Between; body = [] }
+
+-- a body begins: at `$` between packets, and at `$` within a body, whose bytes so far are dropped
+abbrev pub opened : Frame
+opened = record { place = place.Body; body = [] }
+
+abbrev pub passed_over : Frame
+passed_over = record { place = place.LongBody; body = [] }
+
+-- a body with a byte more, if it still fits
+abbrev pub longer_body : List ℕ → ℕ → Frame
+longer_body body byte =
+    if nat_lt (length body) most_body then record { place = place.Body; body = body ++ byte ∷ [] } else passed_over
+
+-- the frame behind a byte that stands at a place; noise between packets leaves it as it is
+abbrev pub behind_byte : Place → Frame → ℕ → Frame
+behind_byte place.Between frame byte = if byte == begin_mark then opened else frame
+behind_byte place.Body frame byte =
+    if byte == begin_mark then opened
+    else if byte == end_mark then record { place = place.FirstDigit; body = frame.body }
+    else longer_body frame.body byte
+behind_byte place.FirstDigit frame byte = record { place = place.SecondDigit byte; body = frame.body }
+behind_byte (place.SecondDigit high) frame byte = between
+behind_byte place.LongBody frame byte =
+    if byte == begin_mark then opened
+    else if byte == end_mark then record { place = place.LongFirstDigit; body = frame.body }
+    else frame
+behind_byte place.LongFirstDigit frame byte = record { place = place.LongSecondDigit; body = frame.body }
+behind_byte place.LongSecondDigit frame byte = record { place = place.Between; body = frame.body }
+
+abbrev pub frame_behind : Frame → ℕ → Frame
+frame_behind frame byte = behind_byte frame.place frame byte
+
+-- what a byte says between packets: 0x03 is Ctrl-C, `+` and `-` acknowledge
+abbrev pub signal : ℕ → Option Heard
+signal byte = if byte == 3 then Some heard.Interrupt
+    else if byte == 43 then Some heard.Arrived
+    else if byte == 45 then Some heard.Again else None
+
+-- a packet is heard at the second digit of its sum
+abbrev pub heard_at_place : Place → List ℕ → ℕ → Option Heard
+heard_at_place place.Between body byte = signal byte
+heard_at_place place.Body body byte = None
+heard_at_place place.FirstDigit body byte = None
+heard_at_place (place.SecondDigit high) body byte =
+    Some (heard.Packet body (judged_sum (sum_of body) (sum_told (hex_digit_value high) (hex_digit_value byte))))
+heard_at_place place.LongBody body byte = None
+heard_at_place place.LongFirstDigit body byte = None
+heard_at_place place.LongSecondDigit body byte = Some heard.TooLong
+
+abbrev pub heard_at : Frame → ℕ → Option Heard
+heard_at frame byte = heard_at_place frame.place frame.body byte
+
+abbrev pub option_list : Option Heard → List Heard
+option_list None = []
+option_list (Some heard) = heard ∷ []
+
+-- what is heard in bytes, in their order
+unfoldable pub heard_in : Frame → List ℕ → List Heard
+heard_in frame [] = []
+heard_in frame (byte ∷ rest) = option_list (heard_at frame byte) ++ heard_in (frame_behind frame byte) rest

@@ -1,0 +1,116 @@
+-- Which packets ask what: a row for each packet of the protocol, in its order of fields. Other texts ask nothing, and are refused.
+use Rattle.std.specs.Prelude.{ℕ, List, ◌∷◌, ◌++◌, ◌≡◌, ◌≤◌, ◌+◌, ◌==◌, true, Some, codes, length, not}
+use Rattle.std.specs.List.{list_all}
+use Rattle.rv_gdb_protocol.specs.Numbers.{bytes_of, number_of, value_of}
+use Rattle.rv_gdb_protocol.specs.Requests.{colon, comma, equals, register_of, semicolon, whole_data}
+use Rattle.rv_gdb_protocol.specs.declared.request.Move.{Move}
+use Rattle.rv_gdb_protocol.specs.declared.request.Move.TheVariants as move
+use Rattle.rv_gdb_protocol.specs.declared.request.Register.{Register}
+use Rattle.rv_gdb_protocol.specs.declared.request.Request.{Request}
+use Rattle.rv_gdb_protocol.specs.declared.request.Request.TheVariants as ask
+use Rattle.rv_gdb_protocol.specs.declared.request.Trap.{Trap}
+use Rattle.rv_gdb_protocol.specs.declared.request.Trap.TheVariants as trap
+use Rattle.rv_gdb_protocol.specs.declared.request.Watched.TheVariants as watch
+
+-- two texts with a mark between them
+abbrev pub parted : ℕ → List ℕ → List ℕ → List ℕ
+parted mark first second = first ++ mark ∷ second
+
+-- a text in which a mark does not stand
+abbrev pub Lacks : ℕ → List ℕ → Type 0
+Lacks mark text = list_all (λ byte. not (byte == mark)) text ≡ true
+
+-- two numbers in their digits, with a comma between them
+pub record TellsTwo (text : List ℕ) (first second : ℕ) : Type 0 where
+  pub front : List ℕ
+  pub behind : List ℕ
+  pub text_is : text ≡ parted comma front behind
+  pub front_tells : number_of front ≡ Some first
+  pub behind_tells : number_of behind ≡ Some second
+
+pub data IsTrap : List ℕ → Trap → Type 0 where
+  software : (fields : List ℕ) (address kind : ℕ) → TellsTwo fields address kind → IsTrap (codes "0," ++ fields) (trap.Break address)
+  hardware : (fields : List ℕ) (address kind : ℕ) → TellsTwo fields address kind → IsTrap (codes "1," ++ fields) (trap.Break address)
+  writes : (fields : List ℕ) (address count : ℕ) → TellsTwo fields address count → 1 ≤ count → count ≤ 65536
+      → address + count ≤ 4294967296
+      → IsTrap (codes "2," ++ fields) (trap.Watch watch.Writes (record { address = address; count = count }))
+  reads : (fields : List ℕ) (address count : ℕ) → TellsTwo fields address count → 1 ≤ count → count ≤ 65536
+      → address + count ≤ 4294967296
+      → IsTrap (codes "3," ++ fields) (trap.Watch watch.Reads (record { address = address; count = count }))
+  accesses : (fields : List ℕ) (address count : ℕ) → TellsTwo fields address count → 1 ≤ count → count ≤ 65536
+      → address + count ≤ 4294967296
+      → IsTrap (codes "4," ++ fields) (trap.Watch watch.Accesses (record { address = address; count = count }))
+
+-- `c` and `s` go on and step
+pub data IsMove : List ℕ → Move → Type 0 where
+  goes_on : IsMove (codes "c") move.Continue
+  steps : IsMove (codes "s") move.Step
+
+-- an action of `vCont;`: a signal is passed over, and `r` steps while the pc is within two addresses
+pub data IsAction : List ℕ → Move → Type 0 where
+  moves : (text : List ℕ) (step : Move) → IsMove text step → IsAction text step
+  goes_on_signalled : (signal : List ℕ) (number : ℕ) → number_of signal ≡ Some number
+      → IsAction (codes "C" ++ signal) move.Continue
+  steps_signalled : (signal : List ℕ) (number : ℕ) → number_of signal ≡ Some number → IsAction (codes "S" ++ signal) move.Step
+  steps_within : (range : List ℕ) (low high : ℕ) → TellsTwo range low high
+      → IsAction (codes "r" ++ range) (move.StepWithin low high)
+
+pub data IsRequest : List ℕ → Request → Type 0 where
+  features : (args : List ℕ) → IsRequest (codes "qSupported" ++ args) ask.Features
+  no_acknowledgements : IsRequest (codes "QStartNoAckMode") ask.NoAcknowledgements
+  last_stop : IsRequest (codes "?") ask.LastStop
+  description : (part : List ℕ) (offset count : ℕ) → TellsTwo part offset count
+      → IsRequest (codes "qXfer:features:read:target.xml:" ++ part) (ask.Description (record { offset = offset; count = count }))
+  registers : IsRequest (codes "g") ask.Registers
+  register : (digits : List ℕ) (number : ℕ) (which : Register) → number_of digits ≡ Some number
+      → register_of number ≡ Some which → IsRequest (codes "p" ++ digits) (ask.Register which)
+  write_register : (digits values : List ℕ) (number value : ℕ) (which : Register) → number_of digits ≡ Some number
+      → register_of number ≡ Some which → value_of values ≡ Some value
+      → IsRequest (codes "P" ++ parted equals digits values) (ask.WriteRegister which value)
+  write_registers : (digits bytes : List ℕ) → bytes_of digits ≡ Some bytes → length bytes ≡ 132
+      → IsRequest (codes "G" ++ digits) (ask.WriteRegisters bytes)
+  read_memory : (range : List ℕ) (address count : ℕ) → TellsTwo range address count
+      → IsRequest (codes "m" ++ range) (ask.ReadMemory (record { address = address; count = count }))
+  write_digits : (range digits bytes : List ℕ) (address count : ℕ) → TellsTwo range address count → bytes_of digits ≡ Some bytes
+      → length bytes ≡ count → IsRequest (codes "M" ++ parted colon range digits) (ask.WriteMemory address bytes)
+  write_data : (range data_text bytes : List ℕ) (address count : ℕ) → TellsTwo range address count
+      → whole_data data_text ≡ Some bytes → length bytes ≡ count
+      → IsRequest (codes "X" ++ parted colon range data_text) (ask.WriteMemory address bytes)
+  set_trap : (text : List ℕ) (place : Trap) → IsTrap text place → IsRequest (codes "Z" ++ text) (ask.Set place)
+  clear_trap : (text : List ℕ) (place : Trap) → IsTrap text place → IsRequest (codes "z" ++ text) (ask.Clear place)
+  actions : IsRequest (codes "vCont?") ask.Actions
+  plain_move : (text : List ℕ) (step : Move) → IsMove text step → IsRequest text (ask.Move step)
+  on_with_signal : (signal : List ℕ) (number : ℕ) → number_of signal ≡ Some number
+      → IsRequest (codes "C" ++ signal) (ask.Move move.Continue)
+  step_with_signal : (signal : List ℕ) (number : ℕ) → number_of signal ≡ Some number
+      → IsRequest (codes "S" ++ signal) (ask.Move move.Step)
+  one_action : (text : List ℕ) (step : Move) → IsAction text step → IsRequest (codes "vCont;" ++ text) (ask.Move step)
+  first_action : (text rest : List ℕ) (step : Move) → IsAction text step
+      → IsRequest (codes "vCont;" ++ parted semicolon text rest) (ask.Move step)
+  action_of_thread : (text rest : List ℕ) (step : Move) → IsAction text step
+      → IsRequest (codes "vCont;" ++ parted colon text rest) (ask.Move step)
+  goes_back : IsRequest (codes "bc") (ask.Move move.ContinueBack)
+  steps_back : IsRequest (codes "bs") (ask.Move move.StepBack)
+  command : (digits text : List ℕ) → bytes_of digits ≡ Some text → IsRequest (codes "qRcmd," ++ digits) (ask.Command text)
+  detach : IsRequest (codes "D") ask.Detach
+  kill : IsRequest (codes "k") ask.Kill
+  detach_process : (process : List ℕ) → IsRequest (codes "D;" ++ process) ask.Detach
+  restart : (args : List ℕ) → IsRequest (codes "vRun" ++ args) ask.Restart
+  kill_process : (args : List ℕ) → IsRequest (codes "vKill" ++ args) ask.Accepted
+  choose_thread : (args : List ℕ) → IsRequest (codes "H" ++ args) ask.Accepted
+  is_alive : (args : List ℕ) → IsRequest (codes "T" ++ args) ask.Accepted
+  stay_extended : IsRequest (codes "!") ask.Accepted
+  attached : (args : List ℕ) → IsRequest (codes "qAttached" ++ args) ask.Attached
+  this_thread : IsRequest (codes "qC") ask.Thread
+  first_threads : IsRequest (codes "qfThreadInfo") ask.FirstThreads
+  more_threads : IsRequest (codes "qsThreadInfo") ask.MoreThreads
+  image_path : (process part : List ℕ) (offset count : ℕ) → Lacks colon process → TellsTwo part offset count
+      → IsRequest (codes "qXfer:exec-file:read:" ++ parted colon process part)
+      (ask.ImagePath (record { offset = offset; count = count }))
+  file_system : IsRequest (codes "vFile:setfs:0") ask.FileSystem
+  open_file : (digits path modes : List ℕ) (mode : ℕ) → Lacks comma digits → bytes_of digits ≡ Some path → TellsTwo modes 0 mode
+      → IsRequest (codes "vFile:open:" ++ parted comma digits modes) (ask.OpenFile path)
+  file_size : IsRequest (codes "vFile:fstat:5") ask.FileSize
+  read_file : (part : List ℕ) (count offset : ℕ) → TellsTwo part count offset
+      → IsRequest (codes "vFile:pread:5," ++ part) (ask.ReadFile (record { offset = offset; count = count }))
+  close_file : IsRequest (codes "vFile:close:5") ask.CloseFile

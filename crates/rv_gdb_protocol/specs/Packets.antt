@@ -1,0 +1,145 @@
+-- What the bodies of gdb's packets ask: a packet has a name, and arguments behind it.
+use Rattle.std.specs.Prelude.{ℕ, List, ◌==◌, ◌||◌, Bool, Option, Some, None, codes, if◌then◌else◌, length, nat_eq, option_map, unwrap_or}
+use Rattle.std.specs.List.{starts_with}
+use Rattle.std.specs.Option.{option_or}
+use Rattle.std.specs.Str.{bytes_eq}
+use Rattle.rv_gdb_protocol.specs.Numbers.{behind, bytes_of, until, ◌>>=◌}
+use Rattle.rv_gdb_protocol.specs.Requests.{colon, description, image_path, move_within, open_file, or_refused, plain_move, read_file, read_memory, read_register, semicolon, signal_move, signalled, trap_of, write_data, write_digits, write_register, write_registers}
+use Rattle.rv_gdb_protocol.specs.declared.request.Move.{Move}
+use Rattle.rv_gdb_protocol.specs.declared.request.Move.TheVariants as move
+use Rattle.rv_gdb_protocol.specs.declared.request.Refusal.TheVariants as refusal
+use Rattle.rv_gdb_protocol.specs.declared.request.Request.{Request}
+use Rattle.rv_gdb_protocol.specs.declared.request.Request.TheVariants as ask
+
+-- the first of several that is there
+infixl 5 ◌<|>◌
+abbrev pub ◌<|>◌ : {A : Type 0} → Option A → Option A → Option A
+one <|> other = option_or one other
+
+-- a packet by its name: what its arguments ask
+abbrev pub named : List ℕ → (List ℕ → Request) → List ℕ → Option Request
+named name asked body = option_map asked (behind name body)
+
+-- ---- packets that are a name alone
+
+unfoldable pub bare_query : List ℕ → Option Request
+bare_query body =
+    if bytes_eq body (codes "?") then Some ask.LastStop
+    else if bytes_eq body (codes "QStartNoAckMode") then Some ask.NoAcknowledgements
+    else if bytes_eq body (codes "g") then Some ask.Registers
+    else if bytes_eq body (codes "qC") then Some ask.Thread
+    else if bytes_eq body (codes "qfThreadInfo") then Some ask.FirstThreads
+    else if bytes_eq body (codes "qsThreadInfo") then Some ask.MoreThreads
+    else if bytes_eq body (codes "vCont?") then Some ask.Actions
+    else None
+
+unfoldable pub bare_order : List ℕ → Option Request
+bare_order body =
+    if bytes_eq body (codes "bs") then Some (ask.Move move.StepBack)
+    else if bytes_eq body (codes "bc") then Some (ask.Move move.ContinueBack)
+    else if bytes_eq body (codes "k") then Some ask.Kill
+    else if bytes_eq body (codes "!") then Some ask.Accepted
+    else if bytes_eq body (codes "vFile:setfs:0") then Some ask.FileSystem
+    else if bytes_eq body (codes "vFile:fstat:5") then Some ask.FileSize
+    else if bytes_eq body (codes "vFile:close:5") then Some ask.CloseFile
+    else None
+
+-- ---- packets with arguments
+
+unfoldable pub query : List ℕ → Option Request
+query body =
+    if starts_with nat_eq body (codes "qSupported") then Some ask.Features
+    else if starts_with nat_eq body (codes "qAttached") then Some ask.Attached else None
+
+abbrev pub describing : List ℕ → Option Request
+describing body = named (codes "qXfer:features:read:") description body
+
+abbrev pub image_naming : List ℕ → Option Request
+image_naming body = named (codes "qXfer:exec-file:read:") image_path body
+
+unfoldable pub reading : List ℕ → Option Request
+reading body =
+    named (codes "p") read_register body
+    <|> named (codes "P") write_register body
+    <|> named (codes "m") read_memory body
+
+unfoldable pub trapping : List ℕ → Option Request
+trapping body = named (codes "Z") (trap_of ask.Set) body <|> named (codes "z") (trap_of ask.Clear) body
+
+-- an action of `vCont;`, without its thread
+unfoldable pub bare_action : List ℕ → Option Move
+bare_action text =
+    if bytes_eq text (codes "c") then Some move.Continue
+    else if bytes_eq text (codes "s") then Some move.Step else None
+
+abbrev pub signal_action : List ℕ → Move → List ℕ → Option Move
+signal_action name step text = behind name text >>= signalled step
+
+abbrev pub range_action : List ℕ → Option Move
+range_action text = behind (codes "r") text >>= move_within
+
+unfoldable pub action_of : List ℕ → Option Move
+action_of text = bare_action text <|> signal_action (codes "C") move.Continue text <|> signal_action (codes "S") move.Step text
+    <|> range_action text
+
+-- the first action is the one that counts, since there is one thread
+unfoldable pub first_action : List ℕ → Request
+first_action args = or_refused refusal.Malformed (option_map ask.Move (action_of (until colon (until semicolon args))))
+
+unfoldable pub moving : List ℕ → Option Request
+moving body =
+    named (codes "vCont;") first_action body
+    <|> named (codes "c") (plain_move move.Continue) body
+    <|> named (codes "s") (plain_move move.Step) body
+    <|> named (codes "C") (signal_move move.Continue) body
+    <|> named (codes "S") (signal_move move.Step) body
+
+-- nothing, or `;` and a process
+unfoldable pub detach : List ℕ → Request
+detach args = if length args == 0 || starts_with nat_eq args (codes ";") then ask.Detach else ask.Refused refusal.Unknown
+
+-- whatever stands behind its name
+unfoldable pub granted : List ℕ → Option Request
+granted body =
+    if starts_with nat_eq body (codes "H") then Some ask.Accepted
+    else if starts_with nat_eq body (codes "T") then Some ask.Accepted
+    else if starts_with nat_eq body (codes "vKill") then Some ask.Accepted
+    else if starts_with nat_eq body (codes "vRun") then Some ask.Restart else None
+
+abbrev pub detaching : List ℕ → Option Request
+detaching body = named (codes "D") detach body
+
+-- a call on a file whose descriptor is the first argument
+unfoldable pub is_file_call : List ℕ → Bool
+is_file_call body =
+    starts_with nat_eq body (codes "vFile:pread:") || starts_with nat_eq body (codes "vFile:fstat:")
+    || starts_with nat_eq body (codes "vFile:close:") || starts_with nat_eq body (codes "vFile:setfs:")
+
+-- descriptor 5 is the one that there is
+abbrev pub file_reading : List ℕ → Option Request
+file_reading body = named (codes "vFile:pread:5,") read_file body
+
+abbrev pub other_file : List ℕ → Option Request
+other_file body = if is_file_call body then Some (ask.Refused refusal.OtherFile) else None
+
+-- a `monitor` command in hexadecimal digits
+unfoldable pub command : List ℕ → Request
+command args = or_refused refusal.Failed (option_map ask.Command (bytes_of args))
+
+unfoldable pub carrying : List ℕ → Option Request
+carrying body =
+    named (codes "G") write_registers body
+    <|> named (codes "M") write_digits body
+    <|> named (codes "X") write_data body
+    <|> named (codes "vFile:open:") open_file body
+    <|> named (codes "qRcmd,") command body
+
+-- packets that carry no bytes
+unfoldable pub light_request : List ℕ → Option Request
+light_request body =
+    bare_query body <|> bare_order body <|> query body <|> describing body <|> image_naming body <|> reading body <|> trapping body
+    <|> moving body <|> granted body <|> detaching body <|> file_reading body <|> other_file body
+
+-- what a body asks; other packets are not known
+unfoldable pub request_of : List ℕ → Request
+request_of body = unwrap_or (light_request body <|> carrying body) (ask.Refused refusal.Unknown)

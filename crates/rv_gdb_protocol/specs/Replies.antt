@@ -1,0 +1,49 @@
+-- The bodies of replies that are the same in every session, and the parts of longer texts.
+use Rattle.std.specs.Prelude.{ℕ, List, ◌∷◌, Option, Some, None, codes, drop, if◌then◌else◌, length, min, nat_le, take}
+use Rattle.rv_gdb_protocol.specs.declared.request.Part.{Part}
+use Rattle.rv_gdb_protocol.specs.declared.request.Refusal.{Refusal}
+use Rattle.rv_gdb_protocol.specs.declared.request.Refusal.TheVariants as refusal
+use Rattle.rv_gdb_protocol.specs.declared.request.Request.{Request}
+use Rattle.rv_gdb_protocol.specs.declared.request.Request.TheVariants as ask
+
+abbrev pub refusal_text : Refusal → List ℕ
+refusal_text refusal.Unknown = codes ""
+refusal_text refusal.Failed = codes "E01"
+refusal_text refusal.OtherAnnex = codes "E00"
+refusal_text refusal.OtherFile = codes "F-1,2"
+refusal_text refusal.Malformed = codes "E.malformed"
+refusal_text refusal.WouldChange = codes "E.the run is what it is: the debugger does not change it"
+refusal_text refusal.NotReached = codes "E.the run does not come there"
+refusal_text refusal.TooManyTraps = codes "E.too many breakpoints"
+refusal_text refusal.TooLong = codes "E.packet too long"
+
+-- a packet holds 0x4000 bytes
+abbrev pub features : List ℕ
+features =
+    codes "PacketSize=4000;QStartNoAckMode+;ReverseStep+;ReverseContinue+;qXfer:features:read+;qXfer:exec-file:read+"
+
+abbrev pub fixed_reply : Request → Option (List ℕ)
+fixed_reply ask.Features = Some features
+fixed_reply ask.NoAcknowledgements = Some (codes "OK")
+fixed_reply ask.Accepted = Some (codes "OK")
+fixed_reply ask.Detach = Some (codes "OK")
+fixed_reply ask.FileSystem = Some (codes "F0")
+fixed_reply ask.CloseFile = Some (codes "F0")
+fixed_reply ask.Actions = Some (codes "vCont;c;C;s;S;r")
+fixed_reply ask.Thread = Some (codes "QC1")
+fixed_reply ask.FirstThreads = Some (codes "m1")
+fixed_reply ask.MoreThreads = Some (codes "l")
+fixed_reply ask.Attached = Some (codes "0")
+fixed_reply (ask.Refused refusal) = Some (refusal_text refusal)
+fixed_reply request = None
+
+-- the most bytes of a part
+abbrev pub most_part : ℕ
+most_part = 8184
+
+-- `l` and the rest, or `m` and the bytes where more are behind them
+abbrev pub part_of_rest : List ℕ → ℕ → List ℕ
+part_of_rest rest count = if nat_le (length rest) count then 108 ∷ rest else 109 ∷ take count rest
+
+unfoldable pub part_text : List ℕ → Part → List ℕ
+part_text text part = part_of_rest (drop part.offset text) (min part.count most_part)

@@ -1,0 +1,74 @@
+-- The bodies of stop replies: `T` and a signal of gdb, with the reason where gdb has a name for it.
+use Rattle.std.specs.Prelude.{ℕ, List, ◌++◌, codes}
+use Rattle.std.specs.Int.{w32, to_be_bytes}
+use Rattle.hex.specs.Hex.{encode_lower}
+use Rattle.rv_machine.specs.declared.ending.FaultKind.{FaultKind}
+use Rattle.rv_machine.specs.declared.ending.FaultKind.TheVariants as fault
+use Rattle.rv_gdb_protocol.specs.declared.request.Watched.{Watched}
+use Rattle.rv_gdb_protocol.specs.declared.request.Watched.TheVariants as watch
+use Rattle.rv_gdb_protocol.specs.declared.stop.Stop.{Stop}
+use Rattle.rv_gdb_protocol.specs.declared.stop.Stop.TheVariants as stop
+
+-- SIGSEGV, SIGBUS, SIGILL, SIGABRT, SIGSYS and SIGXFSZ, by gdb's numbers
+abbrev pub fault_text : FaultKind → List ℕ
+fault_text fault.FetchAccess = codes "T0b"
+fault_text fault.StaleCode = codes "T04"
+fault_text fault.Illegal = codes "T04"
+fault_text fault.Breakpoint = codes "T06"
+fault_text fault.LoadMisaligned = codes "T0a"
+fault_text fault.LoadAccess = codes "T0b"
+fault_text fault.StoreMisaligned = codes "T0a"
+fault_text fault.StoreAccess = codes "T0b"
+fault_text fault.ConsoleFull = codes "T19"
+fault_text fault.UnknownCall = codes "T0c"
+fault_text fault.FetchMisaligned = codes "T0a"
+
+-- which watch it is
+abbrev pub watch_text : Watched → List ℕ
+watch_text watch.Writes = codes "T05watch:"
+watch_text watch.Reads = codes "T05rwatch:"
+watch_text watch.Accesses = codes "T05awatch:"
+
+-- SIGTRAP, SIGINT and SIGXCPU; no reply is `W` or `X`, since a run goes backwards from its end
+unfoldable pub stop_text : Stop → List ℕ
+stop_text stop.Here = codes "T05"
+stop_text (stop.Watch kind address) = watch_text kind ++ (encode_lower (to_be_bytes w32 address) ++ codes ";")
+stop_text stop.Interrupt = codes "T02"
+stop_text stop.Beginning = codes "T05replaylog:begin;"
+stop_text stop.Exit = codes "T05replaylog:end;"
+stop_text stop.Budget = codes "T18"
+stop_text (stop.Fault kind) = fault_text kind
+
+-- what a stop tells of the run's ending, as gdb says it
+pub data Told : Type 0 where
+  NoEnding : Told
+  Exited : Told
+  UsedUp : Told
+  SegmentFault : Told
+  BusError : Told
+  IllegalInstruction : Told
+  Aborted : Told
+  BadCall : Told
+  FileTooLarge : Told
+
+abbrev pub told_by_fault : FaultKind → Told
+told_by_fault fault.FetchAccess = SegmentFault
+told_by_fault fault.LoadAccess = SegmentFault
+told_by_fault fault.StoreAccess = SegmentFault
+told_by_fault fault.FetchMisaligned = BusError
+told_by_fault fault.LoadMisaligned = BusError
+told_by_fault fault.StoreMisaligned = BusError
+told_by_fault fault.Illegal = IllegalInstruction
+told_by_fault fault.StaleCode = IllegalInstruction
+told_by_fault fault.Breakpoint = Aborted
+told_by_fault fault.UnknownCall = BadCall
+told_by_fault fault.ConsoleFull = FileTooLarge
+
+abbrev pub told_by : Stop → Told
+told_by stop.Exit = Exited
+told_by stop.Budget = UsedUp
+told_by (stop.Fault kind) = told_by_fault kind
+told_by stop.Here = NoEnding
+told_by (stop.Watch kind address) = NoEnding
+told_by stop.Interrupt = NoEnding
+told_by stop.Beginning = NoEnding

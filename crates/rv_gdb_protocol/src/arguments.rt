@@ -1,0 +1,259 @@
+//! What the arguments of packets ask.
+
+ghost use Rattle.std.specs.Prelude.{◌≡◌};
+ghost use Rattle.rv_gdb_protocol.specs.Requests.{all_registers, break_at, description, elsewhere, image_path, kind_at, move_within, other_kind, part_at, plain_move, range_at, read_file, read_memory, read_register, register_at, register_of, register_write, signal_move, signalled, trap_at, trap_range, watch_at, watched, write_register, written};
+
+use crate::number::{behind, number_of, numbers_at, place_of, value_of};
+use crate::request::{Move, Part, Range, Refusal, Register, Request, Trap, Watched};
+use rv_base::Bytes;
+
+/// `target.xml:OFFSET,COUNT`
+#[tactic(auto, unfolding(crate::specs::Requests::description))]
+pub(crate) fn description(args: &[u8]) -> Request
+    ensures { result ≡ description args.now }
+{
+    match behind(b"target.xml:", args) {
+        Some(part) => match part_at(part) {
+            Some(part) => Request::Description(part),
+            None => Request::Refused(Refusal::Failed),
+        },
+        None => Request::Refused(Refusal::OtherAnnex),
+    }
+}
+
+// `OFFSET,COUNT`
+fn part_at(text: &[u8]) -> Option<Part>
+    ensures { result ≡ part_at text.now }
+{
+    let (offset, count) = numbers_at(b',', text)?;
+    Some(Part { offset, count })
+}
+
+/// `PROCESS:OFFSET,COUNT`: the process is passed over.
+#[tactic(auto, unfolding(crate::specs::Requests::image_path))]
+pub(crate) fn image_path(args: &[u8]) -> Request
+    ensures { result ≡ image_path args.now }
+{
+    let Some(place) = place_of(b':', args) else {
+        return Request::Refused(Refusal::Failed);
+    };
+    match part_at(&args[place + 1..]) {
+        Some(part) => Request::ImagePath(part),
+        None => Request::Refused(Refusal::Failed),
+    }
+}
+
+/// `COUNT,OFFSET`
+#[tactic(auto, unfolding(crate::specs::Requests::read_file))]
+pub(crate) fn read_file(args: &[u8]) -> Request
+    ensures { result ≡ read_file args.now }
+{
+    match numbers_at(b',', args) {
+        Some((count, offset)) => Request::ReadFile(Part { offset, count }),
+        None => Request::Refused(Refusal::OtherFile),
+    }
+}
+
+/// A register's number.
+pub(crate) fn read_register(args: &[u8]) -> Request
+    ensures { result ≡ read_register args.now }
+{
+    match register_at(args) {
+        Some(register) => Request::Register(register),
+        None => Request::Refused(Refusal::Failed),
+    }
+}
+
+fn register_at(text: &[u8]) -> Option<Register>
+    ensures { result ≡ register_at text.now }
+{
+    register_of(number_of(text)?)
+}
+
+#[tactic(auto, unfolding(crate::specs::Requests::register_of))]
+fn register_of(number: u32) -> Option<Register>
+    ensures { result ≡ register_of number }
+{
+    match number {
+        0..=32 => Some(Register::Hart(number)),
+        33 => Some(Register::Steps),
+        34 => Some(Register::Printed),
+        35 => Some(Register::Taken),
+        _ => None,
+    }
+}
+
+/// `NUMBER=VALUE`
+#[tactic(auto, unfolding(crate::specs::Requests::write_register))]
+pub(crate) fn write_register(args: &[u8]) -> Request
+    ensures { result ≡ write_register args.now }
+{
+    register_write(args).unwrap_or(Request::Refused(Refusal::Malformed))
+}
+
+fn register_write(args: &[u8]) -> Option<Request>
+    ensures { result ≡ register_write args.now }
+{
+    let place = place_of(b'=', args)?;
+    let register = register_at(&args[..place])?;
+    let value = value_of(&args[place + 1..])?;
+    Some(Request::WriteRegister(register, value))
+}
+
+/// 33 values of four bytes.
+pub(crate) fn all_registers(bytes: Vec<u8>) -> Option<Request>
+    ensures { result ≡ all_registers bytes.items }
+{
+    if bytes.len() == 132 {
+        Some(Request::WriteRegisters(Bytes::new(bytes)))
+    } else {
+        None
+    }
+}
+
+/// `ADDRESS,COUNT`
+pub(crate) fn read_memory(args: &[u8]) -> Request
+    ensures { result ≡ read_memory args.now }
+{
+    match range_at(args) {
+        Some(range) => Request::ReadMemory(range),
+        None => Request::Refused(Refusal::Failed),
+    }
+}
+
+pub(crate) fn range_at(text: &[u8]) -> Option<Range>
+    ensures { result ≡ range_at text.now }
+{
+    let (address, count) = numbers_at(b',', text)?;
+    Some(Range { address, count })
+}
+
+/// As many bytes as the range has.
+pub(crate) fn written(range: Range, bytes: Vec<u8>) -> Option<Request>
+    ensures { result ≡ written range bytes.items }
+{
+    if bytes.len() == range.count as usize {
+        Some(Request::WriteMemory(range.address, Bytes::new(bytes)))
+    } else {
+        None
+    }
+}
+
+/// A kind and `,ADDRESS,COUNT`: a break, 0 or 1, or a watch of writes, 2, of reads, 3, or of both, 4.
+pub(crate) fn trap_at(args: &[u8]) -> Option<Option<Trap>>
+    ensures { result ≡ trap_at args.now }
+{
+    if let Some(fields) = behind(b"0", args) {
+        return Some(break_at(fields));
+    }
+    if let Some(fields) = behind(b"1", args) {
+        return Some(break_at(fields));
+    }
+    kind_at(args)
+}
+
+fn kind_at(args: &[u8]) -> Option<Option<Trap>>
+    ensures { result ≡ kind_at args.now }
+{
+    if let Some(fields) = behind(b"2", args) {
+        return Some(watch_at(Watched::Writes, fields));
+    }
+    if let Some(fields) = behind(b"3", args) {
+        return Some(watch_at(Watched::Reads, fields));
+    }
+    let fields = behind(b"4", args)?;
+    Some(watch_at(Watched::Accesses, fields))
+}
+
+fn break_at(text: &[u8]) -> Option<Trap>
+    ensures { result ≡ break_at text.now }
+{
+    let range = trap_range(text)?;
+    Some(Trap::Break(range.address))
+}
+
+#[tactic(auto, unfolding(crate::specs::Requests::watch_at))]
+fn watch_at(kind: Watched, text: &[u8]) -> Option<Trap>
+    ensures { result ≡ watch_at kind text.now }
+{
+    watched(kind, trap_range(text)?)
+}
+
+fn trap_range(text: &[u8]) -> Option<Range>
+    ensures { result ≡ trap_range text.now }
+{
+    range_at(behind(b",", text)?)
+}
+
+fn watched(kind: Watched, range: Range) -> Option<Trap>
+    ensures { result ≡ watched kind range }
+{
+    let end = u64::from(range.address) + u64::from(range.count);
+    if 1 <= range.count && range.count <= 65_536 && end <= 1 << 32 {
+        Some(Trap::Watch(kind, range))
+    } else {
+        None
+    }
+}
+
+/// What is refused of a kind that is none of these: it is not known, and a text with no kind is malformed.
+pub(crate) fn other_kind(args: &[u8]) -> Request
+    ensures { result ≡ other_kind args.now }
+{
+    if args.is_empty() {
+        Request::Refused(Refusal::Malformed)
+    } else {
+        Request::Refused(Refusal::Unknown)
+    }
+}
+
+/// `c` or `s`, and behind it nothing, or an address, with which the move would begin elsewhere.
+#[tactic(auto, unfolding(crate::specs::Requests::plain_move))]
+pub(crate) fn plain_move(step: Move, args: &[u8]) -> Request
+    ensures { result ≡ plain_move step args.now }
+{
+    if args.is_empty() {
+        return Request::Move(step);
+    }
+    Request::Refused(elsewhere(number_of(args).is_some()))
+}
+
+/// `C` or `S`, and behind it a signal, which is passed over, and maybe `;` and an address.
+#[tactic(auto, unfolding(crate::specs::Requests::signal_move))]
+pub(crate) fn signal_move(step: Move, args: &[u8]) -> Request
+    ensures { result ≡ signal_move step args.now }
+{
+    if number_of(args).is_some() {
+        return Request::Move(step);
+    }
+    Request::Refused(elsewhere(numbers_at(b';', args).is_some()))
+}
+
+fn elsewhere(is_address: bool) -> Refusal
+    ensures { result ≡ elsewhere is_address }
+{
+    if is_address {
+        Refusal::WouldChange
+    } else {
+        Refusal::Malformed
+    }
+}
+
+/// Steps within two addresses.
+pub(crate) fn move_within(text: &[u8]) -> Option<Move>
+    ensures { result ≡ move_within text.now }
+{
+    let (low, high) = numbers_at(b',', text)?;
+    Some(Move::StepWithin(low, high))
+}
+
+/// A move with a signal, which is passed over.
+pub(crate) fn signalled(step: Move, text: &[u8]) -> Option<Move>
+    ensures { result ≡ signalled step text.now }
+{
+    if number_of(text).is_some() {
+        Some(step)
+    } else {
+        None
+    }
+}

@@ -1,0 +1,68 @@
+//! Escapes: how bytes stand in a frame that have a meaning there.
+
+ghost use Rattle.std.specs.Prelude.{◌≡◌, ◌++◌, IfOk, OnOk, false};
+ghost use Rattle.rv_gdb_protocol.specs.Escapes.{data_byte, data_of, escaped, escaped_byte, has_meaning, is_escape, is_whole};
+
+use std::alloc::AllocError;
+
+/// The byte that stands before an escaped one.
+const ESCAPE: u8 = b'}';
+
+/// What an escaped byte is changed by.
+const CHANGE: u8 = 0x20;
+
+/// Appends a body so that none of its bytes has a meaning in a frame.
+pub fn push_escaped(out: &mut Vec<u8>, body: &[u8]) -> Result<(), AllocError>
+    ensures { OnOk result (out.new.items ≡ out.old.items ++ escaped body.now) }
+{
+    for byte in body {
+        push_escaped_byte(out, *byte)?;
+    }
+    Ok(())
+}
+
+fn push_escaped_byte(out: &mut Vec<u8>, byte: u8) -> Result<(), AllocError>
+    ensures { OnOk result (out.new.items ≡ out.old.items ++ escaped_byte byte) }
+{
+    if has_meaning(byte) {
+        out.push(ESCAPE)?;
+        out.push(byte ^ CHANGE)?;
+    } else {
+        out.push(byte)?;
+    }
+    Ok(())
+}
+
+fn has_meaning(byte: u8) -> bool
+    ensures { result ≡ has_meaning byte }
+{
+    byte == b'$' || byte == b'#' || byte == ESCAPE || byte == b'*'
+}
+
+/// Appends the data of a text with escapes, and says whether the text is whole: one whose last escape has no byte behind it is not.
+pub fn push_data(out: &mut Vec<u8>, text: &[u8]) -> Result<bool, AllocError>
+    ensures bytes { OnOk result (out.new.items ≡ out.old.items ++ data_of false text.now) }
+    ensures whole { IfOk result (λ whole. whole ≡ is_whole text.now) }
+{
+    let mut behind_escape = false;
+    for byte in text {
+        behind_escape = push_data_byte(out, behind_escape, *byte)?;
+    }
+    Ok(!behind_escape)
+}
+
+// Appends what a byte gives to the data, and says whether it is an escape.
+fn push_data_byte(out: &mut Vec<u8>, behind_escape: bool, byte: u8) -> Result<bool, AllocError>
+    ensures bytes { OnOk result (out.new.items ≡ out.old.items ++ data_byte behind_escape byte) }
+    ensures escape { IfOk result (λ is. is ≡ is_escape behind_escape byte) }
+{
+    if behind_escape {
+        out.push(byte ^ CHANGE)?;
+        return Ok(false);
+    }
+    if byte == ESCAPE {
+        return Ok(true);
+    }
+    out.push(byte)?;
+    Ok(false)
+}

@@ -1,0 +1,55 @@
+//! Laws of frames, requests and replies, with nothing to run.
+
+ghost use Rattle.std.specs.Prelude.{◌≡◌, ◌≤◌, ◌++◌, ◌∷◌, [], ℕ, List, fold, length};
+ghost use Rattle.rv_gdb_protocol.specs.Escapes.{escaped};
+ghost use Rattle.rv_gdb_protocol.specs.Frames.{Frame, between, frame_behind, heard_at, heard_in, most_body};
+ghost use Rattle.rv_gdb_protocol.specs.Readback.{CanBeSent, EndsWithSent, IsHeardAlone, IsReadBack, sent, verdict_of};
+ghost use Rattle.rv_gdb_protocol.specs.Grammar.{IsRequest};
+ghost use Rattle.rv_gdb_protocol.specs.Packets.{request_of};
+ghost use Rattle.rv_gdb_protocol.specs.Replies.{part_text};
+ghost use Rattle.rv_gdb_protocol.specs.Stops.{stop_text, told_by};
+ghost use Rattle.rv_gdb_protocol.specs.declared.frame.Sum.{Sum};
+ghost use Rattle.rv_gdb_protocol.specs.declared.request.Part.{Part};
+ghost use Rattle.rv_gdb_protocol.specs.declared.request.Request.{Request};
+ghost use Rattle.rv_gdb_protocol.specs.declared.stop.Stop.{Stop};
+ghost use Rattle.rv_gdb_protocol.specs.declared.frame.Heard.TheVariants.{Packet};
+
+/// What is heard in bytes does not depend on how they are cut.
+pub fn cuts_are_not_heard()
+    ensures { (frame : Frame) (front rest : List ℕ) → heard_in frame (front ++ rest)
+        ≡ heard_in frame front ++ heard_in (fold frame_behind frame front) rest }
+{}
+
+/// A framed body is heard alone and with its sum, and the data of what is heard is the body.
+pub fn framed_bodies_are_read_back()
+    ensures { (body : List ℕ) → length (escaped body) ≤ most_body → IsReadBack body }
+{}
+
+/// A text with neither `$` nor `#`, in a frame with any two digits, is heard alone.
+pub fn sent_texts_are_heard()
+    ensures { (text : List ℕ) (high low : ℕ) → CanBeSent text
+        → IsHeardAlone (sent text high low) text (verdict_of text high low) }
+{}
+
+/// A packet that is heard was sent: the bytes so far end with its text in a frame.
+pub fn heard_texts_were_sent()
+    ensures { (bytes text : List ℕ) (byte : ℕ) (sum : Sum)
+        → heard_at (fold frame_behind between bytes) byte ≡ Some (Packet text sum)
+        → EndsWithSent (bytes ++ byte ∷ []) text sum }
+{}
+
+/// The reply to a stop tells how the run ended, if it did: stops with one reply tell the same, and none that is no ending has the
+/// reply of an ending.
+pub fn stops_tell_the_ending()
+    ensures { (one other : Stop) → stop_text one ≡ stop_text other → told_by one ≡ told_by other }
+{}
+
+/// The reply with a part of a text fits a packet, whatever has to be escaped.
+pub fn parts_fit()
+    ensures { (text : List ℕ) (part : Part) → length (escaped (part_text text part)) ≤ most_body }
+{}
+
+/// A packet of the protocol is read as what it asks.
+pub fn packets_are_read()
+    ensures { (body : List ℕ) (request : Request) → IsRequest body request → request_of body ≡ request }
+{}

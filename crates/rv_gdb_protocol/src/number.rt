@@ -1,0 +1,104 @@
+//! Numbers, bytes and texts in bodies.
+
+ghost use Rattle.std.specs.Prelude.{◌≡◌, ◌<◌, ◌^◌, IfOk, IfSome, length, option_copied, option_map};
+ghost use Rattle.hex.specs.Hex.{hex_digit_value};
+ghost use Rattle.rv_gdb_protocol.specs.Numbers.{behind, bytes_of, digit_on, number_of, numbers_at, place_of, until, value_of};
+
+use crate::sum::digit_value;
+use hex::FromHexError;
+use std::alloc::{AllocError, Global};
+
+/// The most digits of a number.
+const MOST_DIGITS: usize = 8;
+
+/// The number of 1 to 8 hexadecimal digits, in either case.
+#[tactic(auto, unfolding(crate::specs::Numbers::number_of))]
+pub(crate) fn number_of(text: &[u8]) -> Option<u32>
+    ensures { result ≡ number_of text.now }
+{
+    if text.is_empty() || MOST_DIGITS < text.len() {
+        return None;
+    }
+    let mut value = Some(0);
+    for byte in text {
+        value = digit_on(value, *byte);
+    }
+    value
+}
+
+// A number with a digit more; none where the byte is no digit.
+fn digit_on(value: Option<u32>, byte: u8) -> Option<u32>
+    requires { IfSome value (λ value. value < 2 ^ 28) }
+    ensures { result ≡ digit_on value byte }
+{
+    match (value, digit_value(byte)) {
+        (Some(value), Some(digit)) => Some(value * 16 + u32::from(digit)),
+        _ => None,
+    }
+}
+
+/// Two numbers with a mark between them, as in `80000000,4`.
+#[tactic(auto, unfolding(crate::specs::Numbers::numbers_at))]
+pub(crate) fn numbers_at(mark: u8, text: &[u8]) -> Option<(u32, u32)>
+    ensures { result ≡ numbers_at mark text.now }
+{
+    let place = place_of(mark, text)?;
+    let first = number_of(&text[..place])?;
+    let second = number_of(&text[place + 1..])?;
+    Some((first, second))
+}
+
+/// The place of the first of a mark.
+pub(crate) fn place_of(mark: u8, text: &[u8]) -> Option<usize>
+    ensures place { result ≡ place_of mark text.now }
+    ensures within { IfSome result (λ place. place < length text.now) }
+{
+    text.iter().position(|byte| *byte == mark)
+}
+
+/// What stands before the first of a mark: all of it where there is none.
+#[tactic(auto, unfolding(crate::specs::Numbers::until))]
+pub(crate) fn until(mark: u8, text: &[u8]) -> &[u8]
+    ensures { result.now ≡ until mark text.now }
+{
+    match place_of(mark, text) {
+        Some(place) => &text[..place],
+        None => text,
+    }
+}
+
+/// What stands behind a name that a text begins with.
+#[tactic(auto, unfolding(crate::specs::Numbers::behind))]
+pub(crate) fn behind<'a>(name: &[u8], text: &'a [u8]) -> Option<&'a [u8]>
+    ensures { option_copied result ≡ behind name.now text.now }
+{
+    if text.starts_with(name) {
+        Some(&text[name.len()..])
+    } else {
+        None
+    }
+}
+
+/// The bytes of a text of hexadecimal digits, two for each byte.
+#[tactic(auto, unfolding(crate::specs::Numbers::bytes_of))]
+pub(crate) fn bytes_of(alloc: Global, text: &[u8]) -> Result<Option<Vec<u8>>, AllocError>
+    ensures { IfOk result (λ bytes. option_map (λ bytes. bytes.items) bytes ≡ bytes_of text.now) }
+{
+    match hex::decode(alloc, text) {
+        Ok(bytes) => Ok(Some(bytes)),
+        Err(FromHexError::OutOfMemory) => Err(AllocError),
+        Err(_) => Ok(None),
+    }
+}
+
+/// The value of a register: eight digits, the low byte first.
+#[tactic(auto, unfolding(crate::specs::Numbers::value_of))]
+pub(crate) fn value_of(text: &[u8]) -> Option<u32>
+    ensures { result ≡ value_of text.now }
+{
+    let mut bytes = [0u8; 4];
+    if hex::decode_to_slice(text, &mut bytes).is_err() {
+        return None;
+    }
+    Some(u32::from_le_bytes(bytes))
+}

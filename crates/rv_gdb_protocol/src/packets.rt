@@ -1,0 +1,288 @@
+//! What the bodies of packets ask: those that carry no bytes.
+
+ghost use Rattle.std.specs.Prelude.{◌≡◌};
+ghost use Rattle.std.specs.Str.{bytes_eq};
+ghost use Rattle.rv_gdb_protocol.specs.Requests.{trap_of};
+ghost use Rattle.rv_gdb_protocol.specs.declared.request.Request.TheVariants as ask;
+ghost use Rattle.rv_gdb_protocol.specs.Packets.{action_of, bare_action, bare_order, bare_query, describing, detach, detaching, file_reading, first_action, granted, image_naming, is_file_call, light_request, moving, other_file, query, range_action, reading, signal_action, trapping};
+
+use crate::arguments::{
+    description, image_path, move_within, other_kind, plain_move, read_file, read_memory,
+    read_register, signal_move, signalled, trap_at, write_register,
+};
+use crate::number::{behind, until};
+use crate::request::{Move, Refusal, Request};
+
+/// What a body asks, if it is no packet that carries bytes.
+#[tactic(auto, unfolding(crate::specs::Packets::light_request))]
+pub(crate) fn light_request(body: &[u8]) -> Option<Request>
+    ensures { result ≡ light_request body.now }
+{
+    bare_query(body)
+        .or(bare_order(body))
+        .or(query(body))
+        .or(describing(body))
+        .or(image_naming(body))
+        .or(reading(body))
+        .or(trapping(body))
+        .or(moving(body))
+        .or(granted(body))
+        .or(detaching(body))
+        .or(file_reading(body))
+        .or(other_file(body))
+}
+
+fn is(body: &[u8], name: &[u8]) -> bool
+    ensures { result ≡ bytes_eq body.now name.now }
+{
+    body == name
+}
+
+#[tactic(auto, unfolding(crate::specs::Packets::bare_query))]
+fn bare_query(body: &[u8]) -> Option<Request>
+    ensures { result ≡ bare_query body.now }
+{
+    if is(body, b"?") {
+        Some(Request::LastStop)
+    } else if is(body, b"QStartNoAckMode") {
+        Some(Request::NoAcknowledgements)
+    } else if is(body, b"g") {
+        Some(Request::Registers)
+    } else if is(body, b"qC") {
+        Some(Request::Thread)
+    } else if is(body, b"qfThreadInfo") {
+        Some(Request::FirstThreads)
+    } else if is(body, b"qsThreadInfo") {
+        Some(Request::MoreThreads)
+    } else if is(body, b"vCont?") {
+        Some(Request::Actions)
+    } else {
+        None
+    }
+}
+
+#[tactic(auto, unfolding(crate::specs::Packets::bare_order))]
+fn bare_order(body: &[u8]) -> Option<Request>
+    ensures { result ≡ bare_order body.now }
+{
+    if is(body, b"bs") {
+        Some(Request::Move(Move::StepBack))
+    } else if is(body, b"bc") {
+        Some(Request::Move(Move::ContinueBack))
+    } else if is(body, b"k") {
+        Some(Request::Kill)
+    } else if is(body, b"!") {
+        Some(Request::Accepted)
+    } else if is(body, b"vFile:setfs:0") {
+        Some(Request::FileSystem)
+    } else if is(body, b"vFile:fstat:5") {
+        Some(Request::FileSize)
+    } else if is(body, b"vFile:close:5") {
+        Some(Request::CloseFile)
+    } else {
+        None
+    }
+}
+
+#[tactic(auto, unfolding(crate::specs::Packets::query))]
+fn query(body: &[u8]) -> Option<Request>
+    ensures { result ≡ query body.now }
+{
+    if body.starts_with(b"qSupported") {
+        Some(Request::Features)
+    } else if body.starts_with(b"qAttached") {
+        Some(Request::Attached)
+    } else {
+        None
+    }
+}
+
+fn describing(body: &[u8]) -> Option<Request>
+    ensures { result ≡ describing body.now }
+{
+    let args = behind(b"qXfer:features:read:", body)?;
+    Some(description(args))
+}
+
+fn image_naming(body: &[u8]) -> Option<Request>
+    ensures { result ≡ image_naming body.now }
+{
+    let args = behind(b"qXfer:exec-file:read:", body)?;
+    Some(image_path(args))
+}
+
+#[tactic(auto, unfolding(crate::specs::Packets::reading))]
+fn reading(body: &[u8]) -> Option<Request>
+    ensures { result ≡ reading body.now }
+{
+    if let Some(args) = behind(b"p", body) {
+        return Some(read_register(args));
+    }
+    if let Some(args) = behind(b"P", body) {
+        return Some(write_register(args));
+    }
+    let args = behind(b"m", body)?;
+    Some(read_memory(args))
+}
+
+#[tactic(auto, unfolding(crate::specs::Packets::trapping))]
+fn trapping(body: &[u8]) -> Option<Request>
+    ensures { result ≡ trapping body.now }
+{
+    if let Some(args) = behind(b"Z", body) {
+        return Some(set_trap(args));
+    }
+    let args = behind(b"z", body)?;
+    Some(clear_trap(args))
+}
+
+#[tactic(auto, unfolding(crate::specs::Requests::trap_of))]
+fn set_trap(args: &[u8]) -> Request
+    ensures { result ≡ trap_of ask.Set args.now }
+{
+    match trap_at(args) {
+        Some(Some(trap)) => Request::Set(trap),
+        Some(None) => Request::Refused(Refusal::Malformed),
+        None => other_kind(args),
+    }
+}
+
+#[tactic(auto, unfolding(crate::specs::Requests::trap_of))]
+fn clear_trap(args: &[u8]) -> Request
+    ensures { result ≡ trap_of ask.Clear args.now }
+{
+    match trap_at(args) {
+        Some(Some(trap)) => Request::Clear(trap),
+        Some(None) => Request::Refused(Refusal::Malformed),
+        None => other_kind(args),
+    }
+}
+
+#[tactic(auto, unfolding(crate::specs::Packets::moving))]
+fn moving(body: &[u8]) -> Option<Request>
+    ensures { result ≡ moving body.now }
+{
+    if let Some(args) = behind(b"vCont;", body) {
+        return Some(first_action(args));
+    }
+    if let Some(args) = behind(b"c", body) {
+        return Some(plain_move(Move::Continue, args));
+    }
+    if let Some(args) = behind(b"s", body) {
+        return Some(plain_move(Move::Step, args));
+    }
+    if let Some(args) = behind(b"C", body) {
+        return Some(signal_move(Move::Continue, args));
+    }
+    let args = behind(b"S", body)?;
+    Some(signal_move(Move::Step, args))
+}
+
+// The first action is the one that counts, since there is one thread.
+#[tactic(auto, unfolding(crate::specs::Packets::first_action))]
+fn first_action(args: &[u8]) -> Request
+    ensures { result ≡ first_action args.now }
+{
+    match action_of(until(b':', until(b';', args))) {
+        Some(step) => Request::Move(step),
+        None => Request::Refused(Refusal::Malformed),
+    }
+}
+
+// An action without its thread.
+#[tactic(auto, unfolding(crate::specs::Packets::action_of))]
+fn action_of(text: &[u8]) -> Option<Move>
+    ensures { result ≡ action_of text.now }
+{
+    bare_action(text)
+        .or(signal_action(b"C", Move::Continue, text))
+        .or(signal_action(b"S", Move::Step, text))
+        .or(range_action(text))
+}
+
+#[tactic(auto, unfolding(crate::specs::Packets::bare_action))]
+fn bare_action(text: &[u8]) -> Option<Move>
+    ensures { result ≡ bare_action text.now }
+{
+    if is(text, b"c") {
+        Some(Move::Continue)
+    } else if is(text, b"s") {
+        Some(Move::Step)
+    } else {
+        None
+    }
+}
+
+fn signal_action(name: &[u8], step: Move, text: &[u8]) -> Option<Move>
+    ensures { result ≡ signal_action name.now step text.now }
+{
+    signalled(step, behind(name, text)?)
+}
+
+fn range_action(text: &[u8]) -> Option<Move>
+    ensures { result ≡ range_action text.now }
+{
+    move_within(behind(b"r", text)?)
+}
+
+// What is granted whatever stands behind its name.
+#[tactic(auto, unfolding(crate::specs::Packets::granted))]
+fn granted(body: &[u8]) -> Option<Request>
+    ensures { result ≡ granted body.now }
+{
+    if body.starts_with(b"H") || body.starts_with(b"T") || body.starts_with(b"vKill") {
+        Some(Request::Accepted)
+    } else if body.starts_with(b"vRun") {
+        Some(Request::Restart)
+    } else {
+        None
+    }
+}
+
+fn detaching(body: &[u8]) -> Option<Request>
+    ensures { result ≡ detaching body.now }
+{
+    let args = behind(b"D", body)?;
+    Some(detach(args))
+}
+
+// Nothing, or `;` and a process.
+#[tactic(auto, unfolding(crate::specs::Packets::detach))]
+fn detach(args: &[u8]) -> Request
+    ensures { result ≡ detach args.now }
+{
+    if args.is_empty() || args.starts_with(b";") {
+        Request::Detach
+    } else {
+        Request::Refused(Refusal::Unknown)
+    }
+}
+
+// Descriptor 5 is the one that there is.
+fn file_reading(body: &[u8]) -> Option<Request>
+    ensures { result ≡ file_reading body.now }
+{
+    let args = behind(b"vFile:pread:5,", body)?;
+    Some(read_file(args))
+}
+
+fn other_file(body: &[u8]) -> Option<Request>
+    ensures { result ≡ other_file body.now }
+{
+    if is_file_call(body) {
+        Some(Request::Refused(Refusal::OtherFile))
+    } else {
+        None
+    }
+}
+
+// A call on a file whose descriptor is the first argument.
+#[tactic(auto, unfolding(crate::specs::Packets::is_file_call))]
+fn is_file_call(body: &[u8]) -> bool
+    ensures { result ≡ is_file_call body.now }
+{
+    body.starts_with(b"vFile:pread:")
+        || body.starts_with(b"vFile:fstat:")
+        || body.starts_with(b"vFile:close:")
+        || body.starts_with(b"vFile:setfs:")
+}

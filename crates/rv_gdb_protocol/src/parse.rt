@@ -1,0 +1,152 @@
+//! Bodies of packets, as what they ask.
+
+ghost use Rattle.std.specs.Prelude.{◌≡◌, IfOk, option_map};
+ghost use Rattle.rv_gdb_protocol.specs.Numbers.{bytes_of};
+ghost use Rattle.rv_gdb_protocol.specs.Packets.{carrying, command, request_of};
+ghost use Rattle.rv_gdb_protocol.specs.Requests.{open_file, opened_file, whole_data, write_data, write_digits, write_of, write_registers};
+
+use crate::arguments::{all_registers, range_at, written};
+use crate::escapes::push_data;
+use crate::number::{behind, bytes_of, numbers_at, place_of};
+use crate::packets::light_request;
+use crate::request::{Range, Refusal, Request};
+use rv_base::Bytes;
+use std::alloc::{AllocError, Global};
+
+/// What a body asks. Each body asks something: what is malformed or not known is a refusal, by the answer that it gets.
+#[tactic(auto, unfolding(crate::specs::Packets::request_of))]
+pub fn parse_request(alloc: Global, body: &[u8]) -> Result<Request, AllocError>
+    ensures { IfOk result (λ request. request ≡ request_of body.now) }
+{
+    if let Some(request) = light_request(body) {
+        return Ok(request);
+    }
+    match carrying(alloc, body)? {
+        Some(request) => Ok(request),
+        None => Ok(Request::Refused(Refusal::Unknown)),
+    }
+}
+
+// A packet that carries bytes.
+#[tactic(auto, unfolding(crate::specs::Packets::carrying))]
+fn carrying(alloc: Global, body: &[u8]) -> Result<Option<Request>, AllocError>
+    ensures { IfOk result (λ request. request ≡ carrying body.now) }
+{
+    if let Some(args) = behind(b"G", body) {
+        return Ok(Some(write_registers(alloc, args)?));
+    }
+    if let Some(args) = behind(b"M", body) {
+        return Ok(Some(write_digits(alloc, args)?));
+    }
+    if let Some(args) = behind(b"X", body) {
+        return Ok(Some(write_data(alloc, args)?));
+    }
+    if let Some(args) = behind(b"vFile:open:", body) {
+        return Ok(Some(open_file(alloc, args)?));
+    }
+    if let Some(args) = behind(b"qRcmd,", body) {
+        return Ok(Some(command(alloc, args)?));
+    }
+    Ok(None)
+}
+
+// 33 values of four bytes.
+#[tactic(auto, unfolding(crate::specs::Requests::write_registers))]
+fn write_registers(alloc: Global, args: &[u8]) -> Result<Request, AllocError>
+    ensures { IfOk result (λ request. request ≡ write_registers args.now) }
+{
+    match bytes_of(alloc, args)? {
+        Some(bytes) => { Ok(all_registers(bytes).unwrap_or(Request::Refused(Refusal::Malformed))) }
+        None => Ok(Request::Refused(Refusal::Malformed)),
+    }
+}
+
+// `ADDRESS,COUNT:` and the bytes in hexadecimal digits.
+#[tactic(auto, unfolding(crate::specs::Requests::write_digits))]
+fn write_digits(alloc: Global, args: &[u8]) -> Result<Request, AllocError>
+    ensures { IfOk result (λ request. request ≡ write_digits args.now) }
+{
+    let Some(place) = place_of(b':', args) else {
+        return Ok(Request::Refused(Refusal::Malformed));
+    };
+    match range_at(&args[..place]) {
+        Some(range) => {
+            let bytes = bytes_of(alloc, &args[place + 1..])?;
+            Ok(write_of(range, bytes))
+        }
+        None => Ok(Request::Refused(Refusal::Malformed)),
+    }
+}
+
+// `ADDRESS,COUNT:` and the bytes as data with escapes.
+#[tactic(auto, unfolding(crate::specs::Requests::write_data))]
+fn write_data(alloc: Global, args: &[u8]) -> Result<Request, AllocError>
+    ensures { IfOk result (λ request. request ≡ write_data args.now) }
+{
+    let Some(place) = place_of(b':', args) else {
+        return Ok(Request::Refused(Refusal::Malformed));
+    };
+    match range_at(&args[..place]) {
+        Some(range) => {
+            let bytes = whole_data(alloc, &args[place + 1..])?;
+            Ok(write_of(range, bytes))
+        }
+        None => Ok(Request::Refused(Refusal::Malformed)),
+    }
+}
+
+fn write_of(range: Range, bytes: Option<Vec<u8>>) -> Request
+    ensures { result ≡ write_of range (option_map (λ bytes. bytes.items) bytes) }
+{
+    match bytes {
+        Some(bytes) => { written(range, bytes).unwrap_or(Request::Refused(Refusal::Malformed)) }
+        None => Request::Refused(Refusal::Malformed),
+    }
+}
+
+// The data of a text whose last escape has a byte behind it.
+fn whole_data(alloc: Global, text: &[u8]) -> Result<Option<Vec<u8>>, AllocError>
+    ensures { IfOk result (λ bytes. option_map (λ bytes. bytes.items) bytes ≡ whole_data text.now) }
+{
+    let mut bytes = Vec::new(alloc);
+    if push_data(&mut bytes, text)? {
+        Ok(Some(bytes))
+    } else {
+        Ok(None)
+    }
+}
+
+// `PATH,FLAGS,MODE`, the path in hexadecimal digits.
+fn open_file(alloc: Global, args: &[u8]) -> Result<Request, AllocError>
+    ensures { IfOk result (λ request. request ≡ open_file args.now) }
+{
+    match opened_file(alloc, args)? {
+        Some(path) => Ok(Request::OpenFile(Bytes::new(path))),
+        None => Ok(Request::Refused(Refusal::OtherFile)),
+    }
+}
+
+// The path of a file that is to be read: flags of 0.
+#[tactic(auto, unfolding(crate::specs::Requests::opened_file))]
+fn opened_file(alloc: Global, args: &[u8]) -> Result<Option<Vec<u8>>, AllocError>
+    ensures { IfOk result (λ path. option_map (λ bytes. bytes.items) path ≡ opened_file args.now) }
+{
+    let Some(place) = place_of(b',', args) else {
+        return Ok(None);
+    };
+    match numbers_at(b',', &args[place + 1..]) {
+        Some((flags, _)) if flags == 0 => bytes_of(alloc, &args[..place]),
+        _ => Ok(None),
+    }
+}
+
+// A `monitor` command in hexadecimal digits.
+#[tactic(auto, unfolding(crate::specs::Packets::command))]
+fn command(alloc: Global, args: &[u8]) -> Result<Request, AllocError>
+    ensures { IfOk result (λ request. request ≡ command args.now) }
+{
+    match bytes_of(alloc, args)? {
+        Some(text) => Ok(Request::Command(Bytes::new(text))),
+        None => Ok(Request::Refused(Refusal::Failed)),
+    }
+}

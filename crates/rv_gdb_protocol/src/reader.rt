@@ -1,0 +1,162 @@
+//! A reader of frames.
+
+ghost use Rattle.std.specs.Prelude.{◌≡◌, ◌≤◌, IfOk, OnErr, OnOk, Some, fold, length, take};
+
+use crate::frame::{Heard, Place};
+use crate::sum::judged_sum;
+use rv_base::Bytes;
+use std::alloc::{AllocError, Global};
+use std::marker::Model;
+use std::mem;
+
+/// The longest body that is kept.
+const MOST_BODY: usize = 16384;
+
+/// Takes bytes in any cuts, and holds the body that is not whole yet: at most 16,384 bytes.
+#[derive(Drop)]
+pub struct Reader {
+    place: Place,
+    body: Vec<u8>,
+}
+
+impl Model for Reader {
+    ghost use Rattle.std.specs.Prelude.{◌≤◌, length};
+    ghost use Rattle.rv_gdb_protocol.specs.Frames.{Frame, room};
+
+    ghost Value = { Frame };
+
+    ghost view = { λ s. record { place = s.place; body = s.body.items } };
+
+    ghost invariant = { λ s. length s.body.items ≤ room s.place };
+}
+
+impl Reader {
+    ghost use Rattle.rv_gdb_protocol.specs.Frames.{between, frame_behind, heard_at, heard_in, opened, option_list};
+    ghost use Rattle.rv_gdb_protocol.specs.declared.frame.Place.TheVariants as place;
+
+    /// Between packets.
+    pub fn new(alloc: Global) -> Reader
+        ensures { result ≡ between }
+    {
+        Reader {
+            place: Place::Between,
+            body: Vec::new(alloc),
+        }
+    }
+
+    /// Takes bytes up to and with the first at which something is heard: how many, and what. The rest is for the next call.
+    pub fn hear(
+        &mut self,
+        alloc: Global,
+        bytes: &[u8],
+    ) -> Result<(usize, Option<Heard>), AllocError>
+        ensures within { IfOk result (λ heard. heard.0 ≤ length bytes.now) }
+        ensures heard { IfOk result (λ heard. heard_in self.old (take heard.0 bytes.now) ≡ option_list heard.1) }
+        ensures frame { IfOk result (λ heard. self.new ≡ fold frame_behind self.old (take heard.0 bytes.now)) }
+    {
+        for (at, byte) in bytes.iter().enumerate() {
+            if let Some(heard) = self.take(alloc, *byte)? {
+                return Ok((at + 1, Some(heard)));
+            }
+        }
+        Ok((bytes.len(), None))
+    }
+
+    /// Takes a byte, and says what is heard at it.
+    pub fn take(&mut self, alloc: Global, byte: u8) -> Result<Option<Heard>, AllocError>
+        ensures heard { IfOk result (λ heard. heard ≡ heard_at self.old byte) }
+        ensures frame { OnOk result (self.new ≡ frame_behind self.old byte) }
+        ensures same { OnErr result (self.new ≡ self.old) }
+    {
+        match self.place {
+            Place::Between => Ok(self.take_between(byte)),
+            Place::Body => {
+                self.take_of_body(byte)?;
+                Ok(None)
+            }
+            Place::FirstDigit => {
+                self.place = Place::SecondDigit(byte);
+                Ok(None)
+            }
+            Place::SecondDigit(high) => Ok(Some(self.finish(alloc, high, byte))),
+            Place::LongBody => {
+                self.pass_over(byte);
+                Ok(None)
+            }
+            Place::LongFirstDigit => {
+                self.place = Place::LongSecondDigit;
+                Ok(None)
+            }
+            Place::LongSecondDigit => {
+                self.place = Place::Between;
+                Ok(Some(Heard::TooLong))
+            }
+        }
+    }
+
+    // A byte between packets. Noise there is dropped.
+    fn take_between(&mut self, byte: u8) -> Option<Heard>
+        requires { self.old.place ≡ place.Between }
+        ensures heard { result ≡ heard_at self.old byte }
+        ensures frame { self.new ≡ frame_behind self.old byte }
+    {
+        match byte {
+            b'$' => {
+                self.open();
+                None
+            }
+            0x03 => Some(Heard::Interrupt),
+            b'+' => Some(Heard::Arrived),
+            b'-' => Some(Heard::Again),
+            _ => None,
+        }
+    }
+
+    fn take_of_body(&mut self, byte: u8) -> Result<(), AllocError>
+        requires { self.old.place ≡ place.Body }
+        ensures frame { OnOk result (self.new ≡ frame_behind self.old byte) }
+        ensures same { OnErr result (self.new ≡ self.old) }
+    {
+        match byte {
+            b'$' => self.open(),
+            b'#' => self.place = Place::FirstDigit,
+            _ if self.body.len() < MOST_BODY => self.body.push(byte)?,
+            _ => {
+                self.place = Place::LongBody;
+                self.body.clear();
+            }
+        }
+        Ok(())
+    }
+
+    // A byte of a body that is too long to be kept.
+    fn pass_over(&mut self, byte: u8)
+        requires { self.old.place ≡ place.LongBody }
+        ensures { self.new ≡ frame_behind self.old byte }
+    {
+        match byte {
+            b'$' => self.open(),
+            b'#' => self.place = Place::LongFirstDigit,
+            _ => {}
+        }
+    }
+
+    fn open(&mut self)
+        ensures { self.new ≡ opened }
+    {
+        self.place = Place::Body;
+        self.body.clear();
+    }
+
+    // The packet ends on the second digit of its sum.
+    fn finish(&mut self, alloc: Global, high: u8, low: u8) -> Heard
+        requires { self.old.place ≡ place.SecondDigit high }
+        ensures heard { Some result ≡ heard_at self.old low }
+        ensures frame { self.new ≡ frame_behind self.old low }
+    {
+        self.place = Place::Between;
+        let body = mem::replace(&mut self.body, Vec::new(alloc));
+        let sum = judged_sum(body.as_slice(), high, low);
+        Heard::Packet(Bytes::new(body), sum)
+    }
+}

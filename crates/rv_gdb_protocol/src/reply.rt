@@ -1,0 +1,63 @@
+//! The bodies of replies that are the same in every session, and the parts of longer texts.
+
+ghost use Rattle.std.specs.Prelude.{◌≡◌, ◌++◌, OnOk, option_copied};
+ghost use Rattle.rv_gdb_protocol.specs.Replies.{fixed_reply, part_text, refusal_text};
+
+use crate::request::{Part, Refusal, Request};
+use std::alloc::AllocError;
+
+/// The most bytes of a part: its reply fits a packet even where each byte has to be escaped.
+const MOST_PART: usize = 8184;
+
+/// The reply to a request that gets the same one in every session; none where it is for the session to say.
+pub fn fixed_reply(request: &Request) -> Option<&'static str>
+    ensures { option_copied result ≡ fixed_reply request.now }
+{
+    match request {
+        Request::Features => Some(
+            "PacketSize=4000;QStartNoAckMode+;ReverseStep+;ReverseContinue+;qXfer:features:read+;qXfer:exec-file:read+",
+        ),
+        Request::NoAcknowledgements | Request::Accepted | Request::Detach => Some("OK"),
+        Request::FileSystem | Request::CloseFile => Some("F0"),
+        Request::Actions => Some("vCont;c;C;s;S;r"),
+        Request::Thread => Some("QC1"),
+        Request::FirstThreads => Some("m1"),
+        Request::MoreThreads => Some("l"),
+        Request::Attached => Some("0"),
+        Request::Refused(refusal) => Some(refusal_text(*refusal)),
+        _ => None,
+    }
+}
+
+/// The reply to what is refused.
+pub fn refusal_text(refusal: Refusal) -> &'static str
+    ensures { result.now ≡ refusal_text refusal }
+{
+    match refusal {
+        Refusal::Unknown => "",
+        Refusal::Failed => "E01",
+        Refusal::OtherAnnex => "E00",
+        Refusal::OtherFile => "F-1,2",
+        Refusal::Malformed => "E.malformed",
+        Refusal::WouldChange => "E.the run is what it is: the debugger does not change it",
+        Refusal::NotReached => "E.the run does not come there",
+        Refusal::TooManyTraps => "E.too many breakpoints",
+        Refusal::TooLong => "E.packet too long",
+    }
+}
+
+/// Appends a part of a text: `m` and the bytes, at most 8,184, or `l` and the rest where they reach the end.
+#[tactic(auto, unfolding(crate::specs::Replies::part_text))]
+pub fn push_part(out: &mut Vec<u8>, text: &[u8], part: Part) -> Result<(), AllocError>
+    ensures { OnOk result (out.new.items ≡ out.old.items ++ part_text text.now part) }
+{
+    let rest = &text[text.len().min(part.offset as usize)..];
+    let count = MOST_PART.min(part.count as usize);
+    if rest.len() <= count {
+        out.push(b'l')?;
+        out.extend_from_slice(rest)
+    } else {
+        out.push(b'm')?;
+        out.extend_from_slice(&rest[..count])
+    }
+}

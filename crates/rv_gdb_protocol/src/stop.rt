@@ -1,0 +1,82 @@
+//! Stops, and the bodies of the replies that tell them.
+
+ghost use Rattle.std.specs.Prelude.{◌≡◌, ◌++◌, OnOk};
+ghost use Rattle.rv_gdb_protocol.specs.Stops.{fault_text, stop_text, watch_text};
+ghost use Rattle.rv_gdb_protocol.specs.declared.stop.Stop.TheVariants as stop;
+
+use crate::request::Watched;
+use rv_machine::FaultKind;
+use std::alloc::AllocError;
+
+/// Why the run stands where it stands.
+#[derive(Clone, Copy)]
+pub enum Stop {
+    /// A breakpoint, a step or the end of a range.
+    Here,
+    /// A watch at this address is set off.
+    Watch(Watched, u32),
+    /// Ctrl-C.
+    Interrupt,
+    /// Step 0 on the way back.
+    Beginning,
+    /// The exit call.
+    Exit,
+    /// The budget is used up.
+    Budget,
+    /// A fault.
+    Fault(FaultKind),
+}
+
+/// Appends the body of a stop's reply.
+#[tactic(auto, unfolding(crate::specs::Stops::stop_text))]
+pub fn push_stop(out: &mut Vec<u8>, stop: Stop) -> Result<(), AllocError>
+    ensures { OnOk result (out.new.items ≡ out.old.items ++ stop_text stop) }
+{
+    match stop {
+        Stop::Here => out.extend_from_slice(b"T05"),
+        Stop::Watch(kind, address) => push_watch(out, kind, address),
+        Stop::Interrupt => out.extend_from_slice(b"T02"),
+        Stop::Beginning => out.extend_from_slice(b"T05replaylog:begin;"),
+        Stop::Exit => out.extend_from_slice(b"T05replaylog:end;"),
+        Stop::Budget => out.extend_from_slice(b"T18"),
+        Stop::Fault(kind) => out.extend_from_slice(fault_text(kind).as_bytes()),
+    }
+}
+
+#[tactic(auto, unfolding(crate::specs::Stops::stop_text))]
+fn push_watch(out: &mut Vec<u8>, kind: Watched, address: u32) -> Result<(), AllocError>
+    ensures { OnOk result (out.new.items ≡ out.old.items ++ stop_text (stop.Watch kind address)) }
+{
+    let mut digits = [0u8; 8];
+    hex::encode_to_slice(address.to_be_bytes().as_slice(), &mut digits).unwrap();
+    out.extend_from_slice(watch_text(kind).as_bytes())?;
+    out.extend_from_slice(&digits)?;
+    out.push(b';')?;
+    Ok(())
+}
+
+fn watch_text(kind: Watched) -> &'static str
+    ensures { result.now ≡ watch_text kind }
+{
+    match kind {
+        Watched::Writes => "T05watch:",
+        Watched::Reads => "T05rwatch:",
+        Watched::Accesses => "T05awatch:",
+    }
+}
+
+// The signal of a fault.
+fn fault_text(kind: FaultKind) -> &'static str
+    ensures { result.now ≡ fault_text kind }
+{
+    match kind {
+        FaultKind::FetchAccess | FaultKind::LoadAccess | FaultKind::StoreAccess => "T0b",
+        FaultKind::FetchMisaligned | FaultKind::LoadMisaligned | FaultKind::StoreMisaligned => {
+            "T0a"
+        }
+        FaultKind::Illegal | FaultKind::StaleCode => "T04",
+        FaultKind::Breakpoint => "T06",
+        FaultKind::UnknownCall => "T0c",
+        FaultKind::ConsoleFull => "T19",
+    }
+}

@@ -1,0 +1,51 @@
+//! Sums of bodies, and the digits that tell them.
+
+ghost use Rattle.std.specs.Prelude.{◌≡◌, ◌<◌, IfSome};
+ghost use Rattle.hex.specs.Hex.{hex_digit_value};
+ghost use Rattle.rv_gdb_protocol.specs.Sums.{judged_sum, sum_of, sum_told};
+
+use crate::frame::Sum;
+
+/// The sum of a text in its frame.
+#[tactic(auto, unfolding(crate::specs::Sums::sum_of))]
+pub(crate) fn sum_of(text: &[u8]) -> u8
+    ensures { result ≡ sum_of text.now }
+{
+    let mut sum = 0u8;
+    for byte in text {
+        sum = sum.wrapping_add(*byte);
+    }
+    sum
+}
+
+/// Whether two digits are the sum of a text.
+pub(crate) fn judged_sum(text: &[u8], high: u8, low: u8) -> Sum
+    ensures { result ≡ judged_sum (sum_of text.now) (sum_told (hex_digit_value high) (hex_digit_value low)) }
+{
+    match told_sum(high, low) {
+        Some(told) if told == sum_of(text) => Sum::Right,
+        _ => Sum::Wrong,
+    }
+}
+
+fn told_sum(high: u8, low: u8) -> Option<u8>
+    ensures { result ≡ sum_told (hex_digit_value high) (hex_digit_value low) }
+{
+    match (digit_value(high), digit_value(low)) {
+        (Some(high), Some(low)) => Some(high * 16 + low),
+        _ => None,
+    }
+}
+
+/// The value of a hexadecimal digit in either case.
+pub(crate) fn digit_value(digit: u8) -> Option<u8>
+    ensures value { result ≡ hex_digit_value digit }
+    ensures least { IfSome result (λ value. value < 16) }
+{
+    match digit {
+        b'A'..=b'F' => Some(digit - 55),
+        b'a'..=b'f' => Some(digit - 87),
+        b'0'..=b'9' => Some(digit - 48),
+        _ => None,
+    }
+}

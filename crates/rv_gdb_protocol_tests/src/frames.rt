@@ -1,0 +1,110 @@
+//! Frames: what is heard in bytes, in one piece and byte by byte, and bodies in their frames.
+use rv_gdb_protocol::{Heard, Reader, Sum, push_frame};
+use samples::{agree, cell_of, has_lines};
+use std::alloc::{AllocError, Global};
+use std::test::Fail;
+
+// Packets of a recorded session with LLDB, and bad input; `~` stands for 0x03: label | bytes | what is heard.
+const HEARD: &str = "\
+no acknowledgements | +$QStartNoAckMode#b0 | + <QStartNoAckMode>
+why and where | $?#3f$qC#b4 | <?> <qC>
+a part of target.xml | $qXfer:features:read:target.xml:0,3fff#b0 | <qXfer:features:read:target.xml:0,3fff>
+memory | $m800ffe00,200#54 | <m800ffe00,200>
+breakpoint | $Z0,80000190,2#a6 | <Z0,80000190,2>
+digits of a sum in upper case | $m80080000,200#BB | <m80080000,200>
+empty packet | $#00 | <>
+wrong sum | $g#68 | wrong <g>
+no digits | $g#zz | wrong <g>
+a packet within a packet | $m80$g#67 | <g>
+noise | xyz#67 $g#67 abc | <g>
+ctrl-c and again | ~-+ | ^C - +
+unfinished | $qSupported:xml | 
+";
+
+// Bodies of recorded replies: label | body | frame.
+const FRAMED: &str = "\
+granted | OK | $OK#9a
+not known |  | $#00
+a stop | T05 | $T05#b9
+refused | E01 | $E01#a6
+features | PacketSize=4000;QStartNoAckMode+;ReverseStep+;ReverseContinue+;qXfer:features:read+;qXfer:exec-file:read+ | $PacketSize=4000;QStartNoAckMode+;ReverseStep+;ReverseContinue+;qXfer:features:read+;qXfer:exec-file:read+#38
+actions | vCont;c;C;s;S;r | $vCont;c;C;s;S;r#0f
+a register | f8000080 | $f8000080#c6
+";
+
+fn push_told(text: &mut String, heard: &Heard) -> Result<(), Fail> {
+    match heard {
+        Heard::Interrupt => text.push_str("^C")?,
+        Heard::Arrived => text.push_str("+")?,
+        Heard::Again => text.push_str("-")?,
+        Heard::TooLong => text.push_str("too long")?,
+        Heard::Packet(body, sum) => {
+            if *sum == Sum::Wrong {
+                text.push_str("wrong ")?;
+            }
+            text.push_str("<")?;
+            text.push_str(std::str::from_utf8(body.as_slice())?)?;
+            text.push_str(">")?;
+        }
+    }
+    Ok(())
+}
+
+// What is heard in bytes that come in pieces of this length.
+fn told_in_pieces(alloc: Global, bytes: &[u8], length: usize) -> Result<String, Fail> {
+    let mut reader = Reader::new(alloc);
+    let mut text = String::new(alloc);
+    for piece in bytes.chunks(length.max(1)) {
+        let mut rest = piece;
+        for _ in 0..piece.len() {
+            let (taken, heard) = reader.hear(alloc, rest)?;
+            rest = &rest[taken..];
+            if let Some(heard) = heard {
+                if !text.as_str().is_empty() {
+                    text.push_str(" ")?;
+                }
+                push_told(&mut text, &heard)?;
+            }
+        }
+    }
+    Ok(text)
+}
+
+fn check_heard(alloc: Global, line: &str) -> Result<(), Fail> {
+    let mut bytes = Vec::new(alloc);
+    for byte in cell_of(line, 1).as_bytes() {
+        bytes.push(if *byte == b'~' { 3 } else { *byte })?;
+    }
+    for length in [1, 2, 3, 7, 1000] {
+        agree(
+            line,
+            told_in_pieces(alloc, bytes.as_slice(), length)?.as_str(),
+            cell_of(line, 2),
+        )?;
+    }
+    Ok(())
+}
+
+#[test]
+fn packets_are_heard(rt: HostRuntime) -> Result<(), Fail> {
+    has_lines(HEARD, 13)?;
+    for line in HEARD.lines() {
+        check_heard(rt.alloc(), line)?;
+    }
+    Ok(())
+}
+
+#[test]
+fn bodies_are_framed(rt: HostRuntime) -> Result<(), Fail> {
+    has_lines(FRAMED, 7)?;
+    for line in FRAMED.lines() {
+        let mut frame = Vec::new(rt.alloc());
+        push_frame(rt.alloc(), &mut frame, cell_of(line, 1).as_bytes())?;
+        agree(
+            line,
+            std::str::from_utf8(frame.as_slice())?,
+            cell_of(line, 2),
+        )?;
+    }
+    Ok(())
+}

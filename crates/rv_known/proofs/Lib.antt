@@ -1,2 +1,0 @@
-mod KnownLines
-mod Places

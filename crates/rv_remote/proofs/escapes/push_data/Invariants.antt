@@ -1,8 +1,0 @@
-use Rattle.std.proofs.Common.{◌≡◌, ◌++◌, drop, take, false, fold}
-use Rattle.rv_remote.specs.Escapes.{data_of, is_escape}
-use Rattle.rv_remote.proofs.escapes.push_data.Given as goal
-
-abbrev pub invariant-loop-byte : goal.invariant-loop-byte
-invariant-loop-byte l = (l.out.items ++ data_of l.behind_escape (drop l.byte-index l.text)
-    ≡ l.fn.out.items ++ data_of false l.text)
-    × (l.behind_escape ≡ fold is_escape false (take l.byte-index l.text))

@@ -1,8 +1,0 @@
-use Rattle.std.proofs.Common.{◌≡◌, ◌<◌, ◌^◌, Some, fold, take}
-use Rattle.std.specs.Option.{IfSome}
-use Rattle.rv_remote.specs.Numbers.{digit_on}
-use Rattle.rv_remote.proofs.number.number_of.Given as goal
-
-abbrev pub invariant-loop-byte : goal.invariant-loop-byte
-invariant-loop-byte l = (l.value ≡ fold digit_on (Some 0) (take l.byte-index l.text))
-    × IfSome l.value (λ value. value < 16 ^ l.byte-index)

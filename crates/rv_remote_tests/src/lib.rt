@@ -1,7 +1,0 @@
-//! Tests of `rv_remote` by packets that gdb and LLDB sent, and by bad input.
-#![tactic(auto)]
-
-#[cfg(test)]
-mod frames;
-#[cfg(test)]
-mod requests;

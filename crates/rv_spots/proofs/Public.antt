@@ -1,3 +1,0 @@
--- The lemmas that proofs of other crates may cite.
-pub use Rattle.rv_spots.proofs.Parts.{last_parts, stand_of_parts}
-pub use Rattle.rv_spots.proofs.Unique.{one_tree_of_counts}

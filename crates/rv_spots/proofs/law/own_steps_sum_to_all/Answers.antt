@@ -1,5 +1,0 @@
-use Rattle.rv_spots.proofs.Functions.{own_sums}
-use Rattle.rv_spots.proofs.law.own_steps_sum_to_all.Goals as goal
-
-pub returns : goal.returns
-returns c = own_sums

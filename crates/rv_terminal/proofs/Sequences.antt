@@ -1,0 +1,80 @@
+-- Marks that are taken out again, and the texts of whole results.
+use Rattle.std.proofs.Common.{◌≡◌, ◌∙◌, refl, sym, ap, ℕ, List, [], ◌∷◌, ◌++◌, append_assoc, arith, fold, inl, inr, length, suc, false}
+use Rattle.std.proofs.lemmas.Bool.{cases_Bool}
+use Rattle.rv_terminal.specs.declared.place.Mark.{Mark}
+use Rattle.rv_terminal.specs.declared.place.Mark.TheVariants as mark
+use Rattle.rv_terminal.specs.declared.place.Place.{Place}
+use Rattle.rv_terminal.specs.Colors.{InText, Seat, colored, is_escape, line_mark, mark_before, mark_text, place_behind}
+use Rattle.rv_terminal.specs.Colors.{seat_behind, text_of_byte, uncolored}
+
+-- ---- marks out
+
+-- a byte of the text's, behind its mark
+byte_out : (here : Mark) (byte : ℕ) (rest : List ℕ) → is_escape byte ≡ false
+    → uncolored InText (mark_text here ++ byte ∷ rest) ≡ byte ∷ uncolored InText rest
+unfolding uncolored
+byte_out mark.Nothing byte rest other = rw other refl
+byte_out mark.Red byte rest other = refl
+byte_out mark.Green byte rest other = refl
+byte_out mark.End byte rest other = refl
+
+escape_out : (byte : ℕ) (rest : List ℕ) → uncolored InText (mark_text mark.End ++ byte ∷ rest) ≡ byte ∷ uncolored InText rest
+unfolding uncolored
+escape_out byte rest = refl
+
+marked_out : (here : Place) (byte : ℕ) (rest : List ℕ)
+    → uncolored InText (mark_text (mark_before here byte) ++ byte ∷ rest) ≡ byte ∷ uncolored InText rest
+marked_out here byte rest = elim (cases_Bool (is_escape byte)) [
+  | inl is ↦ rw is (escape_out byte rest)
+  | inr other ↦ rw other (byte_out (line_mark here byte) byte rest other)
+]
+
+-- what stands behind a coloured text is seen as from the beginning
+pub text_out : (here : Place) (text more : List ℕ)
+    → uncolored InText (colored here text ++ more) ≡ text ++ uncolored InText more
+unfolding colored
+text_out here [] more = refl
+text_out here (byte ∷ rest) more =
+    let behind = colored (place_behind here byte) rest in
+    ap (uncolored InText) (append_assoc (mark_text (mark_before here byte)) (byte ∷ behind) more)
+    ∙ (marked_out here byte (behind ++ more) ∙ ap (λ xs. byte ∷ xs) (text_out (place_behind here byte) rest more))
+
+-- ---- a mark in part
+
+parts_out : (here : Seat) (xs ys : List ℕ)
+    → uncolored here (xs ++ ys) ≡ uncolored here xs ++ uncolored (fold seat_behind here xs) ys
+unfolding uncolored
+parts_out here [] ys = refl
+parts_out here (x ∷ xs) ys =
+    let next = seat_behind here x in
+    ap (λ rest. text_of_byte here x ++ rest) (parts_out next xs ys)
+    ∙ sym (append_assoc (text_of_byte here x) (uncolored next xs) (uncolored (fold seat_behind next xs) ys))
+
+mark_out : (here : Mark) → uncolored InText (mark_text here) ≡ []
+unfolding uncolored
+mark_out mark.Nothing = refl
+mark_out mark.Red = refl
+mark_out mark.Green = refl
+mark_out mark.End = refl
+
+first_is_nil : (xs ys : List ℕ) → xs ++ ys ≡ [] → xs ≡ []
+first_is_nil [] ys none = refl
+first_is_nil (x ∷ xs) ys none =
+    let more : suc (length (xs ++ ys)) ≡ 0 = ap length none in
+    absurd (omega (arith, more))
+
+pub part_out : (here : Mark) (part rest : List ℕ) → mark_text here ≡ part ++ rest → uncolored InText part ≡ []
+part_out here part rest whole =
+    first_is_nil (uncolored InText part) (uncolored (fold seat_behind InText part) rest)
+    (sym (parts_out InText part rest) ∙ (ap (uncolored InText) (sym whole) ∙ mark_out here))
+
+-- ---- texts that follow one another
+
+pub colored_append : (here : Place) (xs ys : List ℕ)
+    → colored here (xs ++ ys) ≡ colored here xs ++ colored (fold place_behind here xs) ys
+unfolding colored
+colored_append here [] ys = refl
+colored_append here (x ∷ xs) ys =
+    let next = place_behind here x in
+    ap (λ rest. mark_text (mark_before here x) ++ x ∷ rest) (colored_append next xs ys)
+    ∙ sym (append_assoc (mark_text (mark_before here x)) (x ∷ colored next xs) (colored (fold place_behind next xs) ys))

@@ -1,0 +1,130 @@
+-- Which parts of results have colours on a terminal: PASS and what was met are green, FAIL and what was expected are red.
+use Rattle.std.specs.Prelude.{◌==◌, ◌||◌, ◌+◌, ℕ, Bool, true, false, List, [], ◌∷◌, ◌++◌, codes, if◌then◌else◌, nat_lt}
+use Rattle.rv_terminal.specs.declared.place.Mark.{Mark}
+use Rattle.rv_terminal.specs.declared.place.Mark.TheVariants as mark
+use Rattle.rv_terminal.specs.declared.place.Place.{Place}
+use Rattle.rv_terminal.specs.declared.place.Place.TheVariants as place
+
+-- ---- marks
+
+-- the byte that a terminal's sequences begin with, and the one that ends those for colours
+abbrev pub escape : ℕ
+escape = 27
+
+abbrev pub end_of_mark : ℕ
+end_of_mark = 109
+
+-- a terminal's sequence for a mark: red, green, and as before
+abbrev pub mark_text : Mark → List ℕ
+mark_text mark.Nothing = []
+mark_text mark.Red = escape ∷ codes "[31m"
+mark_text mark.Green = escape ∷ codes "[32m"
+mark_text mark.End = escape ∷ codes "[0m"
+
+abbrev pub is_nothing : Mark → Bool
+is_nothing mark.Nothing = true
+is_nothing _ = false
+
+-- ---- places of a line
+
+abbrev pub is_escape : ℕ → Bool
+is_escape byte = byte == escape
+
+abbrev pub is_feed : ℕ → Bool
+is_feed byte = byte == 10
+
+abbrev pub is_space : ℕ → Bool
+is_space byte = byte == 32
+
+-- the letters that FAIL and PASS begin with
+abbrev pub is_fail : ℕ → Bool
+is_fail byte = byte == 70
+
+abbrev pub is_pass : ℕ → Bool
+is_pass byte = byte == 80
+
+-- the signs of what is expected, or gone, and of what was met, or new
+abbrev pub is_minus : ℕ → Bool
+is_minus byte = byte == 45
+
+abbrev pub is_plus : ℕ → Bool
+is_plus byte = byte == 43
+
+-- how many spaces stand before what was expected and what was met
+abbrev pub margin : ℕ
+margin = 5
+
+abbrev pub sign_mark : ℕ → Mark
+sign_mark byte = if is_minus byte then mark.Red else if is_plus byte then mark.Green else mark.Nothing
+
+abbrev pub word_mark : ℕ → Mark
+word_mark byte = if is_fail byte then mark.Red else if is_pass byte then mark.Green else sign_mark byte
+
+-- the mark before the first byte of a line behind its spaces: a word or a sign stands behind none, and a sign behind the margin
+abbrev pub begin_mark : ℕ → ℕ → Mark
+begin_mark spaces byte =
+    if spaces == 0 then word_mark byte else if spaces == margin then sign_mark byte else mark.Nothing
+
+-- the mark before a byte of a line: a word's colour ends before a space, and every colour before a line feed
+abbrev pub line_mark : Place → ℕ → Mark
+line_mark (place.Margin spaces) byte = begin_mark spaces byte
+line_mark place.Word byte = if is_space byte || is_feed byte then mark.End else mark.Nothing
+line_mark place.Line byte = if is_feed byte then mark.End else mark.Nothing
+line_mark place.Rest byte = mark.Nothing
+
+-- the mark before a byte; a sequence of the text's own has one as well, so that it is told from those of marks
+abbrev pub mark_before : Place → ℕ → Mark
+mark_before here byte = if is_escape byte then mark.End else line_mark here byte
+
+-- the place behind the first byte of a line that is no space
+abbrev pub begun_place : ℕ → ℕ → Place
+begun_place spaces byte = if is_nothing (begin_mark spaces byte) then place.Rest
+    else if is_minus byte || is_plus byte then place.Line else place.Word
+
+-- the same in a line that goes on
+abbrev pub place_in_line : Place → ℕ → Place
+place_in_line (place.Margin spaces) byte = if is_space byte
+    then (if nat_lt spaces margin then place.Margin (spaces + 1) else place.Rest) else begun_place spaces byte
+place_in_line place.Word byte = if is_space byte then place.Rest else place.Word
+place_in_line here byte = here
+
+-- the place behind a byte: the rest of a line is without colours once it has a sequence of its own
+abbrev pub place_behind : Place → ℕ → Place
+place_behind here byte = if is_feed byte then place.Margin 0
+    else if is_escape byte then place.Rest else place_in_line here byte
+
+-- ---- the whole
+
+-- a text from a place of a line on, with its marks
+unfoldable pub colored : Place → List ℕ → List ℕ
+colored here [] = []
+colored here (byte ∷ rest) = mark_text (mark_before here byte) ++ byte ∷ colored (place_behind here byte) rest
+
+-- where a text begins: a line does
+abbrev pub beginning : Place
+beginning = place.Margin 0
+
+-- ---- without colours
+
+-- where a byte of a coloured text stands: in the text, in a mark, or right behind one
+pub data Seat : Type 0 where
+  InText : Seat
+  InMark : Seat
+  BehindMark : Seat
+
+-- the seat behind a byte; the byte right behind a mark is the text's, whichever it is
+abbrev pub seat_behind : Seat → ℕ → Seat
+seat_behind InText byte = if is_escape byte then InMark else InText
+seat_behind InMark byte = if byte == end_of_mark then BehindMark else InMark
+seat_behind BehindMark byte = InText
+
+-- what a byte gives to the text
+abbrev pub text_of_byte : Seat → ℕ → List ℕ
+text_of_byte InText byte = if is_escape byte then [] else byte ∷ []
+text_of_byte InMark byte = []
+text_of_byte BehindMark byte = byte ∷ []
+
+-- a coloured text without its marks
+unfoldable pub uncolored : Seat → List ℕ → List ℕ
+uncolored here [] = []
+uncolored here (byte ∷ rest) = text_of_byte here byte ++ uncolored (seat_behind here byte) rest

@@ -1,0 +1,4 @@
+pub mod ColorSinks
+pub mod Colors
+pub mod ProgressLine
+pub mod Tallies

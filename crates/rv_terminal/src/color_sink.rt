@@ -1,0 +1,113 @@
+//! A sink that gives results their colours.
+
+ghost use Rattle.std.specs.Prelude.{◌≡◌, ◌≤◌, IfErr, OnOk, is_err};
+ghost use Rattle.rv_terminal.specs.ColorSinks.{IsOut, IsOutInPart, first_course, is_cut_off, results_of};
+
+use crate::colors::Colors;
+use crate::course::{Course, put_by_course};
+use rv_base::{Sink, SinkFailed};
+use std::marker::{Brand, Model, PhantomData};
+
+/// Whether results have colours, and what the sink took before them. Each command picks its own.
+pub trait Results {
+    ghost use Rattle.std.specs.Prelude.{ℕ, List, Option};
+    ghost use Rattle.rv_terminal.specs.declared.colors.Colors.{Colors};
+
+    ghost colors: { Colors };
+
+    ghost before: { Option (List ℕ) };
+}
+
+impl Results for Brand {
+    ghost use Rattle.std.specs.Prelude.{None};
+    ghost use Rattle.rv_terminal.specs.declared.colors.Colors.TheVariants.{Without};
+
+    ghost colors = { Without };
+
+    ghost before = { None };
+}
+
+/// A sink that takes results, and gives them to another with their colours, or as they are. To contracts it took the results
+/// themselves. Once a put failed with colours, each further one fails: a part of a mark may be out.
+#[derive(Drop)]
+pub struct ColorSink<J: Results, S: Sink + Drop> {
+    sink: S,
+    course: Course,
+    failures: u64,
+    of: PhantomData<J>,
+}
+
+impl<J: Results, S: Sink + Drop> Model for ColorSink<J, S> {
+    ghost use Rattle.rv_terminal.specs.ColorSinks.{InColors, IsCounted, IsOnCourse};
+
+    ghost Value = { InColors S };
+
+    ghost view = { λ s. record { sink = s.sink; failures = s.failures; course = s.course } };
+
+    ghost invariant = { λ s. IsOnCourse J.colors J.before (S.taken s.sink) s.course
+        × IsCounted s.course s.failures (S.failed s.sink) };
+}
+
+impl<J: Results, S: Sink + Drop> ColorSink<J, S> {
+    /// Over another sink; a line begins.
+    pub fn new(sink: S, colors: Colors) -> ColorSink<J, S>
+        requires colors { colors ≡ J.colors }
+        requires before { S.taken sink ≡ J.before }
+        ensures taken { results_of J.colors J.before (S.taken result.sink) ≡ S.taken sink }
+        ensures failures { result.failures ≡ S.failed sink }
+        ensures course { result.course ≡ first_course colors }
+    {
+        let failures = sink.failures();
+        ColorSink {
+            sink,
+            course: Course::first(colors),
+            failures,
+            of: PhantomData,
+        }
+    }
+
+    /// The other sink, and whether it took the results whole: an error where a put of it failed with colours.
+    pub fn finish(self) -> (S, Result<(), SinkFailed>)
+        ensures sink { result.0 ≡ self.sink }
+        ensures told { is_err result.1 ≡ is_cut_off self.course }
+        ensures failed { IfErr result.1 (λ _. 1 ≤ S.failed self.sink) }
+        ensures whole { OnOk result.1 (IsOut J.colors J.before (results_of J.colors J.before (S.taken self.sink))
+            (S.taken self.sink)) }
+        ensures part { IsOutInPart J.colors J.before (results_of J.colors J.before (S.taken self.sink)) (S.taken self.sink) }
+    {
+        let ColorSink {
+            sink,
+            course,
+            failures: _,
+            of: _,
+        } = self;
+        let whole = if course.is_cut_off() {
+            Err(SinkFailed)
+        } else {
+            Ok(())
+        };
+        (sink, whole)
+    }
+}
+
+impl<J: Results, S: Sink + Drop> Sink for ColorSink<J, S> {
+    ghost use Rattle.rv_terminal.specs.ColorSinks.{results_of};
+
+    ghost taken = { λ s. results_of J.colors J.before (S.taken s.sink) };
+
+    ghost failed = { λ s. s.failures };
+
+    fn put(&mut self, bytes: &[u8]) -> Result<usize, SinkFailed> {
+        let (count, course) = put_by_course(&mut self.sink, self.course, bytes);
+        self.course = course;
+        if count == 0 {
+            self.failures = self.failures.saturating_add(1);
+            return Err(SinkFailed);
+        }
+        Ok(count)
+    }
+
+    fn failures(&self) -> u64 {
+        self.failures
+    }
+}

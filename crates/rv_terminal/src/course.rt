@@ -1,0 +1,113 @@
+//! How results go on, put by put.
+
+ghost use Rattle.std.specs.Prelude.{◌≡◌, ◌≤◌, ◌<◌, ◌++◌, ℕ, IfErr, IfOk, length, slice_index, take};
+ghost use Rattle.std.specs.Io.KnownBytes.{Appends};
+ghost use Rattle.rv_base.specs.Counts.{one_more};
+ghost use Rattle.rv_base.specs.Sinks.{AppendsBeginning};
+ghost use Rattle.rv_terminal.specs.Colors.{colored, mark_before, mark_text};
+ghost use Rattle.rv_terminal.specs.ColorSinks.{IsPutBy, IsPutFrom, failures_below, first_course, is_cut_off};
+ghost use Rattle.rv_terminal.specs.declared.course.Course.TheVariants as course;
+
+use crate::colors::Colors;
+use crate::place::Place;
+use rv_base::{Sink, SinkFailed, put_all};
+
+/// How results go on.
+#[derive(Clone, Copy)]
+pub(crate) enum Course {
+    /// As they are.
+    Plain,
+    /// With colours, from this place of a line on.
+    Colored(Place),
+    /// Not at all: a put failed, and a part of a mark may be out.
+    CutOff,
+}
+
+impl Course {
+    /// How results begin, at the beginning of a line.
+    pub(crate) fn first(colors: Colors) -> Course
+        ensures { result ≡ first_course colors }
+    {
+        match colors {
+            Colors::Without => Course::Plain,
+            Colors::With => Course::Colored(Place::Margin(0)),
+        }
+    }
+
+    pub(crate) fn is_cut_off(self) -> bool
+        ensures { result ≡ is_cut_off self }
+    {
+        matches!(self, Course::CutOff)
+    }
+}
+
+/// Puts bytes from the front, with the marks that they have: how many, and how results go on behind them. Where none went out, a
+/// put failed.
+pub(crate) fn put_by_course<S: Sink>(sink: &mut S, course: Course, bytes: &[u8]) -> (usize, Course)
+    requires { 0 < length bytes.now }
+    ensures within { result.0 ≤ length bytes.now }
+    ensures put { IsPutBy course result.1 (take result.0 bytes.now) (S.taken sink.old) (S.taken sink.new) }
+    ensures counted { S.failed sink.new ≡ failures_below course result.1 result.0 (S.failed sink.old) }
+{
+    match course {
+        Course::Plain => match sink.put(bytes) {
+            Ok(count) => (count, Course::Plain),
+            Err(_) => (0, Course::Plain),
+        },
+        Course::Colored(place) => put_colored(sink, place, bytes),
+        Course::CutOff => (0, Course::CutOff),
+    }
+}
+
+// Puts all of the bytes, piece by piece, up to a put that fails.
+fn put_colored<S: Sink>(sink: &mut S, place: Place, bytes: &[u8]) -> (usize, Course)
+    requires { 0 < length bytes.now }
+    ensures within { result.0 ≤ length bytes.now }
+    ensures put { IsPutFrom place result.1 (take result.0 bytes.now) (S.taken sink.old) (S.taken sink.new) }
+    ensures counted { S.failed sink.new ≡ failures_below (course.Colored place) result.1 result.0 (S.failed sink.old) }
+{
+    let mut at = 0;
+    let mut here = place;
+    while at < bytes.len() {
+        let rest = &bytes[at..];
+        match put_piece(sink, here, rest) {
+            Ok(count) => {
+                here = here.behind_all(&rest[..count]);
+                at += count;
+            }
+            Err(_) => return (at, Course::CutOff),
+        }
+    }
+    (at, Course::Colored(here))
+}
+
+// Puts the first bytes, with what stands before the first of them.
+fn put_piece<S: Sink>(sink: &mut S, place: Place, bytes: &[u8]) -> Result<usize, SinkFailed>
+    requires { 0 < length bytes.now }
+    ensures within { IfOk result (λ count. (1 ≤ count) × (count ≤ length bytes.now)) }
+    ensures colored { IfOk result (λ count. Appends (S.taken sink.old) (S.taken sink.new) (colored place (take count bytes.now))) }
+    ensures part { IfErr result (λ _. AppendsBeginning (S.taken sink.old) (S.taken sink.new)
+        (mark_text (mark_before place (slice_index bytes.now 0)))) }
+    ensures counted { IfOk result (λ _. S.failed sink.new ≡ S.failed sink.old) }
+    ensures failure { IfErr result (λ _. S.failed sink.new ≡ one_more (S.failed sink.old)) }
+{
+    let mark = place.mark_before(bytes[0]);
+    put_all(sink, mark.text().as_bytes())?;
+    sink.put(&bytes[..marked_len(place, bytes)])
+}
+
+// How many bytes from the front have no mark before them but the first.
+fn marked_len(place: Place, bytes: &[u8]) -> usize
+    requires { 0 < length bytes.now }
+    ensures within { (1 ≤ result) × (result ≤ length bytes.now) }
+    ensures marked { (count : ℕ) → 1 ≤ count → count ≤ result
+        → colored place (take count bytes.now) ≡ mark_text (mark_before place (slice_index bytes.now 0)) ++ take count bytes.now }
+{
+    let mut at = 1;
+    let mut here = place.behind(bytes[0]);
+    while at < bytes.len() && here.mark_before(bytes[at]).is_nothing() {
+        here = here.behind(bytes[at]);
+        at += 1;
+    }
+    at
+}

@@ -1,0 +1,163 @@
+//! Where colours begin and end in the lines of results.
+
+ghost use Rattle.std.specs.Prelude.{◌≡◌, fold};
+ghost use Rattle.rv_terminal.specs.Colors.{begin_mark, begun_place, is_nothing, line_mark, mark_before, mark_text, place_behind};
+ghost use Rattle.rv_terminal.specs.Colors.{place_in_line, sign_mark, word_mark};
+
+/// What a terminal is told before a byte.
+#[derive(Clone, Copy)]
+pub(crate) enum Mark {
+    Nothing,
+    Red,
+    Green,
+    /// Colours as they were before.
+    End,
+}
+
+/// Where a byte of results stands in its line.
+#[derive(Clone, Copy)]
+pub(crate) enum Place {
+    /// Behind so many spaces, with which the line begins: five at most.
+    Margin(u8),
+    /// In the first word, which has a colour.
+    Word,
+    /// In a line that has a colour up to its end.
+    Line,
+    /// In the rest of a line, without a colour.
+    Rest,
+}
+
+// How many spaces stand before what was expected and what was met.
+const MARGIN: u8 = 5;
+
+// What a terminal's sequences begin with.
+const ESCAPE: u8 = 0x1b;
+
+impl Mark {
+    /// The terminal's sequence.
+    pub(crate) fn text(self) -> &'static str
+        ensures { result.now ≡ mark_text self }
+    {
+        match self {
+            Mark::Nothing => "",
+            Mark::Red => "\x1b[31m",
+            Mark::Green => "\x1b[32m",
+            Mark::End => "\x1b[0m",
+        }
+    }
+
+    pub(crate) fn is_nothing(self) -> bool
+        ensures { result ≡ is_nothing self }
+    {
+        matches!(self, Mark::Nothing)
+    }
+}
+
+impl Place {
+    /// What stands before a byte.
+    pub(crate) fn mark_before(self, byte: u8) -> Mark
+        ensures { result ≡ mark_before self byte }
+    {
+        if byte == ESCAPE {
+            Mark::End
+        } else {
+            self.line_mark(byte)
+        }
+    }
+
+    fn line_mark(self, byte: u8) -> Mark
+        ensures { result ≡ line_mark self byte }
+    {
+        match self {
+            Place::Margin(spaces) => begin_mark(spaces, byte),
+            Place::Word if byte == b' ' => Mark::End,
+            Place::Word | Place::Line if byte == b'\n' => Mark::End,
+            _ => Mark::Nothing,
+        }
+    }
+
+    /// The place behind a byte.
+    pub(crate) fn behind(self, byte: u8) -> Place
+        ensures { result ≡ place_behind self byte }
+    {
+        match byte {
+            b'\n' => Place::Margin(0),
+            ESCAPE => Place::Rest,
+            _ => self.place_in_line(byte),
+        }
+    }
+
+    fn place_in_line(self, byte: u8) -> Place
+        ensures { result ≡ place_in_line self byte }
+    {
+        match self {
+            Place::Margin(spaces) if byte == b' ' => {
+                if spaces < MARGIN {
+                    Place::Margin(spaces + 1)
+                } else {
+                    Place::Rest
+                }
+            }
+            Place::Margin(spaces) => begun_place(spaces, byte),
+            Place::Word if byte == b' ' => Place::Rest,
+            place => place,
+        }
+    }
+
+    /// The place behind bytes.
+    pub(crate) fn behind_all(self, bytes: &[u8]) -> Place
+        ensures { result ≡ fold place_behind self bytes.now }
+    {
+        let mut place = self;
+        for byte in bytes {
+            place = place.behind(*byte);
+        }
+        place
+    }
+}
+
+// The mark before the first byte of a line behind its spaces.
+fn begin_mark(spaces: u8, byte: u8) -> Mark
+    ensures { result ≡ begin_mark spaces byte }
+{
+    if spaces == 0 {
+        word_mark(byte)
+    } else if spaces == MARGIN {
+        sign_mark(byte)
+    } else {
+        Mark::Nothing
+    }
+}
+
+fn word_mark(byte: u8) -> Mark
+    ensures { result ≡ word_mark byte }
+{
+    match byte {
+        b'F' => Mark::Red,
+        b'P' => Mark::Green,
+        _ => sign_mark(byte),
+    }
+}
+
+fn sign_mark(byte: u8) -> Mark
+    ensures { result ≡ sign_mark byte }
+{
+    match byte {
+        b'-' => Mark::Red,
+        b'+' => Mark::Green,
+        _ => Mark::Nothing,
+    }
+}
+
+// The place behind the first byte of a line that is no space.
+fn begun_place(spaces: u8, byte: u8) -> Place
+    ensures { result ≡ begun_place spaces byte }
+{
+    if begin_mark(spaces, byte).is_nothing() {
+        Place::Rest
+    } else if byte == b'-' || byte == b'+' {
+        Place::Line
+    } else {
+        Place::Word
+    }
+}

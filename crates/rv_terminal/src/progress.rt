@@ -1,0 +1,174 @@
+//! How many jobs are done and failed, and the line that says so.
+
+ghost use Rattle.std.specs.Prelude.{◌≡◌, ◌++◌, ◌+◌, ◌-◌, ◌∷◌, ◌^◌, ◌<◌, ◌≤◌, [], List, length};
+ghost use Rattle.rv_terminal.specs.Tallies.{IsTallyOf};
+ghost use Rattle.rv_expect.specs.Judgement.{judging_of};
+ghost use Rattle.rv_rows.specs.declared_row.Row.{Row as ARow};
+
+use crate::counted::Tally;
+use crate::terminal_line::{Counts, Line};
+use rv_expect::Judge;
+use rv_rows::Row;
+use std::alloc::Global;
+use std::io::Write;
+use std::sync::atomic::{AtomicU64, Ordering};
+use std::sync::{Mutex, MutexGuard, Wait};
+use std::time::Clock;
+
+/// How many jobs of a run are done and failed, and a terminal that shows it in one line. Workers share it.
+#[derive(Drop)]
+pub struct Progress<'k, W: Drop> {
+    jobs: u64,
+    judge: Judge<'k>,
+    is_terminal: bool,
+    // A lock of its own: to count waits for no terminal.
+    tally: Mutex<Tally>,
+    // The tenth of a second, by the clock, in which the run began.
+    start: u64,
+    // In how many tenths after that the line was shown last.
+    shown: AtomicU64,
+    line: Mutex<Line<W>>,
+}
+
+impl<'k, W: Write + Drop> Progress<'k, W> {
+    /// Of a run of so many jobs, whose rows a judge counts. The line is shown on `out`, where that is a terminal, and from
+    /// the next tenth of a second of the clock on: a run that is done before has none.
+    pub fn new<C: Clock>(
+        clock: &C,
+        jobs: usize,
+        judge: Judge<'k>,
+        out: W,
+        is_terminal: bool,
+    ) -> Progress<'k, W>
+        ensures jobs { result.jobs ≡ jobs }
+        ensures judge { judging_of result.judge ≡ judging_of judge.entry }
+        ensures terminal { result.is_terminal ≡ is_terminal }
+    {
+        let start = clock_tenths(clock).unwrap_or(0);
+        Progress::from_start(start, jobs, judge, out, is_terminal)
+    }
+
+    // Of a run that begins in a tenth of a second of the clock.
+    fn from_start(
+        start: u64,
+        jobs: usize,
+        judge: Judge<'k>,
+        out: W,
+        is_terminal: bool,
+    ) -> Progress<'k, W>
+        ensures start { result.start ≡ start }
+        ensures jobs { result.jobs ≡ jobs }
+        ensures judge { judging_of result.judge ≡ judging_of judge.entry }
+        ensures terminal { result.is_terminal ≡ is_terminal }
+    {
+        Progress {
+            jobs: jobs as u64,
+            judge,
+            is_terminal,
+            tally: Mutex::new(Tally::new()),
+            start,
+            shown: AtomicU64::new(0),
+            line: Mutex::new(Line::new(out)),
+        }
+    }
+
+    /// Takes the line away, and gives the terminal back.
+    pub fn finish(self) -> W {
+        let Progress {
+            jobs: _,
+            judge: _,
+            is_terminal: _,
+            tally: _,
+            start: _,
+            shown: _,
+            line,
+        } = self;
+        let (out, _erased) = line.into_inner().finish();
+        out
+    }
+
+    /// Counts a row. Where a tenth of a second has passed since the line was shown last, and no other thread writes to
+    /// the terminal, it is shown again.
+    pub(crate) fn count_row<R: Clock + Wait>(&self, rt: &R, alloc: Global, row: &Row) {
+        if !self.is_terminal {
+            return;
+        }
+        let mut tally = self.tally.lock(rt);
+        self.count_in_tally(&mut tally, row);
+        drop(tally);
+        if !self.claim_line_turn(rt) {
+            return;
+        }
+        if let Some(mut line) = self.line.try_lock() {
+            // What the terminal does not take is passed over.
+            let _shown = line.show_counts(alloc, self.counts_of(self.tally_so_far(rt)));
+        }
+    }
+
+    // Counts one more row, by the judge of the run.
+    fn count_in_tally(&self, tally: &mut Tally, row: &Row)
+        ensures { (rows : List ARow) → length rows + 1 < 2 ^ 64 → IsTallyOf (judging_of self.now.judge) rows tally.old
+            → IsTallyOf (judging_of self.now.judge) (rows ++ row.now ∷ []) tally.new }
+    {
+        tally.count_row(&self.judge, row);
+    }
+
+    // Whether no line was shown in this tenth of a second. Of the threads that ask in one, one is answered so.
+    fn claim_line_turn<C: Clock>(&self, clock: &C) -> bool {
+        match clock_tenths(clock) {
+            Some(now) => {
+                let tenths = self.tenths_since_start(now);
+                self.shown.fetch_max(tenths, Ordering::SeqCst) < tenths
+            }
+            None => false,
+        }
+    }
+
+    // How many tenths of a second lie between the start of the run and a time of the clock: none within the first.
+    fn tenths_since_start(&self, now: u64) -> u64
+        ensures { result ≡ now - self.now.start }
+    {
+        now.saturating_sub(self.start)
+    }
+
+    /// The count of the rows so far. What a lock holds is in no contract, but that no more failed than are done.
+    pub(crate) fn tally_so_far<R: Wait>(&self, rt: &R) -> Tally
+        ensures { result.failed ≤ result.done }
+    {
+        *self.tally.lock(rt)
+    }
+
+    /// The counts of rows, and of the jobs of the run.
+    pub(crate) fn counts_of(&self, tally: Tally) -> Counts
+        ensures tally { result.tally ≡ tally }
+        ensures jobs { result.jobs ≡ self.now.jobs }
+    {
+        Counts {
+            tally,
+            jobs: self.jobs,
+        }
+    }
+
+    /// The line, for one thread at a time.
+    pub(crate) fn lock_line<R: Wait>(&self, rt: &R) -> MutexGuard<'_, Line<W>> {
+        self.line.lock(rt)
+    }
+
+    /// Whether the line is shown.
+    pub(crate) fn is_terminal(&self) -> bool
+        ensures { result ≡ self.now.is_terminal }
+    {
+        self.is_terminal
+    }
+}
+
+// The clock's time in tenths of a second.
+fn clock_tenths<C: Clock>(clock: &C) -> Option<u64> {
+    match clock.monotonic() {
+        Ok(time) => {
+            let tenths = u64::from(time.subsec_millis() / 100);
+            Some(time.as_secs().saturating_mul(10).saturating_add(tenths))
+        }
+        Err(_) => None,
+    }
+}

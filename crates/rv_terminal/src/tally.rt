@@ -1,0 +1,29 @@
+//! Counting of rows.
+
+ghost use Rattle.std.specs.Prelude.{◌++◌, ◌+◌, ◌∷◌, ◌^◌, ◌<◌, [], List, length};
+ghost use Rattle.rv_terminal.specs.Tallies.{IsTallyOf};
+ghost use Rattle.rv_expect.specs.Judgement.{Judging, judging_of};
+ghost use Rattle.rv_rows.specs.declared_row.Row.{Row as ARow};
+
+use crate::counted::Tally;
+use rv_expect::Judge;
+use rv_rows::Row;
+
+impl Tally {
+    pub(crate) fn new() -> Tally
+        ensures { (judging : Judging) → IsTallyOf judging [] result }
+    {
+        Tally { done: 0, failed: 0 }
+    }
+
+    /// Counts one more row.
+    pub(crate) fn count_row(&mut self, judge: &Judge<'_>, row: &Row)
+        ensures { (rows : List ARow) → length rows + 1 < 2 ^ 64 → IsTallyOf (judging_of judge.now) rows self.old
+            → IsTallyOf (judging_of judge.now) (rows ++ row.now ∷ []) self.new }
+    {
+        self.done = self.done.saturating_add(1);
+        if judge.fails(row) {
+            self.failed = self.failed.saturating_add(1);
+        }
+    }
+}

@@ -1,0 +1,136 @@
+//! A line on a terminal.
+
+ghost use Rattle.std.specs.Prelude.{◌≡◌, ◌++◌, ◌||◌, IsTrue, OnOk, false, not};
+ghost use Rattle.std.specs.Io.KnownBytes.{Appends};
+ghost use Rattle.rv_terminal.specs.ProgressLine.{counts_text, erasing_text, is_mid_line, last_byte, text_unless_held};
+
+use crate::counted::Tally;
+use rv_rows::WriteError;
+use rv_text::{Span, push_spans};
+use std::alloc::{AllocError, Global};
+use std::io::Write;
+
+/// How many jobs of a run are done, and how many of those failed.
+#[derive(Clone, Copy)]
+pub(crate) struct Counts {
+    pub(crate) tally: Tally,
+    pub(crate) jobs: u64,
+}
+
+// Back to the line's beginning, and what stands behind it erased.
+const CLEAR: &[u8] = b"\r\x1b[K";
+
+/// A line on a terminal that is rewritten in place. Each call tells whether the terminal took all of it.
+#[derive(Drop)]
+pub(crate) struct Line<W: Drop> {
+    out: W,
+    is_shown: bool,
+    // Other text stands on the terminal up to the middle of a line.
+    is_held: bool,
+}
+
+impl<W: Write + Drop> Line<W> {
+    pub(crate) fn new(out: W) -> Line<W>
+        ensures out { result.out ≡ out }
+        ensures shown { result.is_shown ≡ false }
+        ensures held { result.is_held ≡ false }
+    {
+        Line {
+            out,
+            is_shown: false,
+            is_held: false,
+        }
+    }
+
+    /// Takes the line away, and gives the terminal back.
+    pub(crate) fn finish(self) -> (W, Result<(), WriteError>)
+        ensures { OnOk result.1
+            (Appends (W.contents self.out) (W.contents result.0) (erasing_text self.is_shown)) }
+    {
+        let mut line = self;
+        let erased = line.take_away();
+        (line.out, erased)
+    }
+
+    /// Writes the counts over those that stand there. They never have fewer digits.
+    pub(crate) fn show_counts(&mut self, alloc: Global, counts: Counts) -> Result<(), WriteError>
+        // In the middle of a line of other text nothing is written.
+        ensures unchanged { IsTrue self.old.is_held → self.new ≡ self.old }
+        ensures held { self.new.is_held ≡ self.old.is_held }
+        ensures shown { OnOk result (self.new.is_shown ≡ (self.old.is_shown || not self.old.is_held)) }
+        ensures written { OnOk result (Appends (W.contents self.old.out) (W.contents self.new.out)
+            (text_unless_held self.old.is_held (counts_text counts.tally.done counts.jobs counts.tally.failed))) }
+    {
+        if self.is_held {
+            return Ok(());
+        }
+        let mut text = Vec::new(alloc);
+        push_progress_text(&mut text, counts)?;
+        self.is_shown = true;
+        self.write_and_flush(text.as_slice())
+    }
+
+    pub(crate) fn is_shown(&self) -> bool
+        ensures { result ≡ self.now.is_shown }
+    {
+        self.is_shown
+    }
+
+    /// Takes the line away, where it stands there.
+    pub(crate) fn take_away(&mut self) -> Result<(), WriteError>
+        ensures away { self.new.is_shown ≡ false }
+        ensures held { self.new.is_held ≡ self.old.is_held }
+        ensures written { OnOk result
+            (Appends (W.contents self.old.out) (W.contents self.new.out) (erasing_text self.old.is_shown)) }
+    {
+        if !self.is_shown {
+            return Ok(());
+        }
+        self.is_shown = false;
+        self.write_and_flush(CLEAR)
+    }
+
+    /// Other text went to the terminal. Until it ends with a line feed nothing is shown.
+    pub(crate) fn note_other_text(&mut self, text: &[u8])
+        ensures held { self.new.is_held ≡ is_mid_line self.old.is_held (last_byte text.now) }
+        ensures shown { self.new.is_shown ≡ self.old.is_shown }
+        ensures out { self.new.out ≡ self.old.out }
+    {
+        if let Some(last) = text.last() {
+            self.is_held = *last != b'\n';
+        }
+    }
+
+    fn write_and_flush(&mut self, bytes: &[u8]) -> Result<(), WriteError>
+        ensures shown { self.new.is_shown ≡ self.old.is_shown }
+        ensures held { self.new.is_held ≡ self.old.is_held }
+        ensures written { OnOk result
+            (Appends (W.contents self.old.out) (W.contents self.new.out) bytes.now) }
+    {
+        let written = self.out.write_all(bytes);
+        let flushed = self.out.flush();
+        match (written, flushed) {
+            (Ok(()), Ok(())) => Ok(()),
+            _ => Err(WriteError::Failed),
+        }
+    }
+}
+
+// Appends the counts, in the place of what stands on the line.
+fn push_progress_text(text: &mut Vec<u8>, counts: Counts) -> Result<(), AllocError>
+    ensures { OnOk result (text.new.items
+        ≡ text.old.items ++ counts_text counts.tally.done counts.jobs counts.tally.failed) }
+{
+    push_spans(
+        text,
+        &[
+            Span::Text("\r"),
+            Span::Number(counts.tally.done),
+            Span::Text(" of "),
+            Span::Number(counts.jobs),
+            Span::Text(" jobs done, "),
+            Span::Number(counts.tally.failed),
+            Span::Text(" failed"),
+        ],
+    )
+}

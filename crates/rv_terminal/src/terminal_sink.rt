@@ -1,0 +1,175 @@
+//! A sink to the terminal on which the line stands.
+
+ghost use Rattle.std.specs.Prelude.{◌≡◌, ◌↔◌, ◌≤◌, ◌<◌, ◌&&◌, IfErr, IfOk, IfSome, IsSome, IsTrue, MatchResult, OnOk, false, length, not, take};
+ghost use Rattle.std.specs.Io.KnownBytes.{Appends, Keeps};
+ghost use Rattle.rv_terminal.specs.ProgressLine.{counts_text, is_mid_line, last_byte, text_around_put};
+ghost use Rattle.rv_rows.specs.Counts.{one_more};
+
+use crate::counted::Tally;
+use crate::progress::Progress;
+use crate::terminal_line::{Counts, Line};
+use rv_rows::{Sink, SinkFailed, WriteError};
+use std::alloc::Global;
+use std::io::Write;
+use std::sync::Wait;
+
+/// A sink whose puts go to the terminal on which the line of a [`Progress`] stands: the line is taken away before each,
+/// and shown again behind what ends with a line feed.
+#[derive(Drop)]
+pub struct TerminalSink<'a, 'k, R: Wait, S: Sink + Drop, W: Drop> {
+    rt: &'a R,
+    alloc: Global,
+    sink: S,
+    // None where nothing has to be taken away.
+    progress: Option<&'a Progress<'k, W>>,
+}
+
+impl<'a, 'k, R: Wait, S: Sink + Drop, W: Write + Drop> TerminalSink<'a, 'k, R, S, W> {
+    /// A sink that goes to a terminal, or doesn't: then the line stays.
+    pub fn new(
+        rt: &'a R,
+        alloc: Global,
+        sink: S,
+        is_terminal: bool,
+        progress: &'a Progress<'k, W>,
+    ) -> TerminalSink<'a, 'k, R, S, W>
+        ensures sink { result.sink ≡ sink }
+        ensures beside { IsSome result.progress ↔ IsTrue (is_terminal && progress.now.is_terminal) }
+        ensures line { IfSome result.progress (λ beside. beside.now ≡ progress.now) }
+    {
+        let is_beside = is_terminal && progress.is_terminal();
+        TerminalSink {
+            rt,
+            alloc,
+            sink,
+            progress: if is_beside { Some(progress) } else { None },
+        }
+    }
+
+    pub fn into_inner(self) -> S
+        ensures { result ≡ self.entry.sink }
+    {
+        self.sink
+    }
+}
+
+impl<'a, 'k, R: Wait, S: Sink + Drop, W: Write + Drop> Sink for TerminalSink<'a, 'k, R, S, W> {
+    ghost taken = { λ terminal. S.taken terminal.sink };
+
+    ghost failed = { λ terminal. S.failed terminal.sink };
+
+    fn put(&mut self, bytes: &[u8]) -> Result<usize, SinkFailed> {
+        let Some(progress) = self.progress else {
+            return self.sink.put(bytes);
+        };
+        let mut line = progress.lock_line(self.rt);
+        let tally = progress.tally_so_far(self.rt);
+        // What the terminal does not take of the line is passed over.
+        self.put_beside_counts(progress, &mut line, bytes, tally)
+            .put
+    }
+
+    fn failures(&self) -> u64 {
+        self.sink.failures()
+    }
+}
+
+impl<'a, 'k, R: Wait, S: Sink + Drop, W: Write + Drop> TerminalSink<'a, 'k, R, S, W> {
+    // Puts bytes to the sink: the line of a progress is taken away first, and shown again with a count of its jobs.
+    fn put_beside_counts(
+        &mut self,
+        progress: &Progress<'k, W>,
+        line: &mut Line<W>,
+        bytes: &[u8],
+        tally: Tally,
+    ) -> PutBesideLine
+        requires { 0 < length bytes.now }
+        ensures within { IfOk result.put (λ count. (1 ≤ count) × (count ≤ length bytes.now)) }
+        ensures taken { IfOk result.put
+            (λ count. Appends (S.taken self.old.sink) (S.taken self.new.sink) (take count bytes.now)) }
+        ensures counted { IfOk result.put (λ _. S.failed self.new.sink ≡ S.failed self.old.sink) }
+        ensures kept { IfErr result.put (λ _. Keeps (S.taken self.old.sink) (S.taken self.new.sink)) }
+        ensures failure { IfErr result.put (λ _. S.failed self.new.sink ≡ one_more (S.failed self.old.sink)) }
+        ensures held { MatchResult result.put
+            (λ count. line.new.is_held ≡ is_mid_line line.old.is_held (last_byte (take count bytes.now)))
+            (λ _. line.new.is_held ≡ line.old.is_held) }
+        ensures shown { OnOk result.line (line.new.is_shown ≡ (line.old.is_shown && not line.new.is_held)) }
+        ensures written { OnOk result.line (Appends (W.contents line.old.out) (W.contents line.new.out)
+            (text_around_put line.old.is_shown line.new.is_held
+            (counts_text tally.done progress.now.jobs tally.failed))) }
+    {
+        let counts = progress.counts_of(tally);
+        put_beside_line(line, &mut self.sink, bytes, self.alloc, counts)
+    }
+}
+
+// A put to a sink on the terminal of the line, and whether that terminal took the line.
+#[derive(Drop)]
+struct PutBesideLine {
+    put: Result<usize, SinkFailed>,
+    line: Result<(), WriteError>,
+}
+
+// Puts bytes to a sink on the terminal of the line: the line is taken away first, and shown again behind what ends with a line feed.
+fn put_beside_line<S: Sink, W: Write + Drop>(
+    line: &mut Line<W>,
+    sink: &mut S,
+    bytes: &[u8],
+    alloc: Global,
+    counts: Counts,
+) -> PutBesideLine
+    requires { 0 < length bytes.now }
+    ensures within { IfOk result.put (λ count. (1 ≤ count) × (count ≤ length bytes.now)) }
+    ensures taken { IfOk result.put (λ count. Appends (S.taken sink.old) (S.taken sink.new) (take count bytes.now)) }
+    ensures counted { IfOk result.put (λ _. S.failed sink.new ≡ S.failed sink.old) }
+    ensures kept { IfErr result.put (λ _. Keeps (S.taken sink.old) (S.taken sink.new)) }
+    ensures failure { IfErr result.put (λ _. S.failed sink.new ≡ one_more (S.failed sink.old)) }
+    ensures held { MatchResult result.put
+        (λ count. line.new.is_held ≡ is_mid_line line.old.is_held (last_byte (take count bytes.now)))
+        (λ _. line.new.is_held ≡ line.old.is_held) }
+    ensures shown { OnOk result.line (line.new.is_shown ≡ (line.old.is_shown && not line.new.is_held)) }
+    ensures written { OnOk result.line (Appends (W.contents line.old.out) (W.contents line.new.out)
+        (text_around_put line.old.is_shown line.new.is_held
+        (counts_text counts.tally.done counts.jobs counts.tally.failed))) }
+{
+    if !line.is_shown() {
+        let put = put_and_note(line, sink, bytes);
+        return PutBesideLine { put, line: Ok(()) };
+    }
+    let erased = line.take_away();
+    let put = put_and_note(line, sink, bytes);
+    let shown = line.show_counts(alloc, counts);
+    match erased {
+        Ok(()) => PutBesideLine { put, line: shown },
+        Err(error) => PutBesideLine {
+            put,
+            line: Err(error),
+        },
+    }
+}
+
+// Puts bytes to a sink on the terminal from which the line is taken away, and notes whether what went out ends in the middle of a line.
+fn put_and_note<S: Sink, W: Write + Drop>(
+    line: &mut Line<W>,
+    sink: &mut S,
+    bytes: &[u8],
+) -> Result<usize, SinkFailed>
+    requires away { line.old.is_shown ≡ false }
+    requires some { 0 < length bytes.now }
+    ensures within { IfOk result (λ count. (1 ≤ count) × (count ≤ length bytes.now)) }
+    ensures taken { IfOk result (λ count. Appends (S.taken sink.old) (S.taken sink.new) (take count bytes.now)) }
+    ensures counted { IfOk result (λ _. S.failed sink.new ≡ S.failed sink.old) }
+    ensures kept { IfErr result (λ _. Keeps (S.taken sink.old) (S.taken sink.new)) }
+    ensures failure { IfErr result (λ _. S.failed sink.new ≡ one_more (S.failed sink.old)) }
+    ensures shown { line.new.is_shown ≡ line.old.is_shown }
+    ensures out { line.new.out ≡ line.old.out }
+    ensures held { MatchResult result
+        (λ count. line.new.is_held ≡ is_mid_line line.old.is_held (last_byte (take count bytes.now)))
+        (λ _. line.new.is_held ≡ line.old.is_held) }
+{
+    let put = sink.put(bytes);
+    if let Ok(count) = put {
+        line.note_other_text(&bytes[..count]);
+    }
+    put
+}
