@@ -13,7 +13,7 @@ use rv_accept::{
     Edit, JobRun, ValueKey, WhyLeft, are_meant_jobs, edited_text, is_value_changed, push_new_value,
 };
 use rv_jobs::{Bytes, Job, What, read_jobs};
-use rv_list_errors::{ValueSpan, line_and_column, value_spans};
+use rv_list_locations::{ValueSpan, line_and_column, value_spans};
 use rv_rows::Row;
 use std::alloc::{AllocError, Global};
 use std::vec::IntoIter;

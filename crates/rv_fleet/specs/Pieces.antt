@@ -1,5 +1,5 @@
 -- The pieces of rows: those of jobs in groups, in order.
-use Rattle.std.specs.Prelude.{ℕ, ◌<◌, List, length}
+use Rattle.std.specs.Prelude.{ℕ, List, length}
 use Rattle.std.specs.Int.{div_ceil}
 use Rattle.std.specs.Fork.{slice_chunk}
 use Rattle.rv_jobs.specs.Plans.{Planned}
@@ -16,11 +16,6 @@ piece_count_of_rows rows group = div_ceil (length rows) group
 -- piece k: its number, and the rows from k * group on, a group of them or as many as there are
 abbrev pub piece_for : List Row → ℕ → ℕ → Piece
 piece_for rows group k = record { number = k; rows = slice_chunk rows group k }
-
--- a gate that awaits this may be told of each piece
-abbrev pub Hears : (ℕ → List Row → Type 0) → List Row → ℕ → Type 0
-Hears awaits rows group =
-    (k : ℕ) → k < piece_count_of_rows rows group → awaits k (slice_chunk rows group k)
 
 -- ---- of a plan
 
@@ -45,7 +40,3 @@ piece_rows pieces k = slice_chunk (batch_rows pieces.batch) pieces.group k
 -- piece k
 abbrev pub numbered_piece : Pieces → ℕ → Piece
 numbered_piece pieces k = piece_for (batch_rows pieces.batch) pieces.group k
-
--- a gate that awaits this may be told of each of them
-abbrev pub CanHear : (ℕ → List Row → Type 0) → Pieces → Type 0
-CanHear awaits pieces = Hears awaits (batch_rows pieces.batch) pieces.group

@@ -10,7 +10,7 @@ use Rattle.rv_fleet.specs.declared.worker_promise.Works.{Works}
 use Rattle.rv_claims.specs.Passes.{SharedDraw}
 use Rattle.rv_jobs.specs.Plans.{Planned}
 use Rattle.rv_fleet.specs.Choices.{AreJobPlaces}
-use Rattle.rv_fleet.specs.Pieces.{Hears, piece_count_of_rows}
+use Rattle.rv_fleet.specs.Pieces.{piece_count_of_rows}
 
 -- jobs that may be a batch, in groups that may be its pieces
 pub record AreGrouped (plan : Planned) (places : List ℕ) (group : ℕ) : Type 0 where
@@ -19,12 +19,10 @@ pub record AreGrouped (plan : Planned) (places : List ℕ) (group : ℕ) : Type 
   pub few : length places ≤ most_jobs
   pub group_few : (0 < group) × (group ≤ most_group)
 
--- the shared draw is of the pieces of these jobs' rows, and a gate that awaits this may be told of
--- them
-abbrev pub CanWork : Planned → List ℕ → ℕ → SharedDraw → (ℕ → List Row → Type 0) → Type 0
-CanWork plan places group draw awaits = AreGrouped plan places group
+-- the shared draw is of the pieces of these jobs' rows
+abbrev pub CanWork : Planned → List ℕ → ℕ → SharedDraw → Type 0
+CanWork plan places group draw = AreGrouped plan places group
     × (draw.pieces ≡ piece_count_of_rows (rows_at plan places) group)
-    × Hears awaits (rows_at plan places) group
 
 -- its promise is of these rows, this group and this shared draw
 abbrev pub IsStarted : List Row → ℕ → SharedDraw → PromisedHandle Worked Works → Type 0

@@ -3,15 +3,15 @@
 ghost use Rattle.std.specs.Prelude.{◌≡◌, ◌<◌, IfOk, IfSome};
 ghost use Rattle.rv_fleet.specs.Batches.{batch_rows};
 ghost use Rattle.rv_fleet.specs.Collected.{ArePieces, IsPiece, IsFilled};
-ghost use Rattle.rv_fleet.specs.Pieces.{CanHear, count_of_pieces, piece_rows};
+ghost use Rattle.rv_fleet.specs.Pieces.{count_of_pieces, piece_rows};
 ghost use Rattle.rv_fleet.specs.Promised.{HaveWorked};
 
 use crate::gate::Gate;
 use crate::piece::{Piece, make_piece};
 use crate::pieces::Pieces;
-use crate::workbench::Workbench;
 use crate::worker_promise::Worked;
 use rv_claims::{Claims, Pass};
+use rv_engine::Workbench;
 use rv_rows::{Row, Rows};
 use std::alloc::{AllocError, Global};
 
@@ -22,8 +22,6 @@ pub(crate) struct Collected {
     pub(crate) slots: Vec<Option<Rows>>,
     /// All passes in one, if there are any.
     pub(crate) pass: Option<Pass>,
-    /// Whether a worker was told to stop.
-    pub(crate) stopped: bool,
 }
 
 /// What all workers made, each piece once.
@@ -41,19 +39,11 @@ pub(crate) fn collect_pieces(
 {
     let mut slots = empty_slots(alloc, pieces)?;
     let mut all = None;
-    let mut stopped = false;
     for Worked { pass, pieces: made } in worked {
         keep_pieces(&mut slots, pieces, made?);
-        if !pass.ended() {
-            stopped = true;
-        }
         all = Some(join_passes(claims, all, pass));
     }
-    Ok(Collected {
-        slots,
-        pass: all,
-        stopped,
-    })
+    Ok(Collected { slots, pass: all })
 }
 
 /// A slot for each piece, and no rows there yet.
@@ -108,7 +98,6 @@ pub(crate) fn rows_of_all_pieces<G: Gate>(
     gate: &G,
 ) -> Result<Rows, AllocError>
     requires slots { IsFilled pieces.now slots.items }
-    requires gate { CanHear (G.awaits gate.now) pieces.now }
     ensures { IfOk result (λ rows. rows ≡ batch_rows pieces.now.batch) }
 {
     let mut rows: Vec<Row> = Vec::with_capacity(alloc, pieces.batch.places.len())?;
@@ -130,7 +119,6 @@ fn rows_in_slot<G: Gate>(
     number: u64,
 ) -> Result<Rows, AllocError>
     requires number { number < count_of_pieces pieces.now }
-    requires gate { CanHear (G.awaits gate.now) pieces.now }
     requires slot { IfSome slot (λ rows. rows ≡ piece_rows pieces.now number) }
     ensures { IfOk result (λ rows. rows ≡ piece_rows pieces.now number) }
 {
@@ -138,8 +126,8 @@ fn rows_in_slot<G: Gate>(
         Some(rows) => Ok(rows),
         None => {
             let mut bench = Workbench::new(alloc);
-            let made = make_piece(alloc, pieces, gate, number, &mut bench)?;
-            Ok(made.piece.rows)
+            let piece = make_piece(alloc, pieces, gate, number, &mut bench)?;
+            Ok(piece.rows)
         }
     }
 }

@@ -4,20 +4,16 @@ ghost use Rattle.rv_jobs.specs.Limits.{most_group, most_workers};
 ghost use Rattle.std.specs.Prelude.{◌≡◌, ◌<◌, ◌≤◌, IfOk};
 ghost use Rattle.rv_rows.specs.Rows.{rows_of};
 ghost use Rattle.rv_fleet.specs.declared.fleet.FleetError.TheVariants.{OutOfMemory};
-ghost use Rattle.rv_fleet.specs.declared.fleet.PlacesError.TheVariants as places;
-ghost use Rattle.rv_fleet.specs.Batches.{batch_rows};
-ghost use Rattle.rv_fleet.specs.Fleets.{places_error_of_fleet};
-ghost use Rattle.rv_fleet.specs.Pieces.{Hears};
 
 use crate::batch::Batch;
 use crate::collect::rows_of_all_pieces;
-use crate::gate::{Gate, Unheard};
+use crate::gate::Gate;
 use crate::pieces::Pieces;
 use crate::places::all_places;
 use crate::threads::make_pieces;
 use rv_engine::Crew;
 use rv_jobs::Plan;
-use rv_rows::{Report, Rows};
+use rv_rows::Report;
 use std::alloc::{AllocError, Global};
 use std::sync::Wait;
 use std::thread::Threads;
@@ -42,44 +38,11 @@ impl From<AllocError> for FleetError {
     }
 }
 
-/// Why there are no rows of the jobs at some places.
-#[derive(Clone, Copy, Debug, Error, PartialEq, Eq)]
-pub enum PlacesError {
-    /// A growth was refused.
-    #[error("out of memory")]
-    OutOfMemory,
-    /// The start of a thread was refused.
-    #[error("no worker")]
-    NoWorker,
-    /// The gate answered that no more is to be run.
-    #[error("stopped")]
-    Stopped,
-}
-
-impl From<AllocError> for PlacesError {
-    ghost from_gives = { λ _ error. error ≡ places.OutOfMemory };
-
-    fn from(_: AllocError) -> PlacesError {
-        PlacesError::OutOfMemory
-    }
-}
-
-impl From<FleetError> for PlacesError {
-    ghost from_gives = { λ error given. given ≡ places_error_of_fleet error };
-
-    fn from(error: FleetError) -> PlacesError {
-        match error {
-            FleetError::OutOfMemory => PlacesError::OutOfMemory,
-            FleetError::NoWorker => PlacesError::NoWorker,
-        }
-    }
-}
-
 /// The rows of all jobs in list order, made by as many threads as `workers` says, or as there are pieces if these are
 /// fewer: the same report for every number of workers, from 1 to 64, and of jobs in a piece, from 1 to 4,096.
 ///
-/// Each thread draws the next piece when it is free. It waits for all threads that it started, on a refusal too. The
-/// gate is entered and not told of the rows: [`run_places`] tells it.
+/// Each thread draws the next piece when it is free. It waits for all threads that it started, on a refusal too. The gate is entered
+/// for each piece.
 pub fn run_fleet<R: Threads + Wait, G: Gate>(
     rt: &R,
     alloc: Global,
@@ -96,29 +59,7 @@ pub fn run_fleet<R: Threads + Wait, G: Gate>(
     let batch = Batch::new(plan, places.as_slice());
     let crew = Crew::new(rt, alloc, workers, group);
     let pieces = Pieces { batch, group };
-    let gate = Unheard { gate };
-    let made = make_pieces(&crew, &pieces, &gate)?;
-    let rows = rows_of_all_pieces(alloc, made.slots, &pieces, &gate)?;
+    let slots = make_pieces(&crew, &pieces, gate)?;
+    let rows = rows_of_all_pieces(alloc, slots, &pieces, gate)?;
     Ok(Report { rows })
-}
-
-/// The rows of a batch, in order: the same for every crew. The gate is told of each piece when its rows are made, and
-/// may stop the run: then each worker ends with the piece that it makes.
-pub fn run_places<R: Threads + Wait, G: Gate>(
-    crew: &Crew<'_, R>,
-    batch: &Batch<'_>,
-    gate: &G,
-) -> Result<Rows, PlacesError>
-    requires { Hears (G.awaits gate.now) (batch_rows batch.now) crew.now.group }
-    ensures { IfOk result (λ rows. rows ≡ batch_rows batch.now) }
-{
-    let pieces = Pieces {
-        batch: *batch,
-        group: crew.group,
-    };
-    let made = make_pieces(crew, &pieces, gate)?;
-    if made.stopped {
-        return Err(PlacesError::Stopped);
-    }
-    Ok(rows_of_all_pieces(crew.alloc, made.slots, &pieces, gate)?)
 }

@@ -1,12 +1,12 @@
 //! Fleets: threads that draw the pieces of a plan and make their rows.
 //!
 //! [`run_fleet`] runs a plan in threads: each calls [`work`] with a pass of its own, which makes the pieces that the
-//! pass draws. Its report is that of [`run_one`], for every number of workers and of jobs in a piece. [`run_places`]
-//! runs a [`Batch`] by a [`Crew`], and tells the [`Gate`] of each piece when it is made. The rows and the shared draw are
-//! those of the crates below, and stand here under their names too.
+//! pass draws. Its report is that of [`run_one`], for every number of workers and of jobs in a piece. [`run_batch`] runs a [`Batch`]
+//! by the engine, and gives its rows. The rows and the shared draw of the crates below are re-exported.
 #![tactic(auto)]
 
 mod batch;
+mod batch_rows;
 mod collect;
 mod fleet;
 mod gate;
@@ -14,12 +14,12 @@ mod piece;
 mod pieces;
 mod places;
 mod threads;
-mod workbench;
 mod worker;
 mod worker_promise;
 
 pub use batch::Batch;
-pub use fleet::{FleetError, PlacesError, run_fleet, run_places};
+pub use batch_rows::run_batch;
+pub use fleet::{FleetError, run_fleet};
 pub use gate::{FreeGate, Gate};
 pub use piece::Piece;
 pub use rv_claims::{Claims, Pass, SplitError};

@@ -1,12 +1,12 @@
 //! One piece of a batch.
 
-ghost use Rattle.std.specs.Prelude.{◌≡◌, ◌<◌, IfOk, OnOk, IsFalse};
+ghost use Rattle.std.specs.Prelude.{◌≡◌, ◌<◌, IfOk, OnOk};
 ghost use Rattle.rv_rows.specs.Recent.{AreOutcomes};
 ghost use Rattle.rv_fleet.specs.Pieces.{count_of_pieces, numbered_piece, piece_rows};
 
 use crate::gate::Gate;
 use crate::pieces::Pieces;
-use crate::workbench::Workbench;
+use rv_engine::Workbench;
 use rv_rows::{Rows, row_at_with_recent};
 use std::alloc::{AllocError, Global};
 
@@ -18,33 +18,22 @@ pub struct Piece {
     pub rows: Rows,
 }
 
-/// A piece, and whether the gate that was told of it says to go on.
-#[derive(Drop)]
-pub(crate) struct MadePiece {
-    pub(crate) piece: Piece,
-    pub(crate) goes_on: bool,
-}
-
-/// A piece, made behind the gate, which is told of its rows.
+/// Enters the gate for a piece, and makes the piece.
 pub(crate) fn make_piece<G: Gate>(
     alloc: Global,
     pieces: &Pieces<'_>,
     gate: &G,
     number: u64,
     bench: &mut Workbench,
-) -> Result<MadePiece, AllocError>
+) -> Result<Piece, AllocError>
     requires number { number < count_of_pieces pieces.now }
-    requires gate { G.awaits gate.now number (piece_rows pieces.now number) }
     requires recent { AreOutcomes pieces.now.batch.plan.now bench.old.recent }
-    ensures piece { IfOk result (λ made. made.piece ≡ numbered_piece pieces.now number) }
+    ensures piece { IfOk result (λ piece. piece ≡ numbered_piece pieces.now number) }
     ensures recent { OnOk result (AreOutcomes pieces.now.batch.plan.now bench.new.recent) }
-    ensures goes_on { IfOk result (λ made. IsFalse made.goes_on → G.stops gate.now) }
 {
     gate.enter(number);
     let rows = rows_of_piece(alloc, pieces, number, bench)?;
-    let goes_on = gate.on_piece_made(number, &rows);
-    let piece = Piece { number, rows };
-    Ok(MadePiece { piece, goes_on })
+    Ok(Piece { number, rows })
 }
 
 fn rows_of_piece(

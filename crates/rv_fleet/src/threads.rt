@@ -4,7 +4,7 @@ ghost use Rattle.std.specs.Prelude.{◌≡◌, [], IfOk};
 ghost use Rattle.rv_rows.specs.Rows.{rows_at};
 ghost use Rattle.rv_fleet.specs.Batches.{batch_rows};
 ghost use Rattle.rv_fleet.specs.Collected.{IsFilled};
-ghost use Rattle.rv_fleet.specs.Pieces.{CanHear, count_of_pieces};
+ghost use Rattle.rv_fleet.specs.Pieces.{count_of_pieces};
 ghost use Rattle.rv_fleet.specs.Promised.{AreFresh, HasWorked, HaveWorked};
 ghost use Rattle.rv_fleet.specs.Started.{CanWork};
 
@@ -17,39 +17,31 @@ use crate::worker::work_with_own_pass;
 use crate::worker_promise::{Worked, Works};
 use rv_claims::{Claims, Pass, SplitError};
 use rv_engine::Crew;
+use rv_rows::Rows;
 use std::alloc::{AllocError, Global};
 use std::sync::Wait;
 use std::thread;
 use std::thread::Threads;
 
-/// What threads make of pieces: as many threads as the crew has, or as there are pieces.
+/// The rows that threads make of pieces, each piece's in the slot of its number: as many threads as the crew has, or as there are pieces.
 pub(crate) fn make_pieces<R: Threads + Wait, G: Gate>(
     crew: &Crew<'_, R>,
     pieces: &Pieces<'_>,
     gate: &G,
-) -> Result<Collected, FleetError>
-    requires { CanHear (G.awaits gate.now) pieces.now }
-    ensures { IfOk result (λ made. IsFilled pieces.now made.slots.items) }
+) -> Result<Vec<Option<Rows>>, FleetError>
+    ensures { IfOk result (λ slots. IsFilled pieces.now slots.items) }
 {
     let alloc = crew.alloc;
     let count = pieces.count();
     let (claims, first) = Claims::new(alloc, count)?;
     let passes = split_passes(alloc, &claims, first, count.min(u64::from(crew.workers)))?;
     let worked = run_workers(crew, &claims, passes, pieces, gate)?;
-    let Collected {
-        slots,
-        pass,
-        stopped,
-    } = collect_pieces(alloc, &claims, worked, pieces)?;
+    let Collected { slots, pass } = collect_pieces(alloc, &claims, worked, pieces)?;
     if let Some(pass) = pass {
         // The rows rest on what the workers promise, and not on this answer: a piece that nobody made is made later.
         let _each_once = claims.finish(pass);
     }
-    Ok(Collected {
-        slots,
-        pass: None,
-        stopped,
-    })
+    Ok(slots)
 }
 
 /// A pass for each thread: as many as asked, or as there are free places. The last is the first pass itself.
@@ -92,7 +84,6 @@ fn run_workers<R: Threads + Wait, G: Gate>(
     gate: &G,
 ) -> Result<Vec<Worked>, FleetError>
     requires pieces { claims.now.pieces ≡ count_of_pieces pieces.now }
-    requires gate { CanHear (G.awaits gate.now) pieces.now }
     requires passes { AreFresh claims.now passes.items }
     ensures { IfOk result (λ worked. HaveWorked
         (batch_rows pieces.now.batch) pieces.now.group claims.now worked.items) }
@@ -104,7 +95,7 @@ fn run_workers<R: Threads + Wait, G: Gate>(
         thread::scope_env(),
         rt,
         |scope| -> Result<Vec<Worked>, FleetError>
-            requires { CanWork plan.now places.now group claims.now (G.awaits gate.now)
+            requires { CanWork plan.now places.now group claims.now
                 × AreFresh claims.now passes.items }
             ensures { IfOk result (λ worked. HaveWorked
                 (rows_at plan.entry.now places.entry.now) group claims.entry.now worked.items) }
@@ -120,7 +111,7 @@ fn run_workers<R: Threads + Wait, G: Gate>(
                 let Ok(handle) = scope.spawn_with(
                     promise,
                     move || -> Worked
-                        requires { CanWork plan.now places.now group claims.now (G.awaits gate.now)
+                        requires { CanWork plan.now places.now group claims.now
                             × (pass.draw ≡ claims.now) × (pass.draws ≡ []) }
                         ensures { HasWorked (rows_at plan.entry.now places.entry.now) group
                             claims.entry.now result }

@@ -1,21 +1,21 @@
 //! What a worker does: it draws pieces and makes them.
 
 ghost use Rattle.rv_jobs.specs.Limits.{most_group};
-ghost use Rattle.std.specs.Prelude.{◌≡◌, ◌<◌, ◌≤◌, [], true, map, IfOk, IsFalse};
+ghost use Rattle.std.specs.Prelude.{◌≡◌, ◌<◌, ◌≤◌, [], true, map, IfOk};
 ghost use Rattle.rv_claims.specs.NewPieces.{Grew, new_pieces};
 ghost use Rattle.rv_claims.specs.Passes.{has_ended};
 ghost use Rattle.rv_fleet.specs.Batches.{batch_rows};
-ghost use Rattle.rv_fleet.specs.Pieces.{CanHear, count_of_pieces, piece_at, numbered_piece, pieces_of};
+ghost use Rattle.rv_fleet.specs.Pieces.{count_of_pieces, piece_at, numbered_piece, pieces_of};
 ghost use Rattle.rv_fleet.specs.Promised.{HasWorked};
 
 use crate::batch::Batch;
-use crate::gate::{Gate, Unheard};
+use crate::gate::Gate;
 use crate::piece::{Piece, make_piece};
 use crate::pieces::Pieces;
 use crate::places::all_places;
-use crate::workbench::Workbench;
 use crate::worker_promise::Worked;
 use rv_claims::{Claims, Pass};
+use rv_engine::Workbench;
 use rv_jobs::Plan;
 use std::alloc::{AllocError, Global};
 
@@ -40,11 +40,10 @@ pub fn work<G: Gate>(
     let places = all_places(alloc, plan)?;
     let batch = Batch::new(plan, places.as_slice());
     let pieces = Pieces { batch, group };
-    work_on_pieces(alloc, claims, pass, &pieces, &Unheard { gate })
+    work_on_pieces(alloc, claims, pass, &pieces, gate)
 }
 
-/// The same for the pieces of a batch, by a gate that is told of each. After a no of the gate it takes no other piece,
-/// and its pass has not ended.
+/// The same for the pieces of a batch.
 pub(crate) fn work_on_pieces<G: Gate>(
     alloc: Global,
     claims: &Claims,
@@ -54,9 +53,8 @@ pub(crate) fn work_on_pieces<G: Gate>(
 ) -> Result<Vec<Piece>, AllocError>
     requires pieces { claims.now.pieces ≡ count_of_pieces pieces.now }
     requires pass { pass.old.draw ≡ claims.now }
-    requires gate { CanHear (G.awaits gate.now) pieces.now }
     ensures pass { Grew pass.old pass.new }
-    ensures ended { IfOk result (λ _. IsFalse (has_ended pass.new) → G.stops gate.now) }
+    ensures ended { IfOk result (λ _. has_ended pass.new ≡ true) }
     ensures made { IfOk result (λ made. made.items
         ≡ map (numbered_piece pieces.now) (new_pieces pass.old pass.new)) }
 {
@@ -64,10 +62,7 @@ pub(crate) fn work_on_pieces<G: Gate>(
     let mut bench = Workbench::new(alloc);
     while let Some(number) = claims.take(pass) {
         let made = make_piece(alloc, pieces, gate, number, &mut bench)?;
-        drawn.push(made.piece)?;
-        if !made.goes_on {
-            return Ok(drawn);
-        }
+        drawn.push(made)?;
     }
     Ok(drawn)
 }
@@ -82,7 +77,6 @@ pub(crate) fn work_with_own_pass<G: Gate>(
 ) -> Worked
     requires pieces { claims.now.pieces ≡ count_of_pieces pieces.now }
     requires pass { (pass.draw ≡ claims.now) × (pass.draws ≡ []) }
-    requires gate { CanHear (G.awaits gate.now) pieces.now }
     ensures { HasWorked (batch_rows pieces.now.batch) pieces.now.group claims.now result }
 {
     let pieces = work_on_pieces(alloc, claims, &mut pass, pieces, gate);

@@ -1,5 +1,5 @@
 //! Where jobs begin in texts that are no TOML: those up to there are noted. No run of a program asks for them.
-use rv_list_errors::job_line_numbers;
+use rv_list_locations::job_line_numbers;
 use samples::agree;
 use std::alloc::{AllocError, Global};
 use std::test::Fail;

@@ -170,7 +170,7 @@ fn lines_hold(rt: HostRuntime) -> Result<(), Fail> {
     hold(&rt, alloc, Table::FourThreads, draws::FOUR_THREADS, 1)?;
     hold(&rt, alloc, Table::Kept, recent::KEPT, 9)?;
     hold(&rt, alloc, Table::Named, recent::NAMED, 2)?;
-    hold(&rt, alloc, Table::Runs, fleets::RUNS, 12)?;
+    hold(&rt, alloc, Table::Runs, fleets::RUNS, 9)?;
     hold(&rt, alloc, Table::Puts, streams::PUTS, 9)?;
     hold(&rt, alloc, Table::Workers, workers::WORKERS, 2)
 }

@@ -1,9 +1,3 @@
-pub mod Counting
-pub mod JobTurns
-pub mod Tails
-pub mod KeyParts
-pub mod NamedKeys
-pub mod JobLaw
 pub mod Heads
 pub mod OneMore
 pub mod PlacedLines

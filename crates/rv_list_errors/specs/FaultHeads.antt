@@ -8,7 +8,7 @@ use Rattle.rv_lists.specs.JobList.{document_of}
 use Rattle.rv_lists.specs.Keys.{array_at_key, text_at_key}
 use Rattle.rv_lists.specs.declared.error.JobError.{JobError}
 use Rattle.rv_text.specs.Printable.{printable_value}
-use Rattle.rv_list_errors.specs.JobPlaces.{job_lines}
+use Rattle.rv_list_locations.specs.JobPlaces.{job_lines}
 use Rattle.rv_list_errors.specs.declared.fault_text.Look.{Look}
 use Rattle.rv_list_errors.specs.declared.fault_text.Look.TheVariants as look
 

@@ -1,10 +1,5 @@
-pub mod Places
-pub mod JobPlaces
-pub mod JobBegins
-pub mod JobKeys
-pub mod NamedKeys
-pub mod ValueSpans
-pub mod Steps
+pub use Rattle.rv_list_locations.specs.Places
+pub use Rattle.rv_list_locations.specs.JobPlaces
 pub mod FaultHeads
 pub mod Lines
 pub mod PlacedFaults

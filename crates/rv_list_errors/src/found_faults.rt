@@ -2,13 +2,13 @@
 
 ghost use Rattle.std.specs.Prelude.{◌<◌, IfOk, length};
 
-use crate::headers::{JobKey, job_keys};
 use crate::job_fault::push_job_fault;
 use crate::key_faults::{FaultyJob, Met, NEEDED, push_absent_key};
 use crate::list::List;
 use crate::message::Message;
 use crate::names::Suggestion;
 use crate::values::value_at_key;
+use rv_list_locations::{JobKey, job_keys};
 use rv_lists::JobError;
 use std::alloc::{AllocError, Global};
 use toml::Value;

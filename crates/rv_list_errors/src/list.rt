@@ -7,10 +7,10 @@ ghost use Rattle.toml.specs.View.{items_view, table_view, view};
 ghost use Rattle.rv_list_errors.specs.FaultHeads.{borrowed_name, borrowed_names, element_name, element_names};
 ghost use Rattle.rv_list_errors.specs.FaultHeads.{elements_of_job, job_names};
 ghost use Rattle.rv_list_errors.specs.JobFaults.{is_name_of, number_of_name};
-ghost use Rattle.rv_list_errors.specs.JobPlaces.{job_lines};
+ghost use Rattle.rv_list_locations.specs.JobPlaces.{job_lines};
 
-use crate::headers::job_line_numbers;
 use crate::values::{elements_at_key, text_at_key};
+use rv_list_locations::job_line_numbers;
 use std::alloc::{AllocError, Global};
 use toml::{Table, Value};
 

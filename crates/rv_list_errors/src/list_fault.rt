@@ -5,11 +5,11 @@ ghost use Rattle.toml.specs.Errors.{IsMemory, span_start};
 ghost use Rattle.rv_list_errors.specs.NearNames.{Adds};
 ghost use Rattle.rv_list_errors.specs.Told.{AddsSome, IsNotToml, too_many_jobs_text};
 
-use crate::headers::{RepeatedKey, line_and_column, repeated_key};
 use crate::keys::{Owner, push_unknown_key, unknown_key};
 use crate::list::List;
 use crate::message::Message;
 use crate::values::push_wanted_value;
+use rv_list_locations::{RepeatedKey, line_and_column, repeated_key};
 use rv_lists::What;
 use rv_lists::limits::MOST_JOBS;
 use std::alloc::{AllocError, Global};

@@ -1,20 +1,11 @@
 -- Rows of a batch with what is told of them, and the first of these.
-use Rattle.std.specs.Prelude.{◌≡◌, ℕ, Bool, false, List, [], Option, map, option_map, slice_index_or}
+use Rattle.std.specs.Prelude.{◌≡◌, ℕ, Bool, false, List, Option, map, option_map}
 use Rattle.rv_fleet.specs.declared.batch.Batch.{Batch}
-use Rattle.rv_jobs.specs.Jobs.{single_job}
+use Rattle.rv_fleet.specs.Batches.{place_of_number, row_of_number}
 use Rattle.rv_rows.specs.declared_row.Row.{Row}
-use Rattle.rv_rows.specs.Rows.{row_of}
 use Rattle.rv_stream.specs.declared.told_row.ToldRow.{ToldRow}
 use Rattle.rv_stream.specs.Limits.{failures_behind, rows_up_to}
 use Rattle.rv_expect.specs.Judgement.{Judging, fails}
-
--- the place of the job of a number, and its row
-abbrev pub place_of_number : Batch → ℕ → ℕ
-place_of_number batch number = slice_index_or batch.places.now number 0
-
-abbrev pub row_of_number : Batch → ℕ → Row
-row_of_number batch number =
-    row_of batch.plan.now (slice_index_or batch.plan.now.jobs (place_of_number batch number) (single_job [] 0 []))
 
 -- the row of the job of a number, and what is told of it
 pub record IsToldRow (line : ℕ → Row → List ℕ) (batch : Batch) (number : ℕ) (told : ToldRow) : Type 0 where

@@ -40,8 +40,9 @@ use rv_accept::{
 use rv_accept_text::{Accepting, GoldenFile, ListFile, NewList, Writing, accept_values};
 use rv_choice::{Choice, Chooser};
 use rv_command::{DONE, SOME_FAIL, Stop, parse_list, put_message, put_results, read_list_text};
+use rv_engine::RunError;
 use rv_files::{Inputs, NotingStore, Outputs};
-use rv_fleet::{Batch, FreeGate, PlacesError, Row, run_places};
+use rv_fleet::{Batch, Row, run_batch};
 use rv_jobs::{Job, JobList, marked_places};
 use rv_rows::Sink;
 use rvtest_cli::{AcceptAsked, ChoosingCommand};
@@ -283,18 +284,18 @@ fn run_marked<
     put_message(&mut to.errors, note.as_slice());
     let crew = requested_crew(host.rt, alloc, &asked.run);
     let batch = Batch::new(&plan, places.as_slice());
-    match run_places(&crew, &batch, &FreeGate) {
+    match run_batch(&crew, &batch) {
         Ok(rows) => Ok(placed_rows(alloc, marks.as_slice(), rows.into_vec())?),
-        Err(error) => Err(stop_of_places(error)),
+        Err(error) => Err(stop_of_run(error)),
     }
 }
 
-fn stop_of_places(error: PlacesError) -> Stop
+fn stop_of_run(error: RunError) -> Stop
     ensures { (result ≡ Stop.OutOfMemory) ⊎ (result ≡ Stop.NoWorker) }
 {
     match error {
-        PlacesError::NoWorker => Stop::NoWorker,
-        PlacesError::OutOfMemory | PlacesError::Stopped => Stop::OutOfMemory,
+        RunError::NoWorker => Stop::NoWorker,
+        RunError::OutOfMemory => Stop::OutOfMemory,
     }
 }
 

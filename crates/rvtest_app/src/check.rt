@@ -16,7 +16,7 @@ use crate::missing_images::push_missing_images_line;
 use rv_command::{DONE, REFUSED, Stop, all_faults_text, parse_list, read_list_text};
 use rv_files::{Inputs, NotingStore, Unread};
 use rv_jobs::{Plan, gather};
-use rv_list_errors::job_line_numbers;
+use rv_list_locations::job_line_numbers;
 use rv_lists::read_faults;
 use rvtest_cli::CheckAsked;
 use std::alloc::{AllocError, Global};

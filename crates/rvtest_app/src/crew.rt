@@ -22,19 +22,6 @@ pub(crate) fn requested_crew<'r, R: Threads>(
     Crew::new(rt, alloc, requested_workers(rt, asked), group)
 }
 
-/// The same threads for the engine, which count the jobs.
-pub(crate) fn counting_crew<'r, R: Threads>(
-    rt: &'r R,
-    alloc: Global,
-    asked: &RunAsked<'_>,
-) -> rv_engine::Crew<'r, R>
-    ensures workers { AreRequestedWorkers asked.now.workers result.workers }
-    ensures group { result.group ≡ requested_group asked.now.group }
-{
-    let group = asked.group.clamp(1, MOST_GROUP);
-    rv_engine::Crew::new(rt, alloc, requested_workers(rt, asked), group)
-}
-
 // As many threads as are asked for, or as there are processors: from 1 to 64.
 fn requested_workers<R: Threads>(rt: &R, asked: &RunAsked<'_>) -> u32
     ensures { AreRequestedWorkers asked.now.workers result }

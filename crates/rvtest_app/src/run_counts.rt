@@ -10,7 +10,7 @@ ghost use Rattle.rvtest_app.specs.Said.{said, where_told};
 ghost use Rattle.rvtest_app.specs.StackStops.{IsCountsPutStop, IsUncountedRunStop};
 
 use crate::counts::sum_error_stop;
-use crate::crew::counting_crew;
+use crate::crew::requested_crew;
 use crate::destinations::Destinations;
 use crate::outlets::{Outlet, abandon_outlet};
 use crate::run::ListRun;
@@ -81,7 +81,7 @@ impl<'x, R: Threads + Wait + Sync + Clock, D: Inputs> ListRun<'x, R, D> {
         ensures stopped { IfErr result (IsUncountedRunStop self.now.asked.now) }
     {
         let (rt, alloc) = (self.host.rt, self.host.alloc);
-        let crew = counting_crew(rt, alloc, self.asked);
+        let crew = requested_crew(rt, alloc, self.asked);
         let batch = Batch::new(plan, places);
         if !self.asked.stacks {
             return Ok(count_places(&crew, &batch)?);

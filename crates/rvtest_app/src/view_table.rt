@@ -13,7 +13,7 @@ ghost use Rattle.rvtest_app.specs.ViewStops.{IsNoTableStop, IsUncountedStop, IsU
 ghost use Rattle.rvtest_app.specs.Views.{IsCountedFor, IsFitTableAt, IsTableFor, has_counts_for};
 
 use crate::counts::{sum_error_stop, table_of_text};
-use crate::crew::counting_crew;
+use crate::crew::requested_crew;
 use crate::host::Host;
 use crate::view::{JobsView, View};
 use rv_command::{Stop, path_message, read_result_file};
@@ -94,7 +94,7 @@ fn counts_of_jobs<R: Threads + Wait + Sync, D>(
     requires rising { IsStrictlyIncreasing places.now }
     ensures { IfOk result (IsTableOfPlaces plan.now places.now) }
 {
-    let crew = counting_crew(host.rt, host.alloc, asked);
+    let crew = requested_crew(host.rt, host.alloc, asked);
     count_places(&crew, &Batch::new(plan, places))
 }
 
@@ -110,7 +110,7 @@ fn counts_with_stacks_of_jobs<R: Threads + Wait + Sync, D>(
     ensures stacks { IfOk result (IsTableWithStacks plan.now places.now) }
     ensures stopped { IfErr result (IsUnstackedJobsStop plan.now places.now asked.now.list.now) }
 {
-    let crew = counting_crew(host.rt, host.alloc, asked);
+    let crew = requested_crew(host.rt, host.alloc, asked);
     match count_places_with_stacks(&crew, &Batch::new(plan, places)) {
         Ok(table) => Ok(table),
         Err(error) => Err(sum_error_stop(host.alloc, asked.list, error)),

@@ -1,6 +1,6 @@
 //! A gate that notes what passes it.
 use super::number_in;
-use rv_fleet::{Gate, Rows};
+use rv_fleet::Gate;
 use std::alloc::AllocError;
 use std::sync::atomic::{AtomicBool, AtomicU64, Ordering};
 use std::thread;
@@ -10,50 +10,36 @@ const TURNS: u64 = 100_000_000;
 // What an entry of each of the first pieces counts: each piece has a digit of its own, the first the last one.
 const DIGITS: [u64; 4] = [1, 10, 100, 1000];
 
-/// Counts the entries of each of four pieces, and what it is told of. The first `held` pieces wait until as many have
-/// entered as are `awaited`, and `late` is set where one waits in vain. It says to stop with the piece of the number
-/// `last`, counted from 1 as they are made.
+/// Counts the entries of each of four pieces. The first `held` pieces wait until as many have entered as are `awaited`, and `late` is set
+/// where one waits in vain.
 #[derive(Drop)]
 pub(super) struct NotingGate {
     held: u64,
     awaited: u64,
-    last: u64,
     entered: AtomicU64,
     entries: AtomicU64,
     order: AtomicU64,
     late: AtomicBool,
-    pieces: AtomicU64,
-    rows: AtomicU64,
 }
 
 impl NotingGate {
-    /// The gate of a line: how many pieces are held, how many are awaited, and which piece stops the run.
+    /// The gate of a line: how many pieces are held, and how many are awaited.
     pub(super) fn of(line: &str) -> NotingGate {
         NotingGate {
             held: number_in(line, 6),
             awaited: number_in(line, 7),
-            last: number_in(line, 8),
             entered: AtomicU64::new(0),
             entries: AtomicU64::new(0),
             order: AtomicU64::new(0),
             late: AtomicBool::new(false),
-            pieces: AtomicU64::new(0),
-            rows: AtomicU64::new(0),
         }
     }
 
-    /// How often each piece entered, whether one waited in vain, and what the gate was told of.
+    /// How often each piece entered, and whether one waited in vain.
     pub(super) fn push_notes(&self, text: &mut String) -> Result<(), AllocError> {
         let entries = self.entries.load(Ordering::SeqCst);
         let late = self.late.load(Ordering::SeqCst);
-        let (rows, pieces) = (
-            self.rows.load(Ordering::SeqCst),
-            self.pieces.load(Ordering::SeqCst),
-        );
-        write!(
-            text,
-            " entered {entries}, late {late}: {rows} rows in {pieces} pieces"
-        )
+        write!(text, " entered {entries}, late {late}")
     }
 
     /// The numbers of the pieces, counted from 1, as they entered one after another.
@@ -63,8 +49,6 @@ impl NotingGate {
 }
 
 impl Gate for NotingGate {
-    ghost stops = { λ _. Unit {0} };
-
     fn enter(&self, piece: u64) {
         if let Some(digit) = DIGITS.get(piece as usize) {
             self.entries.fetch_add(*digit, Ordering::SeqCst);
@@ -82,11 +66,5 @@ impl Gate for NotingGate {
             thread::yield_now();
         }
         self.late.store(true, Ordering::SeqCst);
-    }
-
-    fn on_piece_made(&self, _piece: u64, rows: &Rows) -> bool {
-        self.rows
-            .fetch_add(rows.as_slice().len() as u64, Ordering::SeqCst);
-        self.pieces.fetch_add(1, Ordering::SeqCst).saturating_add(1) < self.last
     }
 }

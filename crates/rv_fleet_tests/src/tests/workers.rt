@@ -177,11 +177,10 @@ pub(super) fn told<R: Threads>(rt: &R, alloc: Global, line: &str) -> Result<Stri
     text_of(alloc, &made, crew_of(line).0 == 1, &gate)
 }
 
-// label | budgets | | workers, one or two | group | | the pieces that are held | and that are awaited | | the pieces,
-// whether the workers ended and held all places at the end, in which order one worker's pieces entered, and what the
-// gate notes: it has each piece's number once, when its rows are made, and it is not told of them
+// label | budgets | | workers, one or two | group | | the pieces that are held | and that are awaited | the pieces, whether the workers
+// ended and held all places at the end, in which order one worker's pieces entered, and what the gate notes: each piece's number once
 pub(super) const WORKERS: &str = "\
-two workers | 3 3 3 3 | | 2 | 1 | | 1 | 2 | | 4 pieces 0: j0 Exit(5) 2, 1: j1 Exit(5) 2, \
-    2: j2 Exit(5) 2, 3: j3 Exit(5) 2, true true 0 entered 1111, late false: 0 rows in 0 pieces
-two jobs a piece, and one in the last | 3 3 3 3 3 | | 1 | 2 | | | | | 3 pieces 0: j0 Exit(5) 2, j1 Exit(5) 2, \
-    1: j2 Exit(5) 2, j3 Exit(5) 2, 2: j4 Exit(5) 2, true true 123 entered 111, late false: 0 rows in 0 pieces";
+two workers | 3 3 3 3 | | 2 | 1 | | 1 | 2 | 4 pieces 0: j0 Exit(5) 2, 1: j1 Exit(5) 2, \
+    2: j2 Exit(5) 2, 3: j3 Exit(5) 2, true true 0 entered 1111, late false
+two jobs a piece, and one in the last | 3 3 3 3 3 | | 1 | 2 | | | | 3 pieces 0: j0 Exit(5) 2, j1 Exit(5) 2, \
+    1: j2 Exit(5) 2, j3 Exit(5) 2, 2: j4 Exit(5) 2, true true 123 entered 111, late false";

@@ -1,5 +1,4 @@
 use Rattle.std.proofs.Common.{◌∙◌, sym, ap, subst}
-use Rattle.std.proofs.lemmas.Bool.{both_ways}
 use Rattle.rv_claims.specs.NewPieces.{Grew}
 use Rattle.rv_claims.specs.Passes.{SharedDraw, PassView}
 use Rattle.rv_claims.proofs.Public.{took_some, made_one, made_all, falls, grew_more}
@@ -20,22 +19,6 @@ loop-number-preserved g c =
     c.in_ok-made.ensures.piece in
     (ap (λ (h : PassView). h.draw) t.0 ∙ was.0, m.0, m.1, c.in_ok-made.ensures.recent)
 
-pub returns-then-not-made-clause-pass : goal.returns-then-not-made-clause-pass
-returns-then-not-made-clause-pass g c =
-    let was = c.loop-number.invariant in
-    let t = took_some _ _ _ _ c.in-Some.number (c.take.ensures.none, c.take.ensures.drawn) c.in-Some.is in
-    (made_one (numbered_piece c.args.pieces.now) c.args.pass.now _ _ _ _ _ _ _
-    was.1 t.0 t.2 (ap (λ (d : SharedDraw). d.pieces) c.requires.pass) was.2 c.in_ok-push.ensures.items
-    c.in_ok-made.ensures.piece).0
-
-pub returns-then-not-made-clause-made : goal.returns-then-not-made-clause-made
-returns-then-not-made-clause-made g c =
-    let was = c.loop-number.invariant in
-    let t = took_some _ _ _ _ c.in-Some.number (c.take.ensures.none, c.take.ensures.drawn) c.in-Some.is in
-    (made_one (numbered_piece c.args.pieces.now) c.args.pass.now _ _ _ _ _ _ _
-    was.1 t.0 t.2 (ap (λ (d : SharedDraw). d.pieces) c.requires.pass) was.2 c.in_ok-push.ensures.items
-    c.in_ok-made.ensures.piece).1
-
 pub returns-in_err-push-clause-pass : goal.returns-in_err-push-clause-pass
 returns-in_err-push-clause-pass g c =
     let t = took_some _ _ _ _ c.in-Some.number (c.take.ensures.none, c.take.ensures.drawn) c.in-Some.is in
@@ -48,10 +31,10 @@ returns-clause-pass g c =
     (ap (λ (d : SharedDraw). d.pieces) c.requires.pass) c.loop-number.invariant.2).0
 
 pub returns-clause-ended : goal.returns-clause-ended
-returns-clause-ended g c = λ no.
-    absurd (both_ways _ no (made_all (numbered_piece c.args.pieces.now)
-    c.args.pass.now _ _ _ _ _ c.loop-number.invariant.1 (c.take.ensures.none, c.take.ensures.drawn) c.in_default.is
-    (ap (λ (d : SharedDraw). d.pieces) c.requires.pass) c.loop-number.invariant.2).1)
+returns-clause-ended g c =
+    (made_all (numbered_piece c.args.pieces.now) c.args.pass.now _ _ _ _ _
+    c.loop-number.invariant.1 (c.take.ensures.none, c.take.ensures.drawn) c.in_default.is
+    (ap (λ (d : SharedDraw). d.pieces) c.requires.pass) c.loop-number.invariant.2).1
 
 pub returns-clause-made : goal.returns-clause-made
 returns-clause-made g c =

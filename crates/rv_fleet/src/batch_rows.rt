@@ -1,0 +1,102 @@
+//! The rows of a batch, by the engine.
+
+ghost use Rattle.std.specs.Prelude.{◌≡◌, [], IfOk, false};
+ghost use Rattle.rv_fleet.specs.Batches.{batch_rows};
+
+use crate::batch::Batch;
+use rv_engine::{Crew, Flow, Listener, RunError, Work, Workbench, run_jobs};
+use rv_rows::{Row, Rows, row_at_with_recent};
+use std::alloc::{AllocError, Global};
+use std::sync::Wait;
+use std::thread::Threads;
+
+/// Makes the row of each job of a batch.
+#[derive(Drop)]
+pub(crate) struct BatchRows<'a> {
+    batch: &'a Batch<'a>,
+}
+
+impl Work<Row> for BatchRows<'_> {
+    ghost use Rattle.std.specs.Prelude.{◌≡◌, length};
+    ghost use Rattle.rv_rows.specs.Recent.{AreOutcomes};
+    ghost use Rattle.rv_fleet.specs.Batches.{row_of_number};
+
+    ghost jobs = { λ s. length s.batch.now.places.now };
+
+    ghost is_made = { λ s number row. row ≡ row_of_number s.batch.now number };
+
+    ghost is_bench = { λ s bench. AreOutcomes s.batch.now.plan.now bench.recent };
+
+    fn jobs(&self) -> usize {
+        self.batch.places.len()
+    }
+
+    fn new_bench(&self, alloc: Global) -> Workbench {
+        Workbench::new(alloc)
+    }
+
+    fn make(&self, alloc: Global, number: usize, bench: &mut Workbench) -> Result<Row, AllocError> {
+        let place = self.batch.places[number];
+        let (spare, recent) = (&mut bench.spare, &mut bench.recent);
+        row_at_with_recent(alloc, self.batch.plan, place, spare, recent)
+    }
+}
+
+/// Keeps the rows that it hears.
+#[derive(Drop)]
+pub(crate) struct KeptRows {
+    rows: Vec<Row>,
+    // Whether a growth was refused.
+    refused: bool,
+}
+
+impl KeptRows {
+    // It has heard nothing yet.
+    fn new(alloc: Global) -> KeptRows
+        ensures rows { result.rows.items ≡ [] }
+        ensures refused { result.refused ≡ false }
+    {
+        KeptRows {
+            rows: Vec::new(alloc),
+            refused: false,
+        }
+    }
+}
+
+impl Listener<Row> for KeptRows {
+    ghost use Rattle.std.specs.Prelude.{◌≡◌, false, true};
+
+    ghost has_heard = { λ s rows. s.refused ≡ false → s.rows.items ≡ rows };
+
+    ghost stops = { λ s. s.refused ≡ true };
+
+    fn hear(&mut self, made: Row) -> Flow {
+        match self.rows.push(made) {
+            Ok(()) => Flow::GoOn,
+            Err(_) => {
+                self.refused = true;
+                Flow::Stop
+            }
+        }
+    }
+
+    fn pause(&mut self) -> Flow {
+        Flow::GoOn
+    }
+}
+
+/// The rows of a batch, in order: the same for every crew.
+pub fn run_batch<R: Threads + Wait + Sync>(
+    crew: &Crew<'_, R>,
+    batch: &Batch<'_>,
+) -> Result<Rows, RunError>
+    ensures { IfOk result (λ rows. rows ≡ batch_rows batch.now) }
+{
+    let work = BatchRows { batch };
+    let (kept, ran) = run_jobs(crew, &work, KeptRows::new(crew.alloc));
+    match ran? {
+        Flow::GoOn => Ok(Rows::new(kept.rows)),
+        // Out of memory: the rows stop a run for that alone.
+        Flow::Stop => Err(RunError::OutOfMemory),
+    }
+}

@@ -1,9 +1,0 @@
-use Rattle.std.proofs.Common.{◌≡◌}
-use Rattle.rv_list_errors.specs.Places.{column_at, line_at}
-use Rattle.rv_list_errors.proofs.headers.cursor.Cursor.moved_to.Given as goal
-
-abbrev pub invariant-loop-at : goal.invariant-loop-at
-invariant-loop-at l = record {
-  line : l.line ≡ line_at l.at l.self.text.now;
-  column : l.column ≡ column_at l.at l.self.text.now;
-}

@@ -1,5 +1,0 @@
-use Rattle.rv_list_errors.proofs.JobLaw.{lines-are}
-use Rattle.rv_list_errors.proofs.law.job_lines_are_of_headers_and_elements.Goals as goal
-
-pub returns : goal.returns
-returns c = lines-are

@@ -1,0 +1,9 @@
+use Rattle.std.proofs.Common.{◌≡◌}
+use Rattle.rv_list_locations.specs.Places.{column_at, line_at}
+use Rattle.rv_list_locations.proofs.cursor.Cursor.moved_to.Given as goal
+
+abbrev pub invariant-loop-at : goal.invariant-loop-at
+invariant-loop-at l = record {
+  line : l.line ≡ line_at l.at l.self.text.now;
+  column : l.column ≡ column_at l.at l.self.text.now;
+}

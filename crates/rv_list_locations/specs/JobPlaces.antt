@@ -1,0 +1,152 @@
+-- Where the jobs of a list begin in its text: at each header `[[job]]`, and where the list is an array
+-- `job = [..]` at each of its elements. Keys, strings and blanks are those of TOML's grammar; of other
+-- values no more than the end is looked for.
+use Rattle.std.specs.Prelude.{◌==◌, ◌&&◌, ◌||◌, ◌+◌, ◌-◌, ℕ, zero, suc, Bool, true, false, List, [], ◌∷◌}
+use Rattle.std.specs.Prelude.{Option, Some, None, codes, drop, if◌then◌else◌, length, map, option_and_then, option_map}
+use Rattle.std.specs.Prelude.{slice_index}
+use Rattle.std.specs.Char.{is_ascii_digit}
+use Rattle.std.specs.Str.{bytes_eq}
+use Rattle.toml_parser.specs.Lexical.{carriage_return, comma, equals, first, hash, is_word, left_brace, left_bracket}
+use Rattle.toml_parser.specs.Lexical.{line_feed, right_brace, right_bracket, skip_blank, skip_ws, space}
+use Rattle.toml_parser.specs.Strings.{Key, key, quoted, starts_string}
+use Rattle.toml.specs.Parse.{skip_bom}
+use Rattle.rv_list_locations.specs.declared.scan.Next.{Next}
+use Rattle.rv_list_locations.specs.declared.scan.Next.TheVariants.{Element, Table, Top}
+use Rattle.rv_list_locations.specs.Places.{line_at}
+
+infixl 10 ◌>>=◌
+abbrev ◌>>=◌ : {A B : Type 0} → Option A → (A → Option B) → Option B
+o >>= f = option_and_then f o
+
+-- ---- behind a value
+
+-- a word goes on at a byte before another one; in that of a date and a time a space may part the two
+abbrev pub is_in_word : ℕ → ℕ → Bool
+is_in_word byte next = is_word byte || (byte == space && is_ascii_digit next)
+
+abbrev pub behind_letters : List ℕ → List ℕ
+behind_letters [] = []
+behind_letters (byte ∷ rest) = if is_in_word byte (first rest) then behind_letters rest else byte ∷ rest
+
+-- a key without quotes, or a value that is no text
+unfoldable pub behind_word : List ℕ → Option (List ℕ)
+behind_word text = if is_in_word (first text) (slice_index text 1) then Some (behind_letters text) else None
+
+unfoldable pub behind_string_or_word : List ℕ → Option (List ℕ)
+behind_string_or_word text = if starts_string text then option_map (λ read. read.1) (quoted text) else behind_word text
+
+abbrev pub is_opening : ℕ → Bool
+is_opening byte = byte == left_bracket || byte == left_brace
+
+abbrev pub is_closing : ℕ → Bool
+is_closing byte = byte == right_bracket || byte == right_brace
+
+abbrev pub is_sign : ℕ → Bool
+is_sign byte = is_opening byte || is_closing byte || byte == comma || byte == equals
+
+unfoldable pub behind_token : List ℕ → Option (List ℕ)
+behind_token text = if is_sign (first text) then Some (drop 1 text) else behind_string_or_word text
+
+-- how many brackets are open behind a byte
+abbrev pub depth_behind : ℕ → ℕ → ℕ
+depth_behind depth byte = if is_opening byte then depth + 1 else if is_closing byte then depth - 1 else depth
+
+-- the bracket that leaves none open, where so many are and fewer than n tokens are left
+unfoldable pub behind_brackets : ℕ → ℕ → List ℕ → Option (List ℕ)
+behind_brackets zero depth text = None
+behind_brackets (suc n) depth text = behind_token text >>= (λ rest.
+    if depth_behind depth (first text) == 0 then Some rest
+    else behind_brackets n (depth_behind depth (first text)) (skip_blank rest))
+
+unfoldable pub behind_value : List ℕ → Option (List ℕ)
+behind_value text =
+    if is_opening (first text) then behind_brackets (suc (length text)) 0 text else behind_string_or_word text
+
+-- ---- behind a line
+
+-- the next header or entry; nothing where the line does not end with a comment or nothing more
+unfoldable pub behind_line : List ℕ → List ℕ
+behind_line text = let rest = skip_ws text in
+    if first rest == hash || first rest == line_feed || first rest == carriage_return then skip_blank rest else []
+
+-- the next element, or the bracket behind the last one
+unfoldable pub behind_comma : List ℕ → List ℕ
+behind_comma text = let rest = skip_blank text in if first rest == comma then skip_blank (drop 1 rest) else rest
+
+-- the value of an entry; nothing where no sign parts it from the key
+unfoldable pub behind_equals : List ℕ → List ℕ
+behind_equals text = if first text == equals then skip_ws (drop 1 text) else []
+
+-- ---- a header, an entry or an element
+
+abbrev pub is_job : Key → Bool
+is_job name = length name.0 == 0 && bytes_eq name.1 (codes "job")
+
+-- whether a job begins there, what comes next, and the text from there on
+abbrev pub Step : Type 0
+Step = Bool × Next × List ℕ
+
+-- behind the brackets that open a header
+unfoldable pub array_header : List ℕ → Option Step
+array_header inside = key (skip_ws inside) >>= (λ name.
+    if first name.1 == right_bracket && slice_index name.1 1 == right_bracket
+    then Some (is_job name.0, Table, behind_line (drop 2 name.1)) else None)
+
+unfoldable pub table_header : List ℕ → Option Step
+table_header inside = key (skip_ws inside) >>= (λ name.
+    if first name.1 == right_bracket then Some (false, Table, behind_line (drop 1 name.1)) else None)
+
+abbrev pub header : List ℕ → Option Step
+header text =
+    if slice_index text 1 == left_bracket then array_header (drop 2 text) else table_header (drop 1 text)
+
+abbrev pub is_top : Next → Bool
+is_top Top = true
+is_top Table = false
+is_top Element = false
+
+-- above the first header an array of `job` is the list: its elements come next
+unfoldable pub keyed_entry : Next → List ℕ → Option Step
+keyed_entry next text = key text >>= (λ name. let value = behind_equals name.1 in
+    if (is_job name.0 && is_top next) && first value == left_bracket
+    then Some (false, Element, skip_blank (drop 1 value))
+    else option_map (λ rest. (false, next, behind_line rest)) (behind_value value))
+
+-- an element, or the bracket behind the last one
+unfoldable pub element : List ℕ → Option Step
+element text =
+    if first text == right_bracket then Some (false, Top, behind_line (drop 1 text))
+    else option_map (λ rest. (true, Element, behind_comma rest)) (behind_value text)
+
+abbrev pub header_or_entry : Next → List ℕ → Option Step
+header_or_entry next text = if first text == left_bracket then header text else keyed_entry next text
+
+unfoldable pub step : Next → List ℕ → Option Step
+step Element text = element text
+step Top text = header_or_entry Top text
+step Table text = header_or_entry Table text
+
+-- ---- the list
+
+abbrev pub jobs_of_step : (Next → List ℕ → List (List ℕ)) → List ℕ → Option Step → List (List ℕ)
+jobs_of_step jobs text None = []
+jobs_of_step jobs text (Some found) =
+    if found.0 then text ∷ jobs found.1 found.2 else jobs found.1 found.2
+
+-- the texts from each job on, where fewer than n steps are left
+unfoldable pub jobs_from : ℕ → Next → List ℕ → List (List ℕ)
+jobs_from zero next text = []
+jobs_from (suc n) next text =
+    if length text == 0 then [] else jobs_of_step (jobs_from n) text (step next text)
+
+-- those of a text without a byte order mark
+unfoldable pub jobs_of_text : List ℕ → List (List ℕ)
+jobs_of_text text = jobs_from (suc (length text)) Top (skip_blank text)
+
+-- the line on which the last bytes of a text begin
+abbrev pub line_of_rest : List ℕ → List ℕ → ℕ
+line_of_rest text rest = line_at (length text - length rest) text
+
+-- the line of each job
+abbrev pub job_lines : List ℕ → List ℕ
+job_lines text = map (line_of_rest text) (jobs_of_text (skip_bom text))

@@ -1,0 +1,27 @@
+-- How what is read stands to the definitions.
+use Rattle.std.specs.Prelude.{◌≡◌, ℕ, List, Result, MatchResult, map}
+use Rattle.std.specs.Borrow.{Bor}
+use Rattle.toml_parser.specs.declared.error.ParseError.{ParseError}
+use Rattle.toml_parser.specs.declared.error.ParseError.TheVariants.{OutOfMemory}
+use Rattle.toml_parser.specs.Reading.{Gives}
+use Rattle.rv_list_locations.specs.declared.scan.Step as code
+use Rattle.rv_list_locations.specs.JobPlaces.{Step}
+use Rattle.std.specs.Prelude.{Option}
+
+-- the text behind something
+abbrev pub GivesText : Result (Bor (List ℕ)) ParseError → Option (List ℕ) → Type 0
+GivesText result expected = Gives (λ rest. rest.now) result expected
+
+abbrev pub step_view : code.Step → Step
+step_view step = (step.is_job, step.next, step.rest.now)
+
+abbrev pub GivesStep : Result code.Step ParseError → Option Step → Type 0
+GivesStep result expected = Gives step_view result expected
+
+-- it holds unless memory ran out
+abbrev pub UnlessMemory : {A : Type 0} → Result A ParseError → Type 0 → Type 0
+UnlessMemory result P = MatchResult result (λ _. P) (λ e. (e ≡ OutOfMemory → ⊥) → P)
+
+-- the texts that are borrowed
+abbrev pub now_texts : List (Bor (List ℕ)) → List (List ℕ)
+now_texts texts = map (λ text. text.now) texts

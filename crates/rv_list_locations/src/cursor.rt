@@ -1,0 +1,75 @@
+//! Lines and columns in a text, counted from one place to the next.
+
+ghost use Rattle.std.specs.Prelude.{◌≡◌, ◌≤◌, length, min};
+ghost use Rattle.rv_list_locations.specs.Places.{column_at, line_at};
+
+use crate::lines::Place;
+
+/// A place in a text, up to which its lines are counted, so that of places in the order of the text each byte is counted once.
+#[derive(Clone, Copy)]
+pub struct Cursor<'a> {
+    text: &'a [u8],
+    counted: usize,
+    line: usize,
+    column: usize,
+    ghost within: { counted ≤ length text.now },
+    ghost line_is: { line ≡ line_at counted text.now },
+    ghost column_is: { column ≡ column_at counted text.now },
+}
+
+impl<'a> Cursor<'a> {
+    /// A cursor at the beginning of a text.
+    pub fn new(text: &'a [u8]) -> Cursor<'a>
+        ensures text { result.text.now ≡ text.now }
+        ensures counted { result.counted ≡ 0 }
+    {
+        Cursor {
+            text,
+            counted: 0,
+            line: 1,
+            column: 1,
+        }
+    }
+
+    /// The line and the column of a place, or of the end where the text is shorter.
+    pub fn place_at(&mut self, place: usize) -> Place
+        ensures text { self.new.text.now ≡ self.old.text.now }
+        ensures line { result.line ≡ line_at place self.old.text.now }
+        ensures column { result.column ≡ column_at place self.old.text.now }
+    {
+        if place < self.counted {
+            *self = Cursor::new(self.text);
+        }
+        *self = self.moved_to(place.min(self.text.len()));
+        Place {
+            line: self.line,
+            column: self.column,
+        }
+    }
+
+    // The cursor at a place behind it.
+    fn moved_to(self, place: usize) -> Cursor<'a>
+        requires later { self.counted ≤ place }
+        requires within { place ≤ length self.text.now }
+        ensures text { result.text.now ≡ self.entry.text.now }
+        ensures counted { result.counted ≡ place }
+    {
+        let mut line = self.line;
+        let mut column = self.column;
+        for at in self.counted..place {
+            let byte = self.text[at];
+            if byte == b'\n' {
+                line += 1;
+                column = 1;
+            } else if byte & 0xc0 != 0x80 {
+                column += 1;
+            }
+        }
+        Cursor {
+            text: self.text,
+            counted: place,
+            line,
+            column,
+        }
+    }
+}

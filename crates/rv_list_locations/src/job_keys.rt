@@ -1,0 +1,206 @@
+//! The keys of a job, where they stand in its text.
+
+ghost use Rattle.std.specs.Prelude.{◌≡◌, ◌<◌, ◌≤◌, IfOk, IfSome, length, slice_get, slice_index, string_bytes, unwrap_or};
+ghost use Rattle.std.specs.List.{All};
+ghost use Rattle.toml_parser.specs.Lexical.{left_bracket};
+ghost use Rattle.toml_parser.specs.Reading.{key_view};
+ghost use Rattle.rv_list_locations.specs.NamedKeys.{IsNamedKey};
+ghost use Rattle.rv_list_locations.specs.JobKeys.{BeginsWithKey, BeginsWithName, BeginsWithTable, header_key};
+
+use crate::scan::{Next, Step, scan_step, skip_comma, skip_equals_sign};
+use crate::values::{skip_blank_lines, skip_value};
+use std::alloc::{AllocError, Global};
+use toml_parser::text::{byte_at, first, skip, skip_ws};
+use toml_parser::{Key, ParseError, dotted_key};
+
+/// A key of a job: its name, and the text from the place on where it stands.
+#[derive(Drop)]
+pub struct JobKey<'a> {
+    pub name: String,
+    pub text: &'a str,
+}
+
+/// What comes next in the text of a job.
+#[derive(Clone, Copy)]
+pub(crate) enum Inside {
+    /// An entry of its table, or a header.
+    Table,
+    /// An entry of its inline table, or the bracket behind the last one.
+    Braces,
+    /// An entry of a table in it, or a header.
+    Below,
+}
+
+/// What is walked over, and the key of the job that it has.
+#[derive(Drop)]
+pub(crate) struct KeyStep<'a> {
+    pub(crate) name: Option<String>,
+    pub(crate) inside: Inside,
+    pub(crate) rest: &'a str,
+}
+
+/// The keys of the job that a text begins with, in their order. A key of more parts counts by its first, and the header of a table in the
+/// job by the part behind `job`; so a name may come again.
+pub fn job_keys<'a>(alloc: Global, job: &'a str) -> Result<Vec<JobKey<'a>>, AllocError>
+    ensures { IfOk result (λ keys. All IsNamedKey keys.items) }
+{
+    let mut keys = Vec::new(alloc);
+    match note_job_keys(alloc, job, &mut keys) {
+        Err(ParseError::OutOfMemory) => Err(AllocError),
+        Ok(()) | Err(_) => Ok(keys),
+    }
+}
+
+fn note_job_keys<'a>(
+    alloc: Global,
+    job: &'a str,
+    keys: &mut Vec<JobKey<'a>>,
+) -> Result<(), ParseError>
+    requires { All IsNamedKey keys.old.items }
+    ensures { All IsNamedKey keys.new.items }
+{
+    let (mut inside, mut here) = open_job(alloc, job)?;
+    'keys: while !here.is_empty() {
+        let KeyStep {
+            name,
+            inside: next,
+            rest,
+        } = scan_key_step(alloc, here, inside)?;
+        if let Some(name) = name {
+            keys.push(JobKey { name, text: here })?;
+        }
+        inside = next;
+        here = rest;
+    }
+    Ok(())
+}
+
+// Behind the header or the bracket with which a job begins.
+fn open_job(alloc: Global, job: &str) -> Result<(Inside, &str), ParseError> {
+    if first(job) == b'{' {
+        return Ok((Inside::Braces, skip_blank_lines(skip(job, 1))));
+    }
+    let step = scan_step(alloc, job, Next::Table)?;
+    Ok((Inside::Table, step.rest))
+}
+
+/// Behind an entry or a header in the text of a job.
+pub(crate) fn scan_key_step(
+    alloc: Global,
+    here: &str,
+    inside: Inside,
+) -> Result<KeyStep<'_>, ParseError>
+    ensures named { IfOk result (λ step. IfSome step.name (λ name. BeginsWithName (string_bytes name) here.now)) }
+    ensures shorter { IfOk result (λ step. length step.rest.now < length here.now) }
+{
+    match inside {
+        Inside::Braces => scan_inline_entry(alloc, here),
+        _ if first(here) == b'[' => scan_inner_header(alloc, here),
+        Inside::Table => scan_job_entry(alloc, here),
+        Inside::Below => {
+            let Step { rest, .. } = scan_step(alloc, here, Next::Table)?;
+            Ok(KeyStep {
+                name: None,
+                inside,
+                rest,
+            })
+        }
+    }
+}
+
+fn scan_job_entry(alloc: Global, here: &str) -> Result<KeyStep<'_>, ParseError>
+    ensures named { IfOk result (λ step. IfSome step.name (λ name. BeginsWithName (string_bytes name) here.now)) }
+    ensures shorter { IfOk result (λ step. length step.rest.now < length here.now) }
+{
+    let Step { rest, .. } = scan_step(alloc, here, Next::Table)?;
+    let (name, _) = scan_name(alloc, here)?;
+    Ok(KeyStep {
+        name: Some(name),
+        inside: Inside::Table,
+        rest,
+    })
+}
+
+// At an entry of an inline table, or at the bracket behind the last one.
+fn scan_inline_entry(alloc: Global, here: &str) -> Result<KeyStep<'_>, ParseError>
+    ensures named { IfOk result (λ step. IfSome step.name (λ name. BeginsWithName (string_bytes name) here.now)) }
+    ensures shorter { IfOk result (λ step. length step.rest.now < length here.now) }
+{
+    let (name, behind) = scan_name(alloc, here)?;
+    let rest = skip_value(alloc, skip_equals_sign(behind))?;
+    Ok(KeyStep {
+        name: Some(name),
+        inside: Inside::Braces,
+        rest: skip_comma(rest),
+    })
+}
+
+// The first part of a key, and what stands behind the key.
+fn scan_name(alloc: Global, here: &str) -> Result<(String, &str), ParseError>
+    ensures named { IfOk result (λ found. BeginsWithKey (string_bytes found.0) here.now) }
+    ensures shorter { IfOk result (λ found. length found.1.now < length here.now) }
+{
+    let (key, behind) = dotted_key(alloc, here)?;
+    let name = String::from_str(alloc, part_or_last(&key, 0))?;
+    Ok((name, behind))
+}
+
+// At a header: of the next job, or of a table in this one.
+fn scan_inner_header(alloc: Global, here: &str) -> Result<KeyStep<'_>, ParseError>
+    requires { slice_index here.now 0 ≡ left_bracket }
+    ensures named { IfOk result (λ step. IfSome step.name (λ name. BeginsWithName (string_bytes name) here.now)) }
+    ensures shorter { IfOk result (λ step. length step.rest.now < length here.now) }
+{
+    let Step { is_job, rest, .. } = scan_step(alloc, here, Next::Table)?;
+    if is_job {
+        return Ok(KeyStep {
+            name: None,
+            inside: Inside::Below,
+            rest: "",
+        });
+    }
+    Ok(KeyStep {
+        name: scan_table_name(alloc, here)?,
+        inside: Inside::Below,
+        rest,
+    })
+}
+
+// The part behind `job` of the key of a header.
+fn scan_table_name(alloc: Global, header: &str) -> Result<Option<String>, ParseError>
+    requires { slice_index header.now 0 ≡ left_bracket }
+    ensures { IfOk result (λ found. IfSome found (λ name. BeginsWithTable (string_bytes name) header.now)) }
+{
+    let (key, _) = dotted_key(alloc, behind_brackets(header))?;
+    match key.path.first() {
+        Some(part) if part.as_str() == "job" => {
+            let name = String::from_str(alloc, part_or_last(&key, 1))?;
+            Ok(Some(name))
+        }
+        _ => Ok(None),
+    }
+}
+
+/// The key of a header.
+#[tactic(auto, unfolding(crate::specs::JobKeys::header_key))]
+pub(crate) fn behind_brackets(header: &str) -> &str
+    requires { slice_index header.now 0 ≡ left_bracket }
+    ensures { result.now ≡ header_key header.now }
+{
+    if byte_at(header, 1) == b'[' {
+        skip_ws(skip(header, 2))
+    } else {
+        skip_ws(skip(header, 1))
+    }
+}
+
+/// The part of a key at a place before the last part, else the last.
+#[tactic(auto, using(crate::proofs::KeyParts::some_part, crate::proofs::KeyParts::no_part))]
+pub(crate) fn part_or_last(key: &Key, place: usize) -> &str
+    ensures { result.now ≡ unwrap_or (slice_get (key_view key.now).0 place) (key_view key.now).1 }
+{
+    match key.path.get(place) {
+        Some(part) => part.as_str(),
+        None => key.last.as_str(),
+    }
+}

@@ -1,0 +1,24 @@
+//! Where the jobs of a list stand in its text: their lines, their keys and their values.
+//!
+//! [`job_line_numbers`] walks over the text with the readers of `toml_parser`: a header of `job` counts outside strings and
+//! comments, however it is spelt, and of an array each element. [`job_texts`] gives the text from the beginning of each job,
+//! [`job_keys`] the keys of a job, [`repeated_key`] the first key that is set twice, and [`value_spans`] where the values of jobs begin
+//! and end. [`line_and_column`] and [`Cursor`] turn a number of bytes into a line and a column.
+#![tactic(auto)]
+
+mod cursor;
+mod job_keys;
+mod law;
+mod lines;
+mod repeated_key;
+mod scan;
+mod spans;
+mod values;
+
+pub use cursor::Cursor;
+pub use job_keys::{JobKey, job_keys};
+pub use law::job_lines_are_of_headers_and_elements;
+pub use lines::{Place, line_and_column};
+pub use repeated_key::{RepeatedKey, repeated_key};
+pub use scan::{job_line_numbers, job_texts};
+pub use spans::{ValueSpan, value_spans};

@@ -1,0 +1,110 @@
+//! The lines of places in a text.
+
+ghost use Rattle.std.specs.Prelude.{◌≡◌, ◌≤◌, ◌<◌, ◌-◌, [], ◌∷◌, ◌++◌, OnOk, count_by, length, max};
+ghost use Rattle.std.specs.List.{All, after_last};
+ghost use Rattle.std.specs.List.Sorted.{IsNonDecreasing};
+ghost use Rattle.rv_list_locations.specs.Places.{begins_character, column_at, is_feed, line_at, text_line_count};
+
+use std::alloc::{AllocError, Global};
+
+/// The lines, counted from 1, of places that are noted in the order in which they stand.
+#[derive(Drop)]
+pub(crate) struct Lines<'a> {
+    text: &'a [u8],
+    // How many bytes are counted, and the line on which the next one stands.
+    counted: usize,
+    line: usize,
+    noted: Vec<usize>,
+    ghost within: { counted ≤ length text.now },
+    ghost here: { line ≡ line_at counted text.now },
+    ghost below: { All (λ line_noted. (0 < line_noted) × (line_noted ≤ line)) noted.items },
+    ghost rising: { IsNonDecreasing noted.items },
+}
+
+impl<'a> Lines<'a> {
+    pub(crate) fn new(alloc: Global, text: &'a str) -> Lines<'a>
+        ensures text { result.text.now ≡ text.now }
+        ensures counted { result.counted ≡ 0 }
+        ensures noted { result.noted.items ≡ [] }
+    {
+        Lines {
+            text: text.as_bytes(),
+            counted: 0,
+            line: 1,
+            noted: Vec::new(alloc),
+        }
+    }
+
+    /// Notes the line of the place behind which so many bytes are left, or where the last one stands if that is behind it.
+    pub(crate) fn note_line(&mut self, left: usize) -> Result<(), AllocError>
+        ensures text { self.new.text.now ≡ self.old.text.now }
+        ensures counted { self.new.counted ≡ max (length self.old.text.now - left) self.old.counted }
+        ensures noted { OnOk result (self.new.noted.items
+            ≡ self.old.noted.items ++ line_at self.new.counted self.old.text.now ∷ []) }
+    {
+        let place = self.text.len().saturating_sub(left).max(self.counted);
+        let line = self.line + line_feed_count(&self.text[self.counted..place]);
+        self.counted = place;
+        self.line = line;
+        self.noted.push(line)?;
+        Ok(())
+    }
+
+    pub(crate) fn into_line_numbers(self) -> Vec<usize>
+        ensures lines { result.items ≡ self.entry.noted.items }
+        ensures rising { IsNonDecreasing result.items }
+        ensures within { All (λ line. (0 < line) × (line ≤ text_line_count self.entry.text.now))
+            result.items }
+    {
+        self.noted
+    }
+}
+
+/// A place in a text, as people count: from 1.
+#[derive(Clone, Copy)]
+pub struct Place {
+    pub line: usize,
+    /// In characters.
+    pub column: usize,
+}
+
+/// The place behind so many bytes of a text, or behind all of them.
+pub fn line_and_column(text: &[u8], count: usize) -> Place
+    ensures line { result.line ≡ line_at count text.now }
+    ensures column { result.column ≡ column_at count text.now }
+{
+    let before = &text[..count.min(text.len())];
+    Place {
+        line: line_feed_count(before) + 1,
+        column: character_count_of_last_line(before) + 1,
+    }
+}
+
+// How many characters stand behind the last line feed.
+fn character_count_of_last_line(text: &[u8]) -> usize
+    ensures characters { result ≡ count_by begins_character (after_last is_feed text.now) }
+    ensures within { result ≤ length text.now }
+{
+    let mut count = 0;
+    for byte in text {
+        if *byte == b'\n' {
+            count = 0;
+        } else if *byte & 0xc0 != 0x80 {
+            count += 1;
+        }
+    }
+    count
+}
+
+// How many line feeds a text has.
+fn line_feed_count(text: &[u8]) -> usize
+    ensures { result ≡ count_by is_feed text.now }
+{
+    let mut count = 0;
+    for byte in text {
+        if *byte == b'\n' {
+            count += 1;
+        }
+    }
+    count
+}

@@ -1,0 +1,152 @@
+//! A key that stands twice in one table.
+
+ghost use Rattle.std.specs.Prelude.{◌≤◌, length};
+
+use crate::job_keys::{Inside, KeyStep, behind_brackets, part_or_last, scan_key_step};
+use crate::scan::{Next, Step, scan_step, skip_byte_order_mark};
+use crate::values::{skip_blank_lines, skip_token};
+use std::alloc::{AllocError, Global};
+use toml_parser::text::first;
+use toml_parser::{Key, ParseError, dotted_key};
+
+/// A key that stands twice in one table.
+#[derive(Drop)]
+pub struct RepeatedKey<'a> {
+    pub key: Key,
+    /// The text from the place on where it stands first, if that was found: that of a table with a header is not looked for.
+    pub first: Option<&'a str>,
+}
+
+// The entries of a table.
+#[derive(Clone, Copy)]
+struct Entries<'a> {
+    text: &'a str,
+    inside: Inside,
+}
+
+/// The key that stands for the second time where so many bytes of a text are left.
+pub fn repeated_key<'a>(
+    alloc: Global,
+    text: &'a str,
+    left: usize,
+) -> Result<Option<RepeatedKey<'a>>, AllocError> {
+    match find_repeated_key(alloc, skip_byte_order_mark(text), left) {
+        Ok(found) => Ok(found),
+        Err(ParseError::OutOfMemory) => Err(AllocError),
+        Err(_) => Ok(None),
+    }
+}
+
+fn find_repeated_key<'a>(
+    alloc: Global,
+    text: &'a str,
+    left: usize,
+) -> Result<Option<RepeatedKey<'a>>, ParseError> {
+    let mut here = skip_blank_lines(text);
+    let mut table = here;
+    let mut what = Next::Top;
+    'steps: while !here.is_empty() {
+        let Step { next, rest, .. } = scan_step(alloc, here, what)?;
+        if rest.len() < left {
+            return repeated_in_step(alloc, table, here, left);
+        }
+        if first(here) == b'[' {
+            table = rest;
+        }
+        what = next;
+        here = rest;
+    }
+    Ok(None)
+}
+
+// In a header, an entry or an element: its own key, or one of an inline table in it.
+fn repeated_in_step<'a>(
+    alloc: Global,
+    table: &'a str,
+    step: &'a str,
+    left: usize,
+) -> Result<Option<RepeatedKey<'a>>, ParseError> {
+    if left < step.len() {
+        return repeated_in_braces(alloc, step, left);
+    }
+    if first(step) == b'[' {
+        let (key, _) = dotted_key(alloc, behind_brackets(step))?;
+        return Ok(Some(RepeatedKey { key, first: None }));
+    }
+    let entries = Entries {
+        text: table,
+        inside: Inside::Table,
+    };
+    Ok(Some(repeated_entry(alloc, entries, step)?))
+}
+
+// In the innermost table in braces that is open where so many bytes are left.
+fn repeated_in_braces<'a>(
+    alloc: Global,
+    step: &'a str,
+    left: usize,
+) -> Result<Option<RepeatedKey<'a>>, ParseError> {
+    let mut open = Vec::new(alloc);
+    let mut here = step;
+    'tokens: while left < here.len() {
+        let sign = first(here);
+        here = skip_blank_lines(skip_token(alloc, here)?);
+        match sign {
+            b'[' | b'{' => open.push(here)?,
+            b']' | b'}' => {
+                let _ = open.pop();
+            }
+            _ => {}
+        }
+    }
+    match open.last() {
+        Some(text) => {
+            let entries = Entries {
+                text: *text,
+                inside: Inside::Braces,
+            };
+            Ok(Some(repeated_entry(alloc, entries, here)?))
+        }
+        None => Ok(None),
+    }
+}
+
+// The key of an entry, and the first entry of its table that has it.
+fn repeated_entry<'a>(
+    alloc: Global,
+    entries: Entries<'a>,
+    entry: &'a str,
+) -> Result<RepeatedKey<'a>, ParseError> {
+    let (key, _) = dotted_key(alloc, entry)?;
+    let Entries { text, mut inside } = entries;
+    let mut here = text;
+    'entries: while entry.len() < here.len() {
+        let (other, _) = dotted_key(alloc, here)?;
+        if begins_with_parts(&other, &key) {
+            let first = Some(here);
+            return Ok(RepeatedKey { key, first });
+        }
+        let KeyStep {
+            inside: next,
+            rest,
+            ..
+        } = scan_key_step(alloc, here, inside)?;
+        inside = next;
+        here = rest;
+    }
+    Ok(RepeatedKey { key, first: None })
+}
+
+// Whether the parts of a key begin with all those of another.
+fn begins_with_parts(key: &Key, parts: &Key) -> bool {
+    let count = parts.path.len();
+    if key.path.len() < count {
+        return false;
+    }
+    for at in 0..count {
+        if key.path[at].as_str() != parts.path[at].as_str() {
+            return false;
+        }
+    }
+    part_or_last(key, count) == parts.last.as_str()
+}

@@ -1,0 +1,267 @@
+//! A walk over the headers and entries of a text.
+
+ghost use Rattle.std.specs.Prelude.{◌≡◌, ◌≤◌, ◌<◌, ◌+◌, ◌++◌, IfOk, length, map, option_map, slice_index};
+ghost use Rattle.std.specs.List.{All};
+ghost use Rattle.std.specs.List.Sorted.{IsNonDecreasing};
+ghost use Rattle.toml_parser.specs.Lexical.{left_bracket};
+ghost use Rattle.toml_parser.specs.Reading.{Reads};
+ghost use Rattle.toml_parser.specs.Strings.{key};
+ghost use Rattle.toml.specs.Parse.{skip_bom};
+ghost use Rattle.rv_list_locations.specs.JobPlaces as spec;
+ghost use Rattle.rv_list_locations.specs.Places.{text_line_count};
+ghost use Rattle.rv_list_locations.specs.Steps.{GivesStep, UnlessMemory, now_texts};
+
+use crate::lines::Lines;
+use crate::values::{skip_blank_lines, skip_value};
+use std::alloc::{AllocError, Global};
+use toml_parser::text::{byte_at, first, skip, skip_ws};
+use toml_parser::{ErrorKind, ParseError, dotted_key};
+
+/// The line, counted from 1, on which each job of a list begins: that of its header, or where the list is an array that of
+/// the element. A text that is no TOML is walked over up to where no header, entry or element stands.
+pub fn job_line_numbers(alloc: Global, text: &str) -> Result<Vec<usize>, AllocError>
+    ensures lines { IfOk result (λ lines. lines.items ≡ spec.job_lines text.now) }
+    ensures rising { IfOk result (λ lines. IsNonDecreasing lines.items) }
+    ensures within { IfOk result (λ lines. All
+        (λ line. (0 < line) × (line ≤ text_line_count text.now)) lines.items) }
+{
+    let mut lines = Lines::new(alloc, text);
+    match note_job_lines(alloc, skip_byte_order_mark(text), &mut lines) {
+        Err(ParseError::OutOfMemory) => Err(AllocError),
+        Ok(()) | Err(_) => Ok(lines.into_line_numbers()),
+    }
+}
+
+/// The text behind a byte order mark, if it begins with one.
+pub(crate) fn skip_byte_order_mark(text: &str) -> &str
+    ensures text { result.now ≡ skip_bom text.now }
+    ensures within { length result.now ≤ length text.now }
+{
+    text.strip_prefix('\u{feff}').unwrap_or(text)
+}
+
+/// What comes next in a walk.
+#[derive(Clone, Copy)]
+pub(crate) enum Next {
+    /// An entry of the whole list, or the first header.
+    Top,
+    /// An element of the array that is the list, or its end.
+    Element,
+    /// An entry of a table, or a header.
+    Table,
+}
+
+/// A header, an entry or an element that is walked over.
+#[derive(Clone, Copy)]
+pub(crate) struct Step<'a> {
+    pub(crate) is_job: bool,
+    pub(crate) next: Next,
+    pub(crate) rest: &'a str,
+}
+
+/// The text of a list from each of its jobs on.
+pub fn job_texts<'a>(alloc: Global, text: &'a str) -> Result<Vec<&'a str>, AllocError>
+    ensures { IfOk result (λ jobs. now_texts jobs.items ≡ spec.jobs_of_text (skip_bom text.now)) }
+{
+    let mut jobs = Vec::new(alloc);
+    match note_job_texts(alloc, skip_byte_order_mark(text), &mut jobs) {
+        Err(ParseError::OutOfMemory) => Err(AllocError),
+        Ok(()) | Err(_) => Ok(jobs),
+    }
+}
+
+fn note_job_texts<'a>(
+    alloc: Global,
+    text: &'a str,
+    jobs: &mut Vec<&'a str>,
+) -> Result<(), ParseError>
+    ensures { UnlessMemory result (now_texts jobs.new.items
+        ≡ now_texts jobs.old.items ++ spec.jobs_of_text text.now) }
+{
+    let mut here = skip_blank_lines(text);
+    let mut what = Next::Top;
+    'steps: while !here.is_empty() {
+        let Step { is_job, next, rest } = scan_step(alloc, here, what)?;
+        if is_job {
+            jobs.push(here)?;
+        }
+        what = next;
+        here = rest;
+    }
+    Ok(())
+}
+
+fn note_job_lines(alloc: Global, text: &str, lines: &mut Lines<'_>) -> Result<(), ParseError>
+    requires { lines.old.counted + length text.now ≤ length lines.old.text.now }
+    ensures text { lines.new.text.now ≡ lines.old.text.now }
+    ensures noted { UnlessMemory result (lines.new.noted.items ≡ lines.old.noted.items
+        ++ map (spec.line_of_rest lines.old.text.now) (spec.jobs_of_text text.now)) }
+{
+    let mut here = skip_blank_lines(text);
+    let mut what = Next::Top;
+    'steps: while !here.is_empty() {
+        let Step { is_job, next, rest } = scan_step(alloc, here, what)?;
+        if is_job {
+            lines.note_line(here.len())?;
+        }
+        what = next;
+        here = rest;
+    }
+    Ok(())
+}
+
+/// Behind a header, an entry or an element.
+#[tactic(auto, unfolding(crate::specs::JobPlaces::step))]
+pub(crate) fn scan_step(alloc: Global, text: &str, next: Next) -> Result<Step<'_>, ParseError>
+    ensures step { GivesStep result (spec.step next text.now) }
+    ensures shorter { IfOk result (λ step. length step.rest.now < length text.now) }
+{
+    match next {
+        Next::Element => scan_element(alloc, text),
+        _ if first(text) == b'[' => scan_header(alloc, text),
+        _ => scan_entry(alloc, text, next),
+    }
+}
+
+// At an element, or at the bracket behind the last one.
+#[tactic(auto, unfolding(crate::specs::JobPlaces::element))]
+fn scan_element(alloc: Global, text: &str) -> Result<Step<'_>, ParseError>
+    ensures step { GivesStep result (spec.element text.now) }
+    ensures shorter { IfOk result (λ step. length step.rest.now < length text.now) }
+{
+    if first(text) == b']' {
+        return Ok(Step {
+            is_job: false,
+            next: Next::Top,
+            rest: skip_line_end(skip(text, 1)),
+        });
+    }
+    let rest = skip_value(alloc, text)?;
+    Ok(Step {
+        is_job: true,
+        next: Next::Element,
+        rest: skip_comma(rest),
+    })
+}
+
+fn scan_header(alloc: Global, text: &str) -> Result<Step<'_>, ParseError>
+    requires { slice_index text.now 0 ≡ left_bracket }
+    ensures step { GivesStep result (spec.header text.now) }
+    ensures shorter { IfOk result (λ step. length step.rest.now < length text.now) }
+{
+    if byte_at(text, 1) == b'[' {
+        scan_array_header(alloc, skip(text, 2))
+    } else {
+        scan_table_header(alloc, skip(text, 1))
+    }
+}
+
+// Behind the brackets that open the header of an element of an array of tables.
+#[tactic(auto, unfolding(crate::specs::JobPlaces::array_header))]
+fn scan_array_header(alloc: Global, inside: &str) -> Result<Step<'_>, ParseError>
+    ensures step { GivesStep result (spec.array_header inside.now) }
+    ensures shorter { IfOk result (λ step. length step.rest.now < length inside.now) }
+{
+    let (is_job, rest) = scan_key(alloc, skip_ws(inside))?;
+    if first(rest) == b']' && byte_at(rest, 1) == b']' {
+        Ok(Step {
+            is_job,
+            next: Next::Table,
+            rest: skip_line_end(skip(rest, 2)),
+        })
+    } else {
+        Err(ParseError::at(ErrorKind::UnclosedTable, rest))
+    }
+}
+
+// Behind the bracket that opens the header of a table.
+#[tactic(auto, unfolding(crate::specs::JobPlaces::table_header))]
+fn scan_table_header(alloc: Global, inside: &str) -> Result<Step<'_>, ParseError>
+    ensures step { GivesStep result (spec.table_header inside.now) }
+    ensures shorter { IfOk result (λ step. length step.rest.now < length inside.now) }
+{
+    let (_, rest) = scan_key(alloc, skip_ws(inside))?;
+    if first(rest) == b']' {
+        Ok(Step {
+            is_job: false,
+            next: Next::Table,
+            rest: skip_line_end(skip(rest, 1)),
+        })
+    } else {
+        Err(ParseError::at(ErrorKind::UnclosedTable, rest))
+    }
+}
+
+// At the top, an array of `job` is the list: its elements come next.
+#[tactic(auto, unfolding(crate::specs::JobPlaces::keyed_entry))]
+fn scan_entry(alloc: Global, text: &str, next: Next) -> Result<Step<'_>, ParseError>
+    ensures step { GivesStep result (spec.keyed_entry next text.now) }
+    ensures shorter { IfOk result (λ step. length step.rest.now < length text.now) }
+{
+    let (is_job, rest) = scan_key(alloc, text)?;
+    let value = skip_equals_sign(rest);
+    if is_job && matches!(next, Next::Top) && first(value) == b'[' {
+        return Ok(Step {
+            is_job: false,
+            next: Next::Element,
+            rest: skip_blank_lines(skip(value, 1)),
+        });
+    }
+    let rest = skip_value(alloc, value)?;
+    Ok(Step {
+        is_job: false,
+        next,
+        rest: skip_line_end(rest),
+    })
+}
+
+/// The value of an entry; nothing where no sign parts it from the key.
+#[tactic(auto, unfolding(crate::specs::JobPlaces::behind_equals))]
+pub(crate) fn skip_equals_sign(text: &str) -> &str
+    ensures text { result.now ≡ spec.behind_equals text.now }
+    ensures within { length result.now ≤ length text.now }
+{
+    if first(text) == b'=' {
+        skip_ws(skip(text, 1))
+    } else {
+        ""
+    }
+}
+
+/// The next element, or the bracket behind the last one.
+#[tactic(auto, unfolding(crate::specs::JobPlaces::behind_comma))]
+pub(crate) fn skip_comma(text: &str) -> &str
+    ensures text { result.now ≡ spec.behind_comma text.now }
+    ensures within { length result.now ≤ length text.now }
+{
+    let rest = skip_blank_lines(text);
+    if first(rest) == b',' {
+        skip_blank_lines(skip(rest, 1))
+    } else {
+        rest
+    }
+}
+
+// The next header or entry; nothing where the line does not end with a comment or nothing more.
+#[tactic(auto, unfolding(crate::specs::JobPlaces::behind_line))]
+fn skip_line_end(text: &str) -> &str
+    ensures text { result.now ≡ spec.behind_line text.now }
+    ensures within { length result.now ≤ length text.now }
+{
+    let end = skip_ws(text);
+    if matches!(first(end), b'#' | b'\n' | b'\r') {
+        skip_blank_lines(end)
+    } else {
+        ""
+    }
+}
+
+// Whether a key is `job`, and the text behind it. The key itself ends here, so that it is alive at no other way out.
+fn scan_key(alloc: Global, text: &str) -> Result<(bool, &str), ParseError>
+    ensures key { Reads (λ is_job. is_job) result
+        (option_map (λ name. (spec.is_job name.0, name.1)) (key text.now)) }
+    ensures shorter { IfOk result (λ found. length found.1.now < length text.now) }
+{
+    let (key, rest) = dotted_key(alloc, text)?;
+    Ok((key.path.is_empty() && key.last.as_str() == "job", rest))
+}

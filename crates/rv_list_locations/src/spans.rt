@@ -1,0 +1,93 @@
+//! Where the values of jobs stand in the text of a list.
+
+ghost use Rattle.std.specs.Prelude.{◌≡◌, ◌≤◌, IfOk, IfSome, length};
+ghost use Rattle.std.specs.List.{All};
+ghost use Rattle.rv_list_locations.specs.ValueSpans.{IsSpanIn};
+
+use crate::scan::{Next, Step, scan_step, skip_byte_order_mark, skip_equals_sign};
+use crate::values::{skip_blank_lines, skip_value};
+use std::alloc::{AllocError, Global};
+use toml_parser::text::first;
+use toml_parser::{ParseError, dotted_key};
+
+/// Where the value of a key of a job stands in the text of a list.
+#[derive(Drop)]
+pub struct ValueSpan {
+    /// The job's place in the list, counted from 0.
+    pub job: usize,
+    /// The key, without quotes.
+    pub key: String,
+    /// The place of the value's first byte.
+    pub begin: usize,
+    /// The place behind its last byte.
+    pub end: usize,
+}
+
+/// Where the values stand of the jobs that have a header `[[job]]`, in their order. Those of inline tables are not among them, nor
+/// those at keys of more than one part or in tables below a job. A text that is no TOML is walked over up to where that shows.
+pub fn value_spans(alloc: Global, text: &str) -> Result<Vec<ValueSpan>, AllocError>
+    ensures { IfOk result (λ spans. All (IsSpanIn text.now) spans.items) }
+{
+    let mut spans = Vec::new(alloc);
+    match note_value_spans(alloc, text, &mut spans) {
+        Err(ParseError::OutOfMemory) => Err(AllocError),
+        Ok(()) | Err(_) => Ok(spans),
+    }
+}
+
+fn note_value_spans(alloc: Global, text: &str, spans: &mut Vec<ValueSpan>) -> Result<(), ParseError>
+    requires { All (IsSpanIn text.now) spans.old.items }
+    ensures { All (IsSpanIn text.now) spans.new.items }
+{
+    let mut here = skip_blank_lines(skip_byte_order_mark(text));
+    let mut what = Next::Top;
+    let mut jobs = 0usize;
+    let mut is_in_job = false;
+    'steps: while !here.is_empty() {
+        let Step { is_job, next, rest } = scan_step(alloc, here, what)?;
+        if is_job {
+            jobs = jobs.saturating_add(1);
+        }
+        if is_header(here, what) {
+            is_in_job = is_job;
+        } else if is_in_job {
+            note_value_span(alloc, text, here, jobs.saturating_sub(1), spans)?;
+        }
+        what = next;
+        here = rest;
+    }
+    Ok(())
+}
+
+// Whether a header stands there.
+fn is_header(here: &str, what: Next) -> bool {
+    match what {
+        Next::Element => false,
+        Next::Top | Next::Table => first(here) == b'[',
+    }
+}
+
+// Notes where the value of an entry stands, with which an end of the text begins.
+fn note_value_span(
+    alloc: Global,
+    text: &str,
+    entry: &str,
+    job: usize,
+    spans: &mut Vec<ValueSpan>,
+) -> Result<(), ParseError>
+    requires { All (IsSpanIn text.now) spans.old.items }
+    ensures { All (IsSpanIn text.now) spans.new.items }
+{
+    let (key, behind) = dotted_key(alloc, entry)?;
+    let value = skip_equals_sign(behind);
+    let rest = skip_value(alloc, value)?;
+    if key.path.is_empty() {
+        spans.push(ValueSpan {
+            job,
+            key: key.last,
+            begin: text.len().saturating_sub(value.len()),
+            end: text.len().saturating_sub(rest.len()),
+        })?;
+    }
+    Ok(())
+}

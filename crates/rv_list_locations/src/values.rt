@@ -1,0 +1,110 @@
+//! What stands behind a value.
+
+ghost use Rattle.std.specs.Prelude.{◌≡◌, ◌-◌, ◌^◌, ◌<◌, ◌≤◌, IfOk, length, min, slice_index, suc};
+ghost use Rattle.rv_list_locations.specs.JobPlaces.{behind_brackets, behind_string_or_word, behind_token, behind_value};
+ghost use Rattle.toml_parser.specs.Lexical.{skip_blank as behind_blank};
+ghost use Rattle.rv_list_locations.specs.JobPlaces.{behind_word, depth_behind, is_in_word};
+ghost use Rattle.rv_list_locations.specs.Steps.{GivesText};
+
+use std::alloc::Global;
+use toml_parser::bytes::is_word;
+use toml_parser::text::{byte_at, first, skip, skip_blank};
+use toml_parser::{ErrorKind, ParseError, quoted, starts_string};
+
+/// The text behind a value.
+#[tactic(auto, unfolding(crate::specs::JobPlaces::behind_value))]
+pub(crate) fn skip_value(alloc: Global, text: &str) -> Result<&str, ParseError>
+    ensures value { GivesText result (behind_value text.now) }
+    ensures shorter { IfOk result (λ rest. length rest.now < length text.now) }
+{
+    if matches!(first(text), b'[' | b'{') {
+        skip_brackets(alloc, text)
+    } else {
+        skip_string_or_word(alloc, text)
+    }
+}
+
+// The text behind an array or an inline table: behind the bracket that leaves none open.
+fn skip_brackets(alloc: Global, text: &str) -> Result<&str, ParseError>
+    ensures value { GivesText result (behind_brackets (suc (length text.now)) 0 text.now) }
+    ensures shorter { IfOk result (λ rest. length rest.now < length text.now) }
+{
+    let mut rest = text;
+    let mut depth = 0usize;
+    'tokens: loop {
+        depth = bracket_depth_after(depth, first(rest));
+        rest = skip_token(alloc, rest)?;
+        if depth == 0 {
+            return Ok(rest);
+        }
+        rest = skip_blank_lines(rest);
+    }
+}
+
+// The text behind blanks, line ends and comments.
+pub(crate) fn skip_blank_lines(text: &str) -> &str
+    ensures rest { result.now ≡ behind_blank text.now }
+    ensures within { length result.now ≤ length text.now }
+{
+    skip_blank(text, true)
+}
+
+// How many brackets are open behind a byte.
+fn bracket_depth_after(depth: usize, byte: u8) -> usize
+    ensures { result ≡ min (depth_behind depth byte) (2 ^ 64 - 1) }
+{
+    match byte {
+        b'[' | b'{' => depth.saturating_add(1),
+        b']' | b'}' => depth.saturating_sub(1),
+        _ => depth,
+    }
+}
+
+/// The text behind a sign, a string or a word.
+#[tactic(auto, unfolding(crate::specs::JobPlaces::behind_token))]
+pub(crate) fn skip_token(alloc: Global, text: &str) -> Result<&str, ParseError>
+    ensures value { GivesText result (behind_token text.now) }
+    ensures shorter { IfOk result (λ rest. length rest.now < length text.now) }
+{
+    if matches!(first(text), b'[' | b']' | b'{' | b'}' | b',' | b'=') {
+        Ok(skip(text, 1))
+    } else {
+        skip_string_or_word(alloc, text)
+    }
+}
+
+// The text behind a string or a word.
+#[tactic(auto, unfolding(crate::specs::JobPlaces::behind_string_or_word))]
+fn skip_string_or_word(alloc: Global, text: &str) -> Result<&str, ParseError>
+    ensures value { GivesText result (behind_string_or_word text.now) }
+    ensures shorter { IfOk result (λ rest. length rest.now < length text.now) }
+{
+    if starts_string(text) {
+        let (_, rest) = quoted(alloc, text)?;
+        Ok(rest)
+    } else {
+        skip_word(text)
+    }
+}
+
+// The text behind a key without quotes, or a value that is no text.
+fn skip_word(text: &str) -> Result<&str, ParseError>
+    ensures value { GivesText result (behind_word text.now) }
+    ensures shorter { IfOk result (λ rest. length rest.now < length text.now) }
+{
+    let mut rest = text;
+    'letters: while bare_word_goes_on(rest) {
+        rest = skip(rest, 1);
+    }
+    if rest.len() == text.len() {
+        return Err(ParseError::at(ErrorKind::Value, text));
+    }
+    Ok(rest)
+}
+
+// Whether a word begins or goes on: in that of a date and a time a space may part the two.
+fn bare_word_goes_on(text: &str) -> bool
+    ensures { result ≡ is_in_word (slice_index text.now 0) (slice_index text.now 1) }
+{
+    is_word(first(text)) || (first(text) == b' ' && byte_at(text, 1).is_ascii_digit())
+}
