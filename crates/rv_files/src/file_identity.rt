@@ -22,7 +22,7 @@ pub(crate) fn file_identity<R: Files>(
             Ok(Text::new(identity))
         }
         _ => {
-            let path = resolved_path(files, alloc, path)?;
+            let path = canonical_path(files, alloc, path)?;
             let identity = format!(in alloc; "path {}", path.as_str())?;
             Ok(Text::new(identity))
         }
@@ -30,7 +30,7 @@ pub(crate) fn file_identity<R: Files>(
 }
 
 /// The path with its directory as the system resolves it; as it is where the system resolves none.
-pub(crate) fn resolved_path<R: Files>(
+pub(crate) fn canonical_path<R: Files>(
     files: &R,
     alloc: Global,
     path: &str,

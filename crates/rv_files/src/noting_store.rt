@@ -3,17 +3,16 @@
 ghost use Rattle.std.specs.Prelude.{◌≡◌, ◌≤◌, ◌<◌, ◌++◌, ◌∷◌, [], Some, length};
 ghost use Rattle.std.specs.Prelude.{IfErr, IfOk, IfSome, IsSomeAnd, MatchResult, OnErr, OnOk};
 ghost use Rattle.std.specs.Option.{option_copied};
-ghost use Rattle.std.specs.Path.{path_buf_bytes};
 ghost use Rattle.rv_base.specs.Limits.{most_bytes};
-ghost use Rattle.rv_files.specs.UnreadPaths.{HoldsNothingIfUnreadable, contents_below, unread_entry, unread_entries, resolved_path};
+ghost use Rattle.rv_files.specs.UnreadPaths.{HoldsNothingIfUnreadable, contents_below, unread_entry, unread_entries};
 
 use crate::file_store::WholeError;
 use crate::inputs::{Inputs, read_whole_up_to};
+use crate::roots::resolved_path;
 use rv_base::limits::MOST_BYTES;
 use rv_base::{ReadError, Store, Text};
 use std::alloc::{AllocError, Global};
 use std::io::ErrorKind;
-use std::path::{Path, PathBuf};
 
 /// A path that was unreadable, and why.
 #[derive(Debug, Drop)]
@@ -96,21 +95,10 @@ impl<'a, D: Inputs> NotingStore<'a, D> {
         ensures missing { IfErr result (HoldsNothingIfUnreadable
             (contents_below (option_copied self.now.folder) (D.contents self.now.inputs.now)) path.now) }
     {
-        let place = self.resolved_path(alloc, path)?;
+        let place = resolved_path(alloc, self.folder, path)?;
         match read_whole_up_to(self.inputs, alloc, place.as_str(), MOST_BYTES)? {
             Some(bytes) => Ok(bytes),
             None => Err(WholeError::TooLong),
-        }
-    }
-
-    // Where a path leads.
-    fn resolved_path(&self, alloc: Global, path: &str) -> Result<PathBuf, AllocError>
-        ensures { IfOk result (λ place. path_buf_bytes place
-            ≡ resolved_path (option_copied self.now.folder) path.now) }
-    {
-        match self.folder {
-            Some(folder) => Path::new(folder).join(alloc, path),
-            None => PathBuf::from_str(alloc, path),
         }
     }
 

@@ -3,7 +3,7 @@
 ghost use Rattle.std.specs.Prelude.{◌≡◌, ◌<◌, [], None, IfErr, IfOk, vec_len};
 
 use crate::file_error::FileError;
-use crate::file_identity::{file_identity, resolved_path};
+use crate::file_identity::{canonical_path, file_identity};
 use crate::file_lock::FileLock;
 use crate::file_sink::FileSink;
 use crate::new_file::{check_places, create_new_file, sync_directory};
@@ -143,7 +143,7 @@ fn place_of_missing_file<R: Files>(
     path: &str,
 ) -> Result<PathBuf, AllocError> {
     match follow_links(files, alloc, path) {
-        Ok(place) => resolved_path(files, alloc, place.as_str()),
+        Ok(place) => canonical_path(files, alloc, place.as_str()),
         Err(FileError::OutOfMemory) => Err(AllocError),
         Err(_) => PathBuf::from_str(alloc, path),
     }

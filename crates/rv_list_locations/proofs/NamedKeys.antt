@@ -3,7 +3,7 @@ use Rattle.std.proofs.Common.{◌≡◌, Bool, true, false, List, [], ◌∷◌,
 use Rattle.std.proofs.lemmas.List.Elements.{All-push}
 use Rattle.std.specs.List.{All}
 use Rattle.rv_list_locations.specs.NamedKeys.{IsNamedKey}
-use Rattle.rv_list_locations.specs.declared.job_keys.JobKey.{JobKey}
+use Rattle.rv_list_locations.specs.declared.keys.JobKey.{JobKey}
 
 -- it was pushed or not
 pub named_pushed : (is_pushed : Bool) (keys after : List JobKey) (found : JobKey)

@@ -1,7 +1,7 @@
 -- The keys that a walk over a job finds.
 use Rattle.std.specs.Prelude.{string_bytes}
 use Rattle.rv_list_locations.specs.JobKeys.{BeginsWithName}
-use Rattle.rv_list_locations.specs.declared.job_keys.JobKey.{JobKey}
+use Rattle.rv_list_locations.specs.declared.keys.JobKey.{JobKey}
 
 -- the key, or the header of its table, stands where the text begins
 abbrev pub IsNamedKey : JobKey → Type 0

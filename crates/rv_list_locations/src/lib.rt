@@ -7,18 +7,18 @@
 #![tactic(auto)]
 
 mod cursor;
-mod job_keys;
+mod keys;
 mod law;
 mod lines;
-mod repeated_key;
+mod repeats;
 mod scan;
 mod spans;
 mod values;
 
 pub use cursor::Cursor;
-pub use job_keys::{JobKey, job_keys};
+pub use keys::{JobKey, job_keys};
 pub use law::job_lines_are_of_headers_and_elements;
 pub use lines::{Place, line_and_column};
-pub use repeated_key::{RepeatedKey, repeated_key};
+pub use repeats::{RepeatedKey, repeated_key};
 pub use scan::{job_line_numbers, job_texts};
 pub use spans::{ValueSpan, value_spans};

@@ -12,12 +12,11 @@ use crate::written_text::write_file;
 use rv_accept::Target;
 use rv_accept_text::{Accepting, GoldenFile};
 use rv_command::{Stop, path_message, read_file};
-use rv_files::{InputError, Inputs, Outputs, io_error_text, read_whole_up_to};
+use rv_files::{InputError, Inputs, Outputs, io_error_text, read_whole_up_to, resolved_path};
 use rv_jobs::limits::MOST_BYTES;
 use rv_jobs::{Bytes, Text};
 use std::alloc::{AllocError, Global};
 use std::io::ErrorKind;
-use std::path::Path;
 
 /// The golden files at the paths of some targets, which are taken from a folder where one is given, with what stands there now.
 pub(crate) fn read_golden_files<D: Inputs>(
@@ -54,13 +53,8 @@ pub(crate) fn place_of_path(
 ) -> Result<Text, AllocError>
     ensures { IfOk result (λ place. place ≡ resolved_path (optional_text folder.entry) path.now) }
 {
-    match folder {
-        Some(folder) => {
-            let place = Path::new(folder).join(alloc, path)?;
-            Text::copy(alloc, place.as_str())
-        }
-        None => Text::copy(alloc, path),
-    }
+    let place = resolved_path(alloc, folder, path)?;
+    Text::copy(alloc, place.as_str())
 }
 
 // What stands at a place; nothing where the file is missing.

@@ -23,7 +23,7 @@ use crate::named_job::{NamedJob, find_named_job};
 use rv_base::Bytes;
 use rv_command::{DONE, Stop, file_error_stop, path_message, read_list_text};
 use rv_expect::{Judge, Rule};
-use rv_files::{FileError, Inputs, NotingStore, Outputs, Unread};
+use rv_files::{FileError, Inputs, NotingStore, Outputs, Unread, resolved_path};
 use rv_gdb::{Broken, Means, converse, session_at};
 use rv_job_text::{RowTelling, Verbosity};
 use rv_jobs::{Plan, gather_places};
@@ -32,7 +32,6 @@ use rv_session::Session;
 use rvtest_cli::GdbAsked;
 use std::alloc::{AllocError, Global};
 use std::io::Read;
-use std::path::Path;
 use std::thread::Threads;
 
 /// A session over the run of a job, and the job.
@@ -192,19 +191,16 @@ fn session_over_plan(
         (IsSessionOf plan.now.answers (slice_index_or plan.now.jobs place d)
         (resolved_path (optional_text root.entry) (slice_index_or plan.now.jobs place d).image))) }
 {
-    let path = resolved_path(alloc, root, plan.job(place).image.as_str())?;
+    let path = image_path(alloc, root, plan.job(place).image.as_str())?;
     session_at(alloc, plan, place, path)
 }
 
-// Where the file of a path in a list is.
-fn resolved_path(alloc: Global, root: Option<&str>, path: &str) -> Result<Bytes, AllocError>
-    ensures { IfOk result (λ place. place ≡ resolved_path (optional_text root.entry) path.now) }
+// The path of an image, resolved against the root.
+fn image_path(alloc: Global, root: Option<&str>, image: &str) -> Result<Bytes, AllocError>
+    ensures { IfOk result (λ path. path ≡ resolved_path (optional_text root.entry) image.now) }
 {
-    let place = match root {
-        Some(folder) => Path::new(folder).join(alloc, path)?,
-        None => return Ok(Bytes::new(Vec::from_slice(alloc, path.as_bytes())?)),
-    };
-    Ok(Bytes::new(Vec::from_slice(alloc, place.as_str().as_bytes())?))
+    let path = resolved_path(alloc, root, image)?;
+    Ok(Bytes::new(Vec::from_slice(alloc, path.as_str().as_bytes())?))
 }
 
 // The job at a place is refused, as its line says.

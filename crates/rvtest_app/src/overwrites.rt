@@ -12,10 +12,9 @@ use crate::outlets::is_stdout;
 use crate::read_files::{ReadFiles, ReadPath, ReadRole};
 use rv_base::Text;
 use rv_command::{Stop, file_error_stop};
-use rv_files::Outputs;
+use rv_files::{Outputs, resolved_path};
 use rv_text::{Span, push_spans, push_text, text_of_spans};
 use std::alloc::{AllocError, Global};
-use std::path::{Path, PathBuf};
 
 /// Looks the files up.
 pub(crate) fn look_up_files<'a, F: Outputs>(
@@ -195,10 +194,7 @@ pub(crate) fn push_read<'a>(
 ) -> Result<(), AllocError>
     ensures { OnOk result (read_paths read.new.items ≡ read_paths read.old.items ++ resolved_path (optional_text folder.entry) path.now ∷ []) }
 {
-    let path = match folder {
-        Some(folder) => Path::new(folder).join(alloc, path)?,
-        None => PathBuf::from_str(alloc, path)?,
-    };
+    let path = resolved_path(alloc, folder, path)?;
     read.push(ReadPath { path, role })?;
     Ok(())
 }

@@ -1,6 +1,6 @@
 use Rattle.std.proofs.Common.{rules}
 use Rattle.rv_list_locations.proofs.NamedKeys.{named_pushed}
-use Rattle.rv_list_locations.proofs.job_keys.note_job_keys.Goals as goal
+use Rattle.rv_list_locations.proofs.keys.note_job_keys.Goals as goal
 
 pub returns-in_err-push : goal.returns-in_err-push
 returns-in_err-push c =

@@ -1,7 +1,7 @@
 use Rattle.std.proofs.Common.{length}
 use denote.Shadow.{shadow}
 use denote.Text.{Utf8}
-use Rattle.rv_list_locations.proofs.repeated_key.repeated_in_braces.Given as goal
+use Rattle.rv_list_locations.proofs.repeats.repeated_in_braces.Given as goal
 
 abbrev pub invariant-tokens : goal.invariant-tokens
 invariant-tokens l = shadow (Utf8 l.here)

@@ -1,7 +1,7 @@
 use Rattle.std.proofs.Common.{codes, rules, tests}
 use Rattle.toml_parser.specs.Reading.{key_view}
 use Rattle.rv_list_locations.proofs.KeyParts.{part_is}
-use Rattle.rv_list_locations.proofs.job_keys.scan_table_name.Goals as goal
+use Rattle.rv_list_locations.proofs.keys.scan_table_name.Goals as goal
 
 pub returns-in-Some : goal.returns-in-Some
 returns-in-Some c = (

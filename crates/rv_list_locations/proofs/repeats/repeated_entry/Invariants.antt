@@ -1,7 +1,7 @@
 use Rattle.std.proofs.Common.{length}
 use denote.Shadow.{shadow}
 use denote.Text.{Utf8}
-use Rattle.rv_list_locations.proofs.repeated_key.repeated_entry.Given as goal
+use Rattle.rv_list_locations.proofs.repeats.repeated_entry.Given as goal
 
 abbrev pub invariant-entries : goal.invariant-entries
 invariant-entries l = shadow (Utf8 l.here)

@@ -2,7 +2,7 @@
 
 ghost use Rattle.std.specs.Prelude.{◌≤◌, length};
 
-use crate::job_keys::{Inside, KeyStep, behind_brackets, part_or_last, scan_key_step};
+use crate::keys::{Inside, KeyStep, behind_brackets, part_or_last, scan_key_step};
 use crate::scan::{Next, Step, scan_step, skip_byte_order_mark};
 use crate::values::{skip_blank_lines, skip_token};
 use std::alloc::{AllocError, Global};

@@ -1,5 +1,5 @@
 use Rattle.std.proofs.Common.{rules}
-use Rattle.rv_files.proofs.noting_store.NotingStore.resolved_path.Goals as goal
+use Rattle.rv_files.proofs.roots.resolved_path.Goals as goal
 
 pub returns-in-Some : goal.returns-in-Some
 returns-in-Some c = search rules

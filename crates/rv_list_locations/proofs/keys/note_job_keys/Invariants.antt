@@ -3,7 +3,7 @@ use denote.Shadow.{shadow}
 use denote.Text.{Utf8}
 use Rattle.std.specs.List.{All}
 use Rattle.rv_list_locations.specs.NamedKeys.{IsNamedKey}
-use Rattle.rv_list_locations.proofs.job_keys.note_job_keys.Given as goal
+use Rattle.rv_list_locations.proofs.keys.note_job_keys.Given as goal
 
 abbrev pub invariant-keys : goal.invariant-keys
 invariant-keys l = shadow (Utf8 l.here) × All IsNamedKey l.keys.items

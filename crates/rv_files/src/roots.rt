@@ -1,0 +1,19 @@
+//! Paths that are resolved against a root directory.
+
+ghost use Rattle.std.specs.Prelude.{◌≡◌, IfOk};
+ghost use Rattle.std.specs.Option.{option_copied};
+ghost use Rattle.std.specs.Path.{path_buf_bytes};
+ghost use Rattle.rv_files.specs.UnreadPaths.{resolved_path};
+
+use std::alloc::{AllocError, Global};
+use std::path::{Path, PathBuf};
+
+/// The path below the root, where there is one and the path is relative, as std's `Path::join` makes it; otherwise the path itself.
+pub fn resolved_path(alloc: Global, root: Option<&str>, path: &str) -> Result<PathBuf, AllocError>
+    ensures { IfOk result (λ place. path_buf_bytes place ≡ resolved_path (option_copied root.entry) path.now) }
+{
+    match root {
+        Some(root) => Path::new(root).join(alloc, path),
+        None => PathBuf::from_str(alloc, path),
+    }
+}
