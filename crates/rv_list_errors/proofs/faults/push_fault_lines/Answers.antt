@@ -1,4 +1,4 @@
-use Rattle.std.proofs.Common.{◌++◌, get_or, subst, sym}
+use Rattle.std.proofs.Common.{◌++◌, subst, sym}
 use Rattle.rv_list_errors.specs.FaultHeads.{look_place}
 use Rattle.rv_list_errors.specs.JobFaults.{EndsSo, TellsFoundFault}
 use Rattle.rv_list_errors.proofs.OneMore.{no_lines, one_line_more}
