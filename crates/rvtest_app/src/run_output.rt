@@ -65,7 +65,7 @@ pub(crate) fn put_run_output<
         (joined_row_texts row_text batch.now.places.now (rows_within limit.now (batch_rows batch.now)))) }
     ensures name { file_name result.1 ≡ file_name file }
 {
-    let (mut out, file, ran) = stream_rows(crew, batch, limit, telling, out, file);
+    let (mut out, file, ran) = stream_with_file(crew, batch, limit, telling, out, file);
     let rows = match ran {
         Ok(rows) => rows,
         Err(error) => return (out, file, Err(error)),
@@ -78,8 +78,8 @@ pub(crate) fn put_run_output<
     }
 }
 
-// The same without the last line.
-fn stream_rows<
+// Sends what is told of each job, without the last line, and what the report says of each to the file, if there is one.
+fn stream_with_file<
     R: Threads + Wait + Sync,
     T: Telling + Sync,
     N: Drop,

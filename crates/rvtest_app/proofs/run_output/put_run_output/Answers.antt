@@ -8,27 +8,27 @@ use Rattle.rvtest_app.proofs.run_output.put_run_output.Goals as goal
 
 pub put_totals_line-requires : goal.put_totals_line-requires
 put_totals_line-requires g c =
-    omega (arith, ap length c.as_slice-done.ensures, rw c.in-Ok.is at c.stream_rows-out.ensures.few, c.args.batch.now.few)
+    omega (arith, ap length c.as_slice-done.ensures, rw c.in-Ok.is at c.stream_with_file-out.ensures.few, c.args.batch.now.few)
 
 pub returns-in-Err-put_totals_line-clause-part : goal.returns-in-Err-put_totals_line-clause-part
 returns-in-Err-put_totals_line-clause-part g c =
     let batch = c.args.batch.now in
-    let rows = c.as_slice-done.ensures ∙ rw c.in-Ok.is at c.stream_rows-out.ensures.rows in
+    let rows = c.as_slice-done.ensures ∙ rw c.in-Ok.is at c.stream_with_file-out.ensures.rows in
     told_behind _ _ _ _
     (λ rows. run_totals_line (judging_of c.args.limit.now.judge) rows (length batch.places.now - length rows)) _
-    (rows_within c.args.limit.now (batch_rows batch)) rows (rw c.in-Ok.is at c.stream_rows-out.ensures.all)
+    (rows_within c.args.limit.now (batch_rows batch)) rows (rw c.in-Ok.is at c.stream_with_file-out.ensures.all)
     c.in-Err-put_totals_line.ensures.part
 
 pub returns-in-Err-clause-part : goal.returns-in-Err-clause-part
 returns-in-Err-clause-part g c =
     begun_before _ _ _ (run_totals_line (judging_of c.args.limit.now.judge) _ _)
-    (rw c.in-Err.is at c.stream_rows-out.ensures.part)
+    (rw c.in-Err.is at c.stream_with_file-out.ensures.part)
 
 pub returns-in-Ok-put_totals_line-clause-all : goal.returns-in-Ok-put_totals_line-clause-all
 returns-in-Ok-put_totals_line-clause-all g c =
     let batch = c.args.batch.now in
-    let rows = c.as_slice-done.ensures ∙ rw c.in-Ok.is at c.stream_rows-out.ensures.rows in
+    let rows = c.as_slice-done.ensures ∙ rw c.in-Ok.is at c.stream_with_file-out.ensures.rows in
     told_whole _ _ _ _
     (λ rows. run_totals_line (judging_of c.args.limit.now.judge) rows (length batch.places.now - length rows)) _
-    (rows_within c.args.limit.now (batch_rows batch)) rows (rw c.in-Ok.is at c.stream_rows-out.ensures.all)
+    (rows_within c.args.limit.now (batch_rows batch)) rows (rw c.in-Ok.is at c.stream_with_file-out.ensures.all)
     (rw c.in-Ok-put_totals_line.is at c.put_totals_line.ensures.all)
