@@ -1,6 +1,6 @@
 use Rattle.std.proofs.Common.{refl}
 use Rattle.std.proofs.lemmas.Str.Ascii.{trim_ascii_is}
-use Rattle.rv_expect.proofs.lines.trimmed.Goals as goal
+use Rattle.rv_expect.proofs.known_lines.trimmed.Goals as goal
 
 pub returns : goal.returns
 returns c = trim_ascii_is c.args.text.now c.trim_ascii.result.now _ refl c.trim_ascii.ensures.value

@@ -2,8 +2,8 @@ use Rattle.std.proofs.Common.{◌∙◌, ◌==◌, Ok, ap, arith, length, not, r
 use Rattle.rv_expect.specs.KnownJobs.{job_names}
 use Rattle.rv_expect.specs.KnownLines.{borrowed_lines}
 use Rattle.rv_expect.proofs.KnownLines.{all_read, known_named, known_nameless, number_is, passed_over, refused}
-use Rattle.rv_expect.proofs.reader.read_lines.Goals as goal
-use Rattle.rv_expect.proofs.reader.read_lines.Goals.{else-not-is_empty, then-not-is_empty+in_ok-known_job_of_line+in_ok-push}
+use Rattle.rv_expect.proofs.known_reader.read_lines.Goals as goal
+use Rattle.rv_expect.proofs.known_reader.read_lines.Goals.{else-not-is_empty, then-not-is_empty+in_ok-known_job_of_line+in_ok-push}
 
 pub returns-in-Some : goal.returns-in-Some
 returns-in-Some c =
