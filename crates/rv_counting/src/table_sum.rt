@@ -63,6 +63,7 @@ impl TableSum {
                 None => Ok(self.sum),
                 Some(error) => Err(error),
             },
+            // Out of memory: a run ends early by that, or by a thread that was not started.
             Err(_) => Err(SumError::OutOfMemory),
         }
     }

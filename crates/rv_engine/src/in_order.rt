@@ -90,6 +90,7 @@ impl<J: Heard<H>, H: Drop, L: Listener<H> + Drop> InOrder<J, H, L> {
     /// Hears no more, since a growth was refused.
     pub(crate) fn give_up(&mut self) {
         if self.ended.is_none() {
+            // Out of memory: a worker gives up by that, or by a thread that was not started.
             self.ended = Some(End::OutOfMemory);
         }
     }

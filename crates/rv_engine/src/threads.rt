@@ -55,8 +55,9 @@ pub(crate) fn run_workers<R: Threads + Wait, S: Worker>(
                         requires { S.draws worker.now claims.now × (pass.draw ≡ claims.now) }
                     { worker.work_on_pieces(claims, pass) },
                 ) else {
-                    // No worker: `spawn` fails where the start of a thread was refused. The others need not go on.
+                    // The others need not go on.
                     worker.give_up();
+                    // No worker: `spawn` fails where the start of a thread was refused.
                     return Err(RunError::NoWorker);
                 };
                 let Ok(()) = handles.push(handle) else {

@@ -76,7 +76,7 @@ impl<J: Streamed> Listener<ToldRow> for FirstRows<'_, J> {
 fn keep_row(rows: &mut Vec<Row>, row: Row) -> bool
     ensures { result ≡ false → rows.new.items ≡ rows.old.items ++ row ∷ [] }
 {
-    // Out of memory: `push` fails by that alone.
+    // `push` fails by want of memory alone.
     rows.push(row).is_err()
 }
 

@@ -47,6 +47,7 @@ impl<J: Streamed, W: Sink + Drop> Observer<ToldRow> for MadeTexts<J, W> {
         match self.outbox.unsent.extend_from_slice(made.text.as_slice()) {
             Ok(()) => Flow::GoOn,
             Err(_) => {
+                // Out of memory: `extend_from_slice` fails by that alone.
                 self.outbox.failed = Some(WriteError::OutOfMemory);
                 Flow::Stop
             }

@@ -72,6 +72,7 @@ impl<J: Streamed, T: Telling, W: Sink + Drop> Observer<ToldRow> for RowTexts<'_,
         match self.telling.push_row_text(alloc, place, &made.row, unsent) {
             Ok(()) => Flow::GoOn,
             Err(_) => {
+                // Out of memory: a telling fails by that alone.
                 self.outbox.failed = Some(WriteError::OutOfMemory);
                 Flow::Stop
             }

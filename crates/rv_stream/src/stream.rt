@@ -209,6 +209,7 @@ fn rows_of_run<J: Streamed>(
 {
     ran?;
     if first.refused {
+        // Out of memory: rows are refused by that alone.
         return Err(StreamError::OutOfMemory);
     }
     Ok(Rows::new(first.rows))
