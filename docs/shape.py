@@ -2,16 +2,17 @@
 """Count the shape of the sources: crates and their edges, large functions and files, and chains of calls.
 
     docs/shape.py                    print all counts
-    docs/shape.py --calls FROM TO    print the shortest chain of calls between two functions, as run_rvtest Machine::run
+    docs/shape.py --calls FROM TO    print the shortest chain of calls, as from run_rvtest to Machine::run
 
 What is counted:
-- Crates and edges are those of crates.txt. Code names an edge if it has `NAME::` in src outside ghost items, clauses and comments.
-- A function's lines are those from `fn` to its last brace, without clauses, ghost items, comments and empty lines. Its arguments do not
-  include self, and its generic parameters include neither lifetimes nor those of its impl. Tests are included.
-- A file's lines are all of its lines.
-- Calls are found by names, without types: a call may be any function of this name that takes this many arguments, in the crate or in one
-  below it, of the type or crate that the call names. A call of a trait's method may be each of its impls. So a chain may have a step that
-  no run takes; calls through closures and function values are missing.
+- Crates and edges are those of crates.txt. Code names an edge if it has `NAME::` or `use NAME` in src outside ghost items, clauses and
+  comments. Definitions, contracts and proofs name it by `Rattle.NAME`.
+- The lines of a function are those from `fn` to its last brace, without clauses, ghost items, comments and empty lines. Its arguments do
+  not include self, and its generic parameters include neither lifetimes nor those of its impl. Tests are included.
+- The lines of a file are all of its lines.
+- Calls are resolved by name, without types. A call may reach every function that has this name and this many arguments, is in the same
+  crate or in one below it, and belongs to the type or crate that the call names. A call of a trait's method may reach each of its impls. So
+  a chain may have a step that no run takes. Calls of function values are missing.
 """
 import argparse
 import collections
@@ -22,7 +23,7 @@ import sys
 
 TOP = pathlib.Path(__file__).resolve().parent.parent
 MOST_LINES, MOST_ARGUMENTS, MOST_GENERICS, MOST_FILE_LINES = 40, 5, 4, 300
-# A text, a character, or a comment, in which no brace counts.
+# A string, a character or a comment, in which braces do not count.
 OPAQUE = re.compile(r'//[^\n]*|r(#*)".*?"\1|b?"(?:\\.|[^"\\])*"|b?\'(?:\\(?:x..|u\{\w+\}|.)|[^\\\'\n])\'', re.S)
 GHOST = re.compile(r"^[ \t]*(?:(?:pub(?:\(crate\))? )?(ghost)|ensures|requires|decreases|invariant)\b", re.M)
 CLOSING = {"(": ")", "[": "]", "{": "}", "<": ">"}
@@ -34,12 +35,12 @@ KEYWORDS = {"if", "while", "match", "for", "return", "in", "fn", "loop", "let", 
 # ---- texts
 
 def blanked(text):
-    """A text with spaces for its letters, and the same lines."""
+    """The text with a space for every character but line feeds."""
     return re.sub(r"[^\n]", " ", text)
 
 
 def closing(text, at):
-    """The index of the bracket that closes the one at an index. The arrows `->` and `=>` close nothing."""
+    """The index of the bracket that closes the one at an index. The `>` of `->` and `=>` closes nothing."""
     opened, closed, depth = text[at], CLOSING[text[at]], 0
     for end in range(at, len(text)):
         if text[end] == opened:
@@ -64,7 +65,7 @@ def end_of_ghost(text, at, is_item):
 
 
 def code_of(text):
-    """A source without comments, texts, ghost items and clauses, each of which leaves its lines empty."""
+    """The code of a source: comments, strings, ghost items and clauses are blanked, so that line numbers stay."""
     text = OPAQUE.sub(lambda found: blanked(found[0]), text)
     out, at = [], 0
     for found in GHOST.finditer(text):
@@ -76,7 +77,7 @@ def code_of(text):
 
 
 def parts(text):
-    """The parts of a list between its commas, those in brackets and between the bars of a closure left whole."""
+    """Split a list at its commas, except for those in brackets and between the bars of a closure."""
     found, start, at, in_closure = [], 0, 0, False
     while at < len(text):
         if text[at] in "([{":
@@ -113,7 +114,7 @@ def sources(crate):
 def naming(crate, nears):
     """The crates among these that the code of a crate names, and those that its definitions, contracts and proofs name."""
     texts = sources(crate).values()
-    code = set(re.findall(r"\b(\w+)::", "\n".join(map(code_of, texts))))
+    code = set(re.findall(r"\b(?:\w+(?=::)|(?<=use )\w+)", "\n".join(map(code_of, texts))))
     proofs = (path for folder in ("specs", "proofs") for path in (TOP / "crates" / crate / folder).rglob("*.antt"))
     told = set(re.findall(r"\bRattle\.(\w+)", "\n".join([*texts, *(path.read_text(encoding="utf-8") for path in proofs)])))
     return code & {*nears}, told & {*nears}
@@ -144,7 +145,7 @@ class Function:
 
 
 def bracketed(text, at, opened):
-    """What the brackets hold that are next in a text, and the index after them; nothing where there are none."""
+    """The text in the brackets that come next, and the index after them; an empty text if there are none."""
     found = re.compile(r"\s*" + re.escape(opened)).match(text, at)
     if not found:
         return "", at
@@ -153,7 +154,7 @@ def bracketed(text, at, opened):
 
 
 def start_of_body(text, at):
-    """The index of the brace or the semicolon that ends a head."""
+    """The index of the brace or the semicolon at the end of a head."""
     while at < len(text) and text[at] not in "{;":
         at = closing(text, at) + 1 if text[at] in "([" else at + 1
     return at
@@ -183,7 +184,7 @@ def function_at(crate, path, text, at, owner):
 
 
 def owner_at(text, at, kind):
-    """The type of an impl with its trait, or a trait itself, whose head goes on at an index; and the index of its end."""
+    """The type and the trait of an impl, or a trait itself, from an index in its head; and the index of its end."""
     _, at = bracketed(text, at, "<") if kind == "impl" else ("", at)
     start = start_of_body(text, at)
     first, is_of_trait, second = re.sub(r"\bwhere\b.*", "", text[at:start], flags=re.S).partition(" for ")
@@ -192,7 +193,7 @@ def owner_at(text, at, kind):
 
 
 def functions_of(crate, path, text):
-    """The functions of a file. Those in another one's body are part of it."""
+    """The functions of a file. A function in the body of another counts as a part of it."""
     owners, at = [], 0
     while found := HEAD.search(text, at):
         owners = [(owner, end) for owner, end in owners if end > found.start()]
@@ -217,7 +218,7 @@ def all_functions(edges):
 # ---- calls
 
 class Calls:
-    """Which functions a function may call."""
+    """The call graph, as far as names tell it."""
 
     def __init__(self, edges, functions):
         self.below = {crate: reached(edges, crate) for crate in edges}
@@ -228,7 +229,7 @@ class Calls:
                 self.impls[function.trait, function.name].append(function)
 
     def candidates(self, caller, qualifier, is_method, name, count):
-        """The functions that a call may mean."""
+        """The functions that a call may reach."""
         found = [function for function in self.named[name] if function.crate in self.below[caller.crate]]
         if is_method:
             return [function for function in found if function.has_self and len(function.arguments) == count]
@@ -252,7 +253,7 @@ class Calls:
 
 
 def functions_named(functions, words):
-    """The functions of a name, which may follow the name of a type or a crate."""
+    """The functions of this name. It may have the name of a type, a trait or a crate in front."""
     qualifier, _, name = words.rpartition("::")
     found = [one for one in functions if one.name == name and (not qualifier or qualifier in (one.owner, one.trait, one.crate))]
     if not found:
@@ -261,7 +262,7 @@ def functions_named(functions, words):
 
 
 def chain(functions, edges, start, goal):
-    """The shortest chain of calls from a function of one name to one of another, or nothing."""
+    """The shortest chain of calls from a function of one name to a function of another; empty if there is none."""
     calls, goals = Calls(edges, functions), {*functions_named(functions, goal)}
     before = dict.fromkeys(functions_named(functions, start))
     waiting = collections.deque(before)
@@ -286,7 +287,7 @@ def listing(title, lines):
 
 
 def print_crates(edges):
-    """Prints the numbers of crates and of their edges, by who names them."""
+    """Print the number of crates, and of their edges by what names them."""
     inner = {crate: [near for near in nears if near in edges] for crate, nears in edges.items()}
     outer = sum(len(nears) for nears in edges.values()) - sum(map(len, inner.values()))
     names = {crate: naming(crate, nears) for crate, nears in inner.items()}
@@ -302,7 +303,7 @@ def print_crates(edges):
 
 
 def print_functions(functions):
-    """Prints the functions that are large in one way or another."""
+    """Print the functions that exceed a limit."""
     print(f"{len(functions):6} functions")
     measures = (
         (f"of more than {MOST_LINES} lines", MOST_LINES, lambda one: one.lines),
