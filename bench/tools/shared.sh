@@ -1,5 +1,5 @@
 # shellcheck shell=bash
-# What the benchmarks of fleets, job lists and hostile input share. Sourced at the repository's root by bash.
+# What the benchmarks share, for bash scripts to source at the root of the repository.
 
 # shellcheck disable=SC2034  # for the scripts that source this one
 program=./crates/rvfleet/out/rvfleet
@@ -11,7 +11,7 @@ give_up() {
     exit 1
 }
 
-# Builds the program where that is missing, and what times it.
+# Build the program if it is missing, and the tool that times it.
 prepare() {
     ./rvfleet --help >"$work/warm"
     local compiler
@@ -21,11 +21,10 @@ prepare() {
             return
         fi
     done
-    give_up "it needs gcc or clang"
+    give_up "gcc or clang not found"
 }
 
-# Times COUNT runs of a program, one after another, under a name; each must end with STATUS. What they print goes to
-# NAME.report.
+# Time COUNT runs of a program, one after another, under a name. Each must end with STATUS. Their output goes to NAME.report.
 #   measure NAME COUNT STATUS PROGRAM [WORD...]
 measure() {
     local name=$1
@@ -34,22 +33,22 @@ measure() {
         give_up "$name: $(tail -n 1 "$work/$name.report")"
 }
 
-# The least figure of a column over the rounds of a name: 1 the clock's seconds, 2 the processor's.
+# Print the smallest value of a column over the rounds of a name, in seconds: column 1 is the clock, and 2 is processor time.
 least() {
     cut -d ' ' -f "$1" "$work/$2.times" | sort -g | head -n 1
 }
 
-# The most memory of a name's rounds, in KB.
+# Print the peak memory over the rounds of a name, in KB.
 peak() {
     cut -d ' ' -f 3 "$work/$1.times" | sort -g | tail -n 1
 }
 
-# The maker of ELF files, which says what its words are.
+# Make an ELF file; checks/lib/images.py explains the arguments.
 image() {
     python3 checks/lib/images.py "$@"
 }
 
-# The ELF file of a flat image, whose first byte is the entry.
+# Print the ELF file of a flat image, whose entry is its first byte.
 elf_of() {
     image --of "$1"
 }

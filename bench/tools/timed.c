@@ -1,6 +1,5 @@
-/* Runs a program COUNT times, one run after another, and appends a line to FILE: the seconds that all runs took by the
- * clock, those of the processor (of the user and of the system), and the most memory that a run held, in KB. Each run
- * must end with STATUS.
+/* Run a program COUNT times, one run after another, and append a line to FILE: the seconds that all runs took by the
+ * clock, their processor seconds (user and system), and the peak memory of a run, in KB. Each run must end with STATUS.
  *   timed FILE COUNT STATUS PROGRAM [WORD...] */
 #include <spawn.h>
 #include <stdio.h>
@@ -23,7 +22,7 @@ static double clock_now(void)
     return (double)now.tv_sec + (double)now.tv_nsec / 1e9;
 }
 
-/* The status of one run, or -1 where it was not started or did not end by itself. */
+/* The status of one run, or -1 if it was not started or was killed. */
 static int run(char **words)
 {
     pid_t process;
@@ -36,7 +35,7 @@ static int run(char **words)
 int main(int count, char **words)
 {
     if (count < 5) {
-        fprintf(stderr, "timed: FILE COUNT STATUS PROGRAM [WORD...]\n");
+        fprintf(stderr, "usage: timed FILE COUNT STATUS PROGRAM [WORD...]\n");
         return 2;
     }
     const int runs = atoi(words[2]), wanted = atoi(words[3]);
@@ -44,7 +43,7 @@ int main(int count, char **words)
     for (int k = 0; k < runs; k++) {
         const int status = run(words + 4);
         if (status != wanted) {
-            fprintf(stderr, "timed: %s ended with %d, not %d\n", words[4], status, wanted);
+            fprintf(stderr, "timed: %s: expected status %d, found %d\n", words[4], wanted, status);
             return 1;
         }
     }

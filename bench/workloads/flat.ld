@@ -1,4 +1,4 @@
-/* A flat image at the base of the default map, from its entry on. */
+/* A flat image at the base of the default map, beginning with its entry. */
 ENTRY(start)
 SECTIONS
 {

@@ -1,4 +1,4 @@
-# Where a workload begins: a stack, and the exit call with what `run` gives as the code.
+# The start of a workload: set up a stack, call `run`, and exit with the code that it returns.
     .section .text.start, "ax"
     .globl start
 start:

@@ -15,27 +15,27 @@ from tables import Malformed
 
 # The commands that need no proof, the longest first, with their words, and whether they run the programs.
 SCRIPTS = {
-    "runner": ("runner", True),
-    "growths": ("growths --quick", True),
-    "merge": ("merge", True),
-    "accepts": ("accepts 200", True),
+    "runner": ("runner.sh", True),
+    "growths": ("growths.sh --quick", True),
+    "merge": ("merge.sh", True),
+    "accepts": ("accepts.sh 200", True),
     "client": ("client.py", True),
     "gdb_sessions": ("gdb_sessions.py", True),
-    "launch": ("launch", False),
-    "streams": ("streams", True),
+    "launch": ("launch.sh", False),
+    "streams": ("streams.sh", True),
     "docs": ("docs.py", True),
     "lint": ("lint.py", False),
     "ci": ("ci.py", False),
     "grammar": ("grammar.py", False),
     "memory": ("memory.py", False),
-    "doors": ("doors", False),
+    "doors": ("doors.sh", False),
     "kit_counts": ("kit_counts.py", False),
     "kit_lists": ("kit_lists.py", True),
     "samples": ("samples.py", False),
-    "version": ("version", False),
-    "pages": ("pages", True),
+    "version": ("version.sh", False),
+    "pages": ("pages.sh", True),
     "completions": ("completions.py", True),
-    "worked": ("worked", True),
+    "worked": ("worked.sh", True),
 }
 
 

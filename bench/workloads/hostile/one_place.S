@@ -1,5 +1,5 @@
-# Jumps between two addresses that are 8,192 bytes apart: a table of kept instructions with a place for each even
-# address modulo 8,192 has one place for both.
+# Jumps between two addresses that are 8,192 bytes apart: in a decode cache with an entry for each even
+# address modulo 8,192, both have the same entry.
     .globl start
 start:
     .option norvc

@@ -1,4 +1,4 @@
-# Stores over the jump of a loop, and FENCE.I: each round fetches the jump afresh.
+# Stores over the jump of a loop, and FENCE.I: each round fetches the jump again.
     .globl start
 start:
     .option norvc

@@ -1,4 +1,4 @@
-# Stores right before the first instruction of a loop and right behind its last one, which has two bytes.
+# Stores right before the first instruction of a loop and right after its last one, which has two bytes.
     .globl start
 start:
     la      t0, again

@@ -1,5 +1,5 @@
-/* A small firmware test: sorts eight words by insertion, and exits with what a sum weighted by their places comes to. It
- * uses no console, so that it runs on other machines too. */
+/* A small firmware test: sorts eight words by insertion, and exits with their sum, weighted by position. It uses no
+ * console, so that it runs on other machines too. */
 static unsigned words[8] = { 0x5eed, 0x1c07, 0xbead, 0x0bad, 0xf00d, 0x2bad, 0xcafe, 0x0dad };
 
 static void sort(unsigned *from, unsigned count)

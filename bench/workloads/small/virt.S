@@ -1,4 +1,4 @@
-# Where the small workload begins on qemu's machine `virt`: a stack, and behind `run` the store that ends the machine.
+# The start of the small workload on qemu's machine `virt`: a stack, and after `run` the store that ends the machine.
     .section .text.start, "ax"
     .globl start
 start:

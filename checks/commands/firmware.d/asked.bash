@@ -1,4 +1,4 @@
-# shellcheck shell=bash disable=SC2154,SC2317 # checks/commands/firmware gives kit and top; stale calls each `change`
+# shellcheck shell=bash disable=SC2154,SC2317 # checks/commands/firmware.sh gives kit and top; stale calls each `change`
 # What a build asks for and does not find, dates that matter to the compiler, the kit itself, and two makes at once.
 
 # Files that __has_include asks for in ways other than by a name in quotes behind it, or by one that a search does not see.

@@ -1,4 +1,4 @@
-# shellcheck shell=bash disable=SC2154 # checks/commands/firmware gives kit and top
+# shellcheck shell=bash disable=SC2154 # checks/commands/firmware.sh gives kit and top
 # When images are made, of which sources, and what comes of a test that does not compile.
 
 case_a_header_changes() {

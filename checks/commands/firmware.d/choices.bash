@@ -1,4 +1,4 @@
-# shellcheck shell=bash disable=SC2154 # checks/commands/firmware gives kit and top
+# shellcheck shell=bash disable=SC2154 # checks/commands/firmware.sh gives kit and top
 # Which tests are built and run, what is ignored, which fail alone, and what names and options mean to the shell.
 
 case_one_test_alone() {

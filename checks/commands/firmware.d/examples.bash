@@ -1,4 +1,4 @@
-# shellcheck shell=bash disable=SC2154 # checks/commands/firmware gives kit and top
+# shellcheck shell=bash disable=SC2154 # checks/commands/firmware.sh gives kit and top
 # The committed images, the kit's examples and its page, and each example's expectations turned.
 
 case_committed_images() {

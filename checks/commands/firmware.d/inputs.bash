@@ -1,4 +1,4 @@
-# shellcheck shell=bash disable=SC2154,SC2317 # checks/commands/firmware gives kit and top; stale calls each `change`
+# shellcheck shell=bash disable=SC2154,SC2317 # checks/commands/firmware.sh gives kit and top; stale calls each `change`
 # Further inputs of a build: directories and libraries that only the linker or the assembler is told of, programs that options name,
 # variables that specs read, and dates. Each is stale in the way of rebuilds.bash.
 

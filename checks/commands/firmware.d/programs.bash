@@ -1,4 +1,4 @@
-# shellcheck shell=bash disable=SC2154 # checks/commands/firmware gives kit and top
+# shellcheck shell=bash disable=SC2154 # checks/commands/firmware.sh gives kit and top
 # What a program stands on: the C library's ends, C++, the map of memory, and signatures.
 
 case_assert_and_abort() {

@@ -1,4 +1,4 @@
-# shellcheck shell=bash disable=SC2154 # checks/commands/firmware gives kit and top
+# shellcheck shell=bash disable=SC2154 # checks/commands/firmware.sh gives kit and top
 # What makes an image be built again: whatever went into it, by contents and never by dates. Each case is green first, and then red.
 
 # A green check, a second one that builds nothing, a change that is made by the function `change`, and a red check.

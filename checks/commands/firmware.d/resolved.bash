@@ -1,4 +1,4 @@
-# shellcheck shell=bash disable=SC2154,SC2317 # checks/commands/firmware gives kit and top; stale calls each `change`
+# shellcheck shell=bash disable=SC2154,SC2317 # checks/commands/firmware.sh gives kit and top; stale calls each `change`
 # What only the compiler itself can resolve: which programs it runs, and which headers it finds, wherever it looks for them.
 
 # A test that exits with 1 once the compiler defines CODE.

@@ -1,8 +1,8 @@
-# shellcheck shell=bash disable=SC2154 # checks/commands/firmware gives kit and top
-# What the cases of checks/commands/firmware share. A case stands in a folder of its own, its tests in `t`.
+# shellcheck shell=bash disable=SC2154 # checks/commands/firmware.sh gives kit and top
+# What the cases of checks/commands/firmware.sh share. A case stands in a folder of its own, its tests in `t`.
 
 fail() {
-    echo "checks/commands/firmware: $*" >&2
+    echo "checks/commands/firmware.sh: $*" >&2
     exit 1
 }
 

@@ -2,8 +2,8 @@
 # Runs what the built rvtest makes of reports: JUnit's XML, which two readers that are not ours read back, differences, and what is
 # shown. The XML must fit the schema in checks/lib/junit.xsd, and Debian's python3-junitparser must find in it the rows' names in their order,
 # their failures and errors, and each console as it was. What differences and show print must be what stands here.
-#   checks/commands/reports              all of it
-#   checks/commands/reports --install    installs the Debian packages that it needs, and does no more
+#   checks/commands/reports.sh              all of it
+#   checks/commands/reports.sh --install    installs the Debian packages that it needs, and does no more
 # It is no part of the merge gate.
 set -euo pipefail
 cd "$(dirname "$0")/../.."
@@ -16,8 +16,8 @@ fi
 
 # shellcheck source=checks/lib/fixtures.bash
 source checks/lib/fixtures.bash
-command -v xmllint >/dev/null || fail "there is no xmllint: checks/commands/reports --install installs ${packages[*]}"
-/usr/bin/python3 -c 'import junitparser' 2>/dev/null || fail "there is no junitparser: checks/commands/reports --install installs ${packages[*]}"
+command -v xmllint >/dev/null || fail "there is no xmllint: checks/commands/reports.sh --install installs ${packages[*]}"
+/usr/bin/python3 -c 'import junitparser' 2>/dev/null || fail "there is no junitparser: checks/commands/reports.sh --install installs ${packages[*]}"
 schema=$PWD/checks/lib/junit.xsd
 cd "$work"
 

@@ -4,8 +4,8 @@
 # that says so, an output that is a beginning of the right text, and no report file. Some growths the
 # toolchain's libraries do without: one of its TOML for a number that is written with `_`, and those of its edit distance
 # while the nearest key is looked for. Such a run must be a whole one.
-#   checks/commands/growths            by a shim, each growth; by the toolchain, the first, a middle and the last one of each run
-#   checks/commands/growths --quick    by the shim alone
+#   checks/commands/growths.sh            by a shim, each growth; by the toolchain, the first, a middle and the last one of each run
+#   checks/commands/growths.sh --quick    by the shim alone
 set -euo pipefail
 cd "$(dirname "$0")/../.."
 # shellcheck source=checks/lib/fixtures.bash

@@ -1,6 +1,6 @@
 #!/usr/bin/env bash
 # Runs both programs over words, files and streams that fail: the status, the line on standard error and the output must
-# be the right ones. What rvtest does beyond that is `checks/commands/runner`'s.
+# be the right ones. What rvtest does beyond that is `checks/commands/runner.sh`'s.
 set -euo pipefail
 cd "$(dirname "$0")/../.."
 # shellcheck source=checks/lib/fixtures.bash

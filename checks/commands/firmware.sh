@@ -1,7 +1,7 @@
 #!/usr/bin/env bash
 # Tries the firmware kit as its page says, by hand, since it needs Debian's gcc-riscv64-unknown-elf and picolibc. Each case has a folder
 # of its own, and all are run, also behind one that is red: the last line counts them, and the status is 1 where one is red.
-#   checks/commands/firmware [--kit FOLDER] [CASE..]    another kit in the place of firmware/; CASE absent: all
+#   checks/commands/firmware.sh [--kit FOLDER] [CASE..]    another kit in the place of firmware/; CASE absent: all
 # The cases are the functions case_* of checks/commands/firmware.d.
 set -euo pipefail
 cd "$(dirname "$0")/../.."
@@ -58,5 +58,5 @@ for case in "${cases[@]}"; do
         red+=("$case")
     fi
 done
-echo "checks/commands/firmware: ${#cases[@]} cases, ${#red[@]} red${red[*]:+: ${red[*]}}"
+echo "checks/commands/firmware.sh: ${#cases[@]} cases, ${#red[@]} red${red[*]:+: ${red[*]}}"
 [ ${#red[@]} = 0 ]

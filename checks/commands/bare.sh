@@ -2,7 +2,7 @@
 # Tries this commit as someone who has a clone alone: in a bare Debian tree without a toolchain, a compiler or python3, where the
 # README's first command must print its line within 2 seconds; then with python3, where `checks/run` must pass within 3 minutes. Wants root,
 # for debootstrap, chroot and mount, and a Debian mirror. What is not committed does not count.
-#   checks/commands/bare [SUITE]    SUITE absent: bookworm; TREE=FOLDER keeps the bare tree there, for the next call
+#   checks/commands/bare.sh [SUITE]    SUITE absent: bookworm; TREE=FOLDER keeps the bare tree there, for the next call
 set -euo pipefail
 cd "$(dirname "$(readlink -f "$0")")/../.."
 suite=${1:-bookworm}
@@ -11,7 +11,7 @@ work=$(mktemp -d)
 source checks/lib/bare_tree.bash
 
 fail() {
-    echo "checks/commands/bare: $*" >&2
+    echo "checks/commands/bare.sh: $*" >&2
     exit 1
 }
 
@@ -59,4 +59,4 @@ began=$(date +%s%N)
 inside 'checks/run' | tee "$work/said" || fail "checks/run failed"
 took=$(since "$began")
 [ "$took" -lt 180000 ] || fail "checks/run took $took ms"
-echo "checks/commands/bare: $(tail -n 1 "$work/said"), $((took / 1000)) s, in a bare $suite with python3"
+echo "checks/commands/bare.sh: $(tail -n 1 "$work/said"), $((took / 1000)) s, in a bare $suite with python3"

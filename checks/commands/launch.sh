@@ -1,7 +1,7 @@
 #!/usr/bin/env bash
 # Which program `./rvtest` runs, and how it builds one: in a small tree of its own, whose programs are scripts that say where they lie,
 # and whose `rt` is a script that notes what it builds.
-#   checks/commands/launch
+#   checks/commands/launch.sh
 set -euo pipefail
 cd "$(dirname "$0")/../.."
 top=$PWD
@@ -11,7 +11,7 @@ work=$(mktemp -d)
 trap 'rm -rf "$work"' EXIT
 
 fail() {
-    echo "checks/commands/launch: $*" >&2
+    echo "checks/commands/launch.sh: $*" >&2
     exit 1
 }
 

@@ -3,8 +3,8 @@
 # with two nodes on this machine. In each a shard is killed in its middle and run again by the engine, and the merged report is compared
 # with that of one run, byte for byte; then a job fails, and then a part is missing: the engine's status must be red. The files for
 # GitHub and GitLab are read as YAML and run as those servers would, in clones of what is committed here.
-#   checks/commands/engines [ENGINE..]    make, yaml, parallel, slurm: absent, all of them
-#   checks/commands/engines --install     installs the Debian packages that it needs, and does no more
+#   checks/commands/engines.sh [ENGINE..]    make, yaml, parallel, slurm: absent, all of them
+#   checks/commands/engines.sh --install     installs the Debian packages that it needs, and does no more
 # It needs root, for Slurm and for sshd, says what it starts, and ends what it started. It is no part of the merge gate.
 set -euo pipefail
 cd "$(dirname "$0")/../.."
@@ -45,7 +45,7 @@ trap end_all EXIT
 needs() {
     local name
     for name in "$@"; do
-        command -v "$name" >/dev/null || [ -x "/usr/sbin/$name" ] || fail "there is no $name: checks/commands/engines --install installs ${packages[*]}"
+        command -v "$name" >/dev/null || [ -x "/usr/sbin/$name" ] || fail "there is no $name: checks/commands/engines.sh --install installs ${packages[*]}"
     done
 }
 
@@ -234,7 +234,7 @@ END
 # The clones' own rvtest runs the programs that are tried here.
 check_yaml() {
     needs git python3
-    python3 -c 'import yaml' 2>/dev/null || fail "python3 has no yaml: checks/commands/engines --install installs ${packages[*]}"
+    python3 -c 'import yaml' 2>/dev/null || fail "python3 has no yaml: checks/commands/engines.sh --install installs ${packages[*]}"
     say 'the files for GitHub and GitLab, in clones'
     RVFLEET_BIN=$work python3 checks/lib/pipelines.py "$top" "$RVTEST" || fail 'yaml: see above'
 }

@@ -2,7 +2,7 @@
 # Runs lists as shards and merges their parts, by the built programs: the report must be byte for byte the one that rvfleet writes
 # for the whole list, and the sum of the counts that of the list. A part cut at each byte is refused. A part with one byte changed is refused, or taken as the part that it
 # then is. Each refusal is told with its file.
-#   checks/commands/merge
+#   checks/commands/merge.sh
 set -euo pipefail
 cd "$(dirname "$0")/../.."
 # shellcheck source=checks/lib/fixtures.bash
@@ -155,4 +155,4 @@ for ((number = 64; number >= 1; number--)); do
     parts+=("m$number")
 done
 merges '4,096 jobs in 64 parts' 1 many.text "${parts[@]}"
-echo 'checks/commands/merge: all parts are merged or refused as they must be'
+echo 'checks/commands/merge.sh: all parts are merged or refused as they must be'

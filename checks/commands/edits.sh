@@ -1,11 +1,11 @@
 #!/usr/bin/env bash
 # Tries the must-fail edits of crates, those of the gate and those of must-fail/: the prover must refuse each. It works on a copy, in which
 # all edits of a crate stand in its folder.
-#   checks/commands/edits [CRATE..]      the edits of these crates, else of all: an hour for each hundred and more
+#   checks/commands/edits.sh [CRATE..]      the edits of these crates, else of all: an hour for each hundred and more
 set -euo pipefail
 cd "$(dirname "$0")/../.."
 for crate in "$@"; do
-    [ -d "crates/$crate/must-fail" ] || [ -d "must-fail/$crate" ] || { echo "checks/commands/edits: the crate '$crate' has no edits" >&2; exit 2; }
+    [ -d "crates/$crate/must-fail" ] || [ -d "must-fail/$crate" ] || { echo "checks/commands/edits.sh: the crate '$crate' has no edits" >&2; exit 2; }
 done
 copy=$(mktemp -d)
 trap 'rm -rf "$copy"' EXIT

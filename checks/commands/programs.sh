@@ -1,7 +1,7 @@
 #!/usr/bin/env bash
 # Whether `programs/update --check` is red where programs/ is not what was built: in a small tree of its own, whose programs are two of
 # this machine's. It needs a C compiler and binutils, as the gate does; run by hand.
-#   checks/commands/programs
+#   checks/commands/programs.sh
 set -euo pipefail
 cd "$(dirname "$0")/../.."
 top=$PWD
@@ -9,7 +9,7 @@ work=$(mktemp -d)
 trap 'rm -rf "$work"' EXIT
 
 fail() {
-    echo "checks/commands/programs: $*" >&2
+    echo "checks/commands/programs.sh: $*" >&2
     exit 1
 }
 
