@@ -31,7 +31,7 @@ pub loop-code-preserved : goal.loop-code-preserved
 loop-code-preserved c =
     let more = one_code_more c.args.counts.now c.loop-code.address c.loop-code.rest.now c.in-Some.code c.loop-code.amounts
     c.amounts_at.result _ (sym c.front_code.ensures ∙ c.in-Some.is) c.loop-code.invariant c.amounts_at.ensures in
-    rw c.plus-amounts.ensures (rw c.bytes_behind-rest.ensures (rw c.code_length.ensures more))
+    rw c.plus-amounts.ensures (rw c.bytes_behind-rest.ensures (rw c.code_length-address.ensures more))
 
 pub returns : goal.returns
 returns c =
