@@ -102,7 +102,7 @@ def check_whole(row):
 def check_reason(row):
     """Why the image of a list's only job is refused."""
     write_list(row, f"name = 'a', image = '{row['image']}', budget = 9, {row['keys']}")
-    told = f"list.toml:1: job 1 (a): refused {row['refusal']}: {row['told']}"
+    told = f'list.toml:1: job 1 "a": refused {row["refusal"]}: {row["told"]}'
     row.wants(["check", "list.toml"], 2, lines(told, "1 job, 1 refused"))
 
 
@@ -117,7 +117,7 @@ def check_fault(row):
     told = lines(*(with_front(row["front"], line) for line in lines_in(row["told"])))
     row.wants(["check", name], 2, told)
     first = lines(with_front(row["front"], row["run"] or lines_in(row["told"])[0]))
-    first = re.sub(r"^(.*?:[0-9]+):[0-9]+(: job )", r"\1\2", first)
+    first = re.sub(r"^(.*?:[0-9]+):[0-9]+(: error: job )", r"\1\2", first)
     row.wants(["run", name], 2, "", first)
     row.wants(["run", name, "--report", "r"], 2, "", first)
 
