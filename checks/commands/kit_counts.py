@@ -96,7 +96,7 @@ def sums():
     """Tables are summed, and refused, as `rvtest counts` does it: by the rows that are tried of it, but for where the sum goes."""
     put("list.toml", "[[job]]\n")
     pathlib.Path("folder").mkdir()
-    expect("a folder", refusal_of("folder"), "folder: a folder")
+    expect("a folder", refusal_of("folder"), "folder: Is a directory")
     count = 0
     for row in rows_of_file(TOP / "checks/tables/added.txt", "words status shown told out a b c".split()):
         for cells in (it for it in row.asks if "--out" not in it["words"]):
@@ -119,8 +119,8 @@ def refused_words():
     put("a.elf", "another")
     cut = put("cut.counts", TABLE[:-1])
     rows = [
-        ((), "are required: TABLE"), ((other, "--kee", "a"), "unrecognized arguments: --kee"), (("gone",), "counts2lcov: gone: missing"),
-        ((cut,), "counts2lcov: cut.counts: the table is cut off"), ((none,), "counts2lcov: gone.elf: missing"),
+        ((), "are required: TABLE"), ((other, "--kee", "a"), "unrecognized arguments: --kee"), (("gone",), "counts2lcov: gone: No such file or directory"),
+        ((cut,), "counts2lcov: cut.counts: the table is cut off"), ((none,), "counts2lcov: gone.elf: No such file or directory"),
         ((other,), "counts2lcov: a.elf: another image than that of the counts"),
     ]
     for words, said in rows:

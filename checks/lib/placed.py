@@ -93,7 +93,7 @@ def check_root(row):
     status, out, said = row.start(words)
     line = out.decode().partition("\n")[0]
     is_told = line == wanted.get(told) or (line.startswith("FAIL a: refused image-unreadable: ") and line.endswith(f": {told}"))
-    note = MISSING.format(f"{folder} (--root)" if folder else HERE) if told == "missing" and not path.startswith("/") else ""
+    note = MISSING.format(f"{folder} (--root)" if folder else HERE) if told == "No such file or directory" and not path.startswith("/") else ""
     if (status, said) != (int(told != "one"), note.encode()) or not is_told:
         row.fails(words, (int(told != "one"), told.encode(), note.encode()), (status, out, said))
 

@@ -12,9 +12,6 @@ COUNT = re.compile(f"([0-9a-f]{{8}}) {NUMBER} {NUMBER}")
 SPOT = re.compile(f"spot {NUMBER} ([0-9a-f]{{8}}) {NUMBER} {NUMBER} (.*)")
 DONE = re.compile(f"done {NUMBER} {NUMBER}")
 MOST = 2**64 - 1
-WHY_UNREAD = {FileNotFoundError: "missing", IsADirectoryError: "a folder", PermissionError: "no permission"}
-
-
 class Image(NamedTuple):
     """An image: its digest and path, of each address BEGUN and TAKEN, the names of the functions of its stacks, and of each list of
     functions, by rising lists, ARRIVALS and STEPS."""
@@ -90,7 +87,7 @@ def file_at(path):
         with open(path, "rb") as file:
             return file.read()
     except OSError as error:
-        raise Refused(f"{path}: {WHY_UNREAD.get(type(error)) or error.strerror.lower()}") from None
+        raise Refused(f"{path}: {error.strerror}") from None
 
 
 def text_of(line):

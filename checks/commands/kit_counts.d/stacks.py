@@ -55,8 +55,8 @@ def profiles():
     bare, nothing = table("bare.counts", (*one[:2], COUNTS)), table("nothing.counts", (*one[:2], ""))
     expect("an image of which nothing began", call("counts2", "folded", nothing), ("\n", ""))
     rows = [
-        (("flat", bare), "counts2: a/fib.elf: its counts have no stacks: count it with --stacks\n"), (("flat", "gone"), "counts2: gone: missing\n"),
-        (("flat", first, "--image", "c*"), "counts2: first.counts: no image of c*\n"), (("callgrind", first), "counts2: a/fib.elf: missing\n"),
+        (("flat", bare), "counts2: a/fib.elf: its counts have no stacks: count it with --stacks\n"), (("flat", "gone"), "counts2: gone: No such file or directory\n"),
+        (("flat", first, "--image", "c*"), "counts2: first.counts: no image of c*\n"), (("callgrind", first), "counts2: a/fib.elf: No such file or directory\n"),
     ]
     for words, said in rows:
         expect(f"{' '.join(words)}", call("counts2", *words, status=2), ("", said))

@@ -12,7 +12,7 @@ abbrev pub unread_note : List Unread → List ℕ → Option Unread
 unread_note unread path = find (λ (one : Unread). bytes_eq path one.path) unread
 
 abbrev pub unread_note_text : Option Unread → List ℕ
-unread_note_text None = codes "not readable"
+unread_note_text None = codes "cannot be read"
 unread_note_text (Some one) = io_error_text one.reason
 
 unfoldable pub unread_file_text : List Unread → List ℕ → List ℕ

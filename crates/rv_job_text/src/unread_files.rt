@@ -48,6 +48,6 @@ fn unread_note_text(noted: Option<&Unread>) -> &'static str
 {
     match noted {
         Some(one) => io_error_text(one.reason),
-        None => "not readable",
+        None => "cannot be read",
     }
 }
