@@ -12,6 +12,8 @@ COUNT = re.compile(f"([0-9a-f]{{8}}) {NUMBER} {NUMBER}")
 SPOT = re.compile(f"spot {NUMBER} ([0-9a-f]{{8}}) {NUMBER} {NUMBER} (.*)")
 DONE = re.compile(f"done {NUMBER} {NUMBER}")
 MOST = 2**64 - 1
+
+
 class Image(NamedTuple):
     """An image: its digest and path, of each address BEGUN and TAKEN, the names of the functions of its stacks, and of each list of
     functions, by rising lists, ARRIVALS and STEPS."""
