@@ -64,12 +64,12 @@ def wrong_tables():
     for number, line in WRONG_LINES:
         changed = [*lines[:number - 1], line, *lines[number:]] if number else [*lines, line]
         path = put("wrong.counts", "".join(f"{it}\n" for it in changed))
-        expect(f"line {number} as {line!r}", refusal_of(path), f"{path}:{number or len(changed)}: no table of counts has this line here")
+        expect(f"line {number} as {line!r}", refusal_of(path), f"{path}:{number or len(changed)}: invalid line in a table of counts")
     for size in range(len(TABLE)):
         path = put("cut.counts", TABLE[:size])
-        expect(f"the first {size} bytes", refusal_of(path), f"{path}: the table is cut off")
+        expect(f"the first {size} bytes", refusal_of(path), f"{path}: the table is truncated")
     behind = put("more.counts", f"{TABLE}more")
-    expect("text behind the end", refusal_of(behind), f"{behind}:{len(lines) + 1}: no table of counts has this line here")
+    expect("text behind the end", refusal_of(behind), f"{behind}:{len(lines) + 1}: invalid line in a table of counts")
     return f"{len(WRONG_LINES)} wrong lines and {len(TABLE)} cut tables"
 
 
@@ -120,7 +120,7 @@ def refused_words():
     cut = put("cut.counts", TABLE[:-1])
     rows = [
         ((), "are required: TABLE"), ((other, "--kee", "a"), "unrecognized arguments: --kee"), (("gone",), "counts2lcov: gone: No such file or directory"),
-        ((cut,), "counts2lcov: cut.counts: the table is cut off"), ((none,), "counts2lcov: gone.elf: No such file or directory"),
+        ((cut,), "counts2lcov: cut.counts: the table is truncated"), ((none,), "counts2lcov: gone.elf: No such file or directory"),
         ((other,), "counts2lcov: a.elf: another image than that of the counts"),
     ]
     for words, said in rows:

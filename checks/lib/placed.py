@@ -77,8 +77,8 @@ def check_place(row):
 ENDS = {"one": "code 00000513 X", "two": "one"}
 
 
-MISSING = "rvtest: every image is missing: paths are taken from {}\n"
-HERE = "the folder that rvtest runs in; --root DIR takes them from DIR"
+MISSING = "rvtest: no image was found: relative paths are resolved against {}\n"
+HERE = "the current directory; use --root DIR to resolve them against DIR"
 
 
 def check_root(row):

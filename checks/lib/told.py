@@ -187,7 +187,7 @@ def write_run(row, path, text):
     end, console, signature = text.split(" ")
     if end == "refused":
         FILES["long"](row.folder / "long")
-        return "image = 'long'", "refused image-too-long: long: the file has more than 16777216 bytes", ""
+        return "image = 'long'", "refused image-too-long: long: the file is larger than 16777216 bytes", ""
     console = console.replace(".", "")
     code, told = images.run_of(raw(console), end)
     words = [] if signature in ("-", ".") else [int(word) for word in signature.split(",")]

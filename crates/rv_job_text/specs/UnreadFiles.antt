@@ -20,4 +20,4 @@ unread_file_text unread path = path ++ codes ": " ++ unread_note_text (unread_no
 
 unfoldable pub too_long_file_text : List ℕ → List ℕ
 too_long_file_text path =
-    path ++ codes ": the file has more than " ++ decimal most_bytes ++ codes " bytes"
+    path ++ codes ": the file is larger than " ++ decimal most_bytes ++ codes " bytes"

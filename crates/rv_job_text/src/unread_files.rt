@@ -29,7 +29,7 @@ pub fn too_long_file_text(alloc: Global, path: &str) -> Result<Vec<u8>, AllocErr
         alloc,
         &[
             Span::Text(path),
-            Span::Text(": the file has more than "),
+            Span::Text(": the file is larger than "),
             Span::Number(MOST_BYTES as u64),
             Span::Text(" bytes"),
         ],
