@@ -124,7 +124,7 @@ report '1 failing' 'exit 5' 2 fail >"$work/failing.text"
 } >"$work/list.text"
 
 # What rvtest shows of the list, and says of its files.
-unexpected='expected exit 0, since it expects nothing else'
+unexpected='expected: exit 0, since no expectation is set'
 short='refused short-header: the file is shorter than an ELF header'
 {
     printf 'FAIL fault: fault breakpoint at 80000000, value 00000000, after 0 steps\n     %s\n' "$unexpected"

@@ -8,7 +8,7 @@ import images
 from rows import RULES, Form, last_line, lines, lines_in, squeezed, status_of, told_lines
 from tables import raw
 
-UNEXPECTED = "expected exit 0, since it expects nothing else"
+UNEXPECTED = "expected: exit 0, since no expectation is set"
 
 
 # ---- the files that rows name
@@ -143,7 +143,7 @@ def check_shown(row):
     """What bytes, in hexadecimal digits, are shown as."""
     data, text = bytes.fromhex(row["digits"]), row["shown"]
     if b"\n" not in data:
-        wants_console(row, data + b"\n", "expect_exit = 1", "expected exit 1", f"| {text}")
+        wants_console(row, data + b"\n", "expect_exit = 1", "expected: exit 1", f"| {text}")
     if data:
         code = images.numbers("00000013 01002503")
         row.write("image.elf", images.with_symbols(images.program(code), [(data, images.BASE, 2, 1)]))
@@ -155,14 +155,14 @@ def check_shown(row):
 def check_value(row):
     """What is shown of the value that a file says is expected."""
     row.write("f", row["value"])
-    told = f'expected the console of f: byte 0 is "\\xfe", expected "{row["shown"]}"'
+    told = f'expected: console of f: byte 0 is "\\xfe", expected "{row["shown"]}"'
     wants_console(row, b"\xfe", "expect_console_file = 'f'", told, "| \\xfe")
 
 
 def check_console(row):
     """The lines that are shown of the end of a console, and the whole of it by `console`, beside the job's line."""
     console = raw(row["console"])
-    line = wants_console(row, console, "expect_exit = 1", "expected exit 1", *lines_in(row["shown"]))
+    line = wants_console(row, console, "expect_exit = 1", "expected: exit 1", *lines_in(row["shown"]))
     row.wants(["console", "list.toml", "b"], 1, console, lines(line))
 
 
@@ -210,7 +210,7 @@ def check_unmet(row):
     if row["file"]:
         row.write("f", row["file"].replace(".", ""))
     if row["expected"]:
-        out = told_lines(f"FAIL b: {told}", *(f"expected {text}" for text in lines_in(row["expected"])), *tail_of(raw(console)))
+        out = told_lines(f"FAIL b: {told}", *(f"expected: {text}" for text in lines_in(row["expected"])), *tail_of(raw(console)))
     else:
         out = lines(f"{'FAIL' if told.startswith('refused') else 'PASS'} b: {told}")
     wants_run(row, ["--verbose", "--only", "b"], out)

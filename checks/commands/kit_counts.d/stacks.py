@@ -22,7 +22,7 @@ COUNTS = """80000000 1 0
 80000100 1 0
 """
 FLAT = """{0}: 20 steps
-         own       %    inclusive       %   arrivals  function
+         own       %    inclusive       %      calls  function
           13  65.00%           13  65.00%          3  fib
            4  20.00%           18  90.00%          1  main
            2  10.00%           20 100.00%          1  _start
