@@ -56,8 +56,8 @@ from the start | LOOP | 100 | s > T05 / vRun > T05 / p21 > 00000000
 monitor reset | LOOP | 100 | s > T05 / qRcmd,72657365742068616c74 > OK / p21 > 00000000
 the end | LOOP | 100 | D > OK / g > nothing / ? > nothing
 printed bytes go out once | 100002b7 04100313 0062a023 0062a023 X | 100 | s > T05 / s > T05 / s > O41 & T05 / bs > T05 / s > T05 / c > O41 & O656e640a & T05replaylog:end; / p22 > 02000000 / bc > T05replaylog:begin; / p22 > 00000000 / c > O656e640a & T05replaylog:end;
-to a printed byte | 100002b7 04100313 0062a023 0062a023 X | 100 | P22=01000000 > OK / p21 > 03000000 / bs > T05 / p22 > 00000000 / p20 > 08000080 / P22=02000000 > OK / p21 > 04000000 / P22=03000000 > E.the run does not come there / qRcmd,636f6e736f6c65 > O4141 & OK / qRcmd,7768656e > O342073746570732061726520646f6e650a & OK
-to a byte of the script | 100002b7 0002a383 0002a383 X | 100 | P23=01000000 > OK / p21 > 02000000 / p7 > 68000000 / qRcmd,696e707574 > O31206f662032206279746573206172652074616b656e0a & OK / P23=02000000 > OK / p7 > 69000000 / P23=03000000 > E.the run does not come there
+to a printed byte | 100002b7 04100313 0062a023 0062a023 X | 100 | P22=01000000 > OK / p21 > 03000000 / bs > T05 / p22 > 00000000 / p20 > 08000080 / P22=02000000 > OK / p21 > 04000000 / P22=03000000 > E.the run does not come there / qRcmd,636f6e736f6c65 > O4141 & OK / qRcmd,7768656e > O342073746570732065786563757465640a & OK
+to a byte of the script | 100002b7 0002a383 0002a383 X | 100 | P23=01000000 > OK / p21 > 02000000 / p7 > 68000000 / qRcmd,696e707574 > O31206f66203220627974657320726561640a & OK / P23=02000000 > OK / p7 > 69000000 / P23=03000000 > E.the run does not come there
 a breakpoint of the program | 00100073 | 100 | c > O656e640a & T06 / p21 > 00000000 / s > O656e640a & T06
 no instruction | 00000297 00000000 | 100 | c > O656e640a & T04 / p21 > 01000000 / bc > T05replaylog:begin;
 a misaligned load | 00000297 0012a383 | 100 | c > O656e640a & T0a / p20 > 04000080
