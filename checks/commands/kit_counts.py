@@ -121,7 +121,7 @@ def refused_words():
     rows = [
         ((), "are required: TABLE"), ((other, "--kee", "a"), "unrecognized arguments: --kee"), (("gone",), "counts2lcov: gone: No such file or directory"),
         ((cut,), "counts2lcov: cut.counts: the table is truncated"), ((none,), "counts2lcov: gone.elf: No such file or directory"),
-        ((other,), "counts2lcov: a.elf: another image than that of the counts"),
+        ((other,), "counts2lcov: a.elf: the image differs from that of the counts"),
     ]
     for words, said in rows:
         out, err = call("counts2lcov", *words, status=2)

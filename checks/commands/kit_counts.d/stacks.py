@@ -56,7 +56,7 @@ def profiles():
     expect("an image of which nothing began", call("counts2", "folded", nothing), ("\n", ""))
     rows = [
         (("flat", bare), "counts2: a/fib.elf: its counts have no stacks: count it with --stacks\n"), (("flat", "gone"), "counts2: gone: No such file or directory\n"),
-        (("flat", first, "--image", "c*"), "counts2: first.counts: no image of c*\n"), (("callgrind", first), "counts2: a/fib.elf: No such file or directory\n"),
+        (("flat", first, "--image", "c*"), "counts2: first.counts: no image matches c*\n"), (("callgrind", first), "counts2: a/fib.elf: No such file or directory\n"),
     ]
     for words, said in rows:
         expect(f"{' '.join(words)}", call("counts2", *words, status=2), ("", said))
