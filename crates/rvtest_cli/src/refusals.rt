@@ -132,8 +132,9 @@ impl Misuse {
             Misuse::NamelessSuite => {
                 "a value is required for '--suite <NAME>' but none was supplied"
             }
-            Misuse::UnknownColor =>
-                "invalid value for '--color <WHEN>': expected always, never or auto",
+            Misuse::UnknownColor => {
+                "invalid value for '--color <WHEN>': expected always, never or auto"
+            }
             Misuse::OneFile => {
                 "the argument '--report <FILE>' cannot name the same file as '--junit <FILE>'"
             }
