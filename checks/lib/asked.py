@@ -71,7 +71,7 @@ def check_full_disk(row):
     write_all(row)
     words = row["words"].split()
     status, said = row.run_onto_full_disk(words)
-    wanted = lines(*lines_in(row["said"]), "rvtest: the results: write failed").encode()
+    wanted = lines(*lines_in(row["said"]), "rvtest: standard output: write failed").encode()
     if (status, said) != (3, wanted):
         row.fails(words, (3, b"", wanted), (status, b"", said))
     for name in row["not_there"].split():

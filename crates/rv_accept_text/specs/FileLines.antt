@@ -21,8 +21,8 @@ abbrev pub job_name : List Job → ℕ → List ℕ
 job_name jobs place = unwrap_or (option_map (λ job. job.name) (slice_get jobs place)) []
 
 abbrev pub part_text : Part → List ℕ
-part_text part.Console = codes "the console of "
-part_text part.Signature = codes "the signature of "
+part_text part.Console = codes "console of "
+part_text part.Signature = codes "signature of "
 
 -- ---- a file that is written
 
@@ -83,10 +83,10 @@ abbrev pub disagreement_text : List Job → List Claim → List ℕ → List ℕ
 disagreement_text jobs claims path = first_claim_text jobs claims path (find (names_file path) claims)
 
 abbrev pub why_file_is_left : List Job → List Claim → List ℕ → Fate → List ℕ
-why_file_is_left jobs claims path (fate.LeftBy job) = printable_text (job_name jobs job) ++ codes " expects it too, and is left\n"
+why_file_is_left jobs claims path (fate.LeftBy job) = printable_text (job_name jobs job) ++ codes " also expects it, and is left unchanged\n"
 why_file_is_left jobs claims path (fate.Differ job other) = disagreement_text jobs claims path
-why_file_is_left jobs claims path (fate.Agreed text) = codes "it is the list or an image, which is never written\n"
-why_file_is_left jobs claims path fate.Unclaimed = codes "it is the list or an image, which is never written\n"
+why_file_is_left jobs claims path (fate.Agreed text) = codes "the list and images are never overwritten\n"
+why_file_is_left jobs claims path fate.Unclaimed = codes "the list and images are never overwritten\n"
 
 abbrev pub left_head : List ℕ → List ℕ
 left_head name = codes "left " ++ printable_text name ++ codes ": "

@@ -120,8 +120,8 @@ fn part_text(part: Part) -> &'static str
     ensures { result.now ≡ part_text part }
 {
     match part {
-        Part::Console => "the console of ",
-        Part::Signature => "the signature of ",
+        Part::Console => "console of ",
+        Part::Signature => "signature of ",
     }
 }
 
@@ -170,13 +170,13 @@ fn push_why_file_is_left(
             out,
             &[
                 Span::Shown(job_name(jobs, *job).as_bytes()),
-                Span::Text(" expects it too, and is left\n"),
+                Span::Text(" also expects it, and is left unchanged\n"),
             ],
         ),
         Fate::Differ(..) => push_disagreement(out, jobs, claims, target.path.as_str()),
         Fate::Agreed(_) | Fate::Unclaimed => push_text(
             out,
-            "it is the list or an image, which is never written\n",
+            "the list and images are never overwritten\n",
         ),
     }
 }

@@ -34,8 +34,8 @@ IsUnmatched text jobs = (pattern : Regex) × (regex_source pattern ≡ text) × 
     × (is_found_in_names (regex_pattern pattern) jobs ≡ false)
 
 abbrev pub unmatched_pattern : List ℕ → List ℕ → List ℕ
-unmatched_pattern list text = codes "rvtest: " ++ printable_text list ++ codes ": no job's name matches '"
-    ++ printable_value text ++ codes "'\n"
+unmatched_pattern list text = codes "rvtest: " ++ printable_text list ++ codes ": no job name matches \""
+    ++ printable_value text ++ codes "\"\n"
 
 -- memory was wanting, a text is no pattern, or its pattern is found in no name
 abbrev pub IsPatternStop : List ℕ → List ℕ → List Job → Stop → Type 0
@@ -55,8 +55,8 @@ pub record LeavesNone (known : Option FileContents) (words : RunAsked) (rule : R
   pub emptied : are_emptied wanted (left_marks (regex_pattern pattern) jobs wanted) ≡ true
 
 abbrev pub emptied_choice : List ℕ → List ℕ → List ℕ
-emptied_choice list text = codes "rvtest: " ++ printable_text list ++ codes ": --exclude '" ++ printable_value text
-    ++ codes "' leaves no job\n"
+emptied_choice list text = codes "rvtest: " ++ printable_text list ++ codes ": no jobs left after --exclude \"" ++ printable_value text
+    ++ codes "\"\n"
 
 -- that is told, of a pattern that leaves none of some marks
 abbrev pub IsEmptiedStop : List ℕ → List Job → List Bool → Regex → Stop → Type 0

@@ -358,9 +358,9 @@ fn unmatched_pattern_message<'a>(
         &[
             Span::Text("rvtest: "),
             Span::Shown(list.as_bytes()),
-            Span::Text(": no job's name matches '"),
+            Span::Text(": no job name matches \""),
             Span::Value(pattern.as_bytes()),
-            Span::Text("'\n"),
+            Span::Text("\"\n"),
         ],
     )
 }
@@ -383,9 +383,9 @@ fn emptied_choice_message<'a>(
         &[
             Span::Text("rvtest: "),
             Span::Shown(list.as_bytes()),
-            Span::Text(": --exclude '"),
+            Span::Text(": no jobs left after --exclude \""),
             Span::Value(pattern.as_bytes()),
-            Span::Text("' leaves no job\n"),
+            Span::Text("\"\n"),
         ],
     )
 }

@@ -36,7 +36,7 @@ fn list_message<'a>(alloc: Global, noun: &'a str, path: &'a str) -> Result<Vec<u
         &[
             Span::Text("rvtest: "),
             Span::Shown(path.as_bytes()),
-            Span::Text(": a job list, and no "),
+            Span::Text(": this is a job list, not a "),
             Span::Text(noun),
             Span::Text("\n"),
         ],
@@ -59,13 +59,13 @@ fn line_message<'a>(
             Span::Shown(path.as_bytes()),
             Span::Text(":"),
             Span::Number(number as u64),
-            Span::Text(": no "),
+            Span::Text(": invalid "),
             Span::Text(noun),
-            Span::Text(" has this line here: \""),
+            Span::Text(" line \""),
             Span::Value(numbered_line(text, number)),
-            Span::Text("\": "),
+            Span::Text("\": expected "),
             Span::Text(wanted_behind(line_before(text, number))),
-            Span::Text(" is wanted\n"),
+            Span::Text("\n"),
         ],
     )
 }
@@ -146,20 +146,20 @@ fn wanted_behind(line: &[u8]) -> &'static str
     ensures { result.now ≡ wanted_behind line.now }
 {
     if line.starts_with(b"job ") {
-        "end with how the run ended"
+        "\"end\" and how the run ended"
     } else if line.starts_with(b"end ") {
-        "steps with their number"
+        "\"steps\" and a number"
     } else if line.starts_with(b"steps ") {
-        "console with hexadecimal digits or -"
+        "\"console\" and hexadecimal digits or -"
     } else if line.starts_with(b"console ") {
-        "signature with the number of its words or -"
+        "\"signature\" and its number of words or -"
     } else if line.starts_with(b"signature -") {
-        "verdict with none, pass or fail"
+        "\"verdict\" and none, pass or fail"
     } else if line.is_empty() || line.starts_with(b"verdict ") {
-        "job with the next number, or done or part at the end,"
+        "\"job\" and the next number, or \"done\" or \"part\" at the end"
     } else if line.starts_with(b"done ") || line.starts_with(b"part ") {
-        "nothing more"
+        "the end of the file"
     } else {
-        "a word of eight hexadecimal digits, or verdict,"
+        "eight hexadecimal digits or \"verdict\""
     }
 }

@@ -37,7 +37,7 @@ pub fn parse_report(alloc: Global, path: &str, text: &[u8]) -> Result<SavedRepor
         Ok(report) => Ok(report),
         Err(ReadError::OutOfMemory) => Err(Stop::OutOfMemory),
         Err(ReadError::CutOff) => {
-            let told = path_message(alloc, path, "the report is cut off");
+            let told = path_message(alloc, path, "the report is truncated");
             Err(Stop::of_refusal(told))
         }
         Err(ReadError::Line(line)) => Err(report_line_stop(alloc, path, text, line)),

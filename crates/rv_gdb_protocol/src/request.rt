@@ -140,9 +140,9 @@ pub enum Refusal {
     OtherFile,
     /// Arguments of another form: `E.malformed`.
     Malformed,
-    /// What would change the run: `E.the run is what it is: the debugger does not change it`.
+    /// What would change the run: `E.the run is read-only: the debugger cannot change it`.
     WouldChange,
-    /// A seek to where the run does not come: `E.the run does not come there`.
+    /// A seek to where the run does not come: `E.the run does not reach that point`.
     NotReached,
     /// More places to stop at than are kept: `E.too many breakpoints`.
     TooManyTraps,

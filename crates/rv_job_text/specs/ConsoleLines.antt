@@ -85,7 +85,7 @@ shown_line place text = text_shown_from (shown_begin place text) text
 -- that a line has no line feed
 abbrev pub feed_note : List ℕ → List ℕ
 feed_note whole =
-    if position_or_len is_feed whole == length whole then codes "     \\ no line feed at the end\n" else []
+    if position_or_len is_feed whole == length whole then codes "     \\ no newline at the end\n" else []
 
 -- the line of one side beside the other's, behind a margin
 unfoldable pub side_line : List ℕ → List ℕ → List ℕ → List ℕ
@@ -114,7 +114,7 @@ larger n m = if nat_lt n m then m else n
 
 -- in which line the first difference is, of how many: those of the longer side
 abbrev pub lines_heading : List ℕ → ℕ → ℕ → List ℕ
-lines_heading source number count = codes "     the console differs from " ++ source ++ codes " in line "
+lines_heading source number count = codes "     console differs from " ++ source ++ codes " at line "
     ++ decimal number ++ codes " of " ++ decimal count ++ codes ":\n"
 
 -- of lines of which so many in front are equal, the last of these
@@ -153,7 +153,7 @@ pub record Wanted : Type 0 where
 -- the text that a console is expected to be: of the list, or of a file as it was read
 abbrev pub wanted_console : Option ExpectedConsole → Option (List ℕ) → Option Wanted
 wanted_console None file = None
-wanted_console (Some (console.Text text)) file = Some record { source = codes "the list's text"; text = text }
+wanted_console (Some (console.Text text)) file = Some record { source = codes "the expected text"; text = text }
 wanted_console (Some (console.File path)) file = Some record { source = printable_text path; text = unwrap_or file [] }
 
 -- this text, where a difference from it is told by lines

@@ -12,7 +12,7 @@ abbrev pub unread_note : List Unread → List ℕ → Option Unread
 unread_note unread path = find (λ (one : Unread). bytes_eq path one.path) unread
 
 abbrev pub unread_note_text : Option Unread → List ℕ
-unread_note_text None = codes "not readable"
+unread_note_text None = codes "cannot be read"
 unread_note_text (Some one) = io_error_text one.reason
 
 unfoldable pub unread_file_text : List Unread → List ℕ → List ℕ
@@ -20,4 +20,4 @@ unread_file_text unread path = path ++ codes ": " ++ unread_note_text (unread_no
 
 unfoldable pub too_long_file_text : List ℕ → List ℕ
 too_long_file_text path =
-    path ++ codes ": the file has more than " ++ decimal most_bytes ++ codes " bytes"
+    path ++ codes ": the file is larger than " ++ decimal most_bytes ++ codes " bytes"

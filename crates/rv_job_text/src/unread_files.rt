@@ -29,7 +29,7 @@ pub fn too_long_file_text(alloc: Global, path: &str) -> Result<Vec<u8>, AllocErr
         alloc,
         &[
             Span::Text(path),
-            Span::Text(": the file has more than "),
+            Span::Text(": the file is larger than "),
             Span::Number(MOST_BYTES as u64),
             Span::Text(" bytes"),
         ],
@@ -48,6 +48,6 @@ fn unread_note_text(noted: Option<&Unread>) -> &'static str
 {
     match noted {
         Some(one) => io_error_text(one.reason),
-        None => "not readable",
+        None => "cannot be read",
     }
 }

@@ -42,7 +42,7 @@ fn wanted_console<'a>(
     match expected {
         None => None,
         Some(ExpectedConsole::Text(text)) => Some(WantedText {
-            source: Span::Text("the list's text"),
+            source: Span::Text("the expected text"),
             text: text.as_slice(),
         }),
         Some(ExpectedConsole::File(path)) => Some(WantedText {

@@ -41,10 +41,10 @@ found_in_names ms keys found is =
 -- ---- names
 
 pub same_as_alone : (names : List (Option (List ℕ))) (ms : Members) (told : List ℕ)
-    → TellsName names (codes "same_as") (codes "the name of an earlier job is wanted") ms told → TellsSameAs names ms told
+    → TellsName names (codes "same_as") (codes "expected the name of an earlier job") ms told → TellsSameAs names ms told
 same_as_alone names ms told is = (told, is, ([], sym (append-nil told)))
 
 pub same_as_and_more : (names : List (Option (List ℕ))) (ms : Members) (told more : List ℕ)
-    → TellsName names (codes "same_as") (codes "the name of an earlier job is wanted") ms told → BeginsWith [] more
+    → TellsName names (codes "same_as") (codes "expected the name of an earlier job") ms told → BeginsWith [] more
     → TellsSameAs names ms (told ++ more)
 same_as_and_more names ms told more is any = (told, is, (more, refl))

@@ -39,12 +39,12 @@ line_text (Some number) = codes ":" ++ decimal number
 
 abbrev pub name_text : Option (List ℕ) → List ℕ
 name_text None = []
-name_text (Some name) = codes " (" ++ (printable_value name ++ codes ")")
+name_text (Some name) = codes " \"" ++ (printable_value name ++ codes "\"")
 
 -- the number of a job, counted from 1, and its name
 abbrev pub job_number_and_name : List (Option (List ℕ)) → ℕ → List ℕ
 job_number_and_name names number =
-    codes ": job " ++ (decimal number ++ (name_text (slice_index_or names (number - 1) None) ++ codes ": "))
+    codes ": error: job " ++ (decimal number ++ (name_text (slice_index_or names (number - 1) None) ++ codes ": "))
 
 -- of the job of a number: the line on which it begins, the number, and its name
 abbrev pub job_heading : List ℕ → List (Option (List ℕ)) → ℕ → List ℕ
@@ -52,7 +52,7 @@ job_heading lines names number = line_text (slice_get lines (number - 1)) ++ job
 
 -- the number 0 stands for the whole list
 abbrev pub fault_place : List ℕ → List (Option (List ℕ)) → ℕ → List ℕ
-fault_place lines names number = if number == 0 then codes ": " else job_heading lines names number
+fault_place lines names number = if number == 0 then codes ": error: " else job_heading lines names number
 
 -- nothing is known of jobs where the text is no document
 abbrev pub place_in_document : List ℕ → Option Members → ℕ → List ℕ

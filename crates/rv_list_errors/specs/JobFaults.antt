@@ -95,7 +95,7 @@ AreAllApart regions = (place : ℕ) → IsApartBehind regions place
 
 abbrev pub overlap_text : ℕ → ℕ → ℕ → List ℕ
 overlap_text place later address = region_number_text place ++ (codes " and " ++ (region_number_text later
-    ++ (codes " both have 0x" ++ (word_digits address ++ codes ": regions that share no address are wanted"))))
+    ++ (codes " overlap at 0x" ++ (word_digits address ++ codes ": expected disjoint regions"))))
 
 abbrev pub TellsOverlap : List Region → List ℕ → Type 0
 TellsOverlap regions told = (place later address : ℕ) × IsFirstOverlap regions place later address
@@ -112,15 +112,15 @@ abbrev pub are_digit_pairs : List ℕ → Bool
 are_digit_pairs digits = list_all is_ascii_hexdigit digits && length digits % 2 == 0
 
 abbrev pub most_script_words : List ℕ
-most_script_words = codes "at most " ++ (decimal most_script ++ codes " bytes are taken")
+most_script_words = codes "expected at most " ++ (decimal most_script ++ codes " bytes")
 
 -- of a script that is bad: the key of the value that is told, and the words; by the texts of `input` and of `input_hex`
 abbrev pub script_told : Option (List ℕ) → Option (List ℕ) → Option (List ℕ) × List ℕ
-script_told (Some text) (Some digits) = (None, codes "input and input_hex both stand: one of them is taken")
+script_told (Some text) (Some digits) = (None, codes "\"input\" and \"input_hex\" cannot both be set")
 script_told (Some text) None = (Some (codes "input"), most_script_words)
 script_told None (Some digits) = (
   Some (codes "input_hex"),
-  if are_digit_pairs digits then most_script_words else codes "pairs of hexadecimal digits are wanted",
+  if are_digit_pairs digits then most_script_words else codes "expected pairs of hexadecimal digits",
 )
 script_told None None = (None, codes "input")
 
@@ -226,7 +226,7 @@ abbrev pub is_known_of_other_kind : Members → Bor (List ℕ) × Kind → Bool
 is_known_of_other_kind ms known = is_of_other_kind ms (key_and_kind known)
 
 abbrev pub TellsWrongKey : Members → Option (List ℕ × Kind) → List ℕ → Type 0
-TellsWrongKey ms None told = told ≡ codes "a value of another kind"
+TellsWrongKey ms None told = told ≡ codes "invalid type"
 TellsWrongKey ms (Some known) told = TellsOtherKind known.0 known.1 ms told
 
 -- of a job, the first key in the order of the format whose value is of another kind
@@ -237,7 +237,7 @@ TellsWrongKind ms told = TellsWrongKey ms (find (is_of_other_kind ms) kinds_of_k
 
 abbrev pub job_of_name_text : Option ℕ → List ℕ
 job_of_name_text None = []
-job_of_name_text (Some number) = codes "job " ++ (decimal number ++ codes " has this name, and ")
+job_of_name_text (Some number) = codes "job " ++ (decimal number ++ codes " has this name: ")
 
 -- the key of a name, its value, which job has that name, if one does, and what is wanted
 abbrev pub TellsName : List (Option (List ℕ)) → List ℕ → List ℕ → Members → List ℕ → Type 0
@@ -245,12 +245,12 @@ TellsName names key wanted ms told = (met : List ℕ) × IsKeyAndValue key (get_
     × (told ≡ met ++ (codes ": " ++ (job_of_name_text (number_of_name names (text_at_key key ms)) ++ wanted)))
 
 abbrev pub free_words : List ℕ
-free_words = codes "a name that no earlier job has is wanted"
+free_words = codes "expected a unique name"
 
 -- the same of the name of an earlier job, and more
 abbrev pub TellsSameAs : List (Option (List ℕ)) → Members → List ℕ → Type 0
 TellsSameAs names ms told = (head : List ℕ)
-    × TellsName names (codes "same_as") (codes "the name of an earlier job is wanted") ms head × BeginsWith head told
+    × TellsName names (codes "same_as") (codes "expected the name of an earlier job") ms head × BeginsWith head told
 
 -- what is told of a key is by what is wrong with its value
 pub record IsToldOf (wrong : What) (ms : Members) (explained : Told) : Type 0 where
@@ -274,7 +274,7 @@ TellsFaultOfTable names ms wrong told = TellsOwnFault wrong ms told
 
 -- of an element that is no table
 abbrev pub TellsNoTable : Data → List ℕ → Type 0
-TellsNoTable value told = (shown : List ℕ) × IsShownValue value shown × (told ≡ shown ++ codes ": a table is wanted")
+TellsNoTable value told = (shown : List ℕ) × IsShownValue value shown × (told ≡ shown ++ codes ": expected a table")
 
 -- of an element of a list whose jobs have these names
 abbrev pub TellsJobFault : List (Option (List ℕ)) → Option Data → What → List ℕ → Type 0

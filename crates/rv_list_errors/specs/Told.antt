@@ -38,7 +38,7 @@ IsShownValue value shown = MatchOption (as_str value)
 
 -- a key, and its value or that it is absent
 abbrev pub IsKeyAndValue : List ℕ → Option Data → List ℕ → Type 0
-IsKeyAndValue key None told = told ≡ key ++ codes " is absent"
+IsKeyAndValue key None told = told ≡ key ++ codes " is missing"
 IsKeyAndValue key (Some value) told = (shown : List ℕ) × IsShownValue value shown × (told ≡ key ++ codes " = " ++ shown)
 
 -- the same, and what is wanted of the value
@@ -52,10 +52,10 @@ IsWantedValue key value wanted told =
 abbrev pub IsNotToml : List ℕ → ℕ → List ℕ → Type 0
 IsNotToml text place told = (reason : List ℕ) × (told
     ≡ codes ":" ++ (decimal (line_at place text) ++ (codes ":" ++ (decimal (column_at place text)
-    ++ (codes ": not TOML: " ++ reason)))))
+    ++ (codes ": error: invalid TOML: " ++ reason)))))
 
 abbrev pub too_many_jobs_text : ℕ → List ℕ
-too_many_jobs_text count = decimal count ++ (codes " jobs: at most " ++ (decimal most_jobs ++ codes " are taken"))
+too_many_jobs_text count = decimal count ++ (codes " jobs: at most " ++ (decimal most_jobs ++ codes " are allowed"))
 
 -- ---- keys
 
@@ -81,7 +81,7 @@ region_number_text place = codes "region " ++ decimal (place + 1)
 
 -- the name that is probably meant, or else all of these names
 abbrev pub nearest_job_text : List (Option (List ℕ)) → Option (List ℕ) → List ℕ
-nearest_job_text names (Some name) = codes "; the nearest is " ++ quoted name
+nearest_job_text names (Some name) = codes "; a similar name exists: " ++ quoted name
 nearest_job_text names None = codes "; the earlier jobs are " ++ names_text (present names)
 
 -- it tells which of these names is probably meant by one that no job has
@@ -115,19 +115,19 @@ told_words (told.Wanted wanted) = wanted.now.before.now ++ (rest_words wanted.no
 -- of the values of keys, by what is wrong, where this alone says it
 abbrev pub key_words : What → Option (List ℕ)
 key_words what.Name =
-    Some (codes "1 to " ++ (decimal most_name ++ codes " ASCII letters, digits, \".\", \"_\" and \"-\" are wanted"))
-key_words what.Image = Some (codes "a path of 1 to " ++ (decimal most_path ++ codes " bytes is wanted"))
-key_words what.Budget = Some (codes "a whole number from 1 to " ++ (decimal most_budget ++ codes " is wanted"))
-key_words what.Load = Some (codes "\"physical\" or \"virtual\" is wanted")
+    Some (codes "expected 1 to " ++ (decimal most_name ++ codes " ASCII letters, digits, \".\", \"_\" or \"-\""))
+key_words what.Image = Some (codes "expected a path of 1 to " ++ (decimal most_path ++ codes " bytes"))
+key_words what.Budget = Some (codes "expected an integer from 1 to " ++ (decimal most_budget ++ codes ""))
+key_words what.Load = Some (codes "expected \"physical\" or \"virtual\"")
 key_words what.Signature =
-    Some (codes "the names of two symbols are wanted, 1 to " ++ (decimal most_symbol ++ codes " bytes each and no zero byte"))
-key_words what.Misaligned = Some (codes "\"fault\" or \"allow\" is wanted")
+    Some (codes "expected two symbol names of 1 to " ++ (decimal most_symbol ++ codes " bytes each, without NUL bytes"))
+key_words what.Misaligned = Some (codes "expected \"fault\" or \"allow\"")
 key_words _ = None
 
 -- ---- sets of instructions
 
 abbrev pub sets_words : List ℕ
-sets_words = codes "\"rv32i\", \"rv32im\", \"rv32ic\" or \"rv32imc\" is wanted"
+sets_words = codes "expected \"rv32i\", \"rv32im\", \"rv32ic\" or \"rv32imc\""
 
 -- a letter that stands for none of I, M and C
 abbrev pub is_unsimulated : ℕ → Bool

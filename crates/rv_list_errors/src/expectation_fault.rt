@@ -81,7 +81,7 @@ fn console_explanation(text: Option<&str>, path: Option<&str>, end: Option<&str>
 
 /// What is told of a console that is expected twice.
 pub(crate) const BOTH_CONSOLES: &str =
-    "expect_console and expect_console_file both stand: one of them is taken";
+    "\"expect_console\" and \"expect_console_file\" cannot both be set";
 
 /// Of an end that is none: an exit is expected by a key of its own.
 pub(crate) fn end_explanation(table: &Table) -> Told
@@ -99,4 +99,4 @@ fn end_text_explanation(end: Option<&str>) -> Told
     }
 }
 
-const EXIT: &str = "expect_end = \"exit\": an exit is expected by its code: use expect_exit";
+const EXIT: &str = "expect_end = \"exit\": to expect an exit, set \"expect_exit\" to its code";

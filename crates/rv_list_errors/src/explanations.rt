@@ -52,47 +52,47 @@ enum Bytes {
 
 pub(crate) const NAME: Wanted = Wanted {
     key: "name",
-    before: "1 to ",
+    before: "expected 1 to ",
     rest: Rest::Most(MOST_NAME as u64),
-    behind: " ASCII letters, digits, \".\", \"_\" and \"-\" are wanted",
+    behind: " ASCII letters, digits, \".\", \"_\" or \"-\"",
     bytes: Bytes::Untold,
 };
 
 pub(crate) const IMAGE: Wanted = Wanted {
     key: "image",
-    before: "a path of 1 to ",
+    before: "expected a path of 1 to ",
     rest: Rest::Most(MOST_PATH as u64),
-    behind: " bytes is wanted",
+    behind: " bytes",
     bytes: Bytes::Each,
 };
 
 pub(crate) const BUDGET: Wanted = Wanted {
     key: "budget",
-    before: "a whole number from 1 to ",
+    before: "expected an integer from 1 to ",
     rest: Rest::Most(MOST_BUDGET as u64),
-    behind: " is wanted",
+    behind: "",
     bytes: Bytes::Untold,
 };
 
 pub(crate) const INPUT: Wanted = Wanted {
     key: "input",
-    before: "at most ",
+    before: "expected at most ",
     rest: Rest::Most(MOST_SCRIPT as u64),
-    behind: " bytes are taken",
+    behind: " bytes",
     bytes: Bytes::Each,
 };
 
 pub(crate) const INPUT_HEX: Wanted = Wanted {
     key: "input_hex",
-    before: "at most ",
+    before: "expected at most ",
     rest: Rest::Most(MOST_SCRIPT as u64),
-    behind: " bytes are taken",
+    behind: " bytes",
     bytes: Bytes::Pairs,
 };
 
 pub(crate) const PAIRS: Wanted = Wanted {
     key: "input_hex",
-    before: "pairs of hexadecimal digits are wanted",
+    before: "expected pairs of hexadecimal digits",
     rest: Rest::Nothing,
     behind: "",
     bytes: Bytes::Untold,
@@ -100,7 +100,7 @@ pub(crate) const PAIRS: Wanted = Wanted {
 
 pub(crate) const LOAD: Wanted = Wanted {
     key: "load",
-    before: "\"physical\" or \"virtual\" is wanted",
+    before: "expected \"physical\" or \"virtual\"",
     rest: Rest::Nothing,
     behind: "",
     bytes: Bytes::Untold,
@@ -108,23 +108,23 @@ pub(crate) const LOAD: Wanted = Wanted {
 
 pub(crate) const SIGNATURE: Wanted = Wanted {
     key: "signature",
-    before: "the names of two symbols are wanted, 1 to ",
+    before: "expected two symbol names of 1 to ",
     rest: Rest::Most(MOST_SYMBOL as u64),
-    behind: " bytes each and no zero byte",
+    behind: " bytes each, without NUL bytes",
     bytes: Bytes::Untold,
 };
 
 pub(crate) const EXPECT_EXIT: Wanted = Wanted {
     key: "expect_exit",
-    before: "a whole number from 0 to ",
+    before: "expected an integer from 0 to ",
     rest: Rest::Most(u32::MAX as u64),
-    behind: " is wanted",
+    behind: "",
     bytes: Bytes::Untold,
 };
 
 pub(crate) const UNASKED: Wanted = Wanted {
     key: "expect_signature",
-    before: "a signature is expected only where the key signature names its two symbols",
+    before: "cannot be used without \"signature\"",
     rest: Rest::Nothing,
     behind: "",
     bytes: Bytes::Untold,
@@ -132,31 +132,31 @@ pub(crate) const UNASKED: Wanted = Wanted {
 
 pub(crate) const EXPECT_SIGNATURE: Wanted = Wanted {
     key: "expect_signature",
-    before: "a path of 1 to ",
+    before: "expected a path of 1 to ",
     rest: Rest::Most(MOST_PATH as u64),
-    behind: " bytes is wanted",
+    behind: " bytes",
     bytes: Bytes::Each,
 };
 
 pub(crate) const EXPECT_CONSOLE: Wanted = Wanted {
     key: "expect_console",
-    before: "at most ",
+    before: "expected at most ",
     rest: Rest::Most(MOST_CONSOLE as u64),
-    behind: " bytes are taken",
+    behind: " bytes",
     bytes: Bytes::Each,
 };
 
 pub(crate) const EXPECT_CONSOLE_FILE: Wanted = Wanted {
     key: "expect_console_file",
-    before: "a path of 1 to ",
+    before: "expected a path of 1 to ",
     rest: Rest::Most(MOST_PATH as u64),
-    behind: " bytes is wanted",
+    behind: " bytes",
     bytes: Bytes::Each,
 };
 
 pub(crate) const EXPECT_END: Wanted = Wanted {
     key: "expect_end",
-    before: "\"budget\" or the kind of a fault is wanted: ",
+    before: "expected \"budget\" or a fault kind: ",
     rest: Rest::FaultKinds,
     behind: "",
     bytes: Bytes::Untold,
@@ -164,7 +164,7 @@ pub(crate) const EXPECT_END: Wanted = Wanted {
 
 pub(crate) const ISA: Wanted = Wanted {
     key: "isa",
-    before: "\"rv32i\", \"rv32im\", \"rv32ic\" or \"rv32imc\" is wanted",
+    before: "expected \"rv32i\", \"rv32im\", \"rv32ic\" or \"rv32imc\"",
     rest: Rest::Nothing,
     behind: "",
     bytes: Bytes::Untold,
@@ -172,7 +172,7 @@ pub(crate) const ISA: Wanted = Wanted {
 
 pub(crate) const ISA_WITH_A: Wanted = Wanted {
     key: "isa",
-    before: "A is not simulated: \"rv32i\", \"rv32im\", \"rv32ic\" or \"rv32imc\" is wanted",
+    before: "A is not simulated: expected \"rv32i\", \"rv32im\", \"rv32ic\" or \"rv32imc\"",
     rest: Rest::Nothing,
     behind: "",
     bytes: Bytes::Untold,
@@ -180,7 +180,7 @@ pub(crate) const ISA_WITH_A: Wanted = Wanted {
 
 pub(crate) const ISA_WITH_FLOATS: Wanted = Wanted {
     key: "isa",
-    before: "F and D are not simulated: \"rv32i\", \"rv32im\", \"rv32ic\" or \"rv32imc\" is wanted",
+    before: "F and D are not simulated: expected \"rv32i\", \"rv32im\", \"rv32ic\" or \"rv32imc\"",
     rest: Rest::Nothing,
     behind: "",
     bytes: Bytes::Untold,
@@ -188,7 +188,7 @@ pub(crate) const ISA_WITH_FLOATS: Wanted = Wanted {
 
 pub(crate) const ISA_OF_64_BITS: Wanted = Wanted {
     key: "isa",
-    before: "RV64 is not simulated: \"rv32i\", \"rv32im\", \"rv32ic\" or \"rv32imc\" is wanted",
+    before: "RV64 is not simulated: expected \"rv32i\", \"rv32im\", \"rv32ic\" or \"rv32imc\"",
     rest: Rest::Nothing,
     behind: "",
     bytes: Bytes::Untold,
@@ -196,7 +196,7 @@ pub(crate) const ISA_OF_64_BITS: Wanted = Wanted {
 
 pub(crate) const MISALIGNED: Wanted = Wanted {
     key: "misaligned",
-    before: "\"fault\" or \"allow\" is wanted",
+    before: "expected \"fault\" or \"allow\"",
     rest: Rest::Nothing,
     behind: "",
     bytes: Bytes::Untold,

@@ -53,10 +53,10 @@ pub(crate) fn list_fault_message(
     list: &List<'_>,
     what: What,
 ) -> Result<Vec<u8>, AllocError>
-    ensures { IfOk result (λ message. BeginsWith (file.now ++ codes ": ") message.items) }
+    ensures { IfOk result (λ message. BeginsWith (file.now ++ codes ": error: ") message.items) }
 {
     let mut message = Vec::new(alloc);
-    push_spans(&mut message, &[Span::Text(file), Span::Text(": ")])?;
+    push_spans(&mut message, &[Span::Text(file), Span::Text(": error: ")])?;
     let mut explanation = Message::new(alloc);
     push_list_fault(&mut explanation, list, what);
     message.extend_from_slice(explanation.finish()?.as_slice())?;
@@ -78,7 +78,7 @@ fn push_place_in_list(message: &mut Vec<u8>, list: &List<'_>, job: u32) -> Resul
         ++ fault_place list.now.lines.items (borrowed_names list.now.names.items) job) }
 {
     if job == 0 {
-        push_text(message, ": ")
+        push_text(message, ": error: ")
     } else {
         push_job_heading(message, list, job)
     }
@@ -107,9 +107,9 @@ pub(crate) fn push_job_number_and_name(
 {
     push_spans(
         message,
-        &[Span::Text(": job "), Span::Number(u64::from(number))],
+        &[Span::Text(": error: job "), Span::Number(u64::from(number))],
     )?;
-    push_name_in_brackets(message, name_at(&list.names, number as usize - 1))?;
+    push_name_in_quotes(message, name_at(&list.names, number as usize - 1))?;
     push_text(message, ": ")
 }
 
@@ -132,16 +132,16 @@ fn name_at<'a>(names: &[Option<&'a str>], place: usize) -> Option<&'a str>
     }
 }
 
-fn push_name_in_brackets(message: &mut Vec<u8>, name: Option<&str>) -> Result<(), AllocError>
+fn push_name_in_quotes(message: &mut Vec<u8>, name: Option<&str>) -> Result<(), AllocError>
     ensures { OnOk result (message.new.items ≡ message.old.items ++ name_text (borrowed_name name.entry)) }
 {
     match name {
         Some(name) => push_spans(
             message,
             &[
-                Span::Text(" ("),
+                Span::Text(" \""),
                 Span::Value(name.as_bytes()),
-                Span::Text(")"),
+                Span::Text("\""),
             ],
         ),
         None => Ok(()),

@@ -108,7 +108,7 @@ impl<'a> FaultyJob<'a> {
         found: &mut Vec<FoundFault>,
     ) -> Result<(), AllocError> {
         let mut message = Message::new(alloc);
-        message.push("too many faults: the keys of this job from here on are not checked");
+        message.push("too many errors: the rest of the keys of this job are not checked");
         let explanation = message.finish()?;
         let place = self.list.place_of_rest(key.text);
         found.push(FoundFault { place, explanation })?;

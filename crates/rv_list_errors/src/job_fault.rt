@@ -66,7 +66,7 @@ fn push_no_table(message: &mut Message, element: &Value)
     ensures { AddsSome message.old message.new (TellsNoTable (view element.now)) }
 {
     message.push_value(element);
-    message.push(": a table is wanted");
+    message.push(": expected a table");
 }
 
 // Appends a fault of a job that is a table.
@@ -95,7 +95,7 @@ pub(crate) fn push_taken_name(message: &mut Message, list: &List<'_>, table: &Ta
     push_name_fault(message, list, table, "name", FREE)
 }
 
-const FREE: &str = "a name that no earlier job has is wanted";
+const FREE: &str = "expected a unique name";
 
 // Appends a fault that a job has whatever the other jobs are.
 fn push_fault_within_job(message: &mut Message, table: &Table, what: What)
@@ -209,7 +209,7 @@ fn digits_explanation(digits: &str) -> Told
 }
 
 /// What is told of a script that stands twice.
-pub(crate) const BOTH_INPUTS: &str = "input and input_hex both stand: one of them is taken";
+pub(crate) const BOTH_INPUTS: &str = "\"input\" and \"input_hex\" cannot both be set";
 
 /// Whether digits stand for bytes.
 pub(crate) fn are_hex_digit_pairs(digits: &str) -> bool

@@ -55,7 +55,7 @@ pub(crate) fn push_key_and_value(message: &mut Message, table: &Table, key: &str
             message.push(" = ");
             message.push_value(value);
         }
-        None => message.push(" is absent"),
+        None => message.push(" is missing"),
     }
 }
 

@@ -111,10 +111,10 @@ is_reset text = bytes_eq text (codes "reset") || bytes_eq text (codes "reset hal
 -- what the other commands print
 abbrev pub command_text : Session → List ℕ → List ℕ
 command_text session text =
-    if bytes_eq text (codes "when") then decimal session.history.place ++ codes " steps are done\n"
+    if bytes_eq text (codes "when") then decimal session.history.place ++ codes " steps executed\n"
     else if bytes_eq text (codes "console") then (here session).bus.output
     else if bytes_eq text (codes "input") then
-    decimal (taken_here session) ++ codes " of " ++ decimal session.script ++ codes " bytes are taken\n"
+    decimal (taken_here session) ++ codes " of " ++ decimal session.script ++ codes " bytes read\n"
     else HELP.now
 
 -- ---- what changes the session

@@ -25,11 +25,11 @@ IsUnmadeStop path why = IsUnopenedStop path why ⊎ IsUnwrittenStop path why
 
 -- it has other bytes than were written
 abbrev pub IsOtherBytesStop : List ℕ → Stop → Type 0
-IsOtherBytesStop path why = IsStop 3 (path_message path (codes "has other bytes than were written")) why
+IsOtherBytesStop path why = IsStop 3 (path_message path (codes "does not contain what was written")) why
 
 -- it is another file than the one that was read
 abbrev pub IsChangedStop : List ℕ → Stop → Type 0
-IsChangedStop path why = IsStop 3 (path_message path (codes "changed since it was read; nothing is written")) why
+IsChangedStop path why = IsStop 3 (path_message path (codes "changed since it was read; nothing was written")) why
 
 -- it was not read again, or it was, and has other bytes than it had when it was read or was written
 abbrev pub IsUncheckedStop : Option FileContents → List ℕ → Stop → Type 0

@@ -42,7 +42,7 @@ path_and_line path (Some number) = printable_text path ++ codes ":" ++ decimal n
 -- where the job at a place begins, its number, counted from 1, and its name
 unfoldable pub job_prefix : List ℕ → List ℕ → ℕ → Job → List ℕ
 job_prefix path lines place job =
-    path_and_line path (slice_get lines place) ++ codes ": job " ++ decimal (place + 1) ++ codes " (" ++ job.name ++ codes "): "
+    path_and_line path (slice_get lines place) ++ codes ": job " ++ decimal (place + 1) ++ codes " \"" ++ job.name ++ codes "\": "
 
 -- ---- a job that is refused
 
@@ -96,8 +96,8 @@ expected_end_name _ = codes "budget"
 -- the code and the end that a job expects, which no run meets
 abbrev pub two_ends_text : Option ℕ → Option ExpectedEnd → List ℕ
 two_ends_text code end = codes "warning: expect_exit = " ++ decimal (unwrap_or code 0)
-    ++ codes " beside expect_end = \"" ++ expected_end_name end
-    ++ codes "\": a run ends in one way, so the job never passes"
+    ++ codes " with expect_end = \"" ++ expected_end_name end
+    ++ codes "\": a run ends in only one way, so the job never passes"
 
 unfoldable pub two_ends_line : List ℕ → List ℕ → ℕ → Job → List ℕ
 two_ends_line path lines place job =

@@ -99,7 +99,7 @@ pub record IsGdbAnswered (known : Option FileContents) (is_terminal : Bool) (wor
 -- a terminal stands in gdb's place: it is said how gdb starts the command
 abbrev pub IsNoGdbStop : Stop → Type 0
 IsNoGdbStop why = IsStop 2 (path_message (codes "standard output")
-    (codes "it is a terminal, not gdb; run gdb-multiarch -ex 'target remote | rvtest gdb LIST NAME'")) why
+    (codes "expected gdb, found a terminal; run gdb-multiarch -ex 'target remote | rvtest gdb LIST NAME'")) why
 
 -- a job is refused, as its line says
 pub record IsRefusedJobStop (known : Option FileContents) (jobs : List Job) (place : ℕ) (why : Stop) : Type 0 where

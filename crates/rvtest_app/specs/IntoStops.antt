@@ -22,7 +22,7 @@ use Rattle.rvtest_app.specs.declared.whole_report.OtherName.{OtherName}
 
 -- what is wanted in the place of such a report
 abbrev pub whole_wanted : List ℕ
-whole_wanted = codes ": --into takes the whole report of the list\n"
+whole_wanted = codes ": --into expects a report of the whole list\n"
 
 -- the report at a path has so many rows of a list of so many jobs
 abbrev pub part_refusal : List ℕ → ℕ → ℕ → List ℕ
@@ -32,12 +32,12 @@ part_refusal path rows jobs = codes "rvtest: " ++ printable_text path ++ codes "
 -- it has so many rows, and the list at a path so many jobs
 abbrev pub count_refusal : List ℕ → List ℕ → ℕ → ℕ → List ℕ
 count_refusal path list rows jobs = codes "rvtest: " ++ printable_text path ++ codes ": " ++ decimal rows
-    ++ codes " rows, and " ++ printable_text list ++ codes " has " ++ decimal jobs ++ codes " jobs" ++ whole_wanted
+    ++ codes " rows, but " ++ printable_text list ++ codes " has " ++ decimal jobs ++ codes " jobs" ++ whole_wanted
 
 -- the job of a number has one name in it, and another in the list at a path
 abbrev pub name_refusal : List ℕ → List ℕ → ℕ → List ℕ → List ℕ → List ℕ
 name_refusal path list number name wanted = codes "rvtest: " ++ printable_text path ++ codes ": job "
-    ++ decimal number ++ codes " is \"" ++ name ++ codes "\", and \"" ++ wanted ++ codes "\" in "
+    ++ decimal number ++ codes " is \"" ++ name ++ codes "\", but \"" ++ wanted ++ codes "\" in "
     ++ printable_text list ++ whole_wanted
 
 abbrev pub not_whole_refusal : List ℕ → List ℕ → NotWhole → List ℕ

@@ -29,8 +29,8 @@ are_images_missing jobs unread = list_all (is_image_missing unread) jobs
 
 -- where paths are taken from, with --root and without
 abbrev pub paths_text : Option (List ℕ) → List ℕ
-paths_text None = codes "every image is missing: paths are taken from the folder that rvtest runs in; --root DIR takes them from DIR"
-paths_text (Some folder) = codes "every image is missing: paths are taken from " ++ printable_text folder ++ codes " (--root)"
+paths_text None = codes "no image was found: relative paths are resolved against the current directory; use --root DIR to resolve them against DIR"
+paths_text (Some folder) = codes "no image was found: relative paths are resolved against " ++ printable_text folder ++ codes " (--root)"
 
 -- what `run` says of the jobs of a list, where as many of them run as there are
 abbrev pub missing_images_note : List Job → List Unread → ℕ → Option (List ℕ) → List ℕ

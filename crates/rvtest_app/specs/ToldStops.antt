@@ -33,7 +33,7 @@ unreadable_words_status _ = 2
 
 abbrev pub unreadable_words_message : ErrorKind → List ℕ
 unreadable_words_message io.OutOfMemory = codes "rvtest: out of memory\n"
-unreadable_words_message _ = codes "rvtest: a word is no UTF-8 text\n"
+unreadable_words_message _ = codes "rvtest: an argument is not valid UTF-8\n"
 
 -- ---- help
 

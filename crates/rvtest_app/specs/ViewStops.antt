@@ -34,7 +34,7 @@ use Rattle.rvtest_app.specs.declared.view.View.TheVariants as view
 -- the table at a path has no counts of the image of another path, but of one that stood there
 abbrev pub other_image_message : List ℕ → List ℕ → List ℕ
 other_image_message table path = codes "rvtest: " ++ printable_text table ++ codes ": " ++ printable_text path
-    ++ codes ": another image than that of the chosen jobs\n"
+    ++ codes ": the image differs from that of the selected jobs\n"
 
 -- the table at a path has counts of another image than one of these
 abbrev pub IsOtherImageStop : Option FileContents → List ℕ → List FileImage → Stop → Type 0
@@ -48,7 +48,7 @@ IsNoTableStop known path images why = IsResultUnreadStop known path why
     ⊎ IsOtherImageStop known path images why)
 
 abbrev pub no_stacks_message : List ℕ → List ℕ
-no_stacks_message table = path_message table (codes "a table without stacks: rvtest run LIST --counts FILE --stacks writes one with them")
+no_stacks_message table = path_message table (codes "the table has no stacks: write one with rvtest run LIST --counts FILE --stacks")
 
 -- the table at a path has not what is shown
 abbrev pub IsStacklessStop : Option FileContents → View → List ℕ → Stop → Type 0

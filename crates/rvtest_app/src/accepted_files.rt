@@ -67,7 +67,7 @@ fn read_golden_file<D: Inputs>(inputs: &D, alloc: Global, path: &str) -> Result<
         Ok(None) => Err(Stop::of_failure(path_message(
             alloc,
             path,
-            "the file has more than 16777216 bytes",
+            "the file is larger than 16777216 bytes",
         ))),
         Err(InputError::OutOfMemory) => Err(Stop::OutOfMemory),
         Err(InputError::Failed(ErrorKind::NotFound)) => Ok(None),
@@ -137,7 +137,7 @@ fn is_text(found: &Option<Bytes>, old: Option<&[u8]>) -> bool
 fn changed_stop(alloc: Global, path: &str) -> Stop
     ensures { IsChangedStop path.now result }
 {
-    let what = "changed since it was read; nothing is written";
+    let what = "changed since it was read; nothing was written";
     Stop::of_failure(path_message(alloc, path, what))
 }
 
@@ -197,6 +197,6 @@ fn check_written<D: Inputs>(inputs: &D, alloc: Global, path: &str, text: &[u8]) 
 fn other_bytes_stop(alloc: Global, path: &str) -> Stop
     ensures { IsOtherBytesStop path.now result }
 {
-    let what = "has other bytes than were written";
+    let what = "does not contain what was written";
     Stop::of_failure(path_message(alloc, path, what))
 }

@@ -244,9 +244,9 @@ impl<'a> CheckedList<'a> {
             &[
                 Span::Text(": job "),
                 Span::Number(place as u64 + 1),
-                Span::Text(" ("),
+                Span::Text(" \""),
                 Span::Text(job.name.as_str()),
-                Span::Text("): "),
+                Span::Text("\": "),
             ],
         )
     }
@@ -298,9 +298,9 @@ fn push_two_ends(
         &[
             Span::Text("warning: expect_exit = "),
             Span::Number(code.unwrap_or(0) as u64),
-            Span::Text(" beside expect_end = \""),
+            Span::Text(" with expect_end = \""),
             Span::Text(expected_end_name(end)),
-            Span::Text("\": a run ends in one way, so the job never passes"),
+            Span::Text("\": a run ends in only one way, so the job never passes"),
         ],
     )
 }

@@ -122,10 +122,12 @@ fn read_error_stop(alloc: Global, path: &str, error: ReadError) -> Stop
     match error {
         ReadError::OutOfMemory => Stop::OutOfMemory,
         ReadError::Line(line) => {
-            let what = ": no table of counts has this line here\n";
+            let what = ": invalid line in a table of counts\n";
             Stop::of_refusal(path_number_message(alloc, path, ":", line, what))
         }
-        ReadError::CutOff => { Stop::of_refusal(path_message(alloc, path, "the table is cut off")) }
+        ReadError::CutOff => {
+            Stop::of_refusal(path_message(alloc, path, "the table is truncated"))
+        }
     }
 }
 
@@ -136,7 +138,7 @@ pub(crate) fn sum_error_stop(alloc: Global, path: &str, error: SumError) -> Stop
     match error {
         SumError::OutOfMemory => Stop::OutOfMemory,
         SumError::Count(address) => {
-            let what = ": a count of ";
+            let what = ": the count at ";
             Stop::of_refusal(great_count_message(alloc, path, what, address))
         }
         SumError::Spot(function) => {

@@ -99,7 +99,7 @@ fn no_gdb_stop(alloc: Global) -> Stop
     ensures { IsNoGdbStop result }
 {
     let how =
-        "it is a terminal, not gdb; run gdb-multiarch -ex 'target remote | rvtest gdb LIST NAME'";
+        "expected gdb, found a terminal; run gdb-multiarch -ex 'target remote | rvtest gdb LIST NAME'";
     Stop::of_refusal(path_message(alloc, "standard output", how))
 }
 

@@ -36,9 +36,11 @@ fn no_topic_message(alloc: Global, topic: &str) -> Result<Vec<u8>, AllocError>
     text_of_spans(
         alloc,
         &[
-            Span::Text("rvtest: nothing is told of '"),
+            Span::Text("rvtest: unknown help topic \""),
             Span::Value(topic.as_bytes()),
-            Span::Text("': help list tells the keys of a list, and COMMAND --help of a command\n"),
+            Span::Text(
+                "\": try \"help list\" for the keys of a list, or \"COMMAND --help\" for a command\n",
+            ),
         ],
     )
 }

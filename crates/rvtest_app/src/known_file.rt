@@ -76,7 +76,7 @@ fn known_fault_message(
         &[
             Span::Text("rvtest: "),
             Span::Shown(path.as_bytes()),
-            Span::Text(": line "),
+            Span::Text(":"),
             Span::Number(fault.line as u64),
             Span::Text(": "),
         ],
@@ -98,16 +98,16 @@ fn push_known_fault<'a>(
         KnownFaultKind::NoName => push_spans(
             message,
             &[
-                Span::Text("'"),
+                Span::Text("\""),
                 Span::Value(name),
-                Span::Text("' is no job's name; a name stands alone, and a reason behind '#'"),
+                Span::Text("\" is not a job name: expected NAME [# REASON]"),
             ],
         ),
         KnownFaultKind::Twice => push_spans(
             message,
             &[
                 Span::Value(name),
-                Span::Text(" stands in a line before it, too"),
+                Span::Text(" is already listed on an earlier line"),
             ],
         ),
         KnownFaultKind::NoJob => push_spans(
@@ -115,7 +115,7 @@ fn push_known_fault<'a>(
             &[
                 Span::Text("no job of "),
                 Span::Shown(list.as_bytes()),
-                Span::Text(" is called "),
+                Span::Text(" is named "),
                 Span::Value(name),
             ],
         ),

@@ -227,7 +227,10 @@ fn merge_error_stop(
     match error {
         MergeError::OutOfMemory => Stop::OutOfMemory,
         MergeError::NoTexts => {
-            Stop::of_refusal(text_of_spans(alloc, &[Span::Text("rvtest: there is no part\n")]))
+            Stop::of_refusal(text_of_spans(
+                alloc,
+                &[Span::Text("rvtest: expected at least one part\n")],
+            ))
         }
         MergeError::Text(at, flaw) => {
             let part = Part {
@@ -242,12 +245,12 @@ fn merge_error_stop(
 
 fn missing_shard_message(alloc: Global, number: usize) -> Result<Vec<u8>, AllocError>
     ensures { IfOk result (λ text. text.items
-        ≡ codes "rvtest: no part is that of shard " ++ decimal number ++ codes "\n") }
+        ≡ codes "rvtest: missing part of shard " ++ decimal number ++ codes "\n") }
 {
     text_of_spans(
         alloc,
         &[
-            Span::Text("rvtest: no part is that of shard "),
+            Span::Text("rvtest: missing part of shard "),
             Span::Number(number as u64),
             Span::Text("\n"),
         ],
@@ -290,35 +293,39 @@ fn part_flaw_message(
     let Part { path, text } = part;
     match flaw {
         Flaw::Line(line) => refused_line_message(alloc, "part", path, text, line),
-        Flaw::CutOff => path_message(alloc, path, "the part is cut off"),
-        Flaw::Whole => path_message(alloc, path, "a whole report, which is no part of a run"),
+        Flaw::CutOff => path_message(alloc, path, "the part is truncated"),
+        Flaw::Whole => path_message(
+            alloc,
+            path,
+            "expected a part of a run, found a whole report",
+        ),
         Flaw::Choice => path_message(
             alloc,
             path,
-            "the report of a choice of jobs, which is no shard's",
+            "expected the part of a shard, found a report of selected jobs",
         ),
         Flaw::OtherShards => other_run_message(
             alloc,
             asked,
             path,
-            "another number of shards than ",
+            "a different number of shards than ",
         ),
         Flaw::OtherJobs => other_run_message(
             alloc,
             asked,
             path,
-            "a list of another number of jobs than ",
+            "a list with a different number of jobs than ",
         ),
-        Flaw::OtherStamp => other_run_message(alloc, asked, path, "another stamp than "),
+        Flaw::OtherStamp => other_run_message(alloc, asked, path, "a different stamp than "),
         Flaw::OtherText(earlier) => two_parts_message(
             alloc,
             path,
             "the same shard as ",
             part_path(asked, earlier),
-            ", and another text\n",
+            ", but different contents\n",
         ),
         Flaw::NameTwice(number) => {
-            let what = " has the name of a job before it\n";
+            let what = " has the name of an earlier job\n";
             path_number_message(alloc, path, ": job ", number, what)
         }
     }

@@ -56,14 +56,14 @@ fn push_paths_line(told: &mut Vec<u8>, root: Option<&str>) -> Result<(), AllocEr
         Some(folder) => push_spans(
             told,
             &[
-                Span::Text("every image is missing: paths are taken from "),
+                Span::Text("no image was found: relative paths are resolved against "),
                 Span::Shown(folder.as_bytes()),
                 Span::Text(" (--root)\n"),
             ],
         ),
         None => push_text(
             told,
-            "every image is missing: paths are taken from the folder that rvtest runs in; --root DIR takes them from DIR\n",
+            "no image was found: relative paths are resolved against the current directory; use --root DIR to resolve them against DIR\n",
         ),
     }
 }

@@ -242,7 +242,7 @@ pub fn refuse_unreadable_words<E: Sink>(error: &io::Error, errors: &mut E) -> u8
     match error.kind() {
         ErrorKind::OutOfMemory => put_stop_message(errors, Stop::OutOfMemory),
         _ => {
-            put_message(errors, b"rvtest: a word is no UTF-8 text\n");
+            put_message(errors, b"rvtest: an argument is not valid UTF-8\n");
             REFUSED
         }
     }

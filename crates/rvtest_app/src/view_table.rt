@@ -160,7 +160,7 @@ fn other_image_message<'a>(
             Span::Shown(table.as_bytes()),
             Span::Text(": "),
             Span::Shown(path.as_bytes()),
-            Span::Text(": another image than that of the chosen jobs\n"),
+            Span::Text(": the image differs from that of the selected jobs\n"),
         ],
     )
 }
@@ -168,7 +168,6 @@ fn other_image_message<'a>(
 fn no_stacks_message(alloc: Global, path: &str) -> Result<Vec<u8>, AllocError>
     ensures { IfOk result (λ text. text.items ≡ no_stacks_message path.now) }
 {
-    let what =
-        "a table without stacks: rvtest run LIST --counts FILE --stacks writes one with them";
+    let what = "the table has no stacks: write one with rvtest run LIST --counts FILE --stacks";
     path_message(alloc, path, what)
 }

@@ -471,30 +471,30 @@ misuse_text misuse.VerboseAndQuiet = codes "the argument '--verbose' cannot be u
 misuse_text misuse.ShardAndChoice =
     codes "the argument '--shard <K/N>' cannot be used with '--only <NAME>', '--match <REGEX>', '--exclude <REGEX>' or '--failed <REPORT>'"
 misuse_text misuse.NameAndChoice =
-    codes "the argument '[NAME]' cannot be used with '--only <NAME>', '--match <REGEX>', '--exclude <REGEX>', '--failed <REPORT>' or '--shard <K/N>': it is one job"
+    codes "the argument '[NAME]' cannot be used with '--only <NAME>', '--match <REGEX>', '--exclude <REGEX>', '--failed <REPORT>' or '--shard <K/N>': it already selects one job"
 misuse_text misuse.StampAlone = codes "the argument '--stamp <TEXT>' cannot be used without '--shard <K/N>'"
 misuse_text misuse.BudgetAndRows =
-    codes "the argument '--budget <N>' cannot be used with '--into <FILE>', '--report <FILE>', '--junit <FILE>' or '--shard <K/N>': such rows are not the list's"
+    codes "the argument '--budget <N>' cannot be used with '--into <FILE>', '--report <FILE>', '--junit <FILE>' or '--shard <K/N>': results with an overridden budget are not saved"
 misuse_text misuse.StopAfterAndShard =
-    codes "the argument '--stop-after <N>' cannot be used with '--shard <K/N>': a part has a row of each of its jobs"
+    codes "the argument '--stop-after <N>' cannot be used with '--shard <K/N>': a part has a row for each of its jobs"
 misuse_text misuse.IntoAndReport =
-    codes "the argument '--into <FILE>' cannot be used with '--report <FILE>' or '--shard <K/N>': it is the report that is written"
+    codes "the argument '--into <FILE>' cannot be used with '--report <FILE>' or '--shard <K/N>': it already names the report to write"
 misuse_text misuse.IntoStdout =
-    codes "the value of '--into <FILE>' is a file, and not '-': the report is read there before it is written"
+    codes "invalid value '-' for '--into <FILE>': expected a file, since the report is read before it is written"
 misuse_text misuse.FailedIsReport =
-    codes "the argument '--report <FILE>' cannot be used with '--failed <REPORT>' of the same name: the rows of the other jobs would be lost; '--into <FILE>' keeps them"
+    codes "the argument '--report <FILE>' cannot name the same file as '--failed <REPORT>': the rows of the other jobs would be lost; use '--into <FILE>' to keep them"
 misuse_text misuse.PartialAlone = codes "the argument '--partial' cannot be used without '--failed <REPORT>'"
 misuse_text misuse.StepsAndSlower = codes "the argument '--steps' cannot be used with '--slower <N>'"
 misuse_text misuse.StacksAlone = codes "the argument '--stacks' cannot be used without '--counts <FILE>'"
 misuse_text misuse.SuiteAlone = codes "the argument '--suite <NAME>' cannot be used without '--junit <FILE>'"
 misuse_text misuse.NamelessSuite = codes "a value is required for '--suite <NAME>' but none was supplied"
-misuse_text misuse.UnknownColor = codes "the value of '--color <WHEN>' is always, never or auto"
+misuse_text misuse.UnknownColor = codes "invalid value for '--color <WHEN>': expected always, never or auto"
 misuse_text misuse.OneFile =
-    codes "the argument '--report <FILE>' cannot be used with '--junit <FILE>' of the same name: it is one file"
+    codes "the argument '--report <FILE>' cannot name the same file as '--junit <FILE>'"
 misuse_text misuse.IntoOneFile =
-    codes "the argument '--into <FILE>' cannot be used with '--junit <FILE>' of the same name: it is one file"
+    codes "the argument '--into <FILE>' cannot name the same file as '--junit <FILE>'"
 misuse_text misuse.CountsOneFile =
-    codes "the argument '--counts <FILE>' cannot be used with '--report <FILE>', '--into <FILE>', '--junit <FILE>' or '--failed <REPORT>' of the same name: it is one file"
+    codes "the argument '--counts <FILE>' cannot name the same file as '--report <FILE>', '--into <FILE>', '--junit <FILE>' or '--failed <REPORT>'"
 
 -- which options of a subcommand with these values do not go together, if any
 abbrev pub subcommand_misuse : Text → List Row → Option Misuse

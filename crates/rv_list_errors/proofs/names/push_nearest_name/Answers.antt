@@ -12,9 +12,9 @@ returns-in-Some c =
     let wanted = c.args.wanted.now in
     let name = c.in-Some.name.now in
     look_then c.args.message.now c.near_name.new.message c.push_quoted.new.self (IsNearName names wanted (Some name))
-    (IsNearestJob names wanted) (codes "; the nearest is " ++ quoted name) (rw c.in-Some.is at c.near_name.ensures.near)
+    (IsNearestJob names wanted) (codes "; a similar name exists: " ++ quoted name) (rw c.in-Some.is at c.near_name.ensures.near)
     c.near_name.ensures.unwritten (adds_then c.near_name.new.message c.push.new.self c.push_quoted.new.self
-    (codes "; the nearest is ") (quoted name) c.push.ensures c.push_quoted.ensures) (λ near. (Some name, near, refl))
+    (codes "; a similar name exists: ") (quoted name) c.push.ensures c.push_quoted.ensures) (λ near. (Some name, near, refl))
 
 pub returns-in-None : goal.returns-in-None
 returns-in-None c =
