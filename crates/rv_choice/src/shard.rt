@@ -16,7 +16,7 @@ use rv_command::Stop;
 use rv_jobs::Text;
 use rv_jobs::limits::MOST_JOBS;
 use rv_report::{Shard, is_name};
-use rvtest_cli::{ChoosingCommand, RunAsked};
+use rvtest_cli::{ChoosingCommand, RunArgs};
 use sha2::{Digest, Sha256};
 use std::alloc::{AllocError, Global};
 
@@ -24,7 +24,7 @@ use std::alloc::{AllocError, Global};
 /// list's text.
 pub fn requested_shard(
     alloc: Global,
-    asked: &RunAsked<'_>,
+    asked: &RunArgs<'_>,
     command: ChoosingCommand,
     text: &[u8],
     jobs: usize,

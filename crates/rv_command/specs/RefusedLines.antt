@@ -26,13 +26,13 @@ text_behind None text = []
 abbrev pub first_line : List ℕ → List ℕ
 first_line text = text_up_to (position is_feed text) text
 
-abbrev pub behind_line : List ℕ → List ℕ
-behind_line text = text_behind (position is_feed text) text
+abbrev pub after_line : List ℕ → List ℕ
+after_line text = text_behind (position is_feed text) text
 
 -- behind so many lines
 unfoldable pub behind_lines : ℕ → List ℕ → List ℕ
 behind_lines zero text = text
-behind_lines (suc count) text = behind_line (behind_lines count text)
+behind_lines (suc count) text = after_line (behind_lines count text)
 
 -- the line of a number, counted from 1, without its line feed; nothing where there is none
 abbrev pub numbered_line : List ℕ → ℕ → List ℕ

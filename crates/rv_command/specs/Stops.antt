@@ -149,8 +149,8 @@ pub record IsReportFaultStop (path bytes : List ℕ) (stop : Stop) : Type 0 wher
   pub whole : (report : SavedReport) → IsReportText bytes report → stop ≡ why.OutOfMemory
 
 -- the path was not read, or what stands there is no report
-abbrev pub IsReportUnreadStop : Option FileContents → List ℕ → Stop → Type 0
-IsReportUnreadStop known path stop = IsResultUnreadStop known path stop
+abbrev pub IsReportReadError : Option FileContents → List ℕ → Stop → Type 0
+IsReportReadError known path stop = IsResultUnreadStop known path stop
     ⊎ ((bytes : List ℕ) × IsTextAt known path bytes × IsReportFaultStop path bytes stop)
 
 -- ---- reports that may be cut off

@@ -2,7 +2,7 @@
 
 ghost use Rattle.std.specs.Prelude.{◌≡◌, ◌<◌, IfOk, IfSome, length, position};
 ghost use Rattle.rv_list_errors.specs.Places.{is_feed};
-ghost use Rattle.rv_command.specs.RefusedLines.{are_faults_of_list, behind_line, behind_lines, first_line, is_job_list};
+ghost use Rattle.rv_command.specs.RefusedLines.{are_faults_of_list, after_line, behind_lines, first_line, is_job_list};
 ghost use Rattle.rv_command.specs.RefusedLines.{line_before, line_message, list_message, numbered_line, refused_line_message};
 ghost use Rattle.rv_command.specs.RefusedLines.{wanted_behind};
 
@@ -110,7 +110,7 @@ fn behind_lines(text: &[u8], count: usize) -> &[u8]
 {
     let mut rest = text;
     for _ in 0..count {
-        rest = behind_line(rest);
+        rest = after_line(rest);
     }
     rest
 }
@@ -124,8 +124,8 @@ fn first_line(text: &[u8]) -> &[u8]
     }
 }
 
-fn behind_line(text: &[u8]) -> &[u8]
-    ensures { result.now ≡ behind_line text.now }
+fn after_line(text: &[u8]) -> &[u8]
+    ensures { result.now ≡ after_line text.now }
 {
     match line_feed_place(text) {
         Some(place) => &text[place + 1..],

@@ -14,7 +14,7 @@ use Rattle.rv_jobs.specs.declared_job.ExpectedConsole.TheVariants as console
 use Rattle.rv_rows.specs.Report.{line}
 use Rattle.rv_text.specs.Printable.{printable_text}
 use Rattle.rv_text.specs.Spans.{span_text}
-use Rattle.rv_job_text.specs.declared.wanted_text.WantedText.{WantedText}
+use Rattle.rv_job_text.specs.declared.expected_text.ExpectedText.{ExpectedText}
 use Rattle.rv_job_text.specs.ConsoleTail.{is_feed}
 
 -- ---- lines
@@ -163,15 +163,15 @@ told_by_lines difference met (Some wanted) =
     if is_told_by_lines difference met wanted.text then Some wanted else None
 
 -- the text from which an unmet expectation differs, where that is told by lines
-abbrev pub wanted_by_lines : Sides → Unmet → Option Wanted
-wanted_by_lines sides unmet.Exit = None
-wanted_by_lines sides unmet.End = None
-wanted_by_lines sides (unmet.Console difference) =
+abbrev pub expected_by_lines : Sides → Unmet → Option Wanted
+expected_by_lines sides unmet.Exit = None
+expected_by_lines sides unmet.End = None
+expected_by_lines sides (unmet.Console difference) =
     told_by_lines difference sides.row.console (wanted_console sides.job.expect_console sides.console)
-wanted_by_lines sides (unmet.Signature difference) = None
-wanted_by_lines sides (unmet.Same difference) = None
-wanted_by_lines sides unmet.Nothing = None
+expected_by_lines sides (unmet.Signature difference) = None
+expected_by_lines sides (unmet.Same difference) = None
+expected_by_lines sides unmet.Nothing = None
 
 -- the same as the code has it
-abbrev pub wanted_of : WantedText → Wanted
+abbrev pub wanted_of : ExpectedText → Wanted
 wanted_of wanted = record { source = span_text wanted.source; text = wanted.text.now }

@@ -26,7 +26,7 @@ use Rattle.rv_rows.specs.declared_row.RowEnd.{RowEnd}
 use Rattle.rv_rows.specs.declared_row.RowEnd.TheVariants as ending
 use Rattle.rv_rows.specs.Report.{line, refusal_name}
 use Rattle.rv_text.specs.Words.{word_digits}
-use Rattle.rv_job_text.specs.ConsoleLines.{Wanted, console_lines, wanted_by_lines}
+use Rattle.rv_job_text.specs.ConsoleLines.{Wanted, console_lines, expected_by_lines}
 
 -- ---- the exit code and the end
 
@@ -180,7 +180,7 @@ unmet_line_by address sides unmet None =
 unmet_line_by address sides unmet (Some wanted) = console_lines wanted.source sides.row.console wanted.text
 
 unfoldable pub unmet_line : Option ℕ → Sides → Unmet → List ℕ
-unmet_line address sides unmet = unmet_line_by address sides unmet (wanted_by_lines sides unmet)
+unmet_line address sides unmet = unmet_line_by address sides unmet (expected_by_lines sides unmet)
 
 -- in their order
 abbrev pub unmet_lines : Option ℕ → Sides → List Unmet → List ℕ

@@ -6,7 +6,7 @@ ghost use Rattle.rv_job_text.specs.UnmetLines.{byte_difference_text, bytes_diffe
 
 use rv_expect::Difference;
 use rv_jobs::ExpectedConsole;
-use rv_text::{Span, met_and_expected_from, push_spans, push_text};
+use rv_text::{Span, actual_and_expected_from, push_spans, push_text};
 use std::alloc::AllocError;
 
 /// What differs from the console that is expected.
@@ -90,7 +90,7 @@ fn push_byte_difference<'a>(
 ) -> Result<(), AllocError>
     ensures { OnOk result (bytes.new.items ≡ bytes.old.items ++ byte_difference_text place met.now wanted.now) }
 {
-    let (met, wanted) = met_and_expected_from(place, met, wanted);
+    let (met, wanted) = actual_and_expected_from(place, met, wanted);
     push_spans(
         bytes,
         &[

@@ -7,8 +7,8 @@ ghost use Rattle.rv_job_text.specs.UnmetLines.{unmet_line, unmet_line_by, unmet_
 
 use crate::console_lines::push_console_lines;
 use crate::difference_text::{push_bytes_difference, push_compared_name, push_console_difference};
+use crate::expected_text::{ExpectedText, expected_by_lines};
 use crate::signature_difference_text::{push_signature_difference, push_signatures_difference};
-use crate::wanted_text::{WantedText, wanted_by_lines};
 use rv_expect::{Comparison, SameDifference, Unmet};
 use rv_jobs::ExpectedEnd;
 use rv_rows::{Row, RowEnd};
@@ -43,8 +43,8 @@ fn push_unmet_line(
     ensures { OnOk result (bytes.new.items
         ≡ bytes.old.items ++ unmet_line address (sides_of comparison.now) unmet) }
 {
-    match wanted_by_lines(comparison, unmet) {
-        Some(WantedText { source, text }) => {
+    match expected_by_lines(comparison, unmet) {
+        Some(ExpectedText { source, text }) => {
             push_console_lines(bytes, source, comparison.row.console.as_slice(), text)
         }
         None => push_expected_line(bytes, comparison, address, unmet),

@@ -4,7 +4,7 @@ use Rattle.std.specs.Prelude.{IsOk, OnOk, codes}
 use Rattle.std.specs.Fmt.{decimal}
 use Rattle.rv_list_errors.specs.NearNames.{Adds}
 use Rattle.rv_list_locations.specs.Places.{column_at, line_at}
-use Rattle.rv_list_errors.specs.Told.{AddsSome}
+use Rattle.rv_list_errors.specs.Explanation.{AddsSome}
 use Rattle.rv_list_errors.specs.declared.message.Message.{Message}
 
 both_grown : {E : Type 0} (first second : Result (Unit {0}) E) (A B C : Type 0) → OnOk first A → OnOk second (IsOk first × B)

@@ -9,8 +9,8 @@ use Rattle.rv_lists.specs.Keys.{array_at_key, text_at_key}
 use Rattle.rv_lists.specs.declared.error.JobError.{JobError}
 use Rattle.rv_text.specs.Printable.{printable_value}
 use Rattle.rv_list_locations.specs.JobPlaces.{job_lines}
-use Rattle.rv_list_errors.specs.declared.fault_text.Look.{Look}
-use Rattle.rv_list_errors.specs.declared.fault_text.Look.TheVariants as look
+use Rattle.rv_list_errors.specs.declared.fault_text.FaultView.{FaultView}
+use Rattle.rv_list_errors.specs.declared.fault_text.FaultView.TheVariants as look
 
 -- ---- the names of jobs
 
@@ -72,6 +72,6 @@ abbrev pub borrowed_names : List (Option (Bor (List ℕ))) → List (Option (Lis
 borrowed_names names = map borrowed_name names
 
 -- the same of a second look at the text
-abbrev pub look_place : Look → ℕ → List ℕ
+abbrev pub look_place : FaultView → ℕ → List ℕ
 look_place (look.NoToml text error) number = []
 look_place (look.List list) number = fault_place list.lines.items (borrowed_names list.names.items) number

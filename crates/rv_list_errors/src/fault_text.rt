@@ -18,7 +18,7 @@ use toml::de::Error;
 
 /// What a second look at a list's text finds.
 #[derive(Drop)]
-pub(crate) enum Look<'a> {
+pub(crate) enum FaultView<'a> {
     /// It is a document.
     List(List<'a>),
     /// It is no TOML document, for this reason.
@@ -30,7 +30,7 @@ pub(crate) enum Look<'a> {
 pub(crate) fn message_of_fault(
     alloc: Global,
     file: &str,
-    look: &Look<'_>,
+    look: &FaultView<'_>,
     fault: JobError,
     suggestion: Suggestion,
 ) -> Result<Vec<u8>, AllocError>
@@ -64,12 +64,12 @@ pub(crate) fn list_fault_message(
 }
 
 // Appends where a fault stands in the list, as far as its jobs are known.
-fn push_fault_place(message: &mut Vec<u8>, look: &Look<'_>, job: u32) -> Result<(), AllocError>
+fn push_fault_place(message: &mut Vec<u8>, look: &FaultView<'_>, job: u32) -> Result<(), AllocError>
     ensures { OnOk result (message.new.items ≡ message.old.items ++ look_place look.now job) }
 {
     match look {
-        Look::NoToml(_, _) => Ok(()),
-        Look::List(list) => push_place_in_list(message, list, job),
+        FaultView::NoToml(_, _) => Ok(()),
+        FaultView::List(list) => push_place_in_list(message, list, job),
     }
 }
 
@@ -151,15 +151,15 @@ fn push_name_in_quotes(message: &mut Vec<u8>, name: Option<&str>) -> Result<(), 
 // What is wrong, as it is told behind the place.
 fn fault_explanation(
     alloc: Global,
-    look: &Look<'_>,
+    look: &FaultView<'_>,
     fault: JobError,
     suggestion: Suggestion,
 ) -> Result<Vec<u8>, AllocError>
     ensures { IfOk result (λ told. TellsFoundFault look.now fault told.items) }
 {
     match look {
-        Look::NoToml(text, error) => not_toml_explanation(alloc, text, error),
-        Look::List(list) => explanation_in_list(alloc, list, fault, suggestion),
+        FaultView::NoToml(text, error) => not_toml_explanation(alloc, text, error),
+        FaultView::List(list) => explanation_in_list(alloc, list, fault, suggestion),
     }
 }
 

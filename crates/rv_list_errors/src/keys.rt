@@ -7,7 +7,7 @@ ghost use Rattle.toml.specs.View.{table_view};
 ghost use Rattle.rv_lists.specs.Keys.{is_job_key, is_region_key};
 ghost use Rattle.rv_list_errors.specs.Lines.{BeginsWith};
 ghost use Rattle.rv_list_errors.specs.NearNames.{Adds};
-ghost use Rattle.rv_list_errors.specs.Told.{AddsSome, first_unknown_key, is_key_of_owner, region_number_text, unknown_key_text};
+ghost use Rattle.rv_list_errors.specs.Explanation.{AddsSome, first_unknown_key, is_key_of_owner, region_number_text, unknown_key_text};
 ghost use Rattle.rv_list_errors.specs.UnknownKeys.{TellsUnknownKey, TellsUnknownRegionKey};
 
 use crate::message::Message;

@@ -3,12 +3,12 @@
 ghost use Rattle.std.specs.Prelude.{◌++◌, codes};
 ghost use Rattle.toml.specs.Errors.{IsMemory, span_start};
 ghost use Rattle.rv_list_errors.specs.NearNames.{Adds};
-ghost use Rattle.rv_list_errors.specs.Told.{AddsSome, IsNotToml, too_many_jobs_text};
+ghost use Rattle.rv_list_errors.specs.Explanation.{AddsSome, IsNotToml, too_many_jobs_text};
 
 use crate::keys::{Owner, push_unknown_key, unknown_key};
 use crate::list::List;
 use crate::message::Message;
-use crate::values::push_wanted_value;
+use crate::values::push_expected_value;
 use rv_list_locations::{RepeatedKey, line_and_column, repeated_key};
 use rv_lists::What;
 use rv_lists::limits::MOST_JOBS;
@@ -72,7 +72,7 @@ pub(crate) fn push_list_fault(message: &mut Message, list: &List<'_>, what: What
         What::NoJobs => push_no_jobs(message, list.table),
         What::TooMany => push_too_many_jobs(message, list.jobs.len()),
         What::UnknownKey => push_unknown_list_key(message, list.table),
-        What::WrongType => push_wanted_value(message, list.table, "job", TABLES),
+        What::WrongType => push_expected_value(message, list.table, "job", TABLES),
         _ => message.push(what.name()),
     }
 }
@@ -81,7 +81,7 @@ const TABLES: &str = "expected an array of tables, [[job]]";
 
 // Appends that a list has no jobs. A key beside `job` is told too, since it may be meant.
 fn push_no_jobs(message: &mut Message, table: &Table) {
-    push_wanted_value(
+    push_expected_value(
         message,
         table,
         "job",

@@ -9,7 +9,7 @@ ghost use Rattle.toml.specs.View.{table_view};
 ghost use Rattle.rv_list_errors.specs.JobFaults.{TellsName, TellsSameAs, job_of_name_text};
 ghost use Rattle.rv_list_errors.specs.Lines.{BeginsWith};
 ghost use Rattle.rv_list_errors.specs.NearNames.{quoted, separator};
-ghost use Rattle.rv_list_errors.specs.Told.{AddsSome, IsNearestJob};
+ghost use Rattle.rv_list_errors.specs.Explanation.{AddsSome, IsNearestJob};
 
 use crate::list::List;
 use crate::message::Message;

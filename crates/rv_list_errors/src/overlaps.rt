@@ -4,7 +4,7 @@ ghost use Rattle.std.specs.Prelude.{◌≡◌, ◌+◌, ◌^◌, ◌<◌, IfSome
 ghost use Rattle.rv_list_errors.specs.JobFaults.{AreAllApart, AreApart, IsApartBefore, IsApartBehind, IsFirstOverlap, IsFirstShared};
 ghost use Rattle.rv_list_errors.specs.JobFaults.{IsOverlap, TellsOverlap, TellsRegions, overlap_text};
 ghost use Rattle.rv_list_errors.specs.NearNames.{Adds};
-ghost use Rattle.rv_list_errors.specs.Told.{AddsSome};
+ghost use Rattle.rv_list_errors.specs.Explanation.{AddsSome};
 
 use crate::message::Message;
 use crate::regions::push_region_number;

@@ -3,11 +3,11 @@
 ghost use Rattle.std.specs.Prelude.{◌+◌, ◌^◌, ◌<◌, IfSome, length};
 ghost use Rattle.rv_list_errors.specs.JobFaults.{TellsRegions};
 ghost use Rattle.rv_list_errors.specs.NearNames.{Adds};
-ghost use Rattle.rv_list_errors.specs.Told.{AddsSome, region_number_text};
+ghost use Rattle.rv_list_errors.specs.Explanation.{AddsSome, region_number_text};
 
 use crate::message::Message;
 use crate::overlaps::{push_console_overlap, push_region_overlap, region_end};
-use crate::values::{elements_at_key, push_wanted_value, word_at_key};
+use crate::values::{elements_at_key, push_expected_value, word_at_key};
 use rv_lists::What;
 use rv_memory::{Map, MapError, Region};
 use toml::{Table, Value};
@@ -112,9 +112,9 @@ fn push_bad_base_or_size(message: &mut Message, at: usize, element: &Value)
     message.push(": ");
     match element {
         Value::Table(table) if word_at_key(table, "base").is_some() => {
-            push_wanted_value(message, table, "size", SIZE)
+            push_expected_value(message, table, "size", SIZE)
         }
-        Value::Table(table) => push_wanted_value(message, table, "base", BASE),
+        Value::Table(table) => push_expected_value(message, table, "base", BASE),
         _ => message.push("expected a table"),
     }
 }

@@ -149,7 +149,7 @@ fn answer_byte(
     requires { IsReady (start_of end.now.start) session.old }
     ensures { OnOk result (IsReady (start_of end.now.start) session.new) }
 {
-    let told = session.hear(alloc, byte)?;
+    let told = session.receive(alloc, byte)?;
     sent.extend_from_slice(told.as_slice())?;
     if !session.is_asked() {
         return Ok(());

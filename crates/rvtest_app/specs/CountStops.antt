@@ -2,7 +2,7 @@
 use Rattle.std.specs.Prelude.{◌≡◌, ◌⊎◌, ◌++◌, ◌∷◌, ℕ, List, Option, codes}
 use Rattle.std.specs.Borrow.{Bor}
 use Rattle.rv_base.specs.Files.{FileContents}
-use Rattle.rvtest_cli.specs.declared.counts.CountsAsked.{CountsAsked}
+use Rattle.rvtest_cli.specs.declared.counts.CountsArgs.{CountsArgs}
 use Rattle.rv_command.specs.Messages.{path_message, path_number_message}
 use Rattle.rv_command.specs.Stops.{IsStop, IsResultUnreadStop}
 use Rattle.rv_command.specs.Texts.{IsTextAt, optional_text}
@@ -78,7 +78,7 @@ pub record IsSumStop (known : Option FileContents) (paths : List (Bor (List ℕ)
 
 -- `counts`: the sum would replace a table; or memory was wanting, or one of the tables was not added, or all were, and their sum was
 -- not written
-abbrev pub IsCountsStop : Option FileContents → CountsAsked → Stop → Type 0
+abbrev pub IsCountsStop : Option FileContents → CountsArgs → Stop → Type 0
 IsCountsStop known words why = IsSumOverwriteStop words why ⊎ ((why ≡ stop.OutOfMemory) ⊎ (IsSumStop known words.tables.items why
     ⊎ ((sum : CountTable) × (AreAdded known words.tables.items no_counts sum
     × IsUnwrittenAtStop (written_path (optional_text words.out)) why))))

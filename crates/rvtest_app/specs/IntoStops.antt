@@ -3,8 +3,8 @@ use Rattle.std.specs.Prelude.{◌≡◌, ◌⊎◌, ◌==◌, ◌++◌, ◌+◌,
 use Rattle.std.specs.Fmt.{decimal}
 use Rattle.std.specs.Str.{bytes_eq}
 use Rattle.rv_base.specs.Files.{FileContents}
-use Rattle.rvtest_cli.specs.declared.run.RunAsked.{RunAsked}
-use Rattle.rv_command.specs.Stops.{IsReportUnreadStop, IsStop}
+use Rattle.rvtest_cli.specs.declared.run.RunArgs.{RunArgs}
+use Rattle.rv_command.specs.Stops.{IsReportReadError, IsStop}
 use Rattle.rv_command.specs.Texts.{IsReportAt}
 use Rattle.rv_command.specs.declared.stop.Stop.{Stop}
 use Rattle.rv_lists.specs.declared.job.Job.{Job}
@@ -74,11 +74,11 @@ IsNotWhole jobs report (other.Name name) = (report.extent ≡ extent.Whole)
 
 -- the report at a path was not read, or it is not the whole one of the jobs of the list at another, and is refused for that
 abbrev pub IsNoWholeReportStop : Option FileContents → List ℕ → List ℕ → List Job → Stop → Type 0
-IsNoWholeReportStop known path list jobs why = IsReportUnreadStop known path why
+IsNoWholeReportStop known path list jobs why = IsReportReadError known path why
     ⊎ ((report : SavedReport) × (IsReportAt known path report
     × ((other : NotWhole) × (IsNotWhole jobs report other × IsStop 2 (not_whole_refusal path list other) why))))
 
 -- words name such a path for the rows of a run
-abbrev pub IsIntoStop : Option FileContents → RunAsked → List Job → Stop → Type 0
+abbrev pub IsIntoStop : Option FileContents → RunArgs → List Job → Stop → Type 0
 IsIntoStop known words jobs why =
     IsSomeAnd words.into (λ path. IsNoWholeReportStop known path.now words.list.now jobs why)

@@ -6,11 +6,11 @@ ghost use Rattle.rv_command.specs.Texts.{optional_text};
 ghost use Rattle.rv_files.specs.UnreadPaths.{resolved_path};
 ghost use Rattle.rvtest_app.specs.AcceptStops.{AreTargetsUnread, IsChangedStop, IsOtherBytesStop, IsStopOfFiles, IsUncheckedStop, IsUnmadeStop};
 ghost use Rattle.rvtest_app.specs.Accepts.{AreGoldenFiles, IsOldAt, written_files};
-ghost use Rattle.rvtest_app.specs.Outlets.{AreFilesPlaced};
+ghost use Rattle.rvtest_app.specs.Outlets.{AreFilesCommitted};
 
 use crate::written_text::write_file;
 use rv_accept::Target;
-use rv_accept_text::{Accepting, GoldenFile};
+use rv_accept_text::{AcceptSummary, GoldenFile};
 use rv_command::{Stop, path_message, read_file};
 use rv_files::{InputError, Inputs, Outputs, io_error_text, read_whole_up_to, resolved_path};
 use rv_jobs::limits::MOST_BYTES;
@@ -83,7 +83,7 @@ fn read_golden_file<D: Inputs>(inputs: &D, alloc: Global, path: &str) -> Result<
 pub(crate) fn check_unchanged_files<D: Inputs>(
     inputs: &D,
     alloc: Global,
-    accepting: &Accepting<'_>,
+    accepting: &AcceptSummary<'_>,
 ) -> Result<(), Stop>
     ensures { IfErr result (IsStopOfFiles (IsUncheckedStop (D.contents inputs.now))
         accepting.now.list.path.now accepting.now.files.now) }
@@ -145,9 +145,9 @@ fn changed_stop(alloc: Global, path: &str) -> Stop
 pub(crate) fn write_accepted_files<F: Outputs>(
     files: &mut F,
     alloc: Global,
-    accepting: &Accepting<'_>,
+    accepting: &AcceptSummary<'_>,
 ) -> Result<(), Stop>
-    ensures placed { OnOk result (AreFilesPlaced (F.placed files.old) (F.placed files.new) (Some (written_files accepting.now))) }
+    ensures placed { OnOk result (AreFilesCommitted (F.placed files.old) (F.placed files.new) (Some (written_files accepting.now))) }
     ensures stopped { IfErr result
         (IsStopOfFiles IsUnmadeStop accepting.now.list.path.now accepting.now.files.now) }
 {
@@ -167,7 +167,7 @@ pub(crate) fn write_accepted_files<F: Outputs>(
 pub(crate) fn check_written_files<D: Inputs>(
     inputs: &D,
     alloc: Global,
-    accepting: &Accepting<'_>,
+    accepting: &AcceptSummary<'_>,
 ) -> Result<(), Stop>
     ensures { IfErr result (IsStopOfFiles (IsUncheckedStop (D.contents inputs.now))
         accepting.now.list.path.now accepting.now.files.now) }

@@ -8,11 +8,11 @@ use crate::findings::Found;
 use crate::list_keys::LIST_KEYS;
 use rv_command::{DONE, Stop};
 use rv_text::{Span, push_text, text_of_spans};
-use rvtest_cli::HelpAsked;
+use rvtest_cli::HelpArgs;
 use std::alloc::{AllocError, Global};
 
 /// Tells the keys of a list, which are the only topic.
-pub(crate) fn tell_topic(alloc: Global, asked: HelpAsked<'_>) -> Result<Found, Stop>
+pub(crate) fn tell_topic(alloc: Global, asked: HelpArgs<'_>) -> Result<Found, Stop>
     ensures told { IfOk result (λ found. IsTopicTold asked.entry.topic.now found.text.items found.status) }
     ensures stopped { IfErr result (IsNoTopicStop asked.entry.topic.now) }
 {

@@ -12,14 +12,14 @@ use rv_expect::{KnownFault, KnownFaultKind, KnownJobs, read_known_jobs};
 use rv_files::Inputs;
 use rv_jobs::{Job, Text};
 use rv_text::{Span, push_spans, push_text};
-use rvtest_cli::RunAsked;
+use rvtest_cli::RunArgs;
 use std::alloc::{AllocError, Global};
 
 /// The known failures among the jobs of a list, where words name a file.
 pub(crate) fn requested_known_jobs<D: Inputs>(
     inputs: &D,
     alloc: Global,
-    asked: &RunAsked<'_>,
+    asked: &RunArgs<'_>,
     jobs: &[Job],
 ) -> Result<Option<KnownJobs>, Stop>
     ensures known { IfOk result (IsKnownAt (D.contents inputs.now) (optional_text asked.now.known) jobs.now) }

@@ -1,7 +1,7 @@
 use Rattle.std.specs.Prelude.{◌++◌, codes}
 use Rattle.std.specs.Fmt.{decimal}
 use Rattle.toml.specs.Errors.{span_start}
-use Rattle.rv_list_errors.specs.Told.{IsNotToml}
+use Rattle.rv_list_errors.specs.Explanation.{IsNotToml}
 use Rattle.rv_list_errors.proofs.Messages.{adds_some, adds_then, not_toml_text}
 use Rattle.rv_list_errors.proofs.list_fault.push_not_toml.Goals as goal
 

@@ -1,7 +1,7 @@
 use Rattle.std.specs.Prelude.{codes, None, Some}
 use Rattle.rv_list_errors.specs.FaultHeads.{borrowed_names}
 use Rattle.rv_list_errors.specs.NearNames.{IsNearName, names_text, present, quoted}
-use Rattle.rv_list_errors.specs.Told.{IsNearestJob}
+use Rattle.rv_list_errors.specs.Explanation.{IsNearestJob}
 use Rattle.std.proofs.Common.{refl, ◌++◌}
 use Rattle.rv_list_errors.proofs.Messages.{adds_then, look_then}
 use Rattle.rv_list_errors.proofs.names.push_nearest_name.Goals as goal
