@@ -9,10 +9,23 @@ def fn_at(text,i):
         if m.start()<=i: f=(m.group(2),len(m.group(1)),m.start())
     t=''
     if f[1]:
-        for m in re.finditer(r'^impl(?:<[^{]*?>)? ([^{]*?)\{',text,re.M):
-            if m.start()<f[2]: t=m.group(1).strip()
-        mm=re.match(r'(?:(\w+)(?:<.*?>)? for )?(\w+)',t)
-        t=(mm.group(2)+(mm.group(1) or ''))+'::'
+        last=None
+        for m in re.finditer(r'^impl\b',text,re.M):
+            if m.start()<f[2]: last=m.start()
+        head=' '.join(text[last+4:text.index('{',last)].split())
+        def strip(x):
+            out='';d=0
+            for c in x:
+                if c=='<': d+=1
+                elif c=='>': d-=1
+                elif d==0: out+=c
+            return out
+        h=strip(head).strip().split(' where')[0].strip()
+        if ' for ' in h:
+            tr,ty=h.split(' for '); tr=tr.strip().split('::')[-1]; ty=ty.strip().split('::')[-1].lstrip('&')
+            args=re.search(r'(\w+)<([\w, ]*)> for',' '.join(head.split()))
+            t=ty+tr+(''.join(a.strip() for a in args.group(2).split(',')) if args and args.group(1)==tr and len(args.group(2))>1 else '')+'::'
+        else: t=h.split('::')[-1]+'::'
     return t+f[0]
 jobs={}
 for e in edits:
@@ -28,13 +41,13 @@ for e,(d,f) in jobs.items():
         if f not in [jobs[x][1] for x in r]: r.append(e); break
     else: rounds.append([e])
 for k,r in enumerate(rounds):
-    b=f'/work/ed2/{crate}-{k}'; shutil.rmtree(b,ignore_errors=True); shutil.copytree(f'{clone}/crates/{crate}',f'{b}/{crate}',ignore=shutil.ignore_patterns('out'))
+    b=f'/work/s/ed2/{crate}-{k}'; shutil.rmtree(b,ignore_errors=True); shutil.copytree(f'{clone}/crates/{crate}',f'{b}/{crate}',ignore=shutil.ignore_patterns('out'))
     for e in r:
         d=jobs[e][0]; p=f'{b}/{crate}/{d["file"]}'; s=open(p).read(); open(p,'w').write(s.replace(d['old'],d['new']))
     a=[]
     for e in r: a+=['--only',jobs[e][1]]
-    o=subprocess.run(['python3','/work/tools2/chk.py','/work/fresh',crate,'--allow-holes',*a],cwd=f'{b}/{crate}',capture_output=True,text=True)
-    text=o.stdout+o.stderr; open(f'/work/ed2/{crate}-{k}.log','w').write(text)
+    o=subprocess.run(['python3','/work/tools2/chk.py','/work/lib',crate,'--allow-holes',*a],cwd=f'{b}/{crate}',capture_output=True,text=True)
+    text=o.stdout+o.stderr; open(f'/work/s/ed2/{crate}-{k}.log','w').write(text)
     for e in r:
         f=jobs[e][1]
         l=[x for x in text.splitlines() if x.startswith(f'fn {f}: ')]
