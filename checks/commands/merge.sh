@@ -99,7 +99,7 @@ head -c 100 p2-2 >begun
 refuses 'a line that no part has' 'rvtest: changed:4: invalid part line "console AB": expected "console" and hexadecimal digits or -' p1-2 changed
 refuses 'a part that is cut off' 'rvtest: begun: the part is truncated' p1-2 begun
 refuses 'a whole report' 'rvtest: list.text: expected a part of a run, found a whole report' p1-2 list.text
-refuses 'the report of a choice' 'rvtest: choice: the report of a choice of jobs, which is no shard'"'"'s' p1-2 choice
+refuses 'the report of a choice' 'rvtest: choice: expected the part of a shard, found a report of selected jobs' p1-2 choice
 refuses 'another number of shards' 'rvtest: p2-3: a different number of shards than p1-2' p1-2 p2-3
 refuses 'another number of jobs' 'rvtest: other-jobs: a list with a different number of jobs than p1-2' p1-2 other-jobs
 refuses 'another stamp' 'rvtest: other-stamp: a different stamp than p1-2' p1-2 other-stamp
