@@ -16,20 +16,20 @@ _rvfleet_jobs() {
 
 _rvfleet_behind_rvtest() {
     local -a commands=(
-        'run:Runs the jobs of a list, and shows each that fails'
-        'list:Prints the names of the jobs that a run would run, one a line'
-        'explain:Runs one job, and shows how it ended and came there'
-        'console:Runs one job, and writes its console'\''s bytes to standard output'
-        'gdb:Shows the run of one job to gdb, forwards and backwards'
-        'check:Says all that is wrong with a list and its files, and runs nothing'
-        'accept:Runs jobs, and makes what they came to what is expected'
-        'merge:Makes the whole report of the parts of one run'
-        'diff:Says in which jobs two reports differ'
-        'show:Shows what failed in a report'
-        'counts:Adds up tables of counts, as run --counts writes them'
-        'cover:Runs jobs, and shows what of their images ran'
-        'profile:Runs jobs, and shows in which functions their steps were'
-        'help:Tells the keys of a list'
+        'run:Run the jobs of a list and show each failure'
+        'list:List the jobs that a run would execute, one per line'
+        'explain:Run one job and show how it ended and how it got there'
+        'console:Run one job and write its console output to standard output'
+        'gdb:Debug the run of one job in gdb, forwards and backwards'
+        'check:Report everything that is wrong with a list and its files, without running anything'
+        'accept:Run jobs and update their expectations to the actual results'
+        'merge:Merge the parts of one run into the report of the whole list'
+        'diff:Show which jobs differ between two reports'
+        'show:Show the failures in a report'
+        'counts:Add up tables of counts written by run --counts'
+        'cover:Run jobs and show how much of their images was executed'
+        'profile:Run jobs and show in which functions they spent their steps'
+        'help:Describe the keys of a job list'
     )
     if (( CURRENT == 2 )); then
         _describe command commands
@@ -40,134 +40,134 @@ _rvfleet_behind_rvtest() {
     (( CURRENT-- ))
     case $words[1] in
         run) _arguments \
-                '*--only[Chooses the job of this name; may come again]:NAME:_rvfleet_jobs' \
-                '--match[Chooses the jobs in whose names it is found]:REGEX: ' \
-                '--exclude[Leaves out the jobs in whose names it is found]:REGEX: ' \
-                '--failed[Chooses the jobs that failed in a report]:REPORT:_files' \
-                '--partial[Takes a report that is cut off by its whole rows]' \
-                '--shard[Runs the K-th of N parts of the list]:K/N: ' \
-                '--stamp[Says which run the part is of; else a digest of the list]:TEXT: ' \
-                ''{-j,--workers}'[Threads, from 1 to 64; else one a processor]:N: ' \
+                '*--only[Select this job (repeatable)]:NAME:_rvfleet_jobs' \
+                '--match[Select jobs whose name matches this regex]:REGEX: ' \
+                '--exclude[Leave out jobs whose name matches this regex]:REGEX: ' \
+                '--failed[Select the jobs that failed in this report]:REPORT:_files' \
+                '--partial[Accept a truncated report and use its complete rows]' \
+                '--shard[Run the Kth of N shards of the list]:K/N: ' \
+                '--stamp[Identify the run that the part belongs to \[default\: a digest of the list\]]:TEXT: ' \
+                ''{-j,--workers}'[Use at most N threads, from 1 to 64 \[default\: one per processor\]]:N: ' \
                 '--group[Jobs that a thread takes at once, from 1 to 4096 \[default\: 1\]]:N: ' \
-                '--budget[Steps at most of every job, from 1 to 1000000000; else its own]:N: ' \
-                '--root[Takes the paths in the list from this folder]:DIR:_directories' \
-                '--into[Puts the rows into this file, the whole report of the list]:FILE:_files' \
-                '--report[Writes the report to this file; - is standard output]:FILE:_files' \
-                '--junit[Writes JUnit XML to this file; - is standard output]:FILE:_files' \
-                '--suite[Names the suite in JUnit XML, in place of the file]:NAME: ' \
-                '--lenient[Counts as failed only what misses an expectation]' \
-                '--counts[Writes counts of instructions to this file; - is standard output]:FILE:_files' \
-                '--stacks[Counts the stacks of functions, too; beside --counts]' \
-                '--known[Names jobs that are known to fail, one a line, # REASON behind]:FILE:_files' \
-                '--stop-after[Ends behind the N-th failure, from 1 to 4096]:N: ' \
-                ''{-v,--verbose}'[Shows the jobs that pass, too; not beside --quiet]' \
-                ''{-q,--quiet}'[Shows the last line alone; not beside --verbose]' \
-                '--last[Shows the last N instructions of a job, from 0 to 100000]:N: ' \
-                '--color[Colors\: always, never, or auto, which is on a terminal]:WHEN:(always never auto)' \
+                '--budget[Override every job'\''s step budget, from 1 to 1000000000]:N: ' \
+                '--root[Resolve relative paths in the list against this directory]:DIR:_directories' \
+                '--into[Update the rows of this file, a report of the whole list]:FILE:_files' \
+                '--report[Write the report to this file, or - for standard output]:FILE:_files' \
+                '--junit[Write JUnit XML to this file, or - for standard output]:FILE:_files' \
+                '--suite[Set the name of the test suite in JUnit XML]:NAME: ' \
+                '--lenient[Count only unmet expectations as failures]' \
+                '--counts[Write instruction counts to this file, or - for standard output]:FILE:_files' \
+                '--stacks[Also count call stacks; requires --counts]' \
+                '--known[Read the jobs that are known to fail from this file, one NAME \[# REASON\] per line]:FILE:_files' \
+                '--stop-after[Stop after the Nth failure, from 1 to 4096]:N: ' \
+                ''{-v,--verbose}'[Also show the jobs that pass; cannot be used with --quiet]' \
+                ''{-q,--quiet}'[Show only the last line; cannot be used with --verbose]' \
+                '--last[Show the last N instructions of a job, from 0 to 100000]:N: ' \
+                '--color[Color the output\: always, never or auto (on a terminal)]:WHEN:(always never auto)' \
                 '--help[Print help]' \
                 ':LIST:_files' ;;
         list) _arguments \
-                '*--only[Chooses the job of this name; may come again]:NAME:_rvfleet_jobs' \
-                '--match[Chooses the jobs in whose names it is found]:REGEX: ' \
-                '--exclude[Leaves out the jobs in whose names it is found]:REGEX: ' \
-                '--failed[Chooses the jobs that failed in a report]:REPORT:_files' \
-                '--partial[Takes a report that is cut off by its whole rows]' \
-                '--lenient[Counts as failed only what misses an expectation]' \
+                '*--only[Select this job (repeatable)]:NAME:_rvfleet_jobs' \
+                '--match[Select jobs whose name matches this regex]:REGEX: ' \
+                '--exclude[Leave out jobs whose name matches this regex]:REGEX: ' \
+                '--failed[Select the jobs that failed in this report]:REPORT:_files' \
+                '--partial[Accept a truncated report and use its complete rows]' \
+                '--lenient[Count only unmet expectations as failures]' \
                 '--help[Print help]' \
                 ':LIST:_files' ;;
         explain) _arguments \
-                '--last[Shows the last N instructions of a job, from 0 to 100000 \[default\: 16\]]:N: ' \
-                '--budget[Steps at most of every job, from 1 to 1000000000; else its own]:N: ' \
-                '--root[Takes the paths in the list from this folder]:DIR:_directories' \
-                '--color[Colors\: always, never, or auto, which is on a terminal]:WHEN:(always never auto)' \
+                '--last[Show the last N instructions of a job, from 0 to 100000 \[default\: 16\]]:N: ' \
+                '--budget[Override every job'\''s step budget, from 1 to 1000000000]:N: ' \
+                '--root[Resolve relative paths in the list against this directory]:DIR:_directories' \
+                '--color[Color the output\: always, never or auto (on a terminal)]:WHEN:(always never auto)' \
                 '--help[Print help]' \
                 ':LIST:_files' \
                 ':NAME:_rvfleet_jobs' ;;
         console) _arguments \
-                '--root[Takes the paths in the list from this folder]:DIR:_directories' \
+                '--root[Resolve relative paths in the list against this directory]:DIR:_directories' \
                 '--help[Print help]' \
                 ':LIST:_files' \
                 ':NAME:_rvfleet_jobs' ;;
         gdb) _arguments \
-                '--root[Takes the paths in the list from this folder]:DIR:_directories' \
-                '--memory[Megabytes at most, from 64 to 4096; else 256]:N: ' \
+                '--root[Resolve relative paths in the list against this directory]:DIR:_directories' \
+                '--memory[Use at most N megabytes, from 64 to 4096 \[default\: 256\]]:N: ' \
                 '--help[Print help]' \
                 ':LIST:_files' \
                 ':NAME:_rvfleet_jobs' ;;
         check) _arguments \
-                '--root[Takes the paths in the list from this folder]:DIR:_directories' \
+                '--root[Resolve relative paths in the list against this directory]:DIR:_directories' \
                 '--help[Print help]' \
                 ':LIST:_files' ;;
         accept) _arguments \
-                '*--only[Chooses the job of this name; may come again]:NAME:_rvfleet_jobs' \
-                '--match[Chooses the jobs in whose names it is found]:REGEX: ' \
-                '--exclude[Leaves out the jobs in whose names it is found]:REGEX: ' \
-                '--failed[Chooses the jobs that failed in a report]:REPORT:_files' \
-                '--partial[Takes a report that is cut off by its whole rows]' \
-                '--ends[Accepts another exit code too, and another kind of fault]' \
-                '--check[Tells what would change, and writes nothing]' \
-                '--outside[Also writes golden files outside of the list'\''s directory, or of DIR]' \
-                ''{-j,--workers}'[Threads, from 1 to 64; else one a processor]:N: ' \
+                '*--only[Select this job (repeatable)]:NAME:_rvfleet_jobs' \
+                '--match[Select jobs whose name matches this regex]:REGEX: ' \
+                '--exclude[Leave out jobs whose name matches this regex]:REGEX: ' \
+                '--failed[Select the jobs that failed in this report]:REPORT:_files' \
+                '--partial[Accept a truncated report and use its complete rows]' \
+                '--ends[Also accept a different exit code or kind of fault]' \
+                '--check[Show what would change without writing anything]' \
+                '--outside[Also write golden files outside the list'\''s directory or DIR]' \
+                ''{-j,--workers}'[Use at most N threads, from 1 to 64 \[default\: one per processor\]]:N: ' \
                 '--group[Jobs that a thread takes at once, from 1 to 4096 \[default\: 1\]]:N: ' \
-                '--root[Takes the paths in the list from this folder]:DIR:_directories' \
+                '--root[Resolve relative paths in the list against this directory]:DIR:_directories' \
                 '--help[Print help]' \
                 ':LIST:_files' ;;
         merge) _arguments \
-                '--report[Writes the report to this file; - is standard output]:FILE:_files' \
-                '--junit[Writes JUnit XML to this file; - is standard output]:FILE:_files' \
-                '--suite[Names the suite in JUnit XML, in place of the file]:NAME: ' \
-                '--lenient[Counts as failed only what misses an expectation]' \
+                '--report[Write the report to this file, or - for standard output]:FILE:_files' \
+                '--junit[Write JUnit XML to this file, or - for standard output]:FILE:_files' \
+                '--suite[Set the name of the test suite in JUnit XML]:NAME: ' \
+                '--lenient[Count only unmet expectations as failures]' \
                 '--help[Print help]' \
                 '*:PART:_files' ;;
         diff) _arguments \
-                '--partial[Takes a report that is cut off by its whole rows]' \
-                '--steps[Compares steps too, and where faults were]' \
-                '--slower[Says which jobs take over N percent more steps, from 0 to 1000]:N: ' \
-                '--color[Colors\: always, never, or auto, which is on a terminal]:WHEN:(always never auto)' \
+                '--partial[Accept a truncated report and use its complete rows]' \
+                '--steps[Also compare steps and the addresses of faults]' \
+                '--slower[Report jobs that take over N percent more steps, from 0 to 1000]:N: ' \
+                '--color[Color the output\: always, never or auto (on a terminal)]:WHEN:(always never auto)' \
                 '--help[Print help]' \
                 ':OLD:_files' \
                 ':NEW:_files' ;;
         show) _arguments \
-                '--partial[Takes a report that is cut off by its whole rows]' \
-                '--junit[Writes JUnit XML to this file; - is standard output]:FILE:_files' \
-                '--suite[Names the suite in JUnit XML, in place of the file]:NAME: ' \
-                '--lenient[Counts as failed only what misses an expectation]' \
-                '--color[Colors\: always, never, or auto, which is on a terminal]:WHEN:(always never auto)' \
+                '--partial[Accept a truncated report and use its complete rows]' \
+                '--junit[Write JUnit XML to this file, or - for standard output]:FILE:_files' \
+                '--suite[Set the name of the test suite in JUnit XML]:NAME: ' \
+                '--lenient[Count only unmet expectations as failures]' \
+                '--color[Color the output\: always, never or auto (on a terminal)]:WHEN:(always never auto)' \
                 '--help[Print help]' \
                 ':REPORT:_files' ;;
         counts) _arguments \
-                '--out[Writes the sum to this file; else to standard output]:FILE:_files' \
+                '--out[Write the sum to this file \[default\: standard output\]]:FILE:_files' \
                 '--help[Print help]' \
                 '*:TABLE:_files' ;;
         cover) _arguments \
-                '*--only[Chooses the job of this name; may come again]:NAME:_rvfleet_jobs' \
-                '--match[Chooses the jobs in whose names it is found]:REGEX: ' \
-                '--exclude[Leaves out the jobs in whose names it is found]:REGEX: ' \
-                '--failed[Chooses the jobs that failed in a report]:REPORT:_files' \
-                '--partial[Takes a report that is cut off by its whole rows]' \
-                '--shard[Runs the K-th of N parts of the list]:K/N: ' \
-                '--lenient[Counts as failed only what misses an expectation]' \
-                ''{-j,--workers}'[Threads, from 1 to 64; else one a processor]:N: ' \
+                '*--only[Select this job (repeatable)]:NAME:_rvfleet_jobs' \
+                '--match[Select jobs whose name matches this regex]:REGEX: ' \
+                '--exclude[Leave out jobs whose name matches this regex]:REGEX: ' \
+                '--failed[Select the jobs that failed in this report]:REPORT:_files' \
+                '--partial[Accept a truncated report and use its complete rows]' \
+                '--shard[Run the Kth of N shards of the list]:K/N: ' \
+                '--lenient[Count only unmet expectations as failures]' \
+                ''{-j,--workers}'[Use at most N threads, from 1 to 64 \[default\: one per processor\]]:N: ' \
                 '--group[Jobs that a thread takes at once, from 1 to 4096 \[default\: 1\]]:N: ' \
-                '--root[Takes the paths in the list from this folder]:DIR:_directories' \
-                '--counts[Reads the counts in this table, and runs nothing]:TABLE:_files' \
-                '--csv[Writes a row of CSV for each image]' \
+                '--root[Resolve relative paths in the list against this directory]:DIR:_directories' \
+                '--counts[Read counts from this table instead of running jobs]:TABLE:_files' \
+                '--csv[Write one CSV row per image]' \
                 '--help[Print help]' \
                 ':LIST:_files' ;;
         profile) _arguments \
-                '*--only[Chooses the job of this name; may come again]:NAME:_rvfleet_jobs' \
-                '--match[Chooses the jobs in whose names it is found]:REGEX: ' \
-                '--exclude[Leaves out the jobs in whose names it is found]:REGEX: ' \
-                '--failed[Chooses the jobs that failed in a report]:REPORT:_files' \
-                '--partial[Takes a report that is cut off by its whole rows]' \
-                '--shard[Runs the K-th of N parts of the list]:K/N: ' \
-                '--lenient[Counts as failed only what misses an expectation]' \
-                ''{-j,--workers}'[Threads, from 1 to 64; else one a processor]:N: ' \
+                '*--only[Select this job (repeatable)]:NAME:_rvfleet_jobs' \
+                '--match[Select jobs whose name matches this regex]:REGEX: ' \
+                '--exclude[Leave out jobs whose name matches this regex]:REGEX: ' \
+                '--failed[Select the jobs that failed in this report]:REPORT:_files' \
+                '--partial[Accept a truncated report and use its complete rows]' \
+                '--shard[Run the Kth of N shards of the list]:K/N: ' \
+                '--lenient[Count only unmet expectations as failures]' \
+                ''{-j,--workers}'[Use at most N threads, from 1 to 64 \[default\: one per processor\]]:N: ' \
                 '--group[Jobs that a thread takes at once, from 1 to 4096 \[default\: 1\]]:N: ' \
-                '--root[Takes the paths in the list from this folder]:DIR:_directories' \
-                '--counts[Reads the counts in this table, and runs nothing]:TABLE:_files' \
-                '--top[Shows the first N functions of each image; else all]:N: ' \
-                '--csv[Writes a row of CSV for each function]' \
+                '--root[Resolve relative paths in the list against this directory]:DIR:_directories' \
+                '--counts[Read counts from this table instead of running jobs]:TABLE:_files' \
+                '--top[Show only the first N functions of each image]:N: ' \
+                '--csv[Write one CSV row per function]' \
                 '--help[Print help]' \
                 ':LIST:_files' \
                 ':NAME:_rvfleet_jobs' ;;

@@ -64,12 +64,12 @@ def wrong_tables():
     for number, line in WRONG_LINES:
         changed = [*lines[:number - 1], line, *lines[number:]] if number else [*lines, line]
         path = put("wrong.counts", "".join(f"{it}\n" for it in changed))
-        expect(f"line {number} as {line!r}", refusal_of(path), f"{path}:{number or len(changed)}: no table of counts has this line here")
+        expect(f"line {number} as {line!r}", refusal_of(path), f"{path}:{number or len(changed)}: invalid line in a table of counts")
     for size in range(len(TABLE)):
         path = put("cut.counts", TABLE[:size])
-        expect(f"the first {size} bytes", refusal_of(path), f"{path}: the table is cut off")
+        expect(f"the first {size} bytes", refusal_of(path), f"{path}: the table is truncated")
     behind = put("more.counts", f"{TABLE}more")
-    expect("text behind the end", refusal_of(behind), f"{behind}:{len(lines) + 1}: no table of counts has this line here")
+    expect("text behind the end", refusal_of(behind), f"{behind}:{len(lines) + 1}: invalid line in a table of counts")
     return f"{len(WRONG_LINES)} wrong lines and {len(TABLE)} cut tables"
 
 
@@ -96,7 +96,7 @@ def sums():
     """Tables are summed, and refused, as `rvtest counts` does it: by the rows that are tried of it, but for where the sum goes."""
     put("list.toml", "[[job]]\n")
     pathlib.Path("folder").mkdir()
-    expect("a folder", refusal_of("folder"), "folder: a folder")
+    expect("a folder", refusal_of("folder"), "folder: Is a directory")
     count = 0
     for row in rows_of_file(TOP / "checks/tables/added.txt", "words status shown told out a b c".split()):
         for cells in (it for it in row.asks if "--out" not in it["words"]):
@@ -119,9 +119,9 @@ def refused_words():
     put("a.elf", "another")
     cut = put("cut.counts", TABLE[:-1])
     rows = [
-        ((), "are required: TABLE"), ((other, "--kee", "a"), "unrecognized arguments: --kee"), (("gone",), "counts2lcov: gone: missing"),
-        ((cut,), "counts2lcov: cut.counts: the table is cut off"), ((none,), "counts2lcov: gone.elf: missing"),
-        ((other,), "counts2lcov: a.elf: another image than that of the counts"),
+        ((), "are required: TABLE"), ((other, "--kee", "a"), "unrecognized arguments: --kee"), (("gone",), "counts2lcov: gone: No such file or directory"),
+        ((cut,), "counts2lcov: cut.counts: the table is truncated"), ((none,), "counts2lcov: gone.elf: No such file or directory"),
+        ((other,), "counts2lcov: a.elf: the image differs from that of the counts"),
     ]
     for words, said in rows:
         out, err = call("counts2lcov", *words, status=2)

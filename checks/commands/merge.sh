@@ -96,16 +96,16 @@ sed 's/^job 2 fault/job 2 pass/' p2-2 >twice
 sed 's/^console -/console AB/' p2-2 >changed
 head -c 100 p2-2 >begun
 
-refuses 'a line that no part has' 'rvtest: changed:4: no part has this line here: "console AB": console with hexadecimal digits or - is wanted' p1-2 changed
-refuses 'a part that is cut off' 'rvtest: begun: the part is cut off' p1-2 begun
-refuses 'a whole report' 'rvtest: list.text: a whole report, which is no part of a run' p1-2 list.text
-refuses 'the report of a choice' 'rvtest: choice: the report of a choice of jobs, which is no shard'"'"'s' p1-2 choice
-refuses 'another number of shards' 'rvtest: p2-3: another number of shards than p1-2' p1-2 p2-3
-refuses 'another number of jobs' 'rvtest: other-jobs: a list of another number of jobs than p1-2' p1-2 other-jobs
-refuses 'another stamp' 'rvtest: other-stamp: another stamp than p1-2' p1-2 other-stamp
-refuses 'a shard that is missing' 'rvtest: no part is that of shard 2' p1-2
-refuses 'another text of a shard' 'rvtest: other-text: the same shard as p2-2, and another text' p1-2 p2-2 other-text
-refuses 'a name in two rows' 'rvtest: twice: job 2 has the name of a job before it' p1-2 twice
+refuses 'a line that no part has' 'rvtest: changed:4: invalid part line "console AB": expected "console" and hexadecimal digits or -' p1-2 changed
+refuses 'a part that is cut off' 'rvtest: begun: the part is truncated' p1-2 begun
+refuses 'a whole report' 'rvtest: list.text: expected a part of a run, found a whole report' p1-2 list.text
+refuses 'the report of a choice' 'rvtest: choice: expected the part of a shard, found a report of selected jobs' p1-2 choice
+refuses 'another number of shards' 'rvtest: p2-3: a different number of shards than p1-2' p1-2 p2-3
+refuses 'another number of jobs' 'rvtest: other-jobs: a list with a different number of jobs than p1-2' p1-2 other-jobs
+refuses 'another stamp' 'rvtest: other-stamp: a different stamp than p1-2' p1-2 other-stamp
+refuses 'a shard that is missing' 'rvtest: missing part of shard 2' p1-2
+refuses 'another text of a shard' 'rvtest: other-text: the same shard as p2-2, but different contents' p1-2 p2-2 other-text
+refuses 'a name in two rows' 'rvtest: twice: job 2 has the name of an earlier job' p1-2 twice
 
 merge p1-2 missing
 if [ "$status" != 3 ] || [ -s out ]; then fail "a part that is not there: status $status, $(<err)"; fi
@@ -120,7 +120,7 @@ shard list.toml 1 2 first
 shard list.toml 2 2 second
 shard other.toml 2 2 other
 merges 'parts without a stamp' 1 list.text first second
-refuses 'a part of another list' 'rvtest: other: another stamp than first' first other
+refuses 'a part of another list' 'rvtest: other: a different stamp than first' first other
 
 # ---- two machines whose files differ: each row is that of its machine's files
 

@@ -199,9 +199,9 @@ assert [case.name for case in cases] == ["passes", "fails", "is-refused", "fault
 kinds = [[type(one).__name__ for one in case.result] for case in cases]
 assert kinds == [[], ["Failure"], ["Error"], ["Failure"]], kinds
 text = cases[1].result[0].text
-assert text == "FAIL fails: exit 5 after 2 steps\n     expected exit 6\n", text
-assert cases[2].result[0].message == "FAIL is-refused: refused image-unreadable: missing.elf: missing", cases[2].result[0].message
-assert cases[3].result[0].text.endswith("expected exit 0, since it expects nothing else\n")
+assert text == "FAIL fails: exit 5 after 2 steps\n     expected: exit 6\n", text
+assert cases[2].result[0].message == "FAIL is-refused: refused image-unreadable: missing.elf: No such file or directory", cases[2].result[0].message
+assert cases[3].result[0].text.endswith("expected: exit 0, since no expectation is set\n")
 END
 for part in 1 2; do
     run run jobs.toml --shard "$part/2" --stamp x --report "part$part.txt" --quiet

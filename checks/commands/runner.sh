@@ -21,7 +21,7 @@ job() {
 
 # The lines of a job that expects nothing and ends otherwise than by exit 0: its name, and how it ended.
 unexpected() {
-    printf 'FAIL %s: %s\n     expected exit 0, since it expects nothing else\n' "$@"
+    printf 'FAIL %s: %s\n     expected: exit 0, since no expectation is set\n' "$@"
 }
 
 : >none
@@ -29,7 +29,7 @@ echo old >old
 job passing z.elf 3 >passing.toml
 report '1 passing' 'exit 0' 2 none >passing.text
 echo '1 job: 1 passed, 0 failed, 2 steps' >passing.shown
-printf '%s\n' 'FAIL failing: exit 5 after 2 steps' '     expected exit 6' '1 job: 0 passed, 1 failed (1 exit), 2 steps' >failing.shown
+printf '%s\n' 'FAIL failing: exit 5 after 2 steps' '     expected: exit 6' '1 job: 0 passed, 1 failed (1 exit), 2 steps' >failing.shown
 # Two bad jobs: a key that is misspelt, and a number out of its range.
 {
     job first z.elf 3
@@ -79,7 +79,7 @@ cat three.toml failing.toml >four.toml
     job lost lost.elf 3
 } >gone.toml
 {
-    printf 'FAIL %s: refused image-unreadable: %s: missing\n' gone gone.elf lost lost.elf
+    printf 'FAIL %s: refused image-unreadable: %s: No such file or directory\n' gone gone.elf lost lost.elf
     echo '2 jobs: 0 passed, 2 failed (2 refused), 0 steps'
 } >gone.shown
 # Jobs of which one takes a while.
@@ -187,15 +187,15 @@ run check refused.toml >out 2>err
 shows 'a check of two bad jobs' 2 refused.toml second budgte third budget
 job second z.elf '"three"' >kind.toml
 run run kind.toml >out 2>err
-says 'a value of another kind' 2 none kind.toml:1 'job 1 (second)' budget '"three"'
+says 'a value of another kind' 2 none kind.toml:1 'job 1 "second"' budget '"three"'
 printf '[[job]]\nname = \n' >broken.toml
 run run broken.toml >out 2>err
 says 'a list that is no TOML' 2 none broken.toml:2
 run run gone.toml >out 2>err
-says 'images that are missing' 1 gone.shown 'paths are taken from the folder that rvtest runs in'
+says 'images that are missing' 1 gone.shown 'relative paths are resolved against the current directory'
 echo '2 jobs: 2 passed, 0 failed, 0 steps' >lenient.shown
 run run gone.toml --lenient --quiet --root . >out 2>err
-says 'images that are missing, by the lenient rule' 0 lenient.shown 'paths are taken from . (--root)'
+says 'images that are missing, by the lenient rule' 0 lenient.shown 'relative paths are resolved against . (--root)'
 run run gone.toml --only gone --quiet --lenient >out 2>err
 shows 'an image of a choice that is missing' 0 '1 job: 1 passed, 0 failed, 0 steps'
 mkdir folder
@@ -259,7 +259,7 @@ says 'what failed before, of which a job is gone' 1 both.shown four failing
 run run passing.toml --failed four >out 2>err
 says 'what failed before, of which all jobs are gone' 0 empty.shown second third failing
 run run three.toml --match nothing >out 2>err
-says 'an expression that chooses no job' 2 none "'nothing'"
+says 'an expression that chooses no job' 2 none '"nothing"'
 for workers in 1 4 64; do
     run run many.toml --workers "$workers" --group $((65 - workers)) >out 2>err
     ends "many jobs by $workers workers" 1 many.shown
@@ -274,7 +274,7 @@ ends 'the second of two shards' 1 second.shown
 run merge part2 part1 part2 --report merged >out 2>err
 ends 'both shards merged' 1 three.last
 run merge part1 part2 --junit one --report one >out 2>err
-says 'both shards merged into one file twice' 2 none '--report <FILE>' '--junit <FILE>' 'it is one file' 'Usage: rvtest merge'
+says 'both shards merged into one file twice' 2 none '--report <FILE>' '--junit <FILE>' 'cannot name the same file' 'Usage: rvtest merge'
 cmp -s merged three || fail "the merged report is another: $(<merged)"
 for words in '' '--report -'; do
     # shellcheck disable=SC2086 # several words, or none
@@ -306,7 +306,7 @@ ends 'the other shard without a stamp' 1 second.shown
 run merge three.part2 three.part1 >out 2>err
 says 'shards without a stamp merged' 1 three '3 jobs'
 run merge spaced.part1 three.part2 >out 2>err
-says 'shards of lists that differ by a byte' 2 none three.part2 'another stamp' spaced.part1
+says 'shards of lists that differ by a byte' 2 none three.part2 'a different stamp' spaced.part1
 head -c 100 part2 >begun
 run merge part1 begun >out 2>err
 says 'a part that is cut off' 2 none begun
@@ -321,7 +321,7 @@ says 'a bad stamp' 2 none "'a b'" '--stamp <TEXT>' 'Usage: rvtest run'
 run run three.toml --shard 1/2 --only first >out 2>err
 says 'a shard of a choice' 2 none --shard --only
 run run three.toml --report one --junit one >out 2>err
-says 'one file for the report and JUnit' 2 none '--report <FILE>' '--junit <FILE>' 'it is one file' 'Usage: rvtest run'
+says 'one file for the report and JUnit' 2 none '--report <FILE>' '--junit <FILE>' 'cannot name the same file' 'Usage: rvtest run'
 [ ! -e one ] || fail 'a file that is refused is there'
 
 # ---- reports that other tools read, and the way to an end
@@ -342,7 +342,7 @@ junit() {
     printf '</testsuite>\n</testsuites>\n'
 }
 
-junit three $'     expected exit 0, since it expects nothing else\n' >run.xml
+junit three $'     expected: exit 0, since no expectation is set\n' >run.xml
 junit three '' >show.xml
 junit merged '' >merge.xml
 {
@@ -363,7 +363,7 @@ END
 run run three.toml --quiet --junit - >out 2>err
 says 'JUnit to standard output' 1 run.xml
 cmp -s err three.last || fail_run 'JUnit to standard output'
-junit 'board 2 &lt;&quot;a&quot;&gt;' $'     expected exit 0, since it expects nothing else\n' >named.xml
+junit 'board 2 &lt;&quot;a&quot;&gt;' $'     expected: exit 0, since no expectation is set\n' >named.xml
 run run three.toml --quiet --junit - --suite 'board 2 <"a">' >out 2>err
 says 'JUnit with the name of a suite' 1 named.xml
 # The example of docs/REPORTS.md: a job of which another exit and another console are expected.
@@ -397,15 +397,15 @@ shows 'a report compared with that of a choice' 0 '0 of 1 jobs differ: 0 gone, 0
 run diff three missing >out 2>err
 says 'a missing report compared' 3 none missing
 run explain three.toml second --last 1 >out 2>err
-shows 'a job explained' 1 'FAIL second: exit 5 after 2 steps' 'expected exit 0' 'ended at 80000008' 'addi a7, zero, 93' 'exit 5'
+shows 'a job explained' 1 'FAIL second: exit 5 after 2 steps' 'expected: exit 0' 'ended at 80000008' 'addi a7, zero, 93' 'exit 5'
 # A folder that has one of two images.
 mkdir root
 cp z.elf root/gone.elf
-printf '%s\n' 'gone.toml:6: job 2 (lost): refused image-unreadable: lost.elf: missing' '2 jobs, 1 refused' >root.checked
+printf '%s\n' 'gone.toml:6: job 2 "lost": refused image-unreadable: lost.elf: No such file or directory' '2 jobs, 1 refused' >root.checked
 run check gone.toml --root root >out 2>err
 ends 'images in a folder checked' 2 root.checked
 run explain gone.toml gone >out 2>err
-shows 'an image that is in a folder explained' 1 'FAIL gone: refused image-unreadable: gone.elf: missing'
+shows 'an image that is in a folder explained' 1 'FAIL gone: refused image-unreadable: gone.elf: No such file or directory'
 run explain gone.toml gone --root root >out 2>err
 shows 'an image in a folder explained' 0 'PASS gone: exit 0 after 2 steps'
 run run gone.toml --root root --only gone >out 2>err
@@ -427,7 +427,7 @@ printf '     calls: depth+0x12%s <- 97 more\n' "$(printf ' <- depth+0x1a%.0s' {1
 run explain examples/broken.toml stack >out 2>err
 ends 'a stack explained that grew out of its memory' 1 stack.text
 run run failing.toml --last 2 >out 2>err
-shows 'the last instructions of a job that fails' 1 'expected exit 6' 'ended at 80000008' 'addi a0, zero, 5'
+shows 'the last instructions of a job that fails' 1 'expected: exit 6' 'ended at 80000008' 'addi a0, zero, 5'
 
 # ---- places of the report
 
@@ -603,8 +603,8 @@ while IFS=: read -r change reason; do
     says "$change of the report's folder" 3 many.shown "kept/report: $reason"
     [ ! -e kept ] || cmp -s kept/report old || fail "$change of the report's folder: the report is not what it was"
 done <<'END'
-rm -r:missing
-chmod 555:no permission
+rm -r:No such file or directory
+chmod 555:Permission denied
 END
 chmod 755 kept
 

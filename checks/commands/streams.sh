@@ -105,13 +105,13 @@ image = "closed.elf"
 budget = 3
 END
 {
-    echo 'FAIL closed: refused image-unreadable: closed.elf: no permission'
+    echo 'FAIL closed: refused image-unreadable: closed.elf: Permission denied'
     echo '1 job: 0 passed, 1 failed (1 refused), 0 steps'
 } >closed.shown
 run_program rvtest run closed_image.toml >out 2>err
 ends 'rvtest, an image without leave to read it' 1 '' closed.shown
 run_program rvtest run $'\xff' >out 2>err
-ends 'rvtest, a word that is no UTF-8' 2 'rvtest: a word is no UTF-8 text' none
+ends 'rvtest, a word that is no UTF-8' 2 'rvtest: an argument is not valid UTF-8' none
 
 # A pipe that nobody reads any more, as behind `head`: rvtest ends as a program that SIGPIPE ends, and says nothing. Other failures have
 # their message still, and a reader of standard error who is gone changes nothing.
@@ -136,9 +136,9 @@ for words in 'run closed_image.toml --report -' 'run closed_image.toml --junit -
     echo "rvtest $words, closed by its reader: status 141"
 done
 run_program rvtest list closed_image.toml >/dev/full 2>err
-ends 'rvtest, standard output full' 3 'rvtest: the results: write failed' none
+ends 'rvtest, standard output full' 3 'rvtest: standard output: write failed' none
 run_program rvtest list missing.toml >&5 2>err
-ends 'rvtest, no list, closed by its reader' 3 'rvtest: missing.toml: missing' none
+ends 'rvtest, no list, closed by its reader' 3 'rvtest: missing.toml: No such file or directory' none
 run_program rvtest run closed_image.toml >out 2>&5
 ends 'rvtest, standard error closed by its reader' 1 '' closed.shown
 exec 5>&-
@@ -167,7 +167,7 @@ for junit in ./x link; do
     echo old >x
     status=0
     ./rvtest run passing.toml --report x --junit "$junit" >out 2>err || status=$?
-    if [ "$status, $(<err)" != "2, rvtest: $junit: another file of this command goes to the same place" ] || [ "$(<x)" != old ] || [ -e x.new ]; then
+    if [ "$status, $(<err)" != "2, rvtest: $junit: another output of this command is the same file" ] || [ "$(<x)" != old ] || [ -e x.new ]; then
         fail "--report x --junit $junit: status $status, standard error '$(<err)', x has '$(<x)'"
     fi
 done

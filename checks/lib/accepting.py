@@ -225,7 +225,7 @@ def try_shared(rvtest, folder):
 
 
 def changed(name):
-    return f"rvtest: {name}: changed since it was read; nothing is written\n"
+    return f"rvtest: {name}: changed since it was read; nothing was written\n"
 
 
 def ended(process):

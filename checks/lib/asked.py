@@ -71,7 +71,7 @@ def check_full_disk(row):
     write_all(row)
     words = row["words"].split()
     status, said = row.run_onto_full_disk(words)
-    wanted = lines(*lines_in(row["said"]), "rvtest: the results: write failed").encode()
+    wanted = lines(*lines_in(row["said"]), "rvtest: standard output: write failed").encode()
     if (status, said) != (3, wanted):
         row.fails(words, (3, b"", wanted), (status, b"", said))
     for name in row["not_there"].split():
@@ -279,7 +279,7 @@ def check_lines(row):
 def fronts(out):
     """The line and the number of each job, from the first line that tells of it; of a line that tells of no job nothing."""
     places = {}
-    for line, number in re.findall(rb"^f\.toml:([0-9]+):[0-9]+: job ([0-9]+)", out, re.MULTILINE):
+    for line, number in re.findall(rb"^f\.toml:([0-9]+):[0-9]+: error: job ([0-9]+)", out, re.MULTILINE):
         places.setdefault(number, b"f.toml:%s: job %s" % (line, number))
     return b"\n".join(places.values())
 

@@ -157,7 +157,7 @@ def told_of(job, meaning, code, letters, start):
         place, end = CODE, f"fault {kind} at {CODE:08x}, value {value:08x}, after {steps} steps"
         told = kind + MET.get(kind, " at {:08x}").format(value)
     yield f"FAIL {job}: {end}"
-    yield "     expected exit 0, since it expects nothing else"
+    yield "     expected: exit 0, since no expectation is set"
     yield f"     ended at {place:08x}"
     for name, value in zip(REGISTERS, registers):
         yield f"     {name:<4}  {value:08x}"

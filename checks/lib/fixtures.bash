@@ -85,9 +85,9 @@ image = "a.elf"
 Budget = 3
 END
 {
-    echo 'faulty.toml:4:1: job 1 (none): budget = 0: a whole number from 1 to 1000000000 is wanted'
-    echo 'faulty.toml:6:1: job 2 (misspelt): budget is absent: a whole number from 1 to 1000000000 is wanted'
-    echo 'faulty.toml:9:1: job 2 (misspelt): unknown key "Budget": the nearest key is "budget"'
+    echo 'faulty.toml:4:1: error: job 1 "none": budget = 0: expected an integer from 1 to 1000000000'
+    echo 'faulty.toml:6:1: error: job 2 "misspelt": budget is missing: expected an integer from 1 to 1000000000'
+    echo 'faulty.toml:9:1: error: job 2 "misspelt": unknown key "Budget": a similar key exists: "budget"'
 } >"$work/faulty.checked"
 
 # A job that expects another exit code than it has.
@@ -124,7 +124,7 @@ report '1 failing' 'exit 5' 2 fail >"$work/failing.text"
 } >"$work/list.text"
 
 # What rvtest shows of the list, and says of its files.
-unexpected='expected exit 0, since it expects nothing else'
+unexpected='expected: exit 0, since no expectation is set'
 short='refused short-header: the file is shorter than an ELF header'
 {
     printf 'FAIL fault: fault breakpoint at 80000000, value 00000000, after 0 steps\n     %s\n' "$unexpected"
@@ -133,6 +133,6 @@ short='refused short-header: the file is shorter than an ELF header'
     echo '5 jobs: 2 passed, 3 failed (1 budget, 1 breakpoint, 1 refused), 13 steps'
 } >"$work/list.shown"
 {
-    echo "list.toml:17: job 4 (short): $short"
+    echo "list.toml:17: job 4 \"short\": $short"
     echo '5 jobs, 1 refused'
 } >"$work/list.checked"

@@ -50,7 +50,7 @@ def check_map(row):
     if told == "good":
         row.wants(["check", "list.toml"], 0, "1 job, none refused\n")
     else:
-        row.wants(["check", "list.toml"], 2, f"list.toml:1:{text.index('region') + 1}: job 1 (a): {told}\n")
+        row.wants(["check", "list.toml"], 2, f'list.toml:1:{text.index("region") + 1}: error: job 1 "a": {told}\n')
 
 
 # ---- programs

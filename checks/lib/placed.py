@@ -77,8 +77,8 @@ def check_place(row):
 ENDS = {"one": "code 00000513 X", "two": "one"}
 
 
-MISSING = "rvtest: every image is missing: paths are taken from {}\n"
-HERE = "the folder that rvtest runs in; --root DIR takes them from DIR"
+MISSING = "rvtest: no image was found: relative paths are resolved against {}\n"
+HERE = "the current directory; use --root DIR to resolve them against DIR"
 
 
 def check_root(row):
@@ -93,7 +93,7 @@ def check_root(row):
     status, out, said = row.start(words)
     line = out.decode().partition("\n")[0]
     is_told = line == wanted.get(told) or (line.startswith("FAIL a: refused image-unreadable: ") and line.endswith(f": {told}"))
-    note = MISSING.format(f"{folder} (--root)" if folder else HERE) if told == "missing" and not path.startswith("/") else ""
+    note = MISSING.format(f"{folder} (--root)" if folder else HERE) if told == "No such file or directory" and not path.startswith("/") else ""
     if (status, said) != (int(told != "one"), note.encode()) or not is_told:
         row.fails(words, (int(told != "one"), told.encode(), note.encode()), (status, out, said))
 

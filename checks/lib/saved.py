@@ -47,17 +47,18 @@ def jobs_of(report):
 
 # ---- reports that are read
 
+NEXT_JOB = '"job" and the next number, or "done" or "part" at the end'
 WANTED = {
-    "": "job with the next number, or done or part at the end,", "verdict": "job with the next number, or done or part at the end,",
-    "job": "end with how the run ended", "end": "steps with their number", "steps": "console with hexadecimal digits or -",
-    "console": "signature with the number of its words or -", "signature -": "verdict with none, pass or fail",
-    "done": "nothing more", "part": "nothing more",
+    "": NEXT_JOB, "verdict": NEXT_JOB,
+    "job": '"end" and how the run ended', "end": '"steps" and a number', "steps": '"console" and hexadecimal digits or -',
+    "console": '"signature" and its number of words or -', "signature -": '"verdict" and none, pass or fail',
+    "done": "the end of the file", "part": "the end of the file",
 }
 
 
 def wanted_behind(line):
     """What a report has behind a line."""
-    return WANTED.get(line) or WANTED.get(line.split(" ")[0]) or "a word of eight hexadecimal digits, or verdict,"
+    return WANTED.get(line) or WANTED.get(line.split(" ")[0]) or 'eight hexadecimal digits or "verdict"'
 
 
 def shown_value(value):
@@ -77,12 +78,12 @@ def check_broken(row):
     report = report_bytes(row["report"])
     row.write("report", report)
     if row["wrong"] == "cut off":
-        told = ": the report is cut off"
+        told = ": the report is truncated"
     else:
         line = int(row["wrong"].removeprefix("line "))
         before, met = (b"\n" + report).split(b"\n")[line - 1:line + 1]
         wanted = wanted_behind(before.decode("utf-8", "surrogateescape"))
-        told = f':{line}: no report has this line here: "{shown_value(met)}": {wanted} is wanted'
+        told = f':{line}: invalid report line "{shown_value(met)}": expected {wanted}'
     row.wants(["show", "report"], 2, "", f"rvtest: report{told}\n")
 
 
@@ -95,7 +96,7 @@ def check_read(row):
     wants_differences(row, ["--steps"], row["differs"], "plain", "report")
     for end in reversed(range(len(report))):
         os.truncate(row.folder / "report", end)
-        row.wants(["show", "report"], 2, "", "rvtest: report: the report is cut off\n")
+        row.wants(["show", "report"], 2, "", "rvtest: report: the report is truncated\n")
         wants_whole_rows(row, report[:end])
 
 
@@ -107,7 +108,7 @@ ROW_END = re.compile(rb"^verdict .*\n", re.MULTILINE)
 
 def cut_off_note(path, count):
     """What is told of a report that is cut off behind so many rows."""
-    return f"rvtest: {path}: the report is cut off; whole rows: {count}\n"
+    return f"rvtest: {path}: the report is truncated; complete rows: {count}\n"
 
 
 def wants_whole_rows(row, beginning):

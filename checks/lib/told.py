@@ -8,7 +8,7 @@ import images
 from rows import RULES, Form, last_line, lines, lines_in, squeezed, status_of, told_lines
 from tables import raw
 
-UNEXPECTED = "expected exit 0, since it expects nothing else"
+UNEXPECTED = "expected: exit 0, since no expectation is set"
 
 
 # ---- the files that rows name
@@ -102,7 +102,7 @@ def check_whole(row):
 def check_reason(row):
     """Why the image of a list's only job is refused."""
     write_list(row, f"name = 'a', image = '{row['image']}', budget = 9, {row['keys']}")
-    told = f"list.toml:1: job 1 (a): refused {row['refusal']}: {row['told']}"
+    told = f'list.toml:1: job 1 "a": refused {row["refusal"]}: {row["told"]}'
     row.wants(["check", "list.toml"], 2, lines(told, "1 job, 1 refused"))
 
 
@@ -117,7 +117,7 @@ def check_fault(row):
     told = lines(*(with_front(row["front"], line) for line in lines_in(row["told"])))
     row.wants(["check", name], 2, told)
     first = lines(with_front(row["front"], row["run"] or lines_in(row["told"])[0]))
-    first = re.sub(r"^(.*?:[0-9]+):[0-9]+(: job )", r"\1\2", first)
+    first = re.sub(r"^(.*?:[0-9]+):[0-9]+(: error: job )", r"\1\2", first)
     row.wants(["run", name], 2, "", first)
     row.wants(["run", name, "--report", "r"], 2, "", first)
 
@@ -143,7 +143,7 @@ def check_shown(row):
     """What bytes, in hexadecimal digits, are shown as."""
     data, text = bytes.fromhex(row["digits"]), row["shown"]
     if b"\n" not in data:
-        wants_console(row, data + b"\n", "expect_exit = 1", "expected exit 1", f"| {text}")
+        wants_console(row, data + b"\n", "expect_exit = 1", "expected: exit 1", f"| {text}")
     if data:
         code = images.numbers("00000013 01002503")
         row.write("image.elf", images.with_symbols(images.program(code), [(data, images.BASE, 2, 1)]))
@@ -155,14 +155,14 @@ def check_shown(row):
 def check_value(row):
     """What is shown of the value that a file says is expected."""
     row.write("f", row["value"])
-    told = f'expected the console of f: byte 0 is "\\xfe", expected "{row["shown"]}"'
+    told = f'expected: console of f: byte 0 is "\\xfe", expected "{row["shown"]}"'
     wants_console(row, b"\xfe", "expect_console_file = 'f'", told, "| \\xfe")
 
 
 def check_console(row):
     """The lines that are shown of the end of a console, and the whole of it by `console`, beside the job's line."""
     console = raw(row["console"])
-    line = wants_console(row, console, "expect_exit = 1", "expected exit 1", *lines_in(row["shown"]))
+    line = wants_console(row, console, "expect_exit = 1", "expected: exit 1", *lines_in(row["shown"]))
     row.wants(["console", "list.toml", "b"], 1, console, lines(line))
 
 
@@ -187,7 +187,7 @@ def write_run(row, path, text):
     end, console, signature = text.split(" ")
     if end == "refused":
         FILES["long"](row.folder / "long")
-        return "image = 'long'", "refused image-too-long: long: the file has more than 16777216 bytes", ""
+        return "image = 'long'", "refused image-too-long: long: the file is larger than 16777216 bytes", ""
     console = console.replace(".", "")
     code, told = images.run_of(raw(console), end)
     words = [] if signature in ("-", ".") else [int(word) for word in signature.split(",")]
@@ -210,7 +210,7 @@ def check_unmet(row):
     if row["file"]:
         row.write("f", row["file"].replace(".", ""))
     if row["expected"]:
-        out = told_lines(f"FAIL b: {told}", *(f"expected {text}" for text in lines_in(row["expected"])), *tail_of(raw(console)))
+        out = told_lines(f"FAIL b: {told}", *(f"expected: {text}" for text in lines_in(row["expected"])), *tail_of(raw(console)))
     else:
         out = lines(f"{'FAIL' if told.startswith('refused') else 'PASS'} b: {told}")
     wants_run(row, ["--verbose", "--only", "b"], out)

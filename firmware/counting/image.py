@@ -19,7 +19,7 @@ def output_of(words, given=None):
     try:
         done = subprocess.run(words, input=given, capture_output=True, check=False, encoding="utf-8", errors="replace", env=environment)
     except OSError as error:
-        raise Refused(f"{words[0]}: {error.strerror}; as root, apt-get install binutils-riscv64-unknown-elf, or say --prefix") from None
+        raise Refused(f"{words[0]}: {error.strerror}; as root, apt-get install binutils-riscv64-unknown-elf, or pass --prefix") from None
     if done.returncode:
         raise Refused(f"{' '.join(words)}: {done.stderr.strip()}")
     return done.stdout
@@ -29,7 +29,7 @@ def lines_of(image):
     """The lines of an image, whose file must have the digest of the counts."""
     data = file_at(image.path)
     if hashlib.sha256(data).hexdigest() != image.digest:
-        raise Refused(f"{image.path}: another image than that of the counts")
+        raise Refused(f"{image.path}: the image differs from that of the counts")
     return Lines(image.path, data)
 
 

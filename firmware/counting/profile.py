@@ -32,7 +32,7 @@ def flat(image):
     amounts = amounts_of(image.spots)
     total = sum(it.own for it in amounts.values())
     yield f"{image.path}: {total} steps"
-    yield "         own       %    inclusive       %   arrivals  function"
+    yield "         own       %    inclusive       %      calls  function"
     for function, it in sorted(amounts.items(), key=lambda it: (-it[1].own, -it[1].inclusive, it[0])):
         yield (f"{it.own:12} {percent(it.own, total)} {it.inclusive:12} {percent(it.inclusive, total)} {it.arrivals:10}  "
                f"{image.names[function]}")

@@ -12,7 +12,6 @@ COUNT = re.compile(f"([0-9a-f]{{8}}) {NUMBER} {NUMBER}")
 SPOT = re.compile(f"spot {NUMBER} ([0-9a-f]{{8}}) {NUMBER} {NUMBER} (.*)")
 DONE = re.compile(f"done {NUMBER} {NUMBER}")
 MOST = 2**64 - 1
-WHY_UNREAD = {FileNotFoundError: "missing", IsADirectoryError: "a folder", PermissionError: "no permission"}
 
 
 class Image(NamedTuple):
@@ -90,7 +89,7 @@ def file_at(path):
         with open(path, "rb") as file:
             return file.read()
     except OSError as error:
-        raise Refused(f"{path}: {WHY_UNREAD.get(type(error)) or error.strerror.lower()}") from None
+        raise Refused(f"{path}: {error.strerror}") from None
 
 
 def text_of(line):
@@ -110,14 +109,14 @@ def table_at(path):
         if text is None or not reader.takes(text):
             raise wrong_line(path, number)
     if reader.runs is None:
-        raise Refused(f"{path}: the table is cut off")
+        raise Refused(f"{path}: the table is truncated")
     if rest:
         raise wrong_line(path, len(lines) + 1)
     return reader.images, reader.runs
 
 
 def wrong_line(path, number):
-    return Refused(f"{path}:{number}: no table of counts has this line here")
+    return Refused(f"{path}:{number}: invalid line in a table of counts")
 
 
 def sum_of(paths):
@@ -141,7 +140,7 @@ def added(first, second, path):
         before = counts.get(address, (0, 0))
         counts[address] = before[0] + begun, before[1] + taken
         if counts[address][0] > MOST:
-            raise Refused(f"{path}: a count of {address:08x} does not fit in 64 bits")
+            raise Refused(f"{path}: the count at {address:08x} does not fit in 64 bits")
     names = dict(first.names)
     for function, name in sorted(second.names.items()):
         if names.setdefault(function, name) != name:

@@ -98,7 +98,7 @@ def zsh_quoted(text):
 
 
 def zsh_option(option):
-    again = "*" if option.may_come_again else ""
+    again = "*" if option.is_repeatable else ""
     names = f"{{-{option.short},--{option.name}}}" if option.short else f"--{option.name}"
     value = "" if option.value is None else f":{zsh_quoted(option.value)}:{zsh_action(kind_of_option(option), option.value)}"
     told = f"[{zsh_quoted(option.text)}]{value}"

@@ -15,7 +15,7 @@ class Option:
         found = re.fullmatch(r"(?:-([a-zA-Z]), )?--([a-z-]+)(?: <([^>]+)>)?", shown)
         self.short, self.name, self.value = found.groups()
         self.text = text
-        self.may_come_again = "may come again" in text
+        self.is_repeatable = "(repeatable)" in text
 
     @property
     def asked(self):

@@ -17,7 +17,7 @@ def synopsis(command):
         if f"--{option.name}" in command.usage:
             lines += [f".B {asked}", f".I {roff(option.value)}"]
             continue
-        again = "..." if option.may_come_again else ""
+        again = "..." if option.is_repeatable else ""
         lines.append(f".RB [ {asked} ]{again}" if option.value is None else f".RB [ {asked}\n.IR {roff(option.value)} ]{again}")
     lines += [f".RI [ {roff(name)} ]" if f"[{name}]" in command.usage else f".I {roff(name)}" for name, _ in command.arguments]
     return "\n".join(lines)
@@ -52,22 +52,27 @@ def program_page(program, text):
 
 
 def keys():
-    """The keys of a list: name or names, value, and what holds where it is absent, from README.md."""
+    """The keys of a list: name or names, value, and default, from README.md."""
     rows = re.findall(r"^\| (`.*`) \| (.*?) \| (.*?) ?\|$", (TOP / "README.md").read_text(), flags=re.M)
     behind = [names for names, _, _ in rows].index("`name`")
     return rows[behind:]
 
 
-def key_entry(names, value, absent):
+def default_text(default):
+    """What is said of a key's default, or that the key is required."""
+    return default if default == "required" else f"default: {default}"
+
+
+def key_entry(names, value, default):
     shown = ", ".join(re.findall("`([^`]+)`", names))
     lines = [".TP", f'.B "{roff(shown)}"', roff(value[0].upper() + value[1:]) + "."]
-    return "\n".join(lines + ([f"If absent: {roff(absent)}."] if absent else []))
+    return "\n".join(lines + ([f"{default_text(default)[:1].upper()}{roff(default_text(default)[1:])}."] if default else []))
 
 
-def key_paragraph(names, value, absent):
+def key_paragraph(names, value, default):
     """A key as `rvtest help list` tells it, in lines of at most 80 characters."""
     shown = ", ".join(re.findall("`([^`]+)`", names))
-    told = value.replace("`", "") + (f"; if absent: {absent}" if absent else "")
+    told = value.replace("`", "") + (f"; {default_text(default)}" if default else "")
     return f"  {shown}\n" + textwrap.fill(told, width=80, initial_indent=" " * 6, subsequent_indent=" " * 6)
 
 

@@ -3,7 +3,7 @@ from model import BASE, SIZE
 
 REGISTERS, PC = 32, 32
 COUNTS = {0x21: lambda state, place: place, 0x22: lambda state, place: len(state.printed), 0x23: lambda state, place: state.taken}
-UNCHANGED = "E.the run is what it is: the debugger does not change it"
+UNCHANGED = "E.the run is read-only: the debugger cannot change it"
 
 
 def little(number):
@@ -103,7 +103,7 @@ class Session:
             if COUNTS[number](state, place) == value:
                 self.place = place
                 return "OK"
-        return "E.the run does not come there"
+        return "E.the run does not reach that point"
 
     def write(self, number, value):
         if number in COUNTS:

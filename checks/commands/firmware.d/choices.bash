@@ -137,7 +137,7 @@ case_names_are_words() {
         exits "$name/a.c" 0
         case $name in
             *' '*)
-                ends "TESTS=$name" 2 'TESTS must be one folder without blanks' made check "TESTS=$name"
+                ends "TESTS=$name" 2 'TESTS must be one directory without spaces' made check "TESTS=$name"
                 ;;
             *)
                 ends "TESTS=$name" 0 '1 job: 1 passed, 0 failed' made check "TESTS=$name"

@@ -107,7 +107,7 @@ case_page() {
     done
     cat out1 out2 out3
     said 1 ' passed, 0 failed' 0
-    said 2 'expected exit 0' 1
+    said 2 'expected: exit 0' 1
     said 3 '1 passed, 0 failed' 0
 }
 

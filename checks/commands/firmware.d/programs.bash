@@ -94,5 +94,5 @@ int main(void) { begin_signature[0] = 5; begin_signature[1] = 6; return 0; }'
     printf '00000005\n00000006\n' >t/a.signature
     check 'nothing refers to its end' 0 '1 job: 1 passed, 0 failed'
     printf '00000005\n00000007\n' >t/a.signature
-    check 'and it is compared' 2 'expected the signature'
+    check 'and it is compared' 2 'expected: signature'
 }

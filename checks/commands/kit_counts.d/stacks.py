@@ -22,7 +22,7 @@ COUNTS = """80000000 1 0
 80000100 1 0
 """
 FLAT = """{0}: 20 steps
-         own       %    inclusive       %   arrivals  function
+         own       %    inclusive       %      calls  function
           13  65.00%           13  65.00%          3  fib
            4  20.00%           18  90.00%          1  main
            2  10.00%           20 100.00%          1  _start
@@ -55,8 +55,8 @@ def profiles():
     bare, nothing = table("bare.counts", (*one[:2], COUNTS)), table("nothing.counts", (*one[:2], ""))
     expect("an image of which nothing began", call("counts2", "folded", nothing), ("\n", ""))
     rows = [
-        (("flat", bare), "counts2: a/fib.elf: its counts have no stacks: count it with --stacks\n"), (("flat", "gone"), "counts2: gone: missing\n"),
-        (("flat", first, "--image", "c*"), "counts2: first.counts: no image of c*\n"), (("callgrind", first), "counts2: a/fib.elf: missing\n"),
+        (("flat", bare), "counts2: a/fib.elf: its counts have no stacks: count it with --stacks\n"), (("flat", "gone"), "counts2: gone: No such file or directory\n"),
+        (("flat", first, "--image", "c*"), "counts2: first.counts: no image matches c*\n"), (("callgrind", first), "counts2: a/fib.elf: No such file or directory\n"),
     ]
     for words, said in rows:
         expect(f"{' '.join(words)}", call("counts2", *words, status=2), ("", said))

@@ -48,7 +48,7 @@ def targets():
         expect(f"whether DWARF {version} has pages", covered(0, f"CFLAGS=-Og -gdwarf-{version}")[2], True)
         expect(f"the sources by DWARF {version}", sources(), counted)
     covered(0)
-    for word, said in (("--stack", "rvtest: error: unrecognized arguments: --stack"), ("--failed r", "counts2lcov: t/build/cover/counts: missing")):
+    for word, said in (("--stack", "rvtest: error: unrecognized arguments: --stack"), ("--failed r", "counts2lcov: t/build/cover/counts: No such file or directory")):
         _, err, shows = covered(0, f"RUN={word}")
         expect(f"whether {word} is refused, by {err!r}", (shows, said in err), (False, True))
     clean()

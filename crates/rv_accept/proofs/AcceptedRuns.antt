@@ -2,14 +2,14 @@
 use Rattle.std.proofs.Common.{◌≡◌, ◌+◌, ◌∷◌, [], ℕ, zero, suc, Bool, true, false, List, Option, Some, None, ap, arith, cond, drop, is_some, length, map, not, option_map, refl}
 use Rattle.std.specs.Prelude.{slice_get, slice_index_or}
 use Rattle.std.specs.List.{filter, range_with_len}
-use Rattle.rv_jobs.specs.Choices.{marked_places}
+use Rattle.rv_jobs.specs.Choices.{selected_indices}
 use Rattle.rv_jobs.specs.Jobs.{single_job}
 use Rattle.rv_jobs.specs.Plans.{Planned}
 use Rattle.rv_jobs.specs.declared_job.Job.{Job}
 use Rattle.rv_rows.specs.Rows.{row_of, rows_at}
 use Rattle.rv_rows.specs.declared_row.Row.{Row}
-use Rattle.rv_accept.specs.Meant.{meant_job, meant_jobs}
-use Rattle.rv_accept.specs.Runs.{accepted_row, first_row, is_accepted_run, judged_run, judged_runs, placed_rows, why_chosen_is_left}
+use Rattle.rv_accept.specs.Meant.{meant_job, intended_jobs}
+use Rattle.rv_accept.specs.Runs.{accepted_row, first_row, is_accepted_run, judged_run, judged_runs, indexed_rows, why_chosen_is_left}
 use Rattle.rv_accept.specs.declared.ends.Acceptance.{Acceptance}
 use Rattle.rv_accept.specs.declared.runs.JobRun.{JobRun}
 use Rattle.rv_accept.specs.declared.standing.Candidate.{Candidate}
@@ -25,10 +25,10 @@ no_row row is = cc
 -- the rows of the numbers from one on that are marked stand where the marks are
 row_among : (row_at : ℕ → Row) (all marks : List Bool) (from place : ℕ) (row : Row)
     → ((k : ℕ) → slice_index_or all (from + k) false ≡ slice_index_or marks k false)
-    → slice_get (placed_rows marks (map row_at (filter (λ k. slice_index_or all k false)
+    → slice_get (indexed_rows marks (map row_at (filter (λ k. slice_index_or all k false)
     (range_with_len from (length marks))))) place ≡ Some (Some row)
     → row ≡ row_at (from + place)
-unfolding placed_rows
+unfolding indexed_rows
 row_among row_at all [] from place row same is = cc
 row_among row_at all (marked ∷ marks) from place row same is = go marked head place is
     (λ k is. rw (more k) (row_among row_at all marks (from + 1) k row behind is))
@@ -49,9 +49,9 @@ row_among row_at all (marked ∷ marks) from place row same is = go marked head 
     behind k = rw (more k) at (same (suc k))
 
     go : (m : Bool) → slice_index_or all from false ≡ m → (k : ℕ)
-        → slice_get (placed_rows (m ∷ marks) (map row_at (cond (slice_index_or all from false) (from ∷ rest) rest))) k
+        → slice_get (indexed_rows (m ∷ marks) (map row_at (cond (slice_index_or all from false) (from ∷ rest) rest))) k
         ≡ Some (Some row)
-        → ((k : ℕ) → slice_get (placed_rows marks (map row_at rest)) k ≡ Some (Some row) → row ≡ row_at (from + suc k))
+        → ((k : ℕ) → slice_get (indexed_rows marks (map row_at rest)) k ≡ Some (Some row) → row ≡ row_at (from + suc k))
         → row ≡ row_at (from + k)
     go true is_marked zero is there = rw here (same_row (row_at from) row (rw is_marked at is))
     go true is_marked (suc k) is there = there k (rw is_marked at is)
@@ -63,7 +63,7 @@ none_more k = omega arith
 
 -- a row that stands at the place of its job is the row of the job there
 pub row_at_place : (plan : Planned) (marks : List Bool) (place : ℕ) (row : Row)
-    → slice_get (placed_rows marks (rows_at plan (marked_places marks (length marks)))) place ≡ Some (Some row)
+    → slice_get (indexed_rows marks (rows_at plan (selected_indices marks (length marks)))) place ≡ Some (Some row)
     → row ≡ row_of plan (slice_index_or plan.jobs place (single_job [] 0 []))
 unfolding rows_at
 row_at_place plan marks place row is =
@@ -135,8 +135,8 @@ accepted_at asked (other ∷ jobs) (candidate ∷ candidates) rows (suc place) j
 
 pub meant_at : (jobs : List Job) (runs : List (Option JobRun)) (place : ℕ) (job : Job) (run : Option JobRun)
     → slice_get jobs place ≡ Some job → slice_get runs place ≡ Some run
-    → slice_get (meant_jobs jobs runs) place ≡ Some (meant_job job (accepted_row run))
-unfolding meant_jobs
+    → slice_get (intended_jobs jobs runs) place ≡ Some (meant_job job (accepted_row run))
+unfolding intended_jobs
 meant_at [] runs place job run at ran = cc
 meant_at (other ∷ jobs) [] place job run at ran = cc
 meant_at (other ∷ jobs) (first ∷ runs) zero job run at ran =

@@ -10,11 +10,11 @@ use Rattle.rv_jobs.specs.Jobs.{console_path}
 use Rattle.rv_jobs.specs.declared_job.Job.{Job}
 use Rattle.rv_rows.specs.Verdict.{lines_of_signature}
 use Rattle.rv_accept.proofs.Elements.{all_left, all_right, any_last, any_left, none_passes}
-use Rattle.rv_accept.specs.Claims.{claims_if_named, claims_of_run, claims_of_runs, text_if}
-use Rattle.rv_accept.specs.Fates.{fate_of_file, names_file}
+use Rattle.rv_accept.specs.Claims.{claims_if_named, claims_of_run, golden_texts_of_runs, text_if}
+use Rattle.rv_accept.specs.Fates.{outcome_of_golden_file, names_file}
 use Rattle.rv_accept.specs.Runs.{is_accepted_run}
 use Rattle.rv_accept.specs.Targets.{is_of_accepted, is_target, target_of, with_target}
-use Rattle.rv_accept.specs.declared.claims.Claim.{Claim}
+use Rattle.rv_accept.specs.declared.claims.GoldenText.{GoldenText}
 use Rattle.rv_accept.specs.declared.claims.Part.{Part}
 use Rattle.rv_accept.specs.declared.claims.Part.TheVariants as part
 use Rattle.rv_accept.specs.declared.runs.JobRun.{JobRun}
@@ -22,12 +22,12 @@ use Rattle.rv_accept.specs.declared.targets.Target.{Target}
 
 -- ---- the claims of one job among all
 
-module _ (P : Claim → Type 0) where
+module _ (P : GoldenText → Type 0) where
   -- what holds of all claims holds of those of each job
   run_among : (from place : ℕ) (jobs : List Job) (runs : List (Option JobRun)) (job : Job) (run : Option JobRun)
-      → All P (claims_of_runs from jobs runs) → slice_get jobs place ≡ Some job → slice_get runs place ≡ Some run
+      → All P (golden_texts_of_runs from jobs runs) → slice_get jobs place ≡ Some job → slice_get runs place ≡ Some run
       → All P (claims_of_run (from + place) job run)
-  unfolding claims_of_runs
+  unfolding golden_texts_of_runs
   run_among from place [] runs job run each at ran = cc
   run_among from place (other ∷ jobs) [] job run each at ran = cc
   run_among from zero (other ∷ jobs) (first ∷ runs) job run each at ran =
@@ -38,7 +38,7 @@ module _ (P : Claim → Type 0) where
   run_among from (suc place) (other ∷ jobs) (first ∷ runs) job run each at ran =
       let there : from + suc place ≡ from + 1 + place = omega arith in
       rw there (run_among (from + 1) place jobs runs job run
-      (all_right P (claims_of_run from other first) (claims_of_runs (from + 1) jobs runs) each) at ran)
+      (all_right P (claims_of_run from other first) (golden_texts_of_runs (from + 1) jobs runs) each) at ran)
 
   -- and of that on a file that is named
   claim_named : (place : ℕ) (part : Part) (text : Option (List ℕ)) (named : Option (List ℕ)) (path : List ℕ)
@@ -50,11 +50,11 @@ module _ (P : Claim → Type 0) where
       subst (λ path. P (record { job = place; part = part; path = path; text = text })) same (All-head P _ [] each)
 
 -- the claim of an accepted job on the file of its console
-abbrev pub console_claim : ℕ → JobRun → List ℕ → Claim
+abbrev pub console_claim : ℕ → JobRun → List ℕ → GoldenText
 console_claim place run path = record { job = place; part = part.Console; path = path; text = Some run.row.console }
 
 -- and on that of its signature
-abbrev pub signature_claim : ℕ → JobRun → List ℕ → Claim
+abbrev pub signature_claim : ℕ → JobRun → List ℕ → GoldenText
 signature_claim place run path =
     record { job = place; part = part.Signature; path = path; text = Some (lines_of_signature run.row.signature) }
 
@@ -68,15 +68,15 @@ none_left run accepted = go run.is_chosen accepted
 given : (run : JobRun) (text : List ℕ) → is_accepted_run run ≡ true → text_if (not (is_some run.left)) text ≡ Some text
 given run text accepted = rw (none_left run accepted) refl
 
-among_first : (P : Claim → Type 0) (place : ℕ) (jobs : List Job) (runs : List (Option JobRun)) (job : Job)
-    (run : JobRun) → All P (claims_of_runs 0 jobs runs) → slice_get jobs place ≡ Some job
+among_first : (P : GoldenText → Type 0) (place : ℕ) (jobs : List Job) (runs : List (Option JobRun)) (job : Job)
+    (run : JobRun) → All P (golden_texts_of_runs 0 jobs runs) → slice_get jobs place ≡ Some job
     → slice_get runs place ≡ Some (Some run) → All P (claims_of_run place job (Some run))
 among_first P place jobs runs job run each at ran =
     let here : 0 + place ≡ place = omega arith in
     rw here at (run_among P 0 place jobs runs job (Some run) each at ran)
 
-pub console_claim_among : (P : Claim → Type 0) (place : ℕ) (jobs : List Job) (runs : List (Option JobRun)) (job : Job)
-    (run : JobRun) (path : List ℕ) → All P (claims_of_runs 0 jobs runs) → slice_get jobs place ≡ Some job
+pub console_claim_among : (P : GoldenText → Type 0) (place : ℕ) (jobs : List Job) (runs : List (Option JobRun)) (job : Job)
+    (run : JobRun) (path : List ℕ) → All P (golden_texts_of_runs 0 jobs runs) → slice_get jobs place ≡ Some job
     → slice_get runs place ≡ Some (Some run) → is_accepted_run run ≡ true
     → console_path job.expect_console ≡ Some path → P (console_claim place run path)
 console_claim_among P place jobs runs job run path each at ran accepted named =
@@ -89,8 +89,8 @@ console_claim_among P place jobs runs job run path each at ran accepted named =
     (all_left P (claims_if_named place part.Console text (console_path job.expect_console)) rest
     (among_first P place jobs runs job run each at ran)))
 
-pub signature_claim_among : (P : Claim → Type 0) (place : ℕ) (jobs : List Job) (runs : List (Option JobRun)) (job : Job)
-    (run : JobRun) (path : List ℕ) → All P (claims_of_runs 0 jobs runs) → slice_get jobs place ≡ Some job
+pub signature_claim_among : (P : GoldenText → Type 0) (place : ℕ) (jobs : List Job) (runs : List (Option JobRun)) (job : Job)
+    (run : JobRun) (path : List ℕ) → All P (golden_texts_of_runs 0 jobs runs) → slice_get jobs place ≡ Some job
     → slice_get runs place ≡ Some (Some run) → is_accepted_run run ≡ true
     → job.expect_signature ≡ Some path → P (signature_claim place run path)
 signature_claim_among P place jobs runs job run path each at ran accepted named =
@@ -107,8 +107,8 @@ signature_claim_among P place jobs runs job run path each at ran accepted named 
 -- ---- targets
 
 -- a target stays one
-one_more_stays : (path : List ℕ) (runs : List (Option JobRun)) (claims : List Claim) (targets : List Target)
-    (claim : Claim) → is_target path targets ≡ true → is_target path (with_target runs claims targets claim) ≡ true
+one_more_stays : (path : List ℕ) (runs : List (Option JobRun)) (claims : List GoldenText) (targets : List Target)
+    (claim : GoldenText) → is_target path targets ≡ true → is_target path (with_target runs claims targets claim) ≡ true
 one_more_stays path runs claims targets claim is =
     go (is_of_accepted (slice_get runs claim.job) && not (is_target claim.path targets))
   where
@@ -116,14 +116,14 @@ one_more_stays path runs claims targets claim is =
     go true = any_left (λ target. bytes_eq path target.path) targets _ is
     go false = is
 
-stays : (path : List ℕ) (runs : List (Option JobRun)) (claims rest : List Claim) (targets : List Target)
+stays : (path : List ℕ) (runs : List (Option JobRun)) (claims rest : List GoldenText) (targets : List Target)
     → is_target path targets ≡ true → is_target path (fold (with_target runs claims) targets rest) ≡ true
 stays path runs claims [] targets is = is
 stays path runs claims (claim ∷ rest) targets is = stays path runs claims rest (with_target runs claims targets claim)
     (one_more_stays path runs claims targets claim is)
 
 -- a claim of an accepted job on a file
-abbrev is_accepted_claim : List (Option JobRun) → List ℕ → Claim → Bool
+abbrev is_accepted_claim : List (Option JobRun) → List ℕ → GoldenText → Bool
 is_accepted_claim runs path claim = names_file path claim && is_of_accepted (slice_get runs claim.job)
 
 both : (a b : Bool) → (a && b) ≡ true → (a ≡ true) × (b ≡ true)
@@ -132,7 +132,7 @@ both true false holds = cc
 both false b holds = cc
 
 -- makes its file a target
-added : (path : List ℕ) (runs : List (Option JobRun)) (claims : List Claim) (targets : List Target) (claim : Claim)
+added : (path : List ℕ) (runs : List (Option JobRun)) (claims : List GoldenText) (targets : List Target) (claim : GoldenText)
     → is_accepted_claim runs path claim ≡ true → is_target path (with_target runs claims targets claim) ≡ true
 added path runs claims targets claim is = go (is_target claim.path targets) refl
   where
@@ -148,7 +148,7 @@ added path runs claims targets claim is = go (is_target claim.path targets) refl
     go true is = rw parts.1 (rw same is)
     go false is = rw parts.1 (any_last (λ target. bytes_eq path target.path) targets (target_of claims claim) parts.0)
 
-becomes : (path : List ℕ) (runs : List (Option JobRun)) (claims rest : List Claim) (targets : List Target)
+becomes : (path : List ℕ) (runs : List (Option JobRun)) (claims rest : List GoldenText) (targets : List Target)
     → list_any (is_accepted_claim runs path) rest ≡ true
     → is_target path (fold (with_target runs claims) targets rest) ≡ true
 becomes path runs claims [] targets some = cc
@@ -183,10 +183,10 @@ accepted_claim runs place run path ran accepted = rw ((bytes_eq-Decides path pat
 pub console_is_target : (place : ℕ) (jobs : List Job) (runs : List (Option JobRun)) (job : Job) (run : JobRun)
     (path : List ℕ) → slice_get jobs place ≡ Some job → slice_get runs place ≡ Some (Some run)
     → is_accepted_run run ≡ true → console_path job.expect_console ≡ Some path
-    → is_target path (fold (with_target runs (claims_of_runs 0 jobs runs)) [] (claims_of_runs 0 jobs runs)) ≡ true
+    → is_target path (fold (with_target runs (golden_texts_of_runs 0 jobs runs)) [] (golden_texts_of_runs 0 jobs runs)) ≡ true
 console_is_target place jobs runs job run path at ran accepted named =
-    becomes path runs (claims_of_runs 0 jobs runs) (claims_of_runs 0 jobs runs) []
-    (found (is_accepted_claim runs path) (claims_of_runs 0 jobs runs) (console_claim place run path)
+    becomes path runs (golden_texts_of_runs 0 jobs runs) (golden_texts_of_runs 0 jobs runs) []
+    (found (is_accepted_claim runs path) (golden_texts_of_runs 0 jobs runs) (console_claim place run path)
     (λ missing. console_claim_among (λ claim. is_accepted_claim runs path claim ≡ false) place jobs runs job run path missing at ran accepted named)
     (accepted_claim runs place run path ran accepted))
 
@@ -194,20 +194,20 @@ console_is_target place jobs runs job run path at ran accepted named =
 pub signature_is_target : (place : ℕ) (jobs : List Job) (runs : List (Option JobRun)) (job : Job) (run : JobRun)
     (path : List ℕ) → slice_get jobs place ≡ Some job → slice_get runs place ≡ Some (Some run)
     → is_accepted_run run ≡ true → job.expect_signature ≡ Some path
-    → is_target path (fold (with_target runs (claims_of_runs 0 jobs runs)) [] (claims_of_runs 0 jobs runs)) ≡ true
+    → is_target path (fold (with_target runs (golden_texts_of_runs 0 jobs runs)) [] (golden_texts_of_runs 0 jobs runs)) ≡ true
 signature_is_target place jobs runs job run path at ran accepted named =
-    becomes path runs (claims_of_runs 0 jobs runs) (claims_of_runs 0 jobs runs) []
-    (found (is_accepted_claim runs path) (claims_of_runs 0 jobs runs) (signature_claim place run path)
+    becomes path runs (golden_texts_of_runs 0 jobs runs) (golden_texts_of_runs 0 jobs runs) []
+    (found (is_accepted_claim runs path) (golden_texts_of_runs 0 jobs runs) (signature_claim place run path)
     (λ missing. signature_claim_among (λ claim. is_accepted_claim runs path claim ≡ false) place jobs runs job run path missing at ran accepted named)
     (accepted_claim runs place run path ran accepted))
 
 -- ---- fates
 
 -- the fate of a target is that of its file
-abbrev HasFate : List Claim → Target → Type 0
-HasFate claims target = target.fate ≡ fate_of_file target.path claims
+abbrev HasFate : List GoldenText → Target → Type 0
+HasFate claims target = target.fate ≡ outcome_of_golden_file target.path claims
 
-one_more_fate : (runs : List (Option JobRun)) (claims : List Claim) (targets : List Target) (claim : Claim)
+one_more_fate : (runs : List (Option JobRun)) (claims : List GoldenText) (targets : List Target) (claim : GoldenText)
     → All (HasFate claims) targets → All (HasFate claims) (with_target runs claims targets claim)
 one_more_fate runs claims targets claim each =
     go (is_of_accepted (slice_get runs claim.job) && not (is_target claim.path targets))
@@ -217,9 +217,9 @@ one_more_fate runs claims targets claim each =
         (All-cons (HasFate claims) (target_of claims claim) [] refl (All-nil (HasFate claims)))
     go false = each
 
-pub targets_have_fates : (runs : List (Option JobRun)) (claims rest : List Claim) (targets : List Target)
-    → All (λ (target : Target). target.fate ≡ fate_of_file target.path claims) targets
-    → All (λ (target : Target). target.fate ≡ fate_of_file target.path claims) (fold (with_target runs claims) targets rest)
+pub targets_have_fates : (runs : List (Option JobRun)) (claims rest : List GoldenText) (targets : List Target)
+    → All (λ (target : Target). target.fate ≡ outcome_of_golden_file target.path claims) targets
+    → All (λ (target : Target). target.fate ≡ outcome_of_golden_file target.path claims) (fold (with_target runs claims) targets rest)
 targets_have_fates runs claims [] targets each = each
 targets_have_fates runs claims (claim ∷ rest) targets each = targets_have_fates runs claims rest _
     (one_more_fate runs claims targets claim each)

@@ -7,16 +7,16 @@ use Rattle.std.proofs.lemmas.List.Elements.{All-append, All-cons, All-head, All-
 use Rattle.std.proofs.lemmas.Slice.Eq.{bytes_eq-Decides}
 use Rattle.rv_jobs.specs.Jobs.{console_path}
 use Rattle.rv_jobs.specs.declared_job.Job.{Job}
-use Rattle.rv_accept.specs.Claims.{claims_if_named, claims_of_run, claims_of_runs}
+use Rattle.rv_accept.specs.Claims.{claims_if_named, claims_of_run, golden_texts_of_runs}
 use Rattle.rv_accept.specs.Sharing.{is_path, names_golden_file}
 use Rattle.rv_accept.specs.Targets.{is_of_accepted, is_target, target_of, with_target}
-use Rattle.rv_accept.specs.declared.claims.Claim.{Claim}
+use Rattle.rv_accept.specs.declared.claims.GoldenText.{GoldenText}
 use Rattle.rv_accept.specs.declared.claims.Part.{Part}
 use Rattle.rv_accept.specs.declared.runs.JobRun.{JobRun}
 use Rattle.rv_accept.specs.declared.targets.Target.{Target}
 
 -- some job names the file of a claim
-abbrev OfClaim : List Job → Claim → Type 0
+abbrev OfClaim : List Job → GoldenText → Type 0
 OfClaim jobs claim = list_any (names_golden_file claim.path) jobs ≡ true
 
 -- some job names the file of a target
@@ -51,20 +51,20 @@ of_run jobs place job (Some run) = All-append (OfClaim (job ∷ jobs)) _ _
     (λ path is. or_left (names_golden_file path job) _
     (or_right (is_path path (console_path job.expect_console)) _ (rw is (same_bytes path)))))
 
-one_more_job : (job : Job) (jobs : List Job) (claims : List Claim) → All (OfClaim jobs) claims
+one_more_job : (job : Job) (jobs : List Job) (claims : List GoldenText) → All (OfClaim jobs) claims
     → All (OfClaim (job ∷ jobs)) claims
 one_more_job job jobs claims each = λ place claim below. or_right _ _ (each place claim below)
 
 of_runs : (place : ℕ) (jobs : List Job) (runs : List (Option JobRun))
-    → All (OfClaim jobs) (claims_of_runs place jobs runs)
-unfolding claims_of_runs
+    → All (OfClaim jobs) (golden_texts_of_runs place jobs runs)
+unfolding golden_texts_of_runs
 of_runs place [] runs = All-nil (OfClaim [])
 of_runs place (job ∷ jobs) [] = All-nil (OfClaim (job ∷ jobs))
 of_runs place (job ∷ jobs) (run ∷ runs) = All-append (OfClaim (job ∷ jobs)) _ _ (of_run jobs place job run)
     (one_more_job job jobs _ (of_runs (place + 1) jobs runs))
 
-one_more_target : (jobs : List Job) (runs : List (Option JobRun)) (claims : List Claim) (targets : List Target)
-    (claim : Claim) → All (OfTarget jobs) targets → OfClaim jobs claim
+one_more_target : (jobs : List Job) (runs : List (Option JobRun)) (claims : List GoldenText) (targets : List Target)
+    (claim : GoldenText) → All (OfTarget jobs) targets → OfClaim jobs claim
     → All (OfTarget jobs) (with_target runs claims targets claim)
 one_more_target jobs runs claims targets claim each is =
     go (is_of_accepted (slice_get runs claim.job) && not (is_target claim.path targets))
@@ -74,7 +74,7 @@ one_more_target jobs runs claims targets claim each is =
         (All-cons (OfTarget jobs) (target_of claims claim) [] is (All-nil (OfTarget jobs)))
     go false = each
 
-of_claims : (jobs : List Job) (runs : List (Option JobRun)) (claims rest : List Claim) (targets : List Target)
+of_claims : (jobs : List Job) (runs : List (Option JobRun)) (claims rest : List GoldenText) (targets : List Target)
     → All (OfTarget jobs) targets → All (OfClaim jobs) rest
     → All (OfTarget jobs) (fold (with_target runs claims) targets rest)
 of_claims jobs runs claims [] targets each are = each
@@ -86,6 +86,6 @@ of_claims jobs runs claims (claim ∷ rest) targets each are =
 -- a target is a golden file of some job
 pub targets_are_of_jobs : (jobs : List Job) (runs : List (Option JobRun))
     → All (λ (target : Target). list_any (names_golden_file target.path) jobs ≡ true)
-    (fold (with_target runs (claims_of_runs 0 jobs runs)) [] (claims_of_runs 0 jobs runs))
-targets_are_of_jobs jobs runs = of_claims jobs runs (claims_of_runs 0 jobs runs) (claims_of_runs 0 jobs runs) []
+    (fold (with_target runs (golden_texts_of_runs 0 jobs runs)) [] (golden_texts_of_runs 0 jobs runs))
+targets_are_of_jobs jobs runs = of_claims jobs runs (golden_texts_of_runs 0 jobs runs) (golden_texts_of_runs 0 jobs runs) []
     (All-nil (OfTarget jobs)) (of_runs 0 jobs runs)

@@ -17,8 +17,8 @@ use Rattle.rv_accept.specs.Accepted.{accepted_job, console_met}
 use Rattle.rv_accept.specs.Passing.{EndedWell, FindsItsFiles, is_pass_or_unasked, outcome_of_row}
 use Rattle.rv_accept.specs.Runs.{takes_from_run, why_chosen_is_left}
 use Rattle.rv_accept.specs.declared.ends.Acceptance.{Acceptance}
-use Rattle.rv_accept.specs.declared.standing.Standing.{Standing}
-use Rattle.rv_accept.specs.declared.standing.Standing.TheVariants as standing
+use Rattle.rv_accept.specs.declared.standing.CurrentVerdict.{CurrentVerdict}
+use Rattle.rv_accept.specs.declared.standing.CurrentVerdict.TheVariants as standing
 
 -- the path of a console's file stays
 pub console_path_stays : (console : Option ExpectedConsole) (bytes : List ℕ)
@@ -58,7 +58,7 @@ outcome_again earlier later job row came ran finds =
     (file_read later (console_path job.expect_console) row.console finds.console)
     ∙ runs_alike job row.ending row.console over.file ∙ sym over.came ∙ sym came))
 
-passes_again : (acceptance : Acceptance) (stands : Standing) (job : Job) (earlier : List Answer) (later : Planned)
+passes_again : (acceptance : Acceptance) (stands : CurrentVerdict) (job : Job) (earlier : List Answer) (later : Planned)
     (row : Row) → outcome_of_row row ≡ outcome_in earlier (without_expectations job)
     → why_chosen_is_left acceptance stands job row ≡ None → (stands ≡ standing.Passes → EndedWell job row)
     → job.same_as ≡ None → FindsItsFiles earlier later.answers job row
@@ -86,7 +86,7 @@ pub outcome_of_its_row : (plan : Planned) (job : Job) → outcome_of_row (row_of
 unfolding row_of
 outcome_of_its_row plan job = refl
 
-pub passes_over_files : (acceptance : Acceptance) (stands : Standing) (job : Job) (earlier later : Planned) (row : Row)
+pub passes_over_files : (acceptance : Acceptance) (stands : CurrentVerdict) (job : Job) (earlier later : Planned) (row : Row)
     → row ≡ row_of earlier (without_expectations job) → why_chosen_is_left acceptance stands job row ≡ None
     → (stands ≡ standing.Passes → EndedWell job row) → job.same_as ≡ None
     → FindsItsFiles earlier.answers later.answers job row

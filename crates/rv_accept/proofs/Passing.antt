@@ -20,10 +20,10 @@ use Rattle.rv_accept.specs.Ends.{is_accepted_end}
 use Rattle.rv_accept.specs.Passing.{EndedWell, is_pass_or_unasked}
 use Rattle.rv_accept.specs.Runs.{takes_from_run, why_chosen_is_left, why_text_is_left}
 use Rattle.rv_accept.specs.declared.ends.Acceptance.{Acceptance}
-use Rattle.rv_accept.specs.declared.runs.WhyLeft.{WhyLeft}
-use Rattle.rv_accept.specs.declared.runs.WhyLeft.TheVariants as why
-use Rattle.rv_accept.specs.declared.standing.Standing.{Standing}
-use Rattle.rv_accept.specs.declared.standing.Standing.TheVariants as standing
+use Rattle.rv_accept.specs.declared.runs.RejectReason.{RejectReason}
+use Rattle.rv_accept.specs.declared.runs.RejectReason.TheVariants as why
+use Rattle.rv_accept.specs.declared.standing.CurrentVerdict.{CurrentVerdict}
+use Rattle.rv_accept.specs.declared.standing.CurrentVerdict.TheVariants as standing
 
 -- ---- nothing is expected
 
@@ -63,7 +63,7 @@ unasked job end bytes nothing alone =
 
 -- ---- the end is accepted
 
-end_of_why : (accepted : Bool) (text : Option WhyLeft) → (if accepted then text else Some why.End) ≡ None → accepted ≡ true
+end_of_why : (accepted : Bool) (text : Option RejectReason) → (if accepted then text else Some why.End) ≡ None → accepted ≡ true
 end_of_why true text is = refl
 end_of_why false text is = cc
 
@@ -86,7 +86,7 @@ unasked_passes job end bytes outcome reference console other nothing alone =
     (λ asked. absurd (false≢true (sym (unasked job end bytes nothing alone) ∙ asked)))
 
 -- one that is not left met its end, or what its end becomes
-pub met_if_kept : (acceptance : Acceptance) (stands : Standing) (job : Job) (row : Row) → takes_from_run job ≡ true
+pub met_if_kept : (acceptance : Acceptance) (stands : CurrentVerdict) (job : Job) (row : Row) → takes_from_run job ≡ true
     → why_chosen_is_left acceptance stands job row ≡ None → (stands ≡ standing.Passes → EndedWell job row)
     → Met job.expect_exit job.expect_end row.ending
 met_if_kept acceptance standing.Passes job row takes kept well = met_if_ended_well job row (well refl)

@@ -4,7 +4,7 @@ use Rattle.rv_jobs.specs.declared_job.Job.{Job}
 use Rattle.rv_jobs.specs.Jobs.{console_path}
 use Rattle.rv_rows.specs.declared_row.Row.{Row}
 use Rattle.rv_rows.specs.Verdict.{lines_of_signature}
-use Rattle.rv_accept.specs.declared.claims.Claim.{Claim}
+use Rattle.rv_accept.specs.declared.claims.GoldenText.{GoldenText}
 use Rattle.rv_accept.specs.declared.claims.Part.{Part}
 use Rattle.rv_accept.specs.declared.claims.Part.TheVariants as part
 use Rattle.rv_accept.specs.declared.runs.JobRun.{JobRun}
@@ -14,23 +14,23 @@ abbrev pub text_if : Bool → List ℕ → Option (List ℕ)
 text_if accepted text = if accepted then Some text else None
 
 -- a file that is named, and the text that the job gives it, if it is accepted
-abbrev pub claims_if_named : ℕ → Part → Option (List ℕ) → Option (List ℕ) → List Claim
+abbrev pub claims_if_named : ℕ → Part → Option (List ℕ) → Option (List ℕ) → List GoldenText
 claims_if_named job part text None = []
 claims_if_named job part text (Some path) = record { job = job; part = part; path = path; text = text } ∷ []
 
 -- the console's file, and then the signature's
-abbrev pub claims_of : ℕ → Bool → Job → Row → List Claim
+abbrev pub claims_of : ℕ → Bool → Job → Row → List GoldenText
 claims_of place accepted job row =
     claims_if_named place part.Console (text_if accepted row.console) (console_path job.expect_console)
     ++ claims_if_named place part.Signature (text_if accepted (lines_of_signature row.signature)) job.expect_signature
 
 -- a job that is left gives nothing
-abbrev pub claims_of_run : ℕ → Job → Option JobRun → List Claim
+abbrev pub claims_of_run : ℕ → Job → Option JobRun → List GoldenText
 claims_of_run place job None = []
 claims_of_run place job (Some run) = claims_of place (not (is_some run.left)) job run.row
 
 -- what the jobs from a place on say, with their runs
-unfoldable pub claims_of_runs : ℕ → List Job → List (Option JobRun) → List Claim
-claims_of_runs place [] runs = []
-claims_of_runs place (job ∷ jobs) [] = []
-claims_of_runs place (job ∷ jobs) (run ∷ runs) = claims_of_run place job run ++ claims_of_runs (place + 1) jobs runs
+unfoldable pub golden_texts_of_runs : ℕ → List Job → List (Option JobRun) → List GoldenText
+golden_texts_of_runs place [] runs = []
+golden_texts_of_runs place (job ∷ jobs) [] = []
+golden_texts_of_runs place (job ∷ jobs) (run ∷ runs) = claims_of_run place job run ++ golden_texts_of_runs (place + 1) jobs runs

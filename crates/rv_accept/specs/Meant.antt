@@ -12,7 +12,7 @@ meant_job job None = job
 meant_job job (Some row) = accepted_job job row.ending row.console
 
 -- each job with its run, if it has one
-unfoldable pub meant_jobs : List Job → List (Option JobRun) → List Job
-meant_jobs [] runs = []
-meant_jobs (job ∷ jobs) [] = job ∷ jobs
-meant_jobs (job ∷ jobs) (run ∷ runs) = meant_job job (accepted_row run) ∷ meant_jobs jobs runs
+unfoldable pub intended_jobs : List Job → List (Option JobRun) → List Job
+intended_jobs [] runs = []
+intended_jobs (job ∷ jobs) [] = job ∷ jobs
+intended_jobs (job ∷ jobs) (run ∷ runs) = meant_job job (accepted_row run) ∷ intended_jobs jobs runs

@@ -9,23 +9,23 @@ use Rattle.rv_accept.specs.Values.{is_value_changed}
 use Rattle.rv_accept.specs.declared.ends.Acceptance.{Acceptance}
 use Rattle.rv_accept.specs.declared.ends.Acceptance.TheVariants as acceptance
 use Rattle.rv_accept.specs.declared.runs.JobRun.{JobRun}
-use Rattle.rv_accept.specs.declared.runs.WhyLeft.{WhyLeft}
-use Rattle.rv_accept.specs.declared.runs.WhyLeft.TheVariants as why
+use Rattle.rv_accept.specs.declared.runs.RejectReason.{RejectReason}
+use Rattle.rv_accept.specs.declared.runs.RejectReason.TheVariants as why
 use Rattle.rv_accept.specs.declared.standing.Candidate.{Candidate}
-use Rattle.rv_accept.specs.declared.standing.Standing.{Standing}
-use Rattle.rv_accept.specs.declared.standing.Standing.TheVariants as standing
+use Rattle.rv_accept.specs.declared.standing.CurrentVerdict.{CurrentVerdict}
+use Rattle.rv_accept.specs.declared.standing.CurrentVerdict.TheVariants as standing
 use Rattle.rv_accept.specs.declared.values.ValueKey.TheVariants as key
 
-abbrev pub why_end_is_left : Acceptance → Job → RowEnd → Option WhyLeft
+abbrev pub why_end_is_left : Acceptance → Job → RowEnd → Option RejectReason
 why_end_is_left asked job end = if is_accepted_end asked job end then None else Some why.End
 
 -- a text of the list is UTF-8
-abbrev pub why_text_is_left : Job → Row → Option WhyLeft
+abbrev pub why_text_is_left : Job → Row → Option RejectReason
 why_text_is_left job row =
     if is_value_changed key.Console job row && not (is_utf8 row.console) then Some why.NoText else None
 
 -- why a chosen job is left from whose run something is taken, if it is
-abbrev pub why_left : Acceptance → Job → Row → Option WhyLeft
+abbrev pub why_left : Acceptance → Job → Row → Option RejectReason
 why_left asked job row = if is_accepted_end asked job row.ending then why_text_is_left job row else Some why.End
 
 -- a job expects something that may be taken from its run
@@ -34,17 +34,17 @@ takes_from_run job = is_some job.expect_exit || (is_some job.expect_end || (is_s
     || is_some job.expect_signature))
 
 -- why a job is left that differs from the one that it names: an end that is not taken comes first
-abbrev pub why_differing_is_left : Acceptance → Job → RowEnd → WhyLeft
+abbrev pub why_differing_is_left : Acceptance → Job → RowEnd → RejectReason
 why_differing_is_left asked job end = if takes_from_run job && not (is_accepted_end asked job end) then why.End else why.Differs
 
 -- why a chosen job is left, if it is: one that passes as it stands is not, and one that fails is, unless its run gives what it expects
-abbrev pub why_chosen_is_left : Acceptance → Standing → Job → Row → Option WhyLeft
+abbrev pub why_chosen_is_left : Acceptance → CurrentVerdict → Job → Row → Option RejectReason
 why_chosen_is_left asked standing.Passes job row = None
 why_chosen_is_left asked standing.Fails job row = if takes_from_run job then why_left asked job row else Some why.End
 why_chosen_is_left asked standing.Differs job row = Some (why_differing_is_left asked job row.ending)
 
 -- why a job is left that is not chosen: it gives its golden files only where it passes as it stands, or ended exactly as is expected
-abbrev pub why_sharing_is_left : Standing → Job → RowEnd → Option WhyLeft
+abbrev pub why_sharing_is_left : CurrentVerdict → Job → RowEnd → Option RejectReason
 why_sharing_is_left standing.Passes job end = None
 why_sharing_is_left _ job end = why_end_is_left acceptance.Expected job end
 
@@ -65,9 +65,9 @@ abbrev pub rest_if : Bool → List Row → List Row
 rest_if marked rows = if marked then drop 1 rows else rows
 
 -- rows of the jobs that are marked, in their order, each at the place of its job
-unfoldable pub placed_rows : List Bool → List Row → List (Option Row)
-placed_rows [] rows = []
-placed_rows (marked ∷ marks) rows = row_if marked rows ∷ placed_rows marks (rest_if marked rows)
+unfoldable pub indexed_rows : List Bool → List Row → List (Option Row)
+indexed_rows [] rows = []
+indexed_rows (marked ∷ marks) rows = row_if marked rows ∷ indexed_rows marks (rest_if marked rows)
 
 abbrev pub row_or_none : Option (Option Row) → Option Row
 row_or_none None = None

@@ -55,5 +55,5 @@ marks_with_compared place (job ∷ jobs) (marked ∷ marks) =
     (marked || is_compared_with place jobs marks) ∷ marks_with_compared (place + 1) jobs marks
 
 -- the marks of the jobs that run, where some are chosen
-abbrev pub marks_to_run : List Job → List Bool → List Bool
-marks_to_run jobs chosen = marks_with_compared 0 jobs (sharing_marks jobs chosen jobs chosen)
+abbrev pub jobs_to_run : List Job → List Bool → List Bool
+jobs_to_run jobs chosen = marks_with_compared 0 jobs (sharing_marks jobs chosen jobs chosen)

@@ -2,9 +2,9 @@
 use Rattle.std.specs.Prelude.{◌&&◌, Bool, false, not, ℕ, List, [], ◌∷◌, ◌++◌, Option, Some, if◌then◌else◌, slice_get}
 use Rattle.std.specs.List.{list_any}
 use Rattle.std.specs.Str.{bytes_eq}
-use Rattle.rv_accept.specs.Fates.{fate_of_file}
+use Rattle.rv_accept.specs.Fates.{outcome_of_golden_file}
 use Rattle.rv_accept.specs.Runs.{is_accepted_run}
-use Rattle.rv_accept.specs.declared.claims.Claim.{Claim}
+use Rattle.rv_accept.specs.declared.claims.GoldenText.{GoldenText}
 use Rattle.rv_accept.specs.declared.runs.JobRun.{JobRun}
 use Rattle.rv_accept.specs.declared.targets.Target.{Target}
 
@@ -17,16 +17,16 @@ abbrev pub is_target : List ℕ → List Target → Bool
 is_target path targets = list_any (λ target. bytes_eq path target.path) targets
 
 -- the file of a claim, and what becomes of it
-abbrev pub target_of : List Claim → Claim → Target
+abbrev pub target_of : List GoldenText → GoldenText → Target
 target_of claims claim = record {
   path = claim.path;
   job = claim.job;
   part = claim.part;
-  fate = fate_of_file claim.path claims;
+  fate = outcome_of_golden_file claim.path claims;
 }
 
 -- a claim of an accepted job on a file that is none so far makes one
-abbrev pub with_target : List (Option JobRun) → List Claim → List Target → Claim → List Target
+abbrev pub with_target : List (Option JobRun) → List GoldenText → List Target → GoldenText → List Target
 with_target runs claims targets claim =
     if is_of_accepted (slice_get runs claim.job) && not (is_target claim.path targets)
     then targets ++ target_of claims claim ∷ [] else targets

@@ -5,7 +5,7 @@ ghost use Rattle.std.specs.List.{flat_map};
 ghost use Rattle.rv_jobs.specs.Jobs.{console_path};
 ghost use Rattle.rv_rows.specs.Report.{word_line};
 ghost use Rattle.rv_rows.specs.Verdict.{lines_of_signature};
-ghost use Rattle.rv_accept.specs.Claims.{claims_if_named, claims_of, claims_of_run, claims_of_runs, text_if};
+ghost use Rattle.rv_accept.specs.Claims.{claims_if_named, claims_of, claims_of_run, golden_texts_of_runs, text_if};
 
 use crate::runs::JobRun;
 use rv_jobs::{Bytes, Job, Text};
@@ -23,7 +23,7 @@ pub enum Part {
 
 /// A golden file that a job names, and the text that the job gives it.
 #[derive(Drop)]
-pub struct Claim {
+pub struct GoldenText {
     /// The job's place in the list, counted from 0.
     pub job: usize,
     pub part: Part,
@@ -35,7 +35,7 @@ pub struct Claim {
 // Appends the golden files that a job names: the console's, and then the signature's. Only an accepted job gives them a text.
 fn push_claims(
     alloc: Global,
-    claims: &mut Vec<Claim>,
+    claims: &mut Vec<GoldenText>,
     place: usize,
     is_accepted: bool,
     ran: (&Job, &Row),
@@ -55,12 +55,12 @@ fn push_claims(
 }
 
 /// What all jobs that were run say of golden files, in list order.
-pub fn claims_of_runs(
+pub fn golden_texts_of_runs(
     alloc: Global,
     jobs: &[Job],
     runs: &[Option<JobRun>],
-) -> Result<Vec<Claim>, AllocError>
-    ensures { IfOk result (λ claims. claims.items ≡ claims_of_runs 0 jobs.now runs.now) }
+) -> Result<Vec<GoldenText>, AllocError>
+    ensures { IfOk result (λ claims. claims.items ≡ golden_texts_of_runs 0 jobs.now runs.now) }
 {
     let mut claims = Vec::new(alloc);
     push_claims_of_runs(alloc, &mut claims, 0, jobs, runs)?;
@@ -68,16 +68,16 @@ pub fn claims_of_runs(
 }
 
 // Appends what the jobs from a place on say.
-#[tactic(auto, unfolding(crate::specs::Claims::claims_of_runs))]
+#[tactic(auto, unfolding(crate::specs::Claims::golden_texts_of_runs))]
 fn push_claims_of_runs(
     alloc: Global,
-    claims: &mut Vec<Claim>,
+    claims: &mut Vec<GoldenText>,
     place: usize,
     jobs: &[Job],
     runs: &[Option<JobRun>],
 ) -> Result<(), AllocError>
     requires { place + length jobs.now < 2 ^ 64 }
-    ensures { OnOk result (claims.new.items ≡ claims.old.items ++ claims_of_runs place jobs.now runs.now) }
+    ensures { OnOk result (claims.new.items ≡ claims.old.items ++ golden_texts_of_runs place jobs.now runs.now) }
 {
     match (jobs, runs) {
         ([job, jobs @ ..], [run, runs @ ..]) => {
@@ -91,7 +91,7 @@ fn push_claims_of_runs(
 
 fn push_claims_of_run(
     alloc: Global,
-    claims: &mut Vec<Claim>,
+    claims: &mut Vec<GoldenText>,
     place: usize,
     job: &Job,
     run: &Option<JobRun>,
@@ -116,7 +116,7 @@ pub fn console_path(job: &Job) -> Option<&str>
 
 fn push_claim(
     alloc: Global,
-    claims: &mut Vec<Claim>,
+    claims: &mut Vec<GoldenText>,
     of: (usize, Part),
     path: &str,
     text: Option<Bytes>,
@@ -125,7 +125,7 @@ fn push_claim(
 {
     let (job, part) = of;
     let path = Text::copy(alloc, path)?;
-    claims.push(Claim {
+    claims.push(GoldenText {
         job,
         part,
         path,

@@ -2,15 +2,15 @@
 
 ghost use Rattle.std.specs.Prelude.{◌≡◌, IfOk, option_map};
 ghost use Rattle.std.specs.List.{find};
-ghost use Rattle.rv_accept.specs.Fates.{fate_of_file, fate_of_first, fate_of_given_text, gives_another_text, is_of_left_job, is_text, names_file};
+ghost use Rattle.rv_accept.specs.Fates.{outcome_of_golden_file, fate_of_first, fate_of_given_text, gives_another_text, is_of_left_job, is_text, names_file};
 
-use crate::claims::Claim;
+use crate::claims::GoldenText;
 use rv_jobs::Bytes;
 use std::alloc::{AllocError, Global};
 
 /// What becomes of a golden file.
 #[derive(Drop)]
-pub enum Fate {
+pub enum GoldenFileOutcome {
     /// No job that was run names it.
     Unclaimed,
     /// The job at this place names it, and is left.
@@ -22,60 +22,72 @@ pub enum Fate {
 }
 
 /// What becomes of the file at a path: each job that names it gives it the same text, or it is left.
-#[tactic(auto, unfolding(crate::specs::Fates::fate_of_file))]
-pub fn fate_of_file(alloc: Global, path: &str, claims: &[Claim]) -> Result<Fate, AllocError>
-    ensures { IfOk result (λ fate. fate ≡ fate_of_file path.now claims.now) }
+#[tactic(auto, unfolding(crate::specs::Fates::outcome_of_golden_file))]
+pub fn outcome_of_golden_file(
+    alloc: Global,
+    path: &str,
+    claims: &[GoldenText],
+) -> Result<GoldenFileOutcome, AllocError>
+    ensures { IfOk result (λ fate. fate ≡ outcome_of_golden_file path.now claims.now) }
 {
     match first_of_left_job(path, claims) {
-        Some(claim) => Ok(Fate::LeftBy(claim.job)),
+        Some(claim) => Ok(GoldenFileOutcome::LeftBy(claim.job)),
         None => fate_of_first(alloc, path, claims),
     }
 }
 
-fn fate_of_first(alloc: Global, path: &str, claims: &[Claim]) -> Result<Fate, AllocError>
+fn fate_of_first(
+    alloc: Global,
+    path: &str,
+    claims: &[GoldenText],
+) -> Result<GoldenFileOutcome, AllocError>
     ensures { IfOk result (λ fate. fate ≡ fate_of_first path.now claims.now
         (find (names_file path.now) claims.now)) }
 {
     match first_on_file(path, claims) {
         Some(first) => fate_of_given_text(alloc, path, claims, first),
-        None => Ok(Fate::Unclaimed),
+        None => Ok(GoldenFileOutcome::Unclaimed),
     }
 }
 
 fn fate_of_given_text(
     alloc: Global,
     path: &str,
-    claims: &[Claim],
-    first: &Claim,
-) -> Result<Fate, AllocError>
+    claims: &[GoldenText],
+    first: &GoldenText,
+) -> Result<GoldenFileOutcome, AllocError>
     ensures { IfOk result (λ fate. fate
         ≡ fate_of_given_text path.now claims.now first.now.job first.now.text) }
 {
     let Some(text) = &first.text else {
-        return Ok(Fate::LeftBy(first.job));
+        return Ok(GoldenFileOutcome::LeftBy(first.job));
     };
     let text = text.as_slice();
     match first_of_another_text(path, text, claims) {
-        Some(other) => Ok(Fate::Differ(first.job, other.job)),
-        None => Ok(Fate::Agreed(Bytes::new(text.to_vec(alloc)?))),
+        Some(other) => Ok(GoldenFileOutcome::Differ(first.job, other.job)),
+        None => Ok(GoldenFileOutcome::Agreed(Bytes::new(text.to_vec(alloc)?))),
     }
 }
 
-fn first_of_left_job<'a>(path: &str, claims: &'a [Claim]) -> Option<&'a Claim>
+fn first_of_left_job<'a>(path: &str, claims: &'a [GoldenText]) -> Option<&'a GoldenText>
     ensures { option_map (λ claim. claim.now) result ≡ find (is_of_left_job path.now) claims.now }
 {
     claims.iter().find(|claim| is_of_left_job(path, claim))
 }
 
 /// The first claim on the file at a path.
-pub fn first_on_file<'a>(path: &str, claims: &'a [Claim]) -> Option<&'a Claim>
+pub fn first_on_file<'a>(path: &str, claims: &'a [GoldenText]) -> Option<&'a GoldenText>
     ensures { option_map (λ claim. claim.now) result ≡ find (names_file path.now) claims.now }
 {
     claims.iter().find(|claim| names_file(path, claim))
 }
 
 /// The first claim that gives the file at a path another text, or none.
-pub fn first_of_another_text<'a>(path: &str, text: &[u8], claims: &'a [Claim]) -> Option<&'a Claim>
+pub fn first_of_another_text<'a>(
+    path: &str,
+    text: &[u8],
+    claims: &'a [GoldenText],
+) -> Option<&'a GoldenText>
     ensures { option_map (λ claim. claim.now) result
         ≡ find (gives_another_text path.now text.now) claims.now }
 {
@@ -84,19 +96,19 @@ pub fn first_of_another_text<'a>(path: &str, text: &[u8], claims: &'a [Claim]) -
         .find(|claim| gives_another_text(path, text, claim))
 }
 
-fn names_file(path: &str, claim: &Claim) -> bool
+fn names_file(path: &str, claim: &GoldenText) -> bool
     ensures { result ≡ names_file path.now claim.now }
 {
     path == claim.path.as_str()
 }
 
-fn is_of_left_job(path: &str, claim: &Claim) -> bool
+fn is_of_left_job(path: &str, claim: &GoldenText) -> bool
     ensures { result ≡ is_of_left_job path.now claim.now }
 {
     names_file(path, claim) && claim.text.is_none()
 }
 
-fn gives_another_text(path: &str, text: &[u8], claim: &Claim) -> bool
+fn gives_another_text(path: &str, text: &[u8], claim: &GoldenText) -> bool
     ensures { result ≡ gives_another_text path.now text.now claim.now }
 {
     names_file(path, claim) && !is_text(text, &claim.text)

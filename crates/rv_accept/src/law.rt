@@ -10,13 +10,13 @@ ghost use Rattle.rv_rows.specs.declared_row.Row.{Row};
 ghost use Rattle.rv_rows.specs.Rows.{row_of};
 ghost use Rattle.rv_rows.specs.Verdict.{lines_of_signature, meets_all_expectations};
 ghost use Rattle.rv_accept.specs.declared.ends.Acceptance.{Acceptance as AnAcceptance};
-ghost use Rattle.rv_accept.specs.declared.standing.Standing.{Standing as AStanding};
-ghost use Rattle.rv_accept.specs.declared.standing.Standing.TheVariants as standing;
-ghost use Rattle.rv_accept.specs.declared.claims.Claim.{Claim as AClaim};
-ghost use Rattle.rv_accept.specs.declared.fates.Fate.TheVariants as fate;
+ghost use Rattle.rv_accept.specs.declared.standing.CurrentVerdict.{CurrentVerdict as AStanding};
+ghost use Rattle.rv_accept.specs.declared.standing.CurrentVerdict.TheVariants as standing;
+ghost use Rattle.rv_accept.specs.declared.claims.GoldenText.{GoldenText as AClaim};
+ghost use Rattle.rv_accept.specs.declared.fates.GoldenFileOutcome.TheVariants as fate;
 ghost use Rattle.rv_accept.specs.Accepted.{accepted_job};
 ghost use Rattle.rv_accept.specs.Ends.{is_accepted_end};
-ghost use Rattle.rv_accept.specs.Fates.{fate_of_file, names_file};
+ghost use Rattle.rv_accept.specs.Fates.{outcome_of_golden_file, names_file};
 ghost use Rattle.rv_accept.specs.Passing.{EndedWell, FindsItsFiles, is_pass_or_unasked};
 ghost use Rattle.rv_accept.specs.Runs.{why_chosen_is_left};
 
@@ -32,7 +32,7 @@ pub fn accepted_jobs_meet_their_expectations()
 
 /// A golden file is given a text only where every job that names it gives that one, so that none of them is left.
 pub fn an_agreed_text_is_given_by_each_job()
-    ensures { (path text : List ℕ) (claims : List AClaim) → fate_of_file path claims ≡ fate.Agreed text
+    ensures { (path text : List ℕ) (claims : List AClaim) → outcome_of_golden_file path claims ≡ fate.Agreed text
         → All (λ claim. IsTrue (names_file path claim) → claim.text ≡ Some text) claims }
 {}
 

@@ -2,7 +2,7 @@
 
 ghost use Rattle.std.specs.Prelude.{◌≡◌, IsTrue, option_map};
 ghost use Rattle.rv_accept.specs.Accepted.{console_met, end_met, exit_met};
-ghost use Rattle.rv_accept.specs.Meant.{meant_job, meant_jobs};
+ghost use Rattle.rv_accept.specs.Meant.{meant_job, intended_jobs};
 ghost use Rattle.rv_accept.specs.Runs.{accepted_row, row_if_accepted};
 
 use crate::runs::JobRun;
@@ -11,14 +11,14 @@ use rv_memory::Region;
 use rv_rows::{Row, RowEnd};
 
 /// Whether these are the jobs that those of a list become, of which some are accepted, each for its row.
-#[tactic(auto, unfolding(crate::specs::Meant::meant_jobs))]
-pub fn are_meant_jobs(jobs: &[Job], runs: &[Option<JobRun>], others: &[Job]) -> bool
-    ensures { IsTrue result → others.now ≡ meant_jobs jobs.now runs.now }
+#[tactic(auto, unfolding(crate::specs::Meant::intended_jobs))]
+pub fn are_intended_jobs(jobs: &[Job], runs: &[Option<JobRun>], others: &[Job]) -> bool
+    ensures { IsTrue result → others.now ≡ intended_jobs jobs.now runs.now }
 {
     match (jobs, runs, others) {
         ([], _, []) => true,
         ([job, jobs @ ..], [run, runs @ ..], [other, others @ ..]) => {
-            is_meant_job(job, accepted_row(run), other) && are_meant_jobs(jobs, runs, others)
+            is_meant_job(job, accepted_row(run), other) && are_intended_jobs(jobs, runs, others)
         }
         _ => false,
     }

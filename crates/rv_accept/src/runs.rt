@@ -2,11 +2,11 @@
 
 ghost use Rattle.std.specs.Prelude.{◌≡◌, ◌++◌, IfOk, OnOk, drop, option_map};
 ghost use Rattle.std.specs.Vec.Iter.{into_iter_items};
-ghost use Rattle.rv_accept.specs.Runs.{first_row, is_accepted_run, judged_run, judged_runs, placed_rows, rest_if, row_if, takes_from_run};
+ghost use Rattle.rv_accept.specs.Runs.{first_row, is_accepted_run, judged_run, judged_runs, indexed_rows, rest_if, row_if, takes_from_run};
 ghost use Rattle.rv_accept.specs.Runs.{why_chosen_is_left, why_differing_is_left, why_end_is_left, why_left, why_sharing_is_left};
 
 use crate::ends::{Acceptance, is_accepted_end};
-use crate::standing::{Candidate, Standing};
+use crate::standing::{Candidate, CurrentVerdict};
 use crate::values::{ValueKey, is_value_changed};
 use rv_jobs::Job;
 use rv_rows::{Row, RowEnd};
@@ -16,7 +16,7 @@ use std::vec::IntoIter;
 
 /// Why a job that was run is left: nothing of its run is taken.
 #[derive(Clone, Copy, Debug, PartialEq, Eq)]
-pub enum WhyLeft {
+pub enum RejectReason {
     /// It ended otherwise than is expected.
     End,
     /// It differs from the job that it names by `same_as`.
@@ -35,7 +35,7 @@ pub struct JobRun {
     pub row: Row,
     /// Whether it is chosen, or was run since a chosen one names a golden file of it, or is compared with it.
     pub is_chosen: bool,
-    pub left: Option<WhyLeft>,
+    pub left: Option<RejectReason>,
 }
 
 impl JobRun {
@@ -48,12 +48,12 @@ impl JobRun {
 }
 
 /// Rows of the jobs that are marked, in their order, each at the place of its job.
-pub fn placed_rows(
+pub fn indexed_rows(
     alloc: Global,
     marks: &[bool],
     rows: Vec<Row>,
 ) -> Result<Vec<Option<Row>>, AllocError>
-    ensures { IfOk result (λ placed. placed.items ≡ placed_rows marks.now rows.items) }
+    ensures { IfOk result (λ placed. placed.items ≡ indexed_rows marks.now rows.items) }
 {
     let mut placed = Vec::new(alloc);
     let mut rows = rows.into_iter();
@@ -61,13 +61,13 @@ pub fn placed_rows(
     Ok(placed)
 }
 
-#[tactic(auto, unfolding(crate::specs::Runs::placed_rows))]
+#[tactic(auto, unfolding(crate::specs::Runs::indexed_rows))]
 fn push_placed_rows(
     placed: &mut Vec<Option<Row>>,
     marks: &[bool],
     rows: &mut IntoIter<Row>,
 ) -> Result<(), AllocError>
-    ensures { OnOk result (placed.new.items ≡ placed.old.items ++ placed_rows marks.now (into_iter_items rows.old)) }
+    ensures { OnOk result (placed.new.items ≡ placed.old.items ++ indexed_rows marks.now (into_iter_items rows.old)) }
 {
     match marks {
         [marked, marks @ ..] => {
@@ -173,37 +173,37 @@ fn judged_run(acceptance: Acceptance, job: &Job, candidate: Candidate, row: Row)
 // A job that passes as it stands is not left. One that fails is, unless its run gives what it expects.
 fn why_chosen_is_left(
     acceptance: Acceptance,
-    standing: Standing,
+    standing: CurrentVerdict,
     job: &Job,
     row: &Row,
-) -> Option<WhyLeft>
+) -> Option<RejectReason>
     ensures { result ≡ why_chosen_is_left acceptance standing job.now row.now }
 {
     match standing {
-        Standing::Passes => None,
-        Standing::Fails if takes_from_run(job) => why_left(acceptance, job, row),
-        Standing::Fails => Some(WhyLeft::End),
-        Standing::Differs => Some(why_differing_is_left(acceptance, job, row.ending)),
+        CurrentVerdict::Passes => None,
+        CurrentVerdict::Fails if takes_from_run(job) => why_left(acceptance, job, row),
+        CurrentVerdict::Fails => Some(RejectReason::End),
+        CurrentVerdict::Differs => Some(why_differing_is_left(acceptance, job, row.ending)),
     }
 }
 
 // Why a job is left that differs from the one that it names: an end that is not taken comes first.
-fn why_differing_is_left(acceptance: Acceptance, job: &Job, ending: RowEnd) -> WhyLeft
+fn why_differing_is_left(acceptance: Acceptance, job: &Job, ending: RowEnd) -> RejectReason
     ensures { result ≡ why_differing_is_left acceptance job.now ending }
 {
     if takes_from_run(job) && !is_accepted_end(acceptance, job, ending) {
-        WhyLeft::End
+        RejectReason::End
     } else {
-        WhyLeft::Differs
+        RejectReason::Differs
     }
 }
 
-fn why_sharing_is_left(standing: Standing, job: &Job, ending: RowEnd) -> Option<WhyLeft>
+fn why_sharing_is_left(standing: CurrentVerdict, job: &Job, ending: RowEnd) -> Option<RejectReason>
     ensures { result ≡ why_sharing_is_left standing job.now ending }
 {
     match standing {
-        Standing::Passes => None,
-        Standing::Fails | Standing::Differs => {
+        CurrentVerdict::Passes => None,
+        CurrentVerdict::Fails | CurrentVerdict::Differs => {
             why_end_is_left(Acceptance::Expected, job, ending)
         }
     }
@@ -219,24 +219,24 @@ fn takes_from_run(job: &Job) -> bool
         || job.expect_signature.is_some()
 }
 
-fn why_left(acceptance: Acceptance, job: &Job, row: &Row) -> Option<WhyLeft>
+fn why_left(acceptance: Acceptance, job: &Job, row: &Row) -> Option<RejectReason>
     ensures { result ≡ why_left acceptance job.now row.now }
 {
     if let Some(why) = why_end_is_left(acceptance, job, row.ending) {
         Some(why)
     } else if is_value_changed(ValueKey::Console, job, row) && !is_utf8(row.console.as_slice()) {
-        Some(WhyLeft::NoText)
+        Some(RejectReason::NoText)
     } else {
         None
     }
 }
 
-fn why_end_is_left(acceptance: Acceptance, job: &Job, ending: RowEnd) -> Option<WhyLeft>
+fn why_end_is_left(acceptance: Acceptance, job: &Job, ending: RowEnd) -> Option<RejectReason>
     ensures { result ≡ why_end_is_left acceptance job.now ending }
 {
     if is_accepted_end(acceptance, job, ending) {
         None
     } else {
-        Some(WhyLeft::End)
+        Some(RejectReason::End)
     }
 }

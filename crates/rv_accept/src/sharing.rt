@@ -1,7 +1,7 @@
 //! Which jobs run, so that what becomes of a golden file is known.
 
 ghost use Rattle.std.specs.Prelude.{◌≡◌, ◌++◌, ◌+◌, ◌^◌, ◌<◌, IfOk, OnOk, length, option_map};
-ghost use Rattle.rv_accept.specs.Sharing.{is_compared_with, is_file_of_marked, is_named_by_marked, is_path, is_place, marks_to_run};
+ghost use Rattle.rv_accept.specs.Sharing.{is_compared_with, is_file_of_marked, is_named_by_marked, is_path, is_place, jobs_to_run};
 ghost use Rattle.rv_accept.specs.Sharing.{marks_with_compared, names_golden_file, shares_with_marked, sharing_marks};
 
 use crate::claims::console_path;
@@ -10,8 +10,8 @@ use std::alloc::{AllocError, Global};
 
 /// Marks the jobs that run where some are chosen: these, each that names a golden file which a chosen one names, and each that one
 /// of all these names by `same_as`.
-pub fn marks_to_run(alloc: Global, jobs: &[Job], chosen: &[bool]) -> Result<Vec<bool>, AllocError>
-    ensures { IfOk result (λ marks. marks.items ≡ marks_to_run jobs.now chosen.now) }
+pub fn jobs_to_run(alloc: Global, jobs: &[Job], chosen: &[bool]) -> Result<Vec<bool>, AllocError>
+    ensures { IfOk result (λ marks. marks.items ≡ jobs_to_run jobs.now chosen.now) }
 {
     let mut sharing = Vec::new(alloc);
     push_sharing_marks(&mut sharing, (jobs, chosen), jobs, chosen)?;

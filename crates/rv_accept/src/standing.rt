@@ -2,7 +2,7 @@
 
 /// How a job that was run stands: over its golden files as they are, and beside the job that it names.
 #[derive(Clone, Copy, Debug, PartialEq, Eq)]
-pub enum Standing {
+pub enum CurrentVerdict {
     /// It passes.
     Passes,
     /// It fails, but does not differ from the job that it names by `same_as`.
@@ -15,5 +15,5 @@ pub enum Standing {
 #[derive(Clone, Copy, Debug, PartialEq, Eq)]
 pub struct Candidate {
     pub is_chosen: bool,
-    pub standing: Standing,
+    pub standing: CurrentVerdict,
 }

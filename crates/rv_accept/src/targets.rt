@@ -3,8 +3,8 @@
 ghost use Rattle.std.specs.Prelude.{◌≡◌, [], IfOk, OnOk, fold, option_map, slice_get};
 ghost use Rattle.rv_accept.specs.Targets.{is_of_accepted, is_target, target_of, with_target};
 
-use crate::claims::{Claim, Part};
-use crate::fates::{Fate, fate_of_file};
+use crate::claims::{GoldenText, Part};
+use crate::fates::{GoldenFileOutcome, outcome_of_golden_file};
 use crate::runs::JobRun;
 use rv_jobs::Text;
 use std::alloc::{AllocError, Global};
@@ -17,14 +17,14 @@ pub struct Target {
     pub job: usize,
     /// What it holds of that job.
     pub part: Part,
-    pub fate: Fate,
+    pub fate: GoldenFileOutcome,
 }
 
 /// The golden files that accepted jobs name, each once, in the order in which the list names them.
 pub fn targets_of(
     alloc: Global,
     runs: &[Option<JobRun>],
-    claims: &[Claim],
+    claims: &[GoldenText],
 ) -> Result<Vec<Target>, AllocError>
     ensures { IfOk result (λ targets. targets.items ≡ fold (with_target runs.now claims.now) [] claims.now) }
 {
@@ -39,9 +39,9 @@ pub fn targets_of(
 fn add_target(
     alloc: Global,
     runs: &[Option<JobRun>],
-    claims: &[Claim],
+    claims: &[GoldenText],
     targets: &mut Vec<Target>,
-    claim: &Claim,
+    claim: &GoldenText,
 ) -> Result<(), AllocError>
     ensures { OnOk result (targets.new.items ≡ with_target runs.now claims.now targets.old.items claim.now) }
 {
@@ -51,14 +51,14 @@ fn add_target(
     Ok(())
 }
 
-fn target_of(alloc: Global, claim: &Claim, claims: &[Claim]) -> Result<Target, AllocError>
+fn target_of(alloc: Global, claim: &GoldenText, claims: &[GoldenText]) -> Result<Target, AllocError>
     ensures { IfOk result (λ target. target ≡ target_of claims.now claim.now) }
 {
     Ok(Target {
         path: Text::copy(alloc, claim.path.as_str())?,
         job: claim.job,
         part: claim.part,
-        fate: fate_of_file(alloc, claim.path.as_str(), claims)?,
+        fate: outcome_of_golden_file(alloc, claim.path.as_str(), claims)?,
     })
 }
 

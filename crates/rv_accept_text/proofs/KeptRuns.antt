@@ -3,17 +3,17 @@ use Rattle.std.proofs.Common.{◌≡◌, ◌∷◌, [], ℕ, zero, suc, Bool, tr
 use Rattle.std.specs.Prelude.{slice_get}
 use Rattle.rv_accept.specs.Runs.{is_accepted_run}
 use Rattle.rv_accept.specs.declared.runs.JobRun.{JobRun}
-use Rattle.rv_accept.specs.declared.runs.WhyLeft.{WhyLeft}
+use Rattle.rv_accept.specs.declared.runs.RejectReason.{RejectReason}
 use Rattle.rv_accept_text.specs.NewLists.{AreLeftFrom, again, left_run, left_runs, once, run_or_none}
 
 no : {A : Type 0} → false ≡ true → A
 no is = cc
 
 -- a run that is accepted though it may be left is the same
-same_run : (why : Option WhyLeft) (run : JobRun) → is_accepted_run (left_run why run) ≡ true → left_run why run ≡ run
+same_run : (why : Option RejectReason) (run : JobRun) → is_accepted_run (left_run why run) ≡ true → left_run why run ≡ run
 same_run why run accepted = go run.is_chosen run.left refl refl why accepted
   where
-    go : (chosen : Bool) (left : Option WhyLeft) → run.is_chosen ≡ chosen → run.left ≡ left → (why : Option WhyLeft)
+    go : (chosen : Bool) (left : Option RejectReason) → run.is_chosen ≡ chosen → run.left ≡ left → (why : Option RejectReason)
         → is_accepted_run (left_run why run) ≡ true → left_run why run ≡ run
     go false left chosen_is left_is why accepted = rw chosen_is refl
     go true (Some other) chosen_is left_is why accepted = rw (chosen_is, left_is) refl
@@ -24,7 +24,7 @@ run_behind : (runs : List (Option JobRun)) (place : ℕ) → slice_get (drop 1 r
 run_behind [] place = refl
 run_behind (run ∷ runs) place = refl
 
-first_run : (why : Option WhyLeft) (runs : List (Option JobRun)) (run : JobRun)
+first_run : (why : Option RejectReason) (runs : List (Option JobRun)) (run : JobRun)
     → Some (option_map (left_run why) (run_or_none (slice_get runs 0))) ≡ Some (Some run) → is_accepted_run run ≡ true
     → slice_get runs 0 ≡ Some (Some run)
 first_run why [] run is accepted = cc
@@ -34,7 +34,7 @@ first_run why (Some before ∷ runs) run is accepted =
     let same = same_run why before (rw (← left) at accepted) in
     rw (← left) (rw same refl)
 
-kept_run : (whys : List (Option WhyLeft)) (runs : List (Option JobRun)) (place : ℕ) (run : JobRun)
+kept_run : (whys : List (Option RejectReason)) (runs : List (Option JobRun)) (place : ℕ) (run : JobRun)
     → slice_get (left_runs whys runs) place ≡ Some (Some run) → is_accepted_run run ≡ true
     → slice_get runs place ≡ Some (Some run)
 unfolding left_runs

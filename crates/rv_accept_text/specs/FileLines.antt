@@ -5,11 +5,11 @@ use Rattle.std.specs.List.{find}
 use Rattle.rv_jobs.specs.declared_job.Job.{Job}
 use Rattle.rv_text.specs.Printable.{printable_text}
 use Rattle.rv_accept.specs.Fates.{gives_another_text, names_file}
-use Rattle.rv_accept.specs.declared.claims.Claim.{Claim}
+use Rattle.rv_accept.specs.declared.claims.GoldenText.{GoldenText}
 use Rattle.rv_accept.specs.declared.claims.Part.{Part}
 use Rattle.rv_accept.specs.declared.claims.Part.TheVariants as part
-use Rattle.rv_accept.specs.declared.fates.Fate.{Fate}
-use Rattle.rv_accept.specs.declared.fates.Fate.TheVariants as fate
+use Rattle.rv_accept.specs.declared.fates.GoldenFileOutcome.{GoldenFileOutcome}
+use Rattle.rv_accept.specs.declared.fates.GoldenFileOutcome.TheVariants as fate
 use Rattle.rv_accept.specs.declared.targets.Target.{Target}
 use Rattle.rv_accept_text.specs.ChangedTexts.{byte_change, text_change, word_change}
 use Rattle.rv_accept_text.specs.GoldenFiles.{is_left, new_text}
@@ -21,8 +21,8 @@ abbrev pub job_name : List Job → ℕ → List ℕ
 job_name jobs place = unwrap_or (option_map (λ job. job.name) (slice_get jobs place)) []
 
 abbrev pub part_text : Part → List ℕ
-part_text part.Console = codes "the console of "
-part_text part.Signature = codes "the signature of "
+part_text part.Console = codes "console of "
+part_text part.Signature = codes "signature of "
 
 -- ---- a file that is written
 
@@ -64,35 +64,35 @@ abbrev pub text_or_empty : Option (List ℕ) → List ℕ
 text_or_empty text = unwrap_or text []
 
 -- two jobs that give a file different texts
-abbrev pub two_claims_text : List Job → Claim → Claim → List ℕ
+abbrev pub two_claims_text : List Job → GoldenText → GoldenText → List ℕ
 two_claims_text jobs first other = part_text first.part ++ printable_text (job_name jobs first.job) ++ codes " and "
     ++ part_text other.part ++ printable_text (job_name jobs other.job) ++ codes " differ"
     ++ byte_change (text_or_empty first.text) (text_or_empty other.text)
 
-abbrev pub other_claim_text : List Job → Claim → Option Claim → List ℕ
+abbrev pub other_claim_text : List Job → GoldenText → Option GoldenText → List ℕ
 other_claim_text jobs first None = codes "\n"
 other_claim_text jobs first (Some other) = two_claims_text jobs first other
 
-abbrev pub first_claim_text : List Job → List Claim → List ℕ → Option Claim → List ℕ
+abbrev pub first_claim_text : List Job → List GoldenText → List ℕ → Option GoldenText → List ℕ
 first_claim_text jobs claims path None = codes "\n"
 first_claim_text jobs claims path (Some first) =
     other_claim_text jobs first (find (gives_another_text path (text_or_empty first.text)) claims)
 
 -- which two jobs do not agree on the file at a path: the first that names it, and the first that gives it another text
-abbrev pub disagreement_text : List Job → List Claim → List ℕ → List ℕ
+abbrev pub disagreement_text : List Job → List GoldenText → List ℕ → List ℕ
 disagreement_text jobs claims path = first_claim_text jobs claims path (find (names_file path) claims)
 
-abbrev pub why_file_is_left : List Job → List Claim → List ℕ → Fate → List ℕ
-why_file_is_left jobs claims path (fate.LeftBy job) = printable_text (job_name jobs job) ++ codes " expects it too, and is left\n"
+abbrev pub why_file_is_left : List Job → List GoldenText → List ℕ → GoldenFileOutcome → List ℕ
+why_file_is_left jobs claims path (fate.LeftBy job) = printable_text (job_name jobs job) ++ codes " also expects it, and is left unchanged\n"
 why_file_is_left jobs claims path (fate.Differ job other) = disagreement_text jobs claims path
-why_file_is_left jobs claims path (fate.Agreed text) = codes "it is the list or an image, which is never written\n"
-why_file_is_left jobs claims path fate.Unclaimed = codes "it is the list or an image, which is never written\n"
+why_file_is_left jobs claims path (fate.Agreed text) = codes "the list and images are never overwritten\n"
+why_file_is_left jobs claims path fate.Unclaimed = codes "the list and images are never overwritten\n"
 
 abbrev pub left_head : List ℕ → List ℕ
 left_head name = codes "left " ++ printable_text name ++ codes ": "
 
 -- why a golden file is left, if it is
-unfoldable pub left_file_line : ListFile → List Claim → GoldenFile → List ℕ
+unfoldable pub left_file_line : ListFile → List GoldenText → GoldenFile → List ℕ
 left_file_line list claims file = if is_left list file
     then left_head file.target.path ++ why_file_is_left list.jobs.now claims file.target.path file.target.fate
     else []

@@ -3,8 +3,8 @@ use Rattle.std.specs.Prelude.{◌||◌, Bool, true, false, ℕ, List, [], ◌∷
 use Rattle.std.specs.List.{list_any, starts_with}
 use Rattle.std.specs.Str.{bytes_eq}
 use Rattle.rv_jobs.specs.declared_job.Job.{Job}
-use Rattle.rv_accept.specs.declared.fates.Fate.{Fate}
-use Rattle.rv_accept.specs.declared.fates.Fate.TheVariants as fate
+use Rattle.rv_accept.specs.declared.fates.GoldenFileOutcome.{GoldenFileOutcome}
+use Rattle.rv_accept.specs.declared.fates.GoldenFileOutcome.TheVariants as fate
 use Rattle.rv_accept_text.specs.declared.golden_file.GoldenFile.{GoldenFile}
 use Rattle.rv_accept_text.specs.declared.golden_file.ListFile.{ListFile}
 
@@ -26,7 +26,7 @@ is_kept list file = bytes_eq file.place list.path.now
     || (is_image_path file.target.path list.jobs.now || is_kept_text list.text.now file.old)
 
 -- the text that it is to hold: the one that all jobs give which name it, unless it is the list or an image
-abbrev pub agreed_text_of : Bool → Fate → Option (List ℕ)
+abbrev pub agreed_text_of : Bool → GoldenFileOutcome → Option (List ℕ)
 agreed_text_of kept (fate.Agreed text) = if kept then None else Some text
 agreed_text_of kept _ = None
 
@@ -38,7 +38,7 @@ abbrev pub another_text : List ℕ → Option (List ℕ) → Option (List ℕ)
 another_text text None = Some text
 another_text text (Some old) = if bytes_eq text old then None else Some text
 
-abbrev pub new_text_of : Bool → Fate → Option (List ℕ) → Option (List ℕ)
+abbrev pub new_text_of : Bool → GoldenFileOutcome → Option (List ℕ) → Option (List ℕ)
 new_text_of kept (fate.Agreed text) old = if kept then None else another_text text old
 new_text_of kept _ old = None
 
@@ -46,7 +46,7 @@ new_text_of kept _ old = None
 abbrev pub new_text : ListFile → GoldenFile → Option (List ℕ)
 new_text list file = new_text_of (is_kept list file) file.target.fate file.old
 
-abbrev pub is_left_of : Bool → Fate → Bool
+abbrev pub is_left_of : Bool → GoldenFileOutcome → Bool
 is_left_of kept (fate.Agreed text) = kept
 is_left_of kept (fate.LeftBy job) = true
 is_left_of kept (fate.Differ job other) = true

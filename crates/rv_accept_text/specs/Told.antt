@@ -7,7 +7,7 @@ use Rattle.rv_accept.specs.declared.runs.JobRun.{JobRun}
 use Rattle.rv_accept_text.specs.FileLines.{file_line, left_file_line}
 use Rattle.rv_accept_text.specs.GoldenFiles.{is_left, new_text}
 use Rattle.rv_accept_text.specs.JobLines.{left_job_line, value_line}
-use Rattle.rv_accept_text.specs.declared.accepting.Accepting.{Accepting}
+use Rattle.rv_accept_text.specs.declared.accepting.AcceptSummary.{AcceptSummary}
 use Rattle.rv_accept_text.specs.declared.accepting.Writing.{Writing}
 use Rattle.rv_accept_text.specs.declared.accepting.Writing.TheVariants as writing
 use Rattle.rv_accept_text.specs.declared.golden_file.GoldenFile.{GoldenFile}
@@ -20,7 +20,7 @@ abbrev pub value_line_of : List ℕ → ChangedValue → Option Job → Option (
 value_line_of path value (Some job) (Some (Some run)) = value_line path value job run.row
 value_line_of path value _ _ = []
 
-abbrev pub value_line_in : Accepting → ChangedValue → List ℕ
+abbrev pub value_line_in : AcceptSummary → ChangedValue → List ℕ
 value_line_in told value = value_line_of told.list.path.now value (slice_get told.list.jobs.now value.job)
     (slice_get told.runs.now value.job)
 
@@ -31,7 +31,7 @@ left_job_lines list (job ∷ jobs) [] = []
 left_job_lines list (job ∷ jobs) (run ∷ runs) = left_job_line list job run ++ left_job_lines list jobs runs
 
 -- changes first, of golden files and then of the list; and then what is left, jobs and then golden files
-abbrev pub told_lines : Accepting → List ℕ
+abbrev pub told_lines : AcceptSummary → List ℕ
 told_lines told = flat_map (file_line told.list) told.files.now
     ++ flat_map (value_line_in told) told.new.now.values.items
     ++ left_job_lines told.list.jobs.now told.list.jobs.now told.runs.now
@@ -47,7 +47,7 @@ one_if true = 1
 one_if false = 0
 
 -- how many files change, the list among them
-abbrev pub changed_count : Accepting → ℕ
+abbrev pub changed_count : AcceptSummary → ℕ
 changed_count told = count_by (is_changed told.list) told.files.now + one_if (is_some told.new.now.text)
 
 abbrev pub is_left_job : Option JobRun → Bool
@@ -55,7 +55,7 @@ is_left_job None = false
 is_left_job (Some run) = run.is_chosen && is_some run.left
 
 -- how many chosen jobs are left, and how many golden files
-abbrev pub left_count : Accepting → ℕ
+abbrev pub left_count : AcceptSummary → ℕ
 left_count told = count_by is_left_job told.runs.now + count_by (is_left told.list) told.files.now
 
 abbrev pub files_word : ℕ → List ℕ

@@ -11,17 +11,17 @@ use crate::file_lines::{push_file_line, push_left_file_line};
 use crate::golden_file::{GoldenFile, ListFile};
 use crate::job_lines::{push_left_job_line, push_value_line};
 use crate::new_list::{ChangedValue, NewList};
-use rv_accept::{Claim, JobRun};
+use rv_accept::{GoldenText, JobRun};
 use rv_jobs::Job;
 use rv_text::{Span, push_spans};
 use std::alloc::{AllocError, Global};
 
 /// What is accepted, and what is left.
 #[derive(Clone, Copy)]
-pub struct Accepting<'a> {
+pub struct AcceptSummary<'a> {
     pub list: ListFile<'a>,
     pub runs: &'a [Option<JobRun>],
-    pub claims: &'a [Claim],
+    pub claims: &'a [GoldenText],
     pub files: &'a [GoldenFile],
     pub new: &'a NewList,
 }
@@ -35,7 +35,7 @@ pub enum Writing {
     Asked,
 }
 
-impl<'a> Accepting<'a> {
+impl<'a> AcceptSummary<'a> {
     /// Appends the lines of all changes, of golden files first, and then of what is left, jobs first.
     pub fn push_lines(&self, alloc: Global, out: &mut Vec<u8>) -> Result<(), AllocError>
         ensures { OnOk result (out.new.items ≡ out.old.items ++ told_lines self.now) }

@@ -8,7 +8,9 @@ ghost use Rattle.rv_accept_text.specs.FileLines.{why_file_is_left, written_file_
 use crate::changed_text::{push_byte_change, push_text_change, push_word_change};
 use crate::golden_file::{GoldenFile, ListFile};
 use crate::job_lines::job_name;
-use rv_accept::{Claim, Fate, Part, Target, first_of_another_text, first_on_file};
+use rv_accept::{
+    GoldenFileOutcome, GoldenText, Part, Target, first_of_another_text, first_on_file,
+};
 use rv_jobs::{Bytes, Job};
 use rv_text::{Span, push_spans, push_text};
 use std::alloc::AllocError;
@@ -120,8 +122,8 @@ fn part_text(part: Part) -> &'static str
     ensures { result.now ≡ part_text part }
 {
     match part {
-        Part::Console => "the console of ",
-        Part::Signature => "the signature of ",
+        Part::Console => "console of ",
+        Part::Signature => "signature of ",
     }
 }
 
@@ -130,7 +132,7 @@ fn part_text(part: Part) -> &'static str
 pub(crate) fn push_left_file_line(
     out: &mut Vec<u8>,
     list: &ListFile<'_>,
-    claims: &[Claim],
+    claims: &[GoldenText],
     file: &GoldenFile,
 ) -> Result<(), AllocError>
     ensures { OnOk result (out.new.items ≡ out.old.items ++ left_file_line list.now claims.now file.now) }
@@ -159,24 +161,24 @@ pub(crate) fn push_left_head(out: &mut Vec<u8>, name: &str) -> Result<(), AllocE
 fn push_why_file_is_left(
     out: &mut Vec<u8>,
     jobs: &[Job],
-    claims: &[Claim],
+    claims: &[GoldenText],
     target: &Target,
 ) -> Result<(), AllocError>
     ensures { OnOk result (out.new.items
         ≡ out.old.items ++ why_file_is_left jobs.now claims.now target.now.path target.now.fate) }
 {
     match &target.fate {
-        Fate::LeftBy(job) => push_spans(
+        GoldenFileOutcome::LeftBy(job) => push_spans(
             out,
             &[
                 Span::Shown(job_name(jobs, *job).as_bytes()),
-                Span::Text(" expects it too, and is left\n"),
+                Span::Text(" also expects it, and is left unchanged\n"),
             ],
         ),
-        Fate::Differ(..) => push_disagreement(out, jobs, claims, target.path.as_str()),
-        Fate::Agreed(_) | Fate::Unclaimed => push_text(
+        GoldenFileOutcome::Differ(..) => push_disagreement(out, jobs, claims, target.path.as_str()),
+        GoldenFileOutcome::Agreed(_) | GoldenFileOutcome::Unclaimed => push_text(
             out,
-            "it is the list or an image, which is never written\n",
+            "the list and images are never overwritten\n",
         ),
     }
 }
@@ -185,7 +187,7 @@ fn push_why_file_is_left(
 fn push_disagreement(
     out: &mut Vec<u8>,
     jobs: &[Job],
-    claims: &[Claim],
+    claims: &[GoldenText],
     path: &str,
 ) -> Result<(), AllocError>
     ensures { OnOk result (out.new.items ≡ out.old.items ++ disagreement_text jobs.now claims.now path.now) }
@@ -204,8 +206,8 @@ fn push_disagreement(
 fn push_other_claim(
     out: &mut Vec<u8>,
     jobs: &[Job],
-    first: &Claim,
-    other: Option<&Claim>,
+    first: &GoldenText,
+    other: Option<&GoldenText>,
 ) -> Result<(), AllocError>
     ensures { OnOk result (out.new.items
         ≡ out.old.items ++ other_claim_text jobs.now first.now (option_map (λ claim. claim.now) other.entry)) }
@@ -219,8 +221,8 @@ fn push_other_claim(
 fn push_two_claims(
     out: &mut Vec<u8>,
     jobs: &[Job],
-    first: &Claim,
-    other: &Claim,
+    first: &GoldenText,
+    other: &GoldenText,
 ) -> Result<(), AllocError>
     ensures { OnOk result (out.new.items ≡ out.old.items ++ two_claims_text jobs.now first.now other.now) }
 {

@@ -3,7 +3,7 @@
 ghost use Rattle.std.specs.Prelude.{◌≡◌, option_map};
 ghost use Rattle.rv_accept_text.specs.GoldenFiles.{agreed_text, another_text, is_image_path, is_kept, is_kept_text, is_left, new_text};
 
-use rv_accept::{Fate, Target};
+use rv_accept::{GoldenFileOutcome, Target};
 use rv_jobs::{Bytes, Job, Text};
 
 /// The file of a list, and the jobs that it reads as.
@@ -30,7 +30,10 @@ impl GoldenFile {
         ensures { option_map (λ text. text.now) result ≡ new_text list.now self.now }
     {
         match &self.target.fate {
-            Fate::Agreed(text) if !self.is_kept(list) => another_text(text.as_slice(), &self.old),
+            GoldenFileOutcome::Agreed(text) if !self.is_kept(list) => another_text(
+                text.as_slice(),
+                &self.old,
+            ),
             _ => None,
         }
     }
@@ -40,7 +43,7 @@ impl GoldenFile {
         ensures { option_map (λ text. text.now) result ≡ agreed_text list.now self.now }
     {
         match &self.target.fate {
-            Fate::Agreed(text) if !self.is_kept(list) => Some(text.as_slice()),
+            GoldenFileOutcome::Agreed(text) if !self.is_kept(list) => Some(text.as_slice()),
             _ => None,
         }
     }
@@ -50,9 +53,9 @@ impl GoldenFile {
         ensures { result ≡ is_left list.now self.now }
     {
         match &self.target.fate {
-            Fate::Agreed(_) => self.is_kept(list),
-            Fate::LeftBy(_) | Fate::Differ(..) => true,
-            Fate::Unclaimed => false,
+            GoldenFileOutcome::Agreed(_) => self.is_kept(list),
+            GoldenFileOutcome::LeftBy(_) | GoldenFileOutcome::Differ(..) => true,
+            GoldenFileOutcome::Unclaimed => false,
         }
     }
 

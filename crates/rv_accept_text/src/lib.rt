@@ -1,7 +1,7 @@
 //! What `accept` tells, and the new text of a list.
 //!
 //! [`accept_values`] replaces the values of accepted jobs in a list's text: what it answers reads as the jobs that are meant. An
-//! [`Accepting`] tells each change, each job and each file that is left, and how many there are.
+//! [`AcceptSummary`] tells each change, each job and each file that is left, and how many there are.
 #![tactic(auto)]
 
 mod accepting;
@@ -11,6 +11,6 @@ mod golden_file;
 mod job_lines;
 mod new_list;
 
-pub use accepting::{Accepting, Writing};
+pub use accepting::{AcceptSummary, Writing};
 pub use golden_file::{GoldenFile, ListFile};
 pub use new_list::{ChangedValue, NewList, accept_values};

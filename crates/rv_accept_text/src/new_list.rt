@@ -4,13 +4,14 @@ ghost use Rattle.std.specs.Prelude.{◌≡◌, ◌++◌, IfOk, IfSome, IsTrue, L
 ghost use Rattle.std.specs.Vec.Iter.{into_iter_items};
 ghost use Rattle.rv_lists.specs.JobList.{job_list_of};
 ghost use Rattle.rv_accept.specs.Edits.{edited_from};
-ghost use Rattle.rv_accept.specs.Meant.{meant_jobs};
+ghost use Rattle.rv_accept.specs.Meant.{intended_jobs};
 ghost use Rattle.rv_accept.specs.declared.edits.Edit.{Edit as AnEdit};
-ghost use Rattle.rv_accept.specs.declared.runs.WhyLeft.{WhyLeft as AWhyLeft};
+ghost use Rattle.rv_accept.specs.declared.runs.RejectReason.{RejectReason as AWhyLeft};
 ghost use Rattle.rv_accept_text.specs.NewLists.{AreLeftFrom, left_run, left_runs, run_or_none, why_changed, why_changed_if_run, whys_changed};
 
 use rv_accept::{
-    Edit, JobRun, ValueKey, WhyLeft, are_meant_jobs, edited_text, is_value_changed, push_new_value,
+    Edit, JobRun, RejectReason, ValueKey, are_intended_jobs, edited_text, is_value_changed,
+    push_new_value,
 };
 use rv_jobs::{Bytes, Job, What, read_jobs};
 use rv_list_locations::{ValueSpan, line_and_column, value_spans};
@@ -63,17 +64,17 @@ pub fn accept_values(
     runs: Vec<Option<JobRun>>,
 ) -> Result<NewList, AllocError>
     ensures meant { IfOk result (λ new. IfSome new.text
-        (λ text. job_list_of text.items ≡ Ok (meant_jobs jobs.now new.runs.items))) }
+        (λ text. job_list_of text.items ≡ Ok (intended_jobs jobs.now new.runs.items))) }
     ensures edited { IfOk result (λ new. IfSome new.text
         (λ new. (edits : List AnEdit) × (new.items ≡ edited_from 0 text.now edits))) }
-    ensures unchanged { IfOk result (λ new. new.text ≡ None → meant_jobs jobs.now new.runs.items ≡ jobs.now) }
+    ensures unchanged { IfOk result (λ new. new.text ≡ None → intended_jobs jobs.now new.runs.items ≡ jobs.now) }
     ensures left { IfOk result (λ new. AreLeftFrom runs.items new.runs.items) }
 {
     let places = places_in(alloc, text)?;
     let whys = whys_unplaced(alloc, jobs, runs.as_slice(), &places)?;
     let runs = left_runs(alloc, whys.as_slice(), runs)?;
     let Changes { edits, values } = changes_at(alloc, text, jobs, runs.as_slice(), &places)?;
-    if edits.is_empty() && are_meant_jobs(jobs, runs.as_slice(), jobs) {
+    if edits.is_empty() && are_intended_jobs(jobs, runs.as_slice(), jobs) {
         return Ok(NewList {
             text: None,
             values,
@@ -97,7 +98,7 @@ fn leave_changed(
     runs: Vec<Option<JobRun>>,
 ) -> Result<NewList, AllocError>
     ensures none { IfOk result (λ new. new.text ≡ None) }
-    ensures unchanged { IfOk result (λ new. meant_jobs jobs.now new.runs.items ≡ jobs.now) }
+    ensures unchanged { IfOk result (λ new. intended_jobs jobs.now new.runs.items ≡ jobs.now) }
     ensures left { IfOk result (λ new. (whys : List (Option AWhyLeft)) × (new.runs.items ≡ left_runs whys runs.items)) }
 {
     let mut whys = Vec::new(alloc);
@@ -113,7 +114,7 @@ fn leave_changed(
 // Appends of each run why its job is left where no value is replaced: one is another.
 #[tactic(auto, unfolding(crate::specs::NewLists::whys_changed))]
 fn push_whys_changed(
-    whys: &mut Vec<Option<WhyLeft>>,
+    whys: &mut Vec<Option<RejectReason>>,
     jobs: &[Job],
     runs: &[Option<JobRun>],
 ) -> Result<(), AllocError>
@@ -129,7 +130,7 @@ fn push_whys_changed(
     }
 }
 
-fn why_changed_if_run(job: &Job, run: &Option<JobRun>) -> Option<WhyLeft>
+fn why_changed_if_run(job: &Job, run: &Option<JobRun>) -> Option<RejectReason>
     ensures { result ≡ why_changed_if_run job.now run.now }
 {
     match run {
@@ -138,15 +139,15 @@ fn why_changed_if_run(job: &Job, run: &Option<JobRun>) -> Option<WhyLeft>
     }
 }
 
-fn why_changed(job: &Job, row: &Row) -> Option<WhyLeft>
+fn why_changed(job: &Job, row: &Row) -> Option<RejectReason>
     ensures { result ≡ why_changed job.now row.now }
 {
     if is_value_changed(ValueKey::Exit, job, row) {
-        Some(WhyLeft::NoPlace(ValueKey::Exit))
+        Some(RejectReason::NoPlace(ValueKey::Exit))
     } else if is_value_changed(ValueKey::End, job, row) {
-        Some(WhyLeft::NoPlace(ValueKey::End))
+        Some(RejectReason::NoPlace(ValueKey::End))
     } else if is_value_changed(ValueKey::Console, job, row) {
-        Some(WhyLeft::NoPlace(ValueKey::Console))
+        Some(RejectReason::NoPlace(ValueKey::Console))
     } else {
         None
     }
@@ -161,7 +162,7 @@ fn meant_text(
     edits: &[Edit],
 ) -> Result<Option<Vec<u8>>, AllocError>
     ensures meant { IfOk result (λ found. IfSome found
-        (λ text. job_list_of text.items ≡ Ok (meant_jobs jobs.now runs.now))) }
+        (λ text. job_list_of text.items ≡ Ok (intended_jobs jobs.now runs.now))) }
     ensures edited { IfOk result (λ found. IfSome found (λ new. new.items ≡ edited_from 0 text.now edits.now)) }
 {
     let new = edited_text(alloc, text, edits)?;
@@ -175,7 +176,7 @@ fn meant_text(
 // Runs, of which the accepted ones with a reason are left.
 fn left_runs(
     alloc: Global,
-    whys: &[Option<WhyLeft>],
+    whys: &[Option<RejectReason>],
     runs: Vec<Option<JobRun>>,
 ) -> Result<Vec<Option<JobRun>>, AllocError>
     ensures { IfOk result (λ left. left.items ≡ left_runs whys.now runs.items) }
@@ -189,7 +190,7 @@ fn left_runs(
 #[tactic(auto, unfolding(crate::specs::NewLists::left_runs))]
 fn push_left_runs(
     left: &mut Vec<Option<JobRun>>,
-    whys: &[Option<WhyLeft>],
+    whys: &[Option<RejectReason>],
     runs: &mut IntoIter<Option<JobRun>>,
 ) -> Result<(), AllocError>
     ensures { OnOk result (left.new.items ≡ left.old.items ++ left_runs whys.now (into_iter_items runs.old)) }
@@ -215,7 +216,7 @@ fn next_run(runs: &mut IntoIter<Option<JobRun>>) -> Option<JobRun>
     }
 }
 
-fn left_if_run(why: Option<WhyLeft>, run: Option<JobRun>) -> Option<JobRun>
+fn left_if_run(why: Option<RejectReason>, run: Option<JobRun>) -> Option<JobRun>
     ensures { result ≡ option_map (left_run why) run }
 {
     match run {
@@ -224,7 +225,7 @@ fn left_if_run(why: Option<WhyLeft>, run: Option<JobRun>) -> Option<JobRun>
     }
 }
 
-fn left_run(why: Option<WhyLeft>, run: JobRun) -> JobRun
+fn left_run(why: Option<RejectReason>, run: JobRun) -> JobRun
     ensures { result ≡ left_run why run }
 {
     if !run.is_accepted() {
@@ -256,7 +257,7 @@ fn whys_unplaced(
     jobs: &[Job],
     runs: &[Option<JobRun>],
     places: &Places,
-) -> Result<Vec<Option<WhyLeft>>, AllocError> {
+) -> Result<Vec<Option<RejectReason>>, AllocError> {
     let mut whys = Vec::new(alloc);
     for at in 0..runs.len().min(jobs.len()) {
         let why = match &runs[at] {
@@ -269,13 +270,13 @@ fn whys_unplaced(
 }
 
 // That a value of an accepted job stands where it is not replaced, if one does.
-fn why_unplaced(at: usize, job: &Job, run: &JobRun, places: &Places) -> Option<WhyLeft> {
+fn why_unplaced(at: usize, job: &Job, run: &JobRun, places: &Places) -> Option<RejectReason> {
     for key in ValueKey::ALL {
         if is_value_changed(key, job, &run.row) && !has_span(at, key, places.spans.as_slice()) {
             return Some(if places.is_made {
-                WhyLeft::Made(key)
+                RejectReason::Made(key)
             } else {
-                WhyLeft::NoPlace(key)
+                RejectReason::NoPlace(key)
             });
         }
     }
@@ -355,10 +356,10 @@ fn reads_as_meant(
     jobs: &[Job],
     runs: &[Option<JobRun>],
 ) -> Result<bool, AllocError>
-    ensures { IfOk result (λ is_meant. IsTrue is_meant → job_list_of text.now ≡ Ok (meant_jobs jobs.now runs.now)) }
+    ensures { IfOk result (λ is_meant. IsTrue is_meant → job_list_of text.now ≡ Ok (intended_jobs jobs.now runs.now)) }
 {
     match read_jobs(alloc, text) {
-        Ok(others) => Ok(are_meant_jobs(jobs, runs, others.as_slice())),
+        Ok(others) => Ok(are_intended_jobs(jobs, runs, others.as_slice())),
         Err(error) => match error.what {
             What::OutOfMemory => Err(AllocError),
             _ => Ok(false),

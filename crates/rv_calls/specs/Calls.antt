@@ -18,16 +18,16 @@ use Rattle.rv_calls.specs.Stack.{instr_action, after_transfer}
 -- ---- one step
 
 -- the address behind a code
-abbrev pub behind_code : ℕ → Option Code → ℕ
-behind_code pc None = pc
-behind_code pc (Some code) = (pc + size_of_code code) % 0x1_0000_0000
+abbrev pub after_code : ℕ → Option Code → ℕ
+after_code pc None = pc
+after_code pc (Some code) = (pc + size_of_code code) % 0x1_0000_0000
 
 -- how the code at the pc of a state passed control to the next state; x2 is the stack pointer
 abbrev pub transfer_by : Option Code → State → State → Transfer
 transfer_by code s t = record {
   action = instr_action (option_and_then instr_of code);
   from = s.pc;
-  behind = behind_code s.pc code;
+  behind = after_code s.pc code;
   to = t.pc;
   sp = register s 2;
 }

@@ -4,7 +4,7 @@ ghost use Rattle.std.specs.Prelude.{◌≡◌, ◌+◌, ◌%◌, MatchBool, Matc
 ghost use Rattle.rv_machine.specs.Machine.{state_of};
 ghost use Rattle.rv_machine.specs.Run.{step_of};
 ghost use Rattle.rv_trace.specs.Code.{size_of_code};
-ghost use Rattle.rv_calls.specs.Calls.{behind_code, transfer_of};
+ghost use Rattle.rv_calls.specs.Calls.{after_code, transfer_of};
 ghost use Rattle.rv_calls.specs.Stack.{instr_action};
 
 use crate::action::{StackAction, action_of, action_of_code};
@@ -46,7 +46,7 @@ pub fn next_transfer(machine: &mut Machine) -> Option<Transfer>
     Some(Transfer {
         action: action_of_code(code),
         from,
-        behind: behind_code(from, code),
+        behind: after_code(from, code),
         to: machine.pc(),
         sp,
     })
@@ -75,8 +75,8 @@ fn step_once(machine: &mut Machine) -> bool
 }
 
 // The address behind a code.
-fn behind_code(pc: u32, code: Option<Code>) -> u32
-    ensures { result ≡ behind_code pc code }
+fn after_code(pc: u32, code: Option<Code>) -> u32
+    ensures { result ≡ after_code pc code }
 {
     match code {
         Some(code) => pc.wrapping_add(code_length(code)),

@@ -8,11 +8,11 @@ use Rattle.rv_base.specs.Files.{FileContents}
 use Rattle.rv_choice.specs.Choice.{chosen_marks}
 use Rattle.rv_choice.specs.Choice.{left_marks}
 use Rattle.rv_choice.specs.Chosen.{AreChosenBeside, AreLeft, AreWanted, IsChoice}
-use Rattle.rvtest_cli.specs.declared.run.RunAsked.{RunAsked}
+use Rattle.rvtest_cli.specs.declared.run.RunArgs.{RunArgs}
 use Rattle.rv_expect.specs.declared.passing.Rule.{Rule}
 use Rattle.rv_lists.specs.declared.job.Job.{Job}
 
-beside_count : (known : Option FileContents) (failed : Option (Bor (List ℕ))) (pattern : Option Re) (words : RunAsked)
+beside_count : (known : Option FileContents) (failed : Option (Bor (List ℕ))) (pattern : Option Re) (words : RunArgs)
     (rule : Rule) (jobs : List Job) (marks : List Bool) (notes : List ℕ)
     → AreChosenBeside known failed pattern words rule jobs (Some marks) notes → length marks ≡ length jobs
 unfolding chosen_marks
@@ -21,13 +21,13 @@ beside_count known None pattern words rule jobs marks notes are =
 beside_count known (Some path) pattern words rule jobs marks notes are =
     ap length are.chosen.marked ∙ length-map jobs _
 
-wanted_count : (known : Option FileContents) (words : RunAsked) (rule : Rule) (jobs : List Job) (marks : List Bool)
+wanted_count : (known : Option FileContents) (words : RunArgs) (rule : Rule) (jobs : List Job) (marks : List Bool)
     (notes : List ℕ) → AreWanted known words rule jobs (Some marks) notes → length marks ≡ length jobs
 wanted_count known words rule jobs marks notes are =
     beside_count known words.failed _ words rule jobs marks notes are.by
 
 -- the jobs that words want have a mark each
-pub wanted_counts : (known : Option FileContents) (words : RunAsked) (rule : Rule) (jobs : List Job)
+pub wanted_counts : (known : Option FileContents) (words : RunArgs) (rule : Rule) (jobs : List Job)
     (marks : Option (Vec Bool Global)) (notes : List ℕ)
     → AreWanted known words rule jobs (option_map (λ marks. marks.items) marks) notes
     → IfSome marks (λ marks. length marks.items ≡ length jobs)
@@ -51,7 +51,7 @@ left_some (Some pattern) jobs (Some wanted) marks count left =
 left_some (Some pattern) jobs None marks count left = count marks (sym left)
 
 -- there is a mark for each job
-pub choice_count : (known : Option FileContents) (words : RunAsked) (rule : Rule) (jobs : List Job) (marks : List Bool)
+pub choice_count : (known : Option FileContents) (words : RunArgs) (rule : Rule) (jobs : List Job) (marks : List Bool)
     (notes : List ℕ) → IsChoice known words rule jobs (Some marks) notes → length marks ≡ length jobs
 choice_count known words rule jobs marks notes is =
     let Counts : Option (List Bool) → Type 0 = λ wanted. AreWanted known words rule jobs wanted notes in

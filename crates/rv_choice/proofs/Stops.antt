@@ -6,7 +6,7 @@ use Rattle.std.specs.Borrow.{Bor}
 use Rattle.std.specs.declared.alloc.AllocError.{AllocError}
 use Rattle.rv_base.specs.Files.{FileContents}
 use Rattle.rvtest_cli.specs.RvtestWords.{borrowed_text}
-use Rattle.rvtest_cli.specs.declared.run.RunAsked.{RunAsked}
+use Rattle.rvtest_cli.specs.declared.run.RunArgs.{RunArgs}
 use Rattle.rv_command.proofs.Public.{told_stop}
 use Rattle.rv_command.specs.Stops.{IsRequestedUnreadStop, stop_of_lines}
 use Rattle.rv_command.specs.declared.stop.Lines.TheVariants as lines
@@ -28,7 +28,7 @@ some_value : {A : Type 0} (o : Option A) (P : A → Type 0) → IsSomeAnd o P �
 some_value (Some x) P holds = (x, (refl, holds))
 some_value None P holds = absurd holds
 
-pub stop_of_unknown : (known : Option FileContents) (words : RunAsked) (rule : Rule) (jobs : List Job) (stop : Stop)
+pub stop_of_unknown : (known : Option FileContents) (words : RunArgs) (rule : Rule) (jobs : List Job) (stop : Stop)
     → IsSomeAnd (unknown_name jobs words.only.items) (λ name. IsUnknownNameStop words.list.now jobs name stop)
     → IsChoiceStop known words rule jobs stop
 stop_of_unknown known words rule jobs stop said =
@@ -36,7 +36,7 @@ stop_of_unknown known words rule jobs stop said =
     let some = some_value (unknown_name jobs words.only.items) Says said in
     unknown some.0 some.1.0 some.1.1
 
-pub stop_of_pattern : (known : Option FileContents) (words : RunAsked) (rule : Rule) (jobs : List Job) (stop : Stop)
+pub stop_of_pattern : (known : Option FileContents) (words : RunArgs) (rule : Rule) (jobs : List Job) (stop : Stop)
     → IsSomeAnd (borrowed_text words.pattern) (λ text. IsPatternStop words.list.now text jobs stop)
     → IsChoiceStop known words rule jobs stop
 stop_of_pattern known words rule jobs stop said =
@@ -45,7 +45,7 @@ stop_of_pattern known words rule jobs stop said =
     pattern some.0 some.1.0 some.1.1
 
 -- of the pattern by which jobs are left out: memory was wanting, or it is none
-pub stop_of_no_exclusion : (known : Option FileContents) (words : RunAsked) (rule : Rule) (jobs : List Job) (stop : Stop)
+pub stop_of_no_exclusion : (known : Option FileContents) (words : RunArgs) (rule : Rule) (jobs : List Job) (stop : Stop)
     → IsSomeAnd (borrowed_text words.exclude)
     (λ text. (stop ≡ why.OutOfMemory) ⊎ IsRefusedPattern (codes "--exclude <REGEX>") text stop)
     → IsChoiceStop known words rule jobs stop
@@ -55,7 +55,7 @@ stop_of_no_exclusion known words rule jobs stop said =
     let some = some_value (borrowed_text words.exclude) Says said in
     ⊎_elim memory (λ refused. exclusion some.0 some.1.0 (inl refused)) some.1.1
 
-emptied_by : (known : Option FileContents) (words : RunAsked) (rule : Rule) (jobs : List Job) (notes : List ℕ) (stop : Stop)
+emptied_by : (known : Option FileContents) (words : RunArgs) (rule : Rule) (jobs : List Job) (notes : List ℕ) (stop : Stop)
     (marks : Vec Bool Global) (regex : Regex) → AreWanted known words rule jobs (Some marks.items) notes
     → Some (regex_source regex) ≡ borrowed_text words.exclude → IsReadByDefault regex
     → IsEmptiedStop words.list.now jobs marks.items regex stop → IsChoiceStop known words rule jobs stop
@@ -74,7 +74,7 @@ emptied_by known words rule jobs notes stop marks regex are source read is =
     ))
 
 -- memory was wanting, or the pattern leaves no job
-pub stop_of_emptied : (known : Option FileContents) (words : RunAsked) (rule : Rule) (jobs : List Job) (notes : List ℕ)
+pub stop_of_emptied : (known : Option FileContents) (words : RunArgs) (rule : Rule) (jobs : List Job) (notes : List ℕ)
     (stop : Stop) (marks : Option (Vec Bool Global)) (excluded : Option Regex) (by : Option (Bor Regex))
     → AreWanted known words rule jobs (option_map (λ marks. marks.items) marks) notes
     → option_map regex_source excluded ≡ borrowed_text words.exclude → IfSome excluded IsReadByDefault
@@ -89,7 +89,7 @@ stop_of_emptied known words rule jobs notes stop (Some marks) excluded (Some reg
 stop_of_emptied known words rule jobs notes stop None excluded (Some regex) are source read same (inr is) = absurd is
 stop_of_emptied known words rule jobs notes stop marks excluded None are source read same (inr is) = absurd is
 
-stop_of_report : (known : Option FileContents) (words : RunAsked) (rule : Rule) (jobs : List Job) (stop : Stop)
+stop_of_report : (known : Option FileContents) (words : RunArgs) (rule : Rule) (jobs : List Job) (stop : Stop)
     → (stop ≡ why.OutOfMemory) ⊎ IsSomeAnd (borrowed_text words.failed) (λ path. IsRequestedUnreadStop known words.partial path stop)
     → IsChoiceStop known words rule jobs stop
 stop_of_report known words rule jobs stop (inl is) = memory is
@@ -107,11 +107,11 @@ said_of_text P asked text is holds =
 
 -- the name of the job that was met at a place
 pub near_hint : (jobs : List Job) (name : List ℕ) (place : ℕ) (job : Job) → IsMeant jobs name place
-    → job ≡ get_or jobs place job → IsNameHint jobs name (codes "; the nearest name is " ++ job.name)
+    → job ≡ get_or jobs place job → IsNameHint jobs name (codes "\"; a similar name exists: " ++ job.name)
 near_hint jobs name place job meant is =
     let same : job ≡ get_or jobs place (single_job [] 0 []) =
     is ∙ get_or_default jobs place job (single_job [] 0 []) meant.0.within in
-    inl (place, meant, ap (λ (j : Job). codes "; the nearest name is " ++ j.name) same)
+    inl (place, meant, ap (λ (j : Job). codes "\"; a similar name exists: " ++ j.name) same)
 
 -- a refusal of those lines
 pub unknown_stop : (list : List ℕ) (jobs : List Job) (name : List ℕ) (told : Result (Vec ℕ Global) AllocError) (stop : Stop)
@@ -121,7 +121,7 @@ unknown_stop list jobs name (Ok message) stop is said =
     inr (message.items, said, told_stop lines.Refusal (Ok message) message.items stop is refl)
 unknown_stop list jobs name (Err error) stop is said = inl is
 
-pub stop_of_choice : (known : Option FileContents) (words : RunAsked) (rule : Rule) (jobs : List Job) (result : Result Choice Stop)
+pub stop_of_choice : (known : Option FileContents) (words : RunArgs) (rule : Rule) (jobs : List Job) (result : Result Choice Stop)
     → IfErr result (λ stop. (stop ≡ why.OutOfMemory)
     ⊎ IsSomeAnd (borrowed_text words.failed) (λ path. IsRequestedUnreadStop known words.partial path stop))
     → IfErr result (IsChoiceStop known words rule jobs)

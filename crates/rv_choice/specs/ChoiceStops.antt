@@ -8,7 +8,7 @@ use Rattle.regex.specs.declared.error.Error.TheVariants as refused
 use Rattle.regex.specs.declared.string.regex.Regex.{Regex}
 use Rattle.rv_base.specs.Files.{FileContents}
 use Rattle.rvtest_cli.specs.RvtestWords.{borrowed_text}
-use Rattle.rvtest_cli.specs.declared.run.RunAsked.{RunAsked}
+use Rattle.rvtest_cli.specs.declared.run.RunArgs.{RunArgs}
 use Rattle.rv_choice.specs.BadValues.{IsBadPatternStop}
 use Rattle.rv_command.specs.Stops.{IsRequestedUnreadStop, IsStop}
 use Rattle.rv_command.specs.declared.stop.Stop.{Stop}
@@ -34,8 +34,8 @@ IsUnmatched text jobs = (pattern : Regex) × (regex_source pattern ≡ text) × 
     × (is_found_in_names (regex_pattern pattern) jobs ≡ false)
 
 abbrev pub unmatched_pattern : List ℕ → List ℕ → List ℕ
-unmatched_pattern list text = codes "rvtest: " ++ printable_text list ++ codes ": no job's name matches '"
-    ++ printable_value text ++ codes "'\n"
+unmatched_pattern list text = codes "rvtest: " ++ printable_text list ++ codes ": no job name matches \""
+    ++ printable_value text ++ codes "\"\n"
 
 -- memory was wanting, a text is no pattern, or its pattern is found in no name
 abbrev pub IsPatternStop : List ℕ → List ℕ → List Job → Stop → Type 0
@@ -44,7 +44,7 @@ IsPatternStop list text jobs stop = (stop ≡ why.OutOfMemory)
     ⊎ (IsUnmatched text jobs × IsStop 2 (unmatched_pattern list text) stop))
 
 -- the pattern of a text leaves none of the jobs that words want
-pub record LeavesNone (known : Option FileContents) (words : RunAsked) (rule : Rule) (jobs : List Job) (text : List ℕ)
+pub record LeavesNone (known : Option FileContents) (words : RunArgs) (rule : Rule) (jobs : List Job) (text : List ℕ)
     : Type 0 where
   pub wanted : List Bool
   pub notes : List ℕ
@@ -55,8 +55,8 @@ pub record LeavesNone (known : Option FileContents) (words : RunAsked) (rule : R
   pub emptied : are_emptied wanted (left_marks (regex_pattern pattern) jobs wanted) ≡ true
 
 abbrev pub emptied_choice : List ℕ → List ℕ → List ℕ
-emptied_choice list text = codes "rvtest: " ++ printable_text list ++ codes ": --exclude '" ++ printable_value text
-    ++ codes "' leaves no job\n"
+emptied_choice list text = codes "rvtest: " ++ printable_text list ++ codes ": no jobs left after --exclude \"" ++ printable_value text
+    ++ codes "\"\n"
 
 -- that is told, of a pattern that leaves none of some marks
 abbrev pub IsEmptiedStop : List ℕ → List Job → List Bool → Regex → Stop → Type 0
@@ -64,12 +64,12 @@ IsEmptiedStop list jobs marks pattern stop = (are_emptied marks (left_marks (reg
     × IsStop 2 (emptied_choice list (regex_source pattern)) stop
 
 -- a text is no pattern, or its pattern leaves no job
-abbrev pub IsExclusionStop : Option FileContents → RunAsked → Rule → List Job → List ℕ → Stop → Type 0
+abbrev pub IsExclusionStop : Option FileContents → RunArgs → Rule → List Job → List ℕ → Stop → Type 0
 IsExclusionStop known words rule jobs text stop = IsRefusedPattern (codes "--exclude <REGEX>") text stop
     ⊎ (LeavesNone known words rule jobs text × IsStop 2 (emptied_choice words.list.now text) stop)
 
 -- memory was wanting; a name is no job's; the pattern chooses nothing; the report was not read; or what is left out leaves nothing
-pub data IsChoiceStop (known : Option FileContents) (words : RunAsked) (rule : Rule) (jobs : List Job) (stop : Stop)
+pub data IsChoiceStop (known : Option FileContents) (words : RunArgs) (rule : Rule) (jobs : List Job) (stop : Stop)
     : Type 0 where
   memory : stop ≡ why.OutOfMemory → IsChoiceStop known words rule jobs stop
   unknown : (name : List ℕ) → unknown_name jobs words.only.items ≡ Some name

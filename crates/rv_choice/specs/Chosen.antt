@@ -6,7 +6,7 @@ use Rattle.regex.specs.declared.string.regex.Regex.{Regex}
 use Rattle.std.specs.Borrow.{Bor}
 use Rattle.rv_base.specs.Files.{FileContents}
 use Rattle.rvtest_cli.specs.RvtestWords.{borrowed_text}
-use Rattle.rvtest_cli.specs.declared.run.RunAsked.{RunAsked}
+use Rattle.rvtest_cli.specs.declared.run.RunArgs.{RunArgs}
 use Rattle.rv_command.specs.Messages.{cut_off_note}
 use Rattle.rv_command.specs.Texts.{IsReportReadAt}
 use Rattle.rv_expect.specs.declared.passing.Rule.{Rule}
@@ -19,7 +19,7 @@ use Rattle.rv_choice.specs.UnknownName.{unknown_name}
 
 -- by exact names, by a pattern, and among the jobs of these names, which failed in the report at a path, where so many jobs have no
 -- row; there are no marks exactly where words ask for the jobs that failed in a report and in no other way, and none failed
-pub record AreChosenFrom (path : List ℕ) (failed : ChosenNames) (missing : ℕ) (pattern : Option Re) (words : RunAsked)
+pub record AreChosenFrom (path : List ℕ) (failed : ChosenNames) (missing : ℕ) (pattern : Option Re) (words : RunArgs)
     (jobs : List Job) (marks : Option (List Bool)) (notes : List ℕ) : Type 0 where
   pub told : notes ≡ failed_job_notes path jobs failed missing
   pub marked : IfSome marks (λ marks. marks
@@ -27,7 +27,7 @@ pub record AreChosenFrom (path : List ℕ) (failed : ChosenNames) (missing : ℕ
   pub none : (marks ≡ None) ↔ ((failed ≡ []) × (words.only.items ≡ []) × (pattern ≡ None))
 
 -- the same of what a report that stands at a path has as failed, and behind how many rows it has, where it is cut off
-pub record AreChosenFromReport (known : Option FileContents) (path : List ℕ) (pattern : Option Re) (words : RunAsked)
+pub record AreChosenFromReport (known : Option FileContents) (path : List ℕ) (pattern : Option Re) (words : RunArgs)
     (rule : Rule) (jobs : List Job) (marks : Option (List Bool)) (notes : List ℕ) : Type 0 where
   pub found : PartialReport
   pub read : IsReportReadAt known words.partial path found
@@ -37,21 +37,21 @@ pub record AreChosenFromReport (known : Option FileContents) (path : List ℕ) (
       (jobs_without_row jobs found.report.rows) pattern words jobs marks failed
 
 -- beside a pattern: from a report where one is asked, else by exact names alone, with nothing said
-abbrev pub AreChosenBeside : Option FileContents → Option (Bor (List ℕ)) → Option Re → RunAsked → Rule → List Job
+abbrev pub AreChosenBeside : Option FileContents → Option (Bor (List ℕ)) → Option Re → RunArgs → Rule → List Job
     → Option (List Bool) → List ℕ → Type 0
 AreChosenBeside known None pattern words rule jobs marks notes =
     (marks ≡ Some (chosen_marks (requested_names words.only.items) pattern None jobs)) × (notes ≡ [])
 AreChosenBeside known (Some path) pattern words rule jobs marks notes =
     AreChosenFromReport known path.now pattern words rule jobs marks notes
 
-abbrev pub AreChosenBy : Option FileContents → Option Re → RunAsked → Rule → List Job
+abbrev pub AreChosenBy : Option FileContents → Option Re → RunArgs → Rule → List Job
     → Option (List Bool) → List ℕ → Type 0
 AreChosenBy known pattern words rule jobs marks notes =
     AreChosenBeside known words.failed pattern words rule jobs marks notes
 
 -- the jobs that words want, before any is left out: each exact name is a job's; with the pattern that their text is read as where
 -- they have one, which is found in the name of some job
-pub record AreWanted (known : Option FileContents) (words : RunAsked) (rule : Rule) (jobs : List Job)
+pub record AreWanted (known : Option FileContents) (words : RunArgs) (rule : Rule) (jobs : List Job)
     (marks : Option (List Bool)) (notes : List ℕ) : Type 0 where
   pub named : unknown_name jobs words.only.items ≡ None
   pub pattern : Option Regex
@@ -67,7 +67,7 @@ AreLeft (Some pattern) jobs (Some wanted) left =
 AreLeft _ jobs wanted left = left ≡ wanted
 
 -- the jobs that words choose: those that they want, without those in whose names the pattern is found by which they leave jobs out
-pub record IsChoice (known : Option FileContents) (words : RunAsked) (rule : Rule) (jobs : List Job)
+pub record IsChoice (known : Option FileContents) (words : RunArgs) (rule : Rule) (jobs : List Job)
     (marks : Option (List Bool)) (notes : List ℕ) : Type 0 where
   pub wanted : Option (List Bool)
   pub are : AreWanted known words rule jobs wanted notes

@@ -8,8 +8,8 @@ use Rattle.rv_command.specs.Messages.{path_message, path_number_message}
 
 -- a job failed in the report at a path, and no job of the list has its name
 abbrev pub removed_job_note : List ℕ → List ℕ → List ℕ
-removed_job_note path name = codes "rvtest: " ++ printable_text path ++ codes ": job " ++ name
-    ++ codes " failed there, and is no job of the list any more\n"
+removed_job_note path name = codes "rvtest: " ++ printable_text path ++ codes ": job \"" ++ name
+    ++ codes "\" failed, but is no longer in the list\n"
 
 -- where no job has the name of one that failed, that is said
 abbrev pub note_of_failed_job : List ℕ → List Job → List ℕ → List ℕ
@@ -21,12 +21,12 @@ removed_job_notes path jobs names = flat_map (note_of_failed_job path jobs) name
 -- where none failed, that is said; where jobs have no row, it is said of the rows alone
 abbrev pub none_failed_note : List ℕ → ℕ → List ℕ
 none_failed_note path missing =
-    path_message path (if missing == 0 then codes "no job failed there" else codes "no row there is a failure")
+    path_message path (if missing == 0 then codes "no failed jobs" else codes "no failed jobs among its rows")
 
 -- how many jobs of the list have no row, where there are any
 abbrev pub missing_rows_note : List ℕ → ℕ → List ℕ
 missing_rows_note path missing = if missing == 0 then []
-    else path_number_message path (codes ": jobs of the list without a row there: ") missing (codes "\n")
+    else path_number_message path (codes ": jobs of the list without a row: ") missing (codes "\n")
 
 abbrev pub note_of_failures : List ℕ → List Job → List (List ℕ) → ℕ → List ℕ
 note_of_failures path jobs [] missing = none_failed_note path missing

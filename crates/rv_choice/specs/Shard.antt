@@ -50,11 +50,11 @@ stamp_for None text = encode_lower (take 8 (sha256 text))
 -- a text is not K/N, and a stamp is no name
 abbrev pub bad_shard_text : List ℕ → List ℕ
 bad_shard_text text =
-    bad_value_text (codes "--shard <K/N>") text (codes "K and N are numbers, 1 <= K <= N <= 4096")
+    bad_value_text (codes "--shard <K/N>") text (codes "expected K/N with 1 <= K <= N <= 4096")
 
 abbrev pub bad_stamp_text : List ℕ → List ℕ
 bad_stamp_text stamp =
-    bad_value_text (codes "--stamp <TEXT>") stamp (codes "1 to 64 letters, digits, '.', '_' and '-'")
+    bad_value_text (codes "--stamp <TEXT>") stamp (codes "expected 1 to 64 letters, digits, '.', '_' or '-'")
 
 -- why a part is refused that words ask for: the text is not K/N, or the stamp that they give is no name
 abbrev pub IsPartStop : List ℕ → Option (Bor (List ℕ)) → Stop → Type 0

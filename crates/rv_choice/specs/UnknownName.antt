@@ -18,12 +18,12 @@ unknown_name jobs names = option_map (λ name. name.now) (find (λ name. not (ha
 
 abbrev pub no_such_job : List ℕ → List ℕ → List ℕ
 no_such_job list name =
-    codes "rvtest: " ++ printable_text list ++ codes ": no job is called " ++ printable_value name
+    codes "rvtest: " ++ printable_text list ++ codes ": no job named \"" ++ printable_value name
 
 -- what stands before the name of the job at a place, counted from 0, of so many
 abbrev pub text_before_name : ℕ → ℕ → List ℕ
 text_before_name place count =
-    if place == 0 then codes "; the names are " else if place + 1 == count then codes " and " else codes ", "
+    if place == 0 then codes "\"; the names are " else if place + 1 == count then codes " and " else codes ", "
 
 -- the names of jobs from a place on, of so many
 unfoldable pub names_from : ℕ → ℕ → List Job → List ℕ
@@ -45,7 +45,7 @@ IsMeant jobs name place = IsNearestJob jobs name place × IsNearJob jobs name pl
 -- the name of the job that a person probably meant; or that there is none, and then the names that there are
 abbrev pub IsNameHint : List Job → List ℕ → List ℕ → Type 0
 IsNameHint jobs name hint =
-    ((place : ℕ) × IsMeant jobs name place × (hint ≡ codes "; the nearest name is " ++ job_name jobs place))
+    ((place : ℕ) × IsMeant jobs name place × (hint ≡ codes "\"; a similar name exists: " ++ job_name jobs place))
     ⊎ (((place : ℕ) → IsMeant jobs name place → ⊥) × (hint ≡ told_names jobs))
 
 -- no job of the list is called so, with a hint

@@ -26,7 +26,7 @@ use rv_files::Inputs;
 use rv_jobs::Job;
 use rv_rows::Row;
 use rv_text::{Span, text_of_spans};
-use rvtest_cli::{ChoosingCommand, RunAsked};
+use rvtest_cli::{ChoosingCommand, RunArgs};
 use std::alloc::{AllocError, Global};
 
 /// What chooses the jobs of a list: words, and by which rule the jobs of a report failed.
@@ -34,7 +34,7 @@ use std::alloc::{AllocError, Global};
 pub struct Chooser<'x, D> {
     pub inputs: &'x D,
     pub alloc: Global,
-    pub asked: &'x RunAsked<'x>,
+    pub asked: &'x RunArgs<'x>,
     /// Which rows are failures.
     pub rule: Rule,
     /// The command whose words they are.
@@ -308,7 +308,7 @@ fn bad_pattern_text(
 }
 
 // The exact names, where there are any.
-fn requested_names<'a>(asked: &'a RunAsked<'_>) -> Option<&'a [&'a str]>
+fn requested_names<'a>(asked: &'a RunArgs<'_>) -> Option<&'a [&'a str]>
     ensures { optional_names result ≡ requested_names asked.now.only.items }
 {
     if asked.only.is_empty() {
@@ -358,9 +358,9 @@ fn unmatched_pattern_message<'a>(
         &[
             Span::Text("rvtest: "),
             Span::Shown(list.as_bytes()),
-            Span::Text(": no job's name matches '"),
+            Span::Text(": no job name matches \""),
             Span::Value(pattern.as_bytes()),
-            Span::Text("'\n"),
+            Span::Text("\"\n"),
         ],
     )
 }
@@ -383,9 +383,9 @@ fn emptied_choice_message<'a>(
         &[
             Span::Text("rvtest: "),
             Span::Shown(list.as_bytes()),
-            Span::Text(": --exclude '"),
+            Span::Text(": no jobs left after --exclude \""),
             Span::Value(pattern.as_bytes()),
-            Span::Text("' leaves no job\n"),
+            Span::Text("\"\n"),
         ],
     )
 }

@@ -71,9 +71,9 @@ fn none_failed_note(alloc: Global, path: &str, missing: usize) -> Result<Vec<u8>
     ensures { IfOk result (λ note. note.items ≡ none_failed_note path.now missing) }
 {
     if missing == 0 {
-        path_message(alloc, path, "no job failed there")
+        path_message(alloc, path, "no failed jobs")
     } else {
-        path_message(alloc, path, "no row there is a failure")
+        path_message(alloc, path, "no failed jobs among its rows")
     }
 }
 
@@ -84,7 +84,7 @@ fn missing_rows_note(alloc: Global, path: &str, missing: usize) -> Result<Vec<u8
     if missing == 0 {
         return Ok(Vec::new(alloc));
     }
-    let what = ": jobs of the list without a row there: ";
+    let what = ": jobs of the list without a row: ";
     path_number_message(alloc, path, what, missing, "\n")
 }
 
@@ -131,9 +131,9 @@ fn push_removed_job_note<'a>(
         &[
             Span::Text("rvtest: "),
             Span::Shown(path.as_bytes()),
-            Span::Text(": job "),
+            Span::Text(": job \""),
             Span::Text(name),
-            Span::Text(" failed there, and is no job of the list any more\n"),
+            Span::Text("\" failed, but is no longer in the list\n"),
         ],
     )
 }

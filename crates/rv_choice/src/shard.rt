@@ -16,7 +16,7 @@ use rv_command::Stop;
 use rv_jobs::Text;
 use rv_jobs::limits::MOST_JOBS;
 use rv_report::{Shard, is_name};
-use rvtest_cli::{ChoosingCommand, RunAsked};
+use rvtest_cli::{ChoosingCommand, RunArgs};
 use sha2::{Digest, Sha256};
 use std::alloc::{AllocError, Global};
 
@@ -24,7 +24,7 @@ use std::alloc::{AllocError, Global};
 /// list's text.
 pub fn requested_shard(
     alloc: Global,
-    asked: &RunAsked<'_>,
+    asked: &RunArgs<'_>,
     command: ChoosingCommand,
     text: &[u8],
     jobs: usize,
@@ -104,7 +104,7 @@ fn list_digest(alloc: Global, text: &[u8]) -> Result<String, AllocError>
 fn bad_shard_stop(alloc: Global, command: ChoosingCommand, words: &str) -> Stop
     ensures { IsUsageStop (bad_shard_text words.now) result }
 {
-    let reason = "K and N are numbers, 1 <= K <= N <= 4096";
+    let reason = "expected K/N with 1 <= K <= N <= 4096";
     let what = bad_value_text(alloc, "--shard <K/N>", words, reason);
     bad_value_stop(alloc, command, what)
 }
@@ -112,7 +112,7 @@ fn bad_shard_stop(alloc: Global, command: ChoosingCommand, words: &str) -> Stop
 fn bad_stamp_stop(alloc: Global, command: ChoosingCommand, stamp: &str) -> Stop
     ensures { IsUsageStop (bad_stamp_text stamp.now) result }
 {
-    let reason = "1 to 64 letters, digits, '.', '_' and '-'";
+    let reason = "expected 1 to 64 letters, digits, '.', '_' or '-'";
     let what = bad_value_text(alloc, "--stamp <TEXT>", stamp, reason);
     bad_value_stop(alloc, command, what)
 }

@@ -43,7 +43,7 @@ fn no_such_job_message<'a>(
         &[
             Span::Text("rvtest: "),
             Span::Shown(list.as_bytes()),
-            Span::Text(": no job is called "),
+            Span::Text(": no job named \""),
             Span::Value(name.as_bytes()),
         ],
     )
@@ -67,11 +67,11 @@ fn push_name_hint(
 
 fn push_near_name<'a>(message: &mut Vec<u8>, near: &'a str) -> Result<(), AllocError>
     ensures { OnOk result (message.new.items
-        ≡ message.old.items ++ (codes "; the nearest name is " ++ near.now)) }
+        ≡ message.old.items ++ (codes "\"; a similar name exists: " ++ near.now)) }
 {
     push_spans(
         message,
-        &[Span::Text("; the nearest name is "), Span::Text(near)],
+        &[Span::Text("\"; a similar name exists: "), Span::Text(near)],
     )
 }
 
@@ -117,7 +117,7 @@ fn text_before_name(place: usize, count: usize) -> &'static str
     ensures { result.now ≡ text_before_name place count }
 {
     match place {
-        0 => "; the names are ",
+        0 => "\"; the names are ",
         _ if place + 1 == count => " and ",
         _ => ", ",
     }

@@ -27,7 +27,7 @@ path_number_message path place number what =
 -- how many whole rows a report has that is cut off, and of another one nothing
 abbrev pub cut_off_note : List ℕ → PartialReport → List ℕ
 cut_off_note path read = if read.is_cut_off
-    then path_number_message path (codes ": the report is cut off; whole rows: ") (length read.report.rows) (codes "\n")
+    then path_number_message path (codes ": the report is truncated; complete rows: ") (length read.report.rows) (codes "\n")
     else []
 
 -- why a command ended before its work was done
@@ -35,7 +35,7 @@ abbrev pub stop_message : Stop → List ℕ
 stop_message (stop.Told lines text) = text.items
 stop_message stop.OutOfMemory = codes "rvtest: out of memory\n"
 stop_message stop.NoWorker = codes "rvtest: no thread could be started\n"
-stop_message stop.WriteFailed = codes "rvtest: the results: write failed\n"
+stop_message stop.WriteFailed = codes "rvtest: standard output: write failed\n"
 
 -- the same where the reader of the results closed them, or did not: who reads no more is told nothing
 abbrev pub end_message : Bool → Stop → List ℕ

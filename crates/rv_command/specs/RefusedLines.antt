@@ -26,13 +26,13 @@ text_behind None text = []
 abbrev pub first_line : List ℕ → List ℕ
 first_line text = text_up_to (position is_feed text) text
 
-abbrev pub behind_line : List ℕ → List ℕ
-behind_line text = text_behind (position is_feed text) text
+abbrev pub after_line : List ℕ → List ℕ
+after_line text = text_behind (position is_feed text) text
 
 -- behind so many lines
 unfoldable pub behind_lines : ℕ → List ℕ → List ℕ
 behind_lines zero text = text
-behind_lines (suc count) text = behind_line (behind_lines count text)
+behind_lines (suc count) text = after_line (behind_lines count text)
 
 -- the line of a number, counted from 1, without its line feed; nothing where there is none
 abbrev pub numbered_line : List ℕ → ℕ → List ℕ
@@ -66,22 +66,22 @@ begins line words = starts_with nat_eq line words
 -- what a report has behind a line, and at its beginning
 unfoldable pub wanted_behind : List ℕ → List ℕ
 wanted_behind line =
-    if begins line (codes "job ") then codes "end with how the run ended"
-    else if begins line (codes "end ") then codes "steps with their number"
-    else if begins line (codes "steps ") then codes "console with hexadecimal digits or -"
-    else if begins line (codes "console ") then codes "signature with the number of its words or -"
-    else if begins line (codes "signature -") then codes "verdict with none, pass or fail"
-    else if length line == 0 || begins line (codes "verdict ") then codes "job with the next number, or done or part at the end,"
-    else if begins line (codes "done ") || begins line (codes "part ") then codes "nothing more"
-    else codes "a word of eight hexadecimal digits, or verdict,"
+    if begins line (codes "job ") then codes "\"end\" and how the run ended"
+    else if begins line (codes "end ") then codes "\"steps\" and a number"
+    else if begins line (codes "steps ") then codes "\"console\" and hexadecimal digits or -"
+    else if begins line (codes "console ") then codes "\"signature\" and its number of words or -"
+    else if begins line (codes "signature -") then codes "\"verdict\" and none, pass or fail"
+    else if length line == 0 || begins line (codes "verdict ") then codes "\"job\" and the next number, or \"done\" or \"part\" at the end"
+    else if begins line (codes "done ") || begins line (codes "part ") then codes "the end of the file"
+    else codes "eight hexadecimal digits or \"verdict\""
 
 abbrev pub line_message : List ℕ → List ℕ → List ℕ → ℕ → List ℕ
 line_message noun path text number =
-    codes "rvtest: " ++ printable_text path ++ codes ":" ++ decimal number ++ codes ": no " ++ noun ++ codes " has this line here: \""
-    ++ printable_value (numbered_line text number) ++ codes "\": " ++ wanted_behind (line_before text number) ++ codes " is wanted\n"
+    codes "rvtest: " ++ printable_text path ++ codes ":" ++ decimal number ++ codes ": invalid " ++ noun ++ codes " line \""
+    ++ printable_value (numbered_line text number) ++ codes "\": expected " ++ wanted_behind (line_before text number) ++ codes "\n"
 
 abbrev pub list_message : List ℕ → List ℕ → List ℕ
-list_message noun path = codes "rvtest: " ++ printable_text path ++ codes ": a job list, and no " ++ noun ++ codes "\n"
+list_message noun path = codes "rvtest: " ++ printable_text path ++ codes ": this is a job list, not a " ++ noun ++ codes "\n"
 
 -- of the line of a number in the text at a path, which should be such a thing as a report
 abbrev pub refused_line_message : List ℕ → List ℕ → List ℕ → ℕ → List ℕ

@@ -102,13 +102,13 @@ most_result_bytes = 1073741824
 abbrev pub IsResultUnreadStop : Option FileContents → List ℕ → Stop → Type 0
 IsResultUnreadStop known path stop = IsUnreadStop known path stop
     ⊎ (IsLongAt known path most_result_bytes
-    × IsStop 3 (path_message path (codes "the file has more than 1073741824 bytes")) stop)
+    × IsStop 3 (path_message path (codes "the file is larger than 1073741824 bytes")) stop)
 
 -- a file was not written
 abbrev pub IsFileErrorStop : List ℕ → FileError → Stop → Type 0
 IsFileErrorStop path file.OutOfMemory stop = stop ≡ why.OutOfMemory
 IsFileErrorStop path file.SamePlace stop =
-    IsStop 2 (path_message path (codes "another file of this command goes to the same place")) stop
+    IsStop 2 (path_message path (codes "another output of this command is the same file")) stop
 IsFileErrorStop path (file.Failed reason) stop = IsSystemStop path reason stop
 
 -- ---- lists
@@ -117,7 +117,7 @@ IsFileErrorStop path (file.Failed reason) stop = IsSystemStop path reason stop
 abbrev pub IsListUnreadStop : Option FileContents → List ℕ → Stop → Type 0
 IsListUnreadStop known path stop = IsUnreadStop known path stop
     ⊎ (IsLongAt known path most_bytes
-    × IsStop 3 (path_message path (codes "the file has more than 16777216 bytes")) stop)
+    × IsStop 3 (path_message path (codes "the file is larger than 16777216 bytes")) stop)
 
 -- memory was wanting; or the text at a path is no list, and the line of its first fault is told
 abbrev pub IsListFaultStop : List ℕ → List ℕ → Stop → Type 0
@@ -129,7 +129,7 @@ IsListFaultStop path text stop = (stop ≡ why.OutOfMemory)
 
 -- the report ends too early
 abbrev pub IsCutOffStop : List ℕ → Stop → Type 0
-IsCutOffStop path stop = IsStop 2 (path_message path (codes "the report is cut off")) stop
+IsCutOffStop path stop = IsStop 2 (path_message path (codes "the report is truncated")) stop
 
 -- no report has the line of a number there: it is told, and of a job list that it is one
 abbrev pub IsLineStop : List ℕ → List ℕ → ℕ → Stop → Type 0
@@ -149,8 +149,8 @@ pub record IsReportFaultStop (path bytes : List ℕ) (stop : Stop) : Type 0 wher
   pub whole : (report : SavedReport) → IsReportText bytes report → stop ≡ why.OutOfMemory
 
 -- the path was not read, or what stands there is no report
-abbrev pub IsReportUnreadStop : Option FileContents → List ℕ → Stop → Type 0
-IsReportUnreadStop known path stop = IsResultUnreadStop known path stop
+abbrev pub IsReportReadError : Option FileContents → List ℕ → Stop → Type 0
+IsReportReadError known path stop = IsResultUnreadStop known path stop
     ⊎ ((bytes : List ℕ) × IsTextAt known path bytes × IsReportFaultStop path bytes stop)
 
 -- ---- reports that may be cut off

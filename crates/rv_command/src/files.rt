@@ -43,7 +43,7 @@ pub fn read_result_file<D: Inputs>(inputs: &D, alloc: Global, path: &str) -> Res
     match read_file_up_to(inputs, alloc, path, MOST_RESULT_BYTES)? {
         Some(bytes) => Ok(bytes),
         None => {
-            let what = "the file has more than 1073741824 bytes";
+            let what = "the file is larger than 1073741824 bytes";
             Err(Stop::of_failure(path_message(alloc, path, what)))
         }
     }
@@ -71,7 +71,7 @@ pub fn file_error_stop(alloc: Global, path: &str, error: FileError) -> Stop
     match error {
         FileError::OutOfMemory => Stop::OutOfMemory,
         FileError::SamePlace => {
-            let what = "another file of this command goes to the same place";
+            let what = "another output of this command is the same file";
             Stop::of_refusal(path_message(alloc, path, what))
         }
         FileError::Failed(reason) => io_error_stop(alloc, path, reason),

@@ -27,7 +27,7 @@ pub fn read_list_text<D: Inputs>(inputs: &D, alloc: Global, path: &str) -> Resul
     match read_file_up_to(inputs, alloc, path, MOST_BYTES)? {
         Some(text) => Ok(text),
         None => {
-            let what = "the file has more than 16777216 bytes";
+            let what = "the file is larger than 16777216 bytes";
             Err(Stop::of_failure(path_message(alloc, path, what)))
         }
     }

@@ -101,7 +101,7 @@ pub fn put_stop_message<E: Sink>(errors: &mut E, stop: Stop) -> u8
         }
         Stop::OutOfMemory => put_failure_message(errors, "rvtest: out of memory\n"),
         Stop::NoWorker => put_failure_message(errors, "rvtest: no thread could be started\n"),
-        Stop::WriteFailed => put_failure_message(errors, "rvtest: the results: write failed\n"),
+        Stop::WriteFailed => put_failure_message(errors, "rvtest: standard output: write failed\n"),
     }
 }
 

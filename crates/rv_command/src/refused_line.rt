@@ -2,7 +2,7 @@
 
 ghost use Rattle.std.specs.Prelude.{◌≡◌, ◌<◌, IfOk, IfSome, length, position};
 ghost use Rattle.rv_list_errors.specs.Places.{is_feed};
-ghost use Rattle.rv_command.specs.RefusedLines.{are_faults_of_list, behind_line, behind_lines, first_line, is_job_list};
+ghost use Rattle.rv_command.specs.RefusedLines.{are_faults_of_list, after_line, behind_lines, first_line, is_job_list};
 ghost use Rattle.rv_command.specs.RefusedLines.{line_before, line_message, list_message, numbered_line, refused_line_message};
 ghost use Rattle.rv_command.specs.RefusedLines.{wanted_behind};
 
@@ -36,7 +36,7 @@ fn list_message<'a>(alloc: Global, noun: &'a str, path: &'a str) -> Result<Vec<u
         &[
             Span::Text("rvtest: "),
             Span::Shown(path.as_bytes()),
-            Span::Text(": a job list, and no "),
+            Span::Text(": this is a job list, not a "),
             Span::Text(noun),
             Span::Text("\n"),
         ],
@@ -59,13 +59,13 @@ fn line_message<'a>(
             Span::Shown(path.as_bytes()),
             Span::Text(":"),
             Span::Number(number as u64),
-            Span::Text(": no "),
+            Span::Text(": invalid "),
             Span::Text(noun),
-            Span::Text(" has this line here: \""),
+            Span::Text(" line \""),
             Span::Value(numbered_line(text, number)),
-            Span::Text("\": "),
+            Span::Text("\": expected "),
             Span::Text(wanted_behind(line_before(text, number))),
-            Span::Text(" is wanted\n"),
+            Span::Text("\n"),
         ],
     )
 }
@@ -110,7 +110,7 @@ fn behind_lines(text: &[u8], count: usize) -> &[u8]
 {
     let mut rest = text;
     for _ in 0..count {
-        rest = behind_line(rest);
+        rest = after_line(rest);
     }
     rest
 }
@@ -124,8 +124,8 @@ fn first_line(text: &[u8]) -> &[u8]
     }
 }
 
-fn behind_line(text: &[u8]) -> &[u8]
-    ensures { result.now ≡ behind_line text.now }
+fn after_line(text: &[u8]) -> &[u8]
+    ensures { result.now ≡ after_line text.now }
 {
     match line_feed_place(text) {
         Some(place) => &text[place + 1..],
@@ -146,20 +146,20 @@ fn wanted_behind(line: &[u8]) -> &'static str
     ensures { result.now ≡ wanted_behind line.now }
 {
     if line.starts_with(b"job ") {
-        "end with how the run ended"
+        "\"end\" and how the run ended"
     } else if line.starts_with(b"end ") {
-        "steps with their number"
+        "\"steps\" and a number"
     } else if line.starts_with(b"steps ") {
-        "console with hexadecimal digits or -"
+        "\"console\" and hexadecimal digits or -"
     } else if line.starts_with(b"console ") {
-        "signature with the number of its words or -"
+        "\"signature\" and its number of words or -"
     } else if line.starts_with(b"signature -") {
-        "verdict with none, pass or fail"
+        "\"verdict\" and none, pass or fail"
     } else if line.is_empty() || line.starts_with(b"verdict ") {
-        "job with the next number, or done or part at the end,"
+        "\"job\" and the next number, or \"done\" or \"part\" at the end"
     } else if line.starts_with(b"done ") || line.starts_with(b"part ") {
-        "nothing more"
+        "the end of the file"
     } else {
-        "a word of eight hexadecimal digits, or verdict,"
+        "eight hexadecimal digits or \"verdict\""
     }
 }

@@ -77,6 +77,6 @@ pub fn cut_off_note(alloc: Global, path: &str, read: &PartialReport) -> Result<V
     if !read.is_cut_off {
         return Ok(Vec::new(alloc));
     }
-    let what = ": the report is cut off; whole rows: ";
+    let what = ": the report is truncated; complete rows: ";
     path_number_message(alloc, path, what, read.report.rows.as_slice().len(), "\n")
 }

@@ -2,7 +2,7 @@
 
 ghost use Rattle.std.specs.Prelude.{◌≡◌, ◌≤◌, IfErr, IfOk, length};
 ghost use Rattle.rv_base.specs.Limits.{most_jobs};
-ghost use Rattle.rv_command.specs.Stops.{IsLineStop, IsReportFaultStop, IsReportUnreadStop};
+ghost use Rattle.rv_command.specs.Stops.{IsLineStop, IsReportFaultStop, IsReportReadError};
 ghost use Rattle.rv_command.specs.Texts.{IsReportAt, IsReportText};
 
 use crate::files::read_result_file;
@@ -21,7 +21,7 @@ pub fn read_report_file<D: Inputs>(
 ) -> Result<SavedReport, Stop>
     ensures read { IfOk result (IsReportAt (D.contents inputs.now) path.now) }
     ensures few { IfOk result (λ report. length report.rows ≤ most_jobs) }
-    ensures unread { IfErr result (IsReportUnreadStop (D.contents inputs.now) path.now) }
+    ensures unread { IfErr result (IsReportReadError (D.contents inputs.now) path.now) }
 {
     let text = read_result_file(inputs, alloc, path)?;
     parse_report(alloc, path, text.as_slice())
@@ -37,7 +37,7 @@ pub fn parse_report(alloc: Global, path: &str, text: &[u8]) -> Result<SavedRepor
         Ok(report) => Ok(report),
         Err(ReadError::OutOfMemory) => Err(Stop::OutOfMemory),
         Err(ReadError::CutOff) => {
-            let told = path_message(alloc, path, "the report is cut off");
+            let told = path_message(alloc, path, "the report is truncated");
             Err(Stop::of_refusal(told))
         }
         Err(ReadError::Line(line)) => Err(report_line_stop(alloc, path, text, line)),

@@ -22,10 +22,10 @@ pub enum ReadError {
     #[error("out of memory")]
     OutOfMemory,
     /// The first line, from 1, that no table has there.
-    #[error("no table of counts has line {0} here")]
+    #[error("invalid line {0}")]
     Line(usize),
     /// The text ends before its table does: its whole lines are those of some table.
-    #[error("the table is cut off")]
+    #[error("the table is truncated")]
     CutOff,
 }
 

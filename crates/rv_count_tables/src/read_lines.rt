@@ -116,7 +116,7 @@ fn read_addresses(alloc: Global, text: &[u8]) -> Result<AddressLines, AllocError
     let mut lowest = 0;
     'lines: loop {
         let line = whole_line(tail_from(text, length));
-        match next_counts(alloc, line, lowest)? {
+        match parse_address_line(alloc, line, lowest)? {
             Some(counts) => {
                 length += line.len();
                 lowest = u64::from(counts.address) + 1;
@@ -133,7 +133,11 @@ fn read_addresses(alloc: Global, text: &[u8]) -> Result<AddressLines, AllocError
 }
 
 // The counts of a line, if it is of an address that can stand there.
-fn next_counts(alloc: Global, line: &[u8], lowest: u64) -> Result<Option<AddressCounts>, AllocError>
+fn parse_address_line(
+    alloc: Global,
+    line: &[u8],
+    lowest: u64,
+) -> Result<Option<AddressCounts>, AllocError>
     ensures counted { IfOk result (λ read. IfSome read IsCounted) }
     ensures low { IfOk result (λ read. IfSome read (λ c. lowest ≤ c.address)) }
     ensures line { IfOk result (λ read. IfSome read (λ c. line.now ≡ address_line c)) }

@@ -18,7 +18,7 @@ pub enum SumError {
     #[error("out of memory")]
     OutOfMemory,
     /// The instruction at the address began 2^64 times or more, in one image.
-    #[error("a count of {0:08x} does not fit in 64 bits")]
+    #[error("the count at {0:08x} does not fit in 64 bits")]
     Count(u32),
     /// A number of a spot of the function is of 2^64 or more, in one image.
     #[error("a count in the stacks of {0:08x} does not fit in 64 bits")]

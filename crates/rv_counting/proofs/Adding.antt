@@ -13,7 +13,7 @@ use Rattle.rv_count_tables.specs.Sum.{IsSum, HaveNoSum, no_counts}
 use Rattle.rv_engine.specs.declared.engine.RunError.{RunError}
 use Rattle.rv_engine.specs.declared.listener.Flow.{Flow}
 use Rattle.rv_engine.specs.declared.listener.Flow.TheVariants.{GoOn, Stop}
-use Rattle.rv_engine.specs.Results.{HeardRun, Hears, HearsSome}
+use Rattle.rv_engine.specs.Results.{IsRunDelivered, HasReceived, HasReceivedSome}
 use Rattle.rv_jobs.specs.declared_job.Job.{Job}
 use Rattle.rv_jobs.specs.Jobs.{single_job}
 use Rattle.rv_jobs.specs.Plans.{Planned}
@@ -54,12 +54,12 @@ none_more table sum failed error results made goes h refused = record {
   refused = refused;
 }
 
-module _ {H : Type 0} (is_made : ℕ → H → Type 0) (jobs : ℕ) (has_heard : List H → Type 0) (stops : Type 0) where
-  heard_some : (flow : Flow) → HeardRun is_made jobs has_heard stops (Ok flow) → HearsSome is_made jobs has_heard
+module _ {H : Type 0} (is_made : ℕ → H → Type 0) (jobs : ℕ) (has_received : List H → Type 0) (stops : Type 0) where
+  heard_some : (flow : Flow) → IsRunDelivered is_made jobs has_received stops (Ok flow) → HasReceivedSome is_made jobs has_received
   heard_some GoOn h = record { count = jobs; hears = h.0 }
   heard_some Stop h = h.0
 
-  heard_all : (flow : Flow) → (stops → ⊥) → HeardRun is_made jobs has_heard stops (Ok flow) → Hears is_made jobs has_heard jobs
+  heard_all : (flow : Flow) → (stops → ⊥) → IsRunDelivered is_made jobs has_received stops (Ok flow) → HasReceived is_made jobs has_received jobs
   heard_all GoOn goes h = h.0
   heard_all Stop goes h = absurd (goes h.1)
 
@@ -138,18 +138,18 @@ module _ (P : List ℕ → CountTable → Type 0) (One : ℕ → CountTable → 
       h.sums h.refused
 
   sum_added : (sum : CountTable) (failed : Option SumError) (flow : Flow)
-      → HeardRun (λ n u. One (get_or places n 0) u) (length places) (λ ts. AreAdded sum failed (map (λ (u : CountTable). u) ts))
+      → IsRunDelivered (λ n u. One (get_or places n 0) u) (length places) (λ ts. AreAdded sum failed (map (λ (u : CountTable). u) ts))
       (is_some failed ≡ true) (Ok flow) → IfOk (sum_or_error sum failed) (P places)
   sum_added sum None flow ran =
       let h = heard_all _ (length places) _ _ flow (λ is. false≢true is) ran in
       let long = h.count_is in
       subst (λ ps. P ps sum) (take_all (length h.results) places (omega (arith, long)))
       (added_first h.results sum (omega (arith, long)) (λ n d lt. h.each n d lt)
-      (subst (λ ts. SumsTo no_counts ts sum) (map-id h.results) h.heard))
+      (subst (λ ts. SumsTo no_counts ts sum) (map-id h.results) h.received))
   sum_added sum (Some error) flow ran = tt
 
   sum_ended : (sum : CountTable) (failed : Option SumError) (flow : Flow)
-      → HeardRun (λ n u. One (get_or places n 0) u) (length places) (λ ts. AreAdded sum failed (map (λ (u : CountTable). u) ts))
+      → IsRunDelivered (λ n u. One (get_or places n 0) u) (length places) (λ ts. AreAdded sum failed (map (λ (u : CountTable). u) ts))
       (is_some failed ≡ true) (Ok flow)
       → IfErr (sum_or_error sum failed) (λ error. (error ≡ OutOfMemory) ⊎ NextRefused P One places error)
   sum_ended sum None flow ran = tt
@@ -158,23 +158,23 @@ module _ (P : List ℕ → CountTable → Type 0) (One : ℕ → CountTable → 
       let long = h.count_is in
       let few = h.few in
       inr (last_refused h.results sum error (omega (arith, long, few)) (λ n d lt. h.each n d lt)
-      (subst (λ ts. EndAdded sum error ts) (map-id h.results) h.heard))
+      (subst (λ ts. EndAdded sum error ts) (map-id h.results) h.received))
 
   -- behind a run that made the table of each place
   module _ (added : Added) where
     pub run_added : (ran : Result Flow RunError)
-        → HeardRun (λ n u. One (get_or places n 0) u) (length places)
+        → IsRunDelivered (λ n u. One (get_or places n 0) u) (length places)
         (λ ts. AreAdded added.sum added.failed (map (λ (u : CountTable). u) ts)) (is_some added.failed ≡ true) ran
         → IfOk (sum_of_run added ran) (P places)
-    run_added (Ok flow) heard = sum_added added.sum added.failed flow heard
-    run_added (Err error) heard = tt
+    run_added (Ok flow) received = sum_added added.sum added.failed flow received
+    run_added (Err error) received = tt
 
     pub run_ended : (ran : Result Flow RunError)
-        → HeardRun (λ n u. One (get_or places n 0) u) (length places)
+        → IsRunDelivered (λ n u. One (get_or places n 0) u) (length places)
         (λ ts. AreAdded added.sum added.failed (map (λ (u : CountTable). u) ts)) (is_some added.failed ≡ true) ran
         → IfErr (sum_of_run added ran) (λ error. (error ≡ OutOfMemory) ⊎ NextRefused P One places error)
-    run_ended (Ok flow) heard = sum_ended added.sum added.failed flow heard
-    run_ended (Err error) heard = inl refl
+    run_ended (Ok flow) received = sum_ended added.sum added.failed flow received
+    run_ended (Err error) received = inl refl
 
 -- ---- counts alone
 
@@ -224,12 +224,12 @@ module _ (plan : Planned) where
   IsMadeOf p u = (d : Job) → IsTableOfOne plan.answers (job_at plan p d) u
 
   module _ (places : List ℕ) (added : Added) (ran : Result Flow RunError)
-      (heard : HeardRun (λ n u. (d : Job) → IsTableOfOne plan.answers (job_at plan (get_or places n 0) d) u) (length places)
+      (received : IsRunDelivered (λ n u. (d : Job) → IsTableOfOne plan.answers (job_at plan (get_or places n 0) d) u) (length places)
       (λ ts. AreAdded added.sum added.failed (map (λ (u : CountTable). u) ts)) (is_some added.failed ≡ true) ran) where
     pub all_counted : IfOk (sum_of_run added ran) (IsTableOfPlaces plan places)
     all_counted =
         IfOk-weaker (sum_of_run added ran) (AreCounted places) (IsTableOfPlaces plan places) (λ t h. h.table)
-        (run_added AreCounted IsMadeOf none_counted one_counted places added ran heard)
+        (run_added AreCounted IsMadeOf none_counted one_counted places added ran received)
 
     memory_if_refused : (error : SumError) → length places ≤ most_jobs → NextRefused AreCounted IsMadeOf places error
         → error ≡ OutOfMemory
@@ -244,4 +244,4 @@ module _ (plan : Planned) where
         IfErr-weaker (sum_of_run added ran) (λ error. (error ≡ OutOfMemory) ⊎ NextRefused AreCounted IsMadeOf places error)
         (λ error. error ≡ OutOfMemory)
         (λ error. ⊎_elim (λ is. is) (memory_if_refused error few))
-        (run_ended AreCounted IsMadeOf none_counted one_counted places added ran heard)
+        (run_ended AreCounted IsMadeOf none_counted one_counted places added ran received)

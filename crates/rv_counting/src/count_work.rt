@@ -6,7 +6,7 @@ ghost use Rattle.rv_count_tables.specs.Table.{IsTable};
 use crate::table_of_job::count_place;
 use crate::table_sum::HasTable;
 use rv_count_tables::CountTable;
-use rv_engine::{Work, Workbench};
+use rv_engine::{Work, WorkerState};
 use rv_fleet::Batch;
 use std::alloc::{AllocError, Global};
 use std::marker::Model;
@@ -63,21 +63,21 @@ impl Work<JobTable> for CountWork<'_> {
     ghost is_made = { λ s number table. (d : AJob) → IsTableOfOne s.batch.now.plan.now.answers
         (job_at s.batch.now.plan.now (slice_index_or s.batch.now.places.now number 0) d) table };
 
-    ghost is_bench = { λ _ _. Unit {0} };
+    ghost is_worker_state = { λ _ _. Unit {0} };
 
     fn jobs(&self) -> usize {
         self.batch.places.len()
     }
 
-    fn new_bench(&self, alloc: Global) -> Workbench {
-        Workbench::new(alloc)
+    fn new_worker_state(&self, alloc: Global) -> WorkerState {
+        WorkerState::new(alloc)
     }
 
     fn make(
         &self,
         alloc: Global,
         number: usize,
-        _bench: &mut Workbench,
+        _bench: &mut WorkerState,
     ) -> Result<JobTable, AllocError> {
         let table = count_place(alloc, self.batch.plan, self.batch.places[number])?;
         Ok(JobTable::new(table))

@@ -2,7 +2,7 @@
 //!
 //! [`count_run`] runs a machine within a budget, known straight code at once, and answers its counts: for each address exactly how
 //! often an instruction began there, and how often it was a conditional branch that was taken. [`count_job`] does so of
-//! a job of a plan, by a run beside its own. [`count_places`] answers the table of the jobs of a batch, which is the sum of theirs:
+//! a job of a plan, by a run beside its own. [`count_batch`] answers the table of the jobs of a batch, which is the sum of theirs:
 //! [`jobs_have_one_table`] whatever their order, and [`tables_of_shards_sum_to_that_of_all`]. [`TableSum`] adds the tables that a run of
 //! the engine makes, each as soon as those of all jobs before it are added.
 #![tactic(auto)]
@@ -28,7 +28,7 @@ pub use law::{
     jobs_have_one_table_over_the_same_files, run_begins_its_end, run_begins_its_steps,
     tables_of_parts_sum_to_that_of_the_list, tables_of_shards_sum_to_that_of_all,
 };
-pub use places::count_places;
+pub use places::count_batch;
 pub use step::{begins_at_end, is_branch};
 pub use table_of_job::{digest_of, empty_table, images_of_one, shown_text};
 pub use table_sum::{HasTable, TableSum};

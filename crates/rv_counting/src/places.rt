@@ -16,7 +16,7 @@ use std::thread::Threads;
 /// The table of the jobs of a batch: the sum of the tables of their runs, the same for every crew. Each job is run once more,
 /// by the threads of the crew; it takes memory for the tables that wait to be added, for two sums, and 128 KiB for what a thread
 /// knows of code. No number of so few jobs reaches 2^64.
-pub fn count_places<R: Threads + Wait + Sync>(
+pub fn count_batch<R: Threads + Wait + Sync>(
     crew: &Crew<'_, R>,
     batch: &Batch<'_>,
 ) -> Result<CountTable, AllocError>
@@ -30,12 +30,12 @@ pub fn count_places<R: Threads + Wait + Sync>(
     );
     match sum.into_sum_of_run(ran) {
         Ok(table) => Ok(table),
-        Err(error) => Err(want_of_memory(error)),
+        Err(error) => Err(alloc_error_of(error)),
     }
 }
 
 // Why jobs have no table: their tables have no stacks, and so few of these have a sum unless memory is wanting.
-fn want_of_memory(error: SumError) -> AllocError
+fn alloc_error_of(error: SumError) -> AllocError
     requires { error ≡ OutOfMemory }
 {
     match error {

@@ -73,11 +73,11 @@ impl<H: HasTable + Drop> Listener<H> for TableSum {
     ghost use Rattle.std.specs.Prelude.{◌≡◌, true, is_some, map};
     ghost use Rattle.rv_counting.specs.TableSums.{AreAdded};
 
-    ghost has_heard = { λ s results. AreAdded s.sum s.failed (map H.table results) };
+    ghost has_received = { λ s results. AreAdded s.sum s.failed (map H.table results) };
 
     ghost stops = { λ s. is_some s.failed ≡ true };
 
-    fn hear(&mut self, made: H) -> Flow {
+    fn receive(&mut self, made: H) -> Flow {
         match sum_of_tables(self.alloc, &self.sum, made.table()) {
             Ok(sum) => {
                 self.sum = sum;

@@ -1,13 +1,13 @@
 //! Tables of the jobs of a list, by one thread and by several.
 ghost use Rattle.std.specs.Prelude.{◌<◌, ◌≤◌, IfOk, None};
 ghost use Rattle.std.specs.List.Sorted.{IsStrictlyIncreasing};
-ghost use Rattle.rv_fleet.specs.Choices.{AreJobPlaces};
+ghost use Rattle.rv_fleet.specs.Choices.{AreJobIndices};
 
 use rv_count_tables::table_text;
-use rv_counting::count_places;
+use rv_counting::count_batch;
 use rv_engine::Crew;
 use rv_fleet::Batch;
-use rv_jobs::{Plan, ReadError, Store, gather, marked_places, read_jobs};
+use rv_jobs::{Plan, ReadError, Store, gather, read_jobs, selected_indices};
 use samples::{agree, cell_of, file, has_lines};
 use std::alloc::{AllocError, Global};
 use std::sync::Wait;
@@ -77,14 +77,14 @@ fn marks_of(alloc: Global, choice: &str) -> Result<Vec<bool>, AllocError> {
 
 // The places of the jobs of a plan that are chosen.
 fn chosen(alloc: Global, plan: &Plan, choice: &str) -> Result<Vec<usize>, Fail>
-    ensures within { IfOk result (λ places. AreJobPlaces plan.now places.items) }
+    ensures within { IfOk result (λ places. AreJobIndices plan.now places.items) }
     ensures rising { IfOk result (λ places. IsStrictlyIncreasing places.items) }
 {
     let marks = marks_of(alloc, choice)?;
     if marks.len() != plan.jobs() {
         return Err("a mark for each job".into());
     }
-    Ok(marked_places(alloc, marks.as_slice())?)
+    Ok(selected_indices(alloc, marks.as_slice())?)
 }
 
 // The text of the table of a choice, by so many threads.
@@ -99,7 +99,7 @@ fn told<R: Threads + Wait + Sync>(
 {
     let places = chosen(alloc, plan, choice)?;
     let crew = Crew::new(rt, alloc, workers, 1);
-    let table = count_places(&crew, &Batch::new(plan, places.as_slice()))?;
+    let table = count_batch(&crew, &Batch::new(plan, places.as_slice()))?;
     let text = table_text(alloc, &table)?;
     let mut told = String::new(alloc);
     for line in text.as_str().lines() {

@@ -23,7 +23,7 @@ pub fn cover_of_functions(functions: &[Function<'_>], counts: &[AddressCounts]) 
     Amounts {
         functions: functions.len() as u64,
         functions_run: functions_run(functions, counts),
-        code: amounts_of_functions(functions, counts),
+        code: coverage_of_functions(functions, counts),
     }
 }
 
@@ -58,7 +58,7 @@ fn functions_run(functions: &[Function<'_>], counts: &[AddressCounts]) -> u64
     count
 }
 
-fn amounts_of_functions(functions: &[Function<'_>], counts: &[AddressCounts]) -> CodeAmounts
+fn coverage_of_functions(functions: &[Function<'_>], counts: &[AddressCounts]) -> CodeAmounts
     requires rising { rise_from 0 counts.now ≡ true }
     requires few { code_bytes (map named functions.now) < 2 ^ 64 }
     ensures { result ≡ amounts_of_codes counts.now (flat_map codes_of (map named functions.now)) }

@@ -4,7 +4,7 @@ ghost use Rattle.std.specs.Prelude.{◌≡◌, ◌<◌, IfOk, IfSome, Ok, OnOk, 
 ghost use Rattle.std.specs.List.{list_any};
 ghost use Rattle.std.specs.Str.{bytes_eq};
 ghost use Rattle.rv_counting.specs.JobTables.{jobs_at};
-ghost use Rattle.rv_fleet.specs.Choices.{AreJobPlaces};
+ghost use Rattle.rv_fleet.specs.Choices.{AreJobIndices};
 ghost use Rattle.rv_jobs.specs.declared_job.Job.{Job as AJob};
 ghost use Rattle.rv_trace.specs.Trace.{job_at};
 ghost use Rattle.rv_cover_view.specs.JobImages.{AreSmall, image_of_file, image_of_job, images_of, images_of_files, with_image, with_image_of};
@@ -15,12 +15,12 @@ use rv_trace::{image_bytes, image_of_bytes};
 use std::alloc::{AllocError, Global};
 
 /// The images of the jobs at some places, in their order: each file once, by the path of the first job that has it.
-pub fn images_of_places<'a>(
+pub fn images_of_jobs<'a>(
     alloc: Global,
     plan: &'a Plan,
     places: &[usize],
 ) -> Result<Vec<ImageFile<'a>>, AllocError>
-    requires within { AreJobPlaces plan.now places.now }
+    requires within { AreJobIndices plan.now places.now }
     requires small { AreSmall plan.now.answers }
     ensures { IfOk result (λ files. images_of_files files.items
         ≡ images_of plan.now.answers (jobs_at plan.now places.now)) }

@@ -4,7 +4,7 @@
 //! instructions and of their conditional branches ran, and [`never_run`] gives those that never did: exactly those no address of which
 //! began ([`functions_never_run_have_not_begun`]). [`push_image_line`] and [`push_never_run_line`] show them, and [`push_csv_row`]
 //! writes the amounts for tools. [`cover_of_image`] answers both of an image, and [`cover_text`] shows them of the images of jobs, which
-//! [`images_of_places`] gives. Other views of images are shown by the same parts: [`counted_image`], [`push_right`], [`push_csv_field`].
+//! [`images_of_jobs`] gives. Other views of images are shown by the same parts: [`counted_image`], [`push_right`], [`push_csv_field`].
 #![tactic(auto)]
 
 mod amounts;
@@ -30,6 +30,6 @@ pub use image_counts::{counted_image, other_image};
 pub use image_cover::{ImageCover, cover_of_image};
 pub use image_file::ImageFile;
 pub use images_text::cover_text;
-pub use job_images::images_of_places;
+pub use job_images::images_of_jobs;
 pub use law::functions_never_run_have_not_begun;
 pub use text::{push_cover_head, push_image_line, push_never_run_line, push_right, push_spaces};

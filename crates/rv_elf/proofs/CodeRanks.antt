@@ -21,7 +21,7 @@ use Rattle.rv_elf.specs.Sections.{text_before_zero}
 use Rattle.rv_elf.specs.Symbols.{symbol_and_string_bytes, table_check}
 use Rattle.rv_elf.specs.SymbolSearch.{are_in_one_segment, candidates, has_section, has_usable_name, is_candidate, is_function, is_nearer, is_object, is_source_name, may_be_code, name_and_offset, nearest_candidate, precedence, segment_holds_address, symbol_at, symbol_name}
 use Rattle.rv_elf.proofs.Ranking.{below_three, is_ranked, nearest_below, nearest_more, rank_by_steps}
-use Rattle.rv_elf.proofs.Standing.{by_nearest, no_tables}
+use Rattle.rv_elf.proofs.CurrentVerdict.{by_nearest, no_tables}
 
 -- ---- ranks
 

@@ -8,7 +8,7 @@ pub mod Finding
 pub mod Naming
 pub mod Texts
 pub mod Ranking
-pub mod Standing
+pub mod CurrentVerdict
 pub mod CodeRanks
 pub mod Narrower
 pub mod Coding

@@ -9,30 +9,30 @@ use Rattle.rv_engine.specs.declared.in_order.End.{End}
 use Rattle.rv_engine.specs.declared.in_order.End.TheVariants.{OutOfMemory, Stopped}
 use Rattle.rv_engine.specs.declared.listener.Flow.{Flow}
 use Rattle.rv_engine.specs.declared.listener.Flow.TheVariants.{GoOn, Stop}
-use Rattle.rv_engine.specs.Results.{AreMade, Hears, HearsSome, HeardBy, HeardUntil, IsPiece, piece_count}
+use Rattle.rv_engine.specs.Results.{AreMade, HasReceived, HasReceivedSome, IsDelivered, HasReceivedUntil, IsPiece, piece_count}
 
 module _ {H : Type 0} (is_result : ℕ → H → Type 0) (jobs : ℕ) where
   -- nothing yet
-  pub heard_none : (has_heard : List H → Type 0) → has_heard [] → Hears is_result jobs has_heard 0
-  heard_none has_heard none = record {
+  pub heard_none : (has_received : List H → Type 0) → has_received [] → HasReceived is_result jobs has_received 0
+  heard_none has_received none = record {
     results = [];
-    heard = none;
+    received = none;
     each = λ k any less. absurd (omega (arith, less));
     count_is = refl;
     few = omega arith;
   }
 
-  pub heard_some : (has_heard : List H → Type 0) (n : ℕ) → Hears is_result jobs has_heard n → HearsSome is_result jobs has_heard
-  heard_some has_heard n heard = record { count = n; hears = heard }
+  pub heard_some : (has_received : List H → Type 0) (n : ℕ) → HasReceived is_result jobs has_received n → HasReceivedSome is_result jobs has_received
+  heard_some has_received n received = record { count = n; hears = received }
 
   -- the result of the next job
-  pub heard_more : (had has : List H → Type 0) (n : ℕ) (made : H) → Hears is_result jobs had n → n < jobs
-      → ((results : List H) → had results → has (results ++ made ∷ [])) → is_result n made → Hears is_result jobs has (n + 1)
+  pub heard_more : (had has : List H → Type 0) (n : ℕ) (made : H) → HasReceived is_result jobs had n → n < jobs
+      → ((results : List H) → had results → has (results ++ made ∷ [])) → is_result n made → HasReceived is_result jobs has (n + 1)
   heard_more had has n made hears less grown is =
       let long = hears.count_is in
       let longer = length-append hears.results (made ∷ []) in record {
         results = hears.results ++ made ∷ [];
-        heard = grown hears.results hears.heard;
+        received = grown hears.results hears.received;
         each = λ k any low. elim (cases_lt k (length hears.results)) [
           | inl below ↦
               subst (is_result k) (sym (get_or_append_left hears.results (made ∷ []) any k below)) (hears.each k any below)
@@ -48,27 +48,27 @@ module _ {H : Type 0} (is_result : ℕ → H → Type 0) (jobs : ℕ) where
 
   -- nothing more was heard
   pub heard_still : (had has : List H → Type 0) (n : ℕ) → ((results : List H) → had results → has results)
-      → Hears is_result jobs had n → Hears is_result jobs has n
+      → HasReceived is_result jobs had n → HasReceived is_result jobs has n
   heard_still had has n kept hears = record {
     results = hears.results;
-    heard = kept hears.results hears.heard;
+    received = kept hears.results hears.received;
     each = hears.each;
     count_is = hears.count_is;
     few = hears.few;
   }
 
   -- as many, by another count
-  pub heard_as : (has_heard : List H → Type 0) (n m : ℕ) → n ≡ m → Hears is_result jobs has_heard n
-      → Hears is_result jobs has_heard m
-  heard_as has_heard n m same heard = subst (Hears is_result jobs has_heard) same heard
+  pub heard_as : (has_received : List H → Type 0) (n m : ℕ) → n ≡ m → HasReceived is_result jobs has_received n
+      → HasReceived is_result jobs has_received m
+  heard_as has_received n m same received = subst (HasReceived is_result jobs has_received) same received
 
   module _ (group piece : ℕ) (results : List H) (are : IsPiece is_result jobs group piece results) where
     -- the next result of a piece
     pub piece_more : (had has : List H → Type 0) (before : List H) (made : H) (rest : List H) → before ++ made ∷ rest ≡ results
-        → Hears is_result jobs had (min (piece * group) jobs + length before)
-        → ((heard : List H) → had heard → has (heard ++ made ∷ []))
-        → Hears is_result jobs has (min (piece * group) jobs + length (before ++ made ∷ []))
-    piece_more had has before made rest whole heard grown =
+        → HasReceived is_result jobs had (min (piece * group) jobs + length before)
+        → ((received : List H) → had received → has (received ++ made ∷ []))
+        → HasReceived is_result jobs has (min (piece * group) jobs + length (before ++ made ∷ []))
+    piece_more had has before made rest whole received grown =
         let i = length before in
         let count = are.count in
         let long = ap length (sym whole) ∙ length-append before (made ∷ rest) in
@@ -79,7 +79,7 @@ module _ {H : Type 0} (is_result : ℕ → H → Type 0) (jobs : ℕ) where
         let at : min (piece * group) jobs + i ≡ piece * group + i = omega (arith, count, low) in
         let right = subst (is_result (piece * group + i)) is (are.each i made low) in
         heard_as has (min (piece * group) jobs + i + 1) (min (piece * group) jobs + length (before ++ made ∷ [])) (omega (arith, longer))
-        (heard_more had has (min (piece * group) jobs + i) made heard (omega (arith, count, low)) grown
+        (heard_more had has (min (piece * group) jobs + i) made received (omega (arith, count, low)) grown
         (subst (λ (m : ℕ). is_result m made) (sym at) right))
 
     next_piece : (piece + 1) * group ≡ piece * group + group
@@ -89,12 +89,12 @@ module _ {H : Type 0} (is_result : ℕ → H → Type 0) (jobs : ℕ) where
         ap (λ (n : ℕ). n * group) next ∙ whole
 
     -- all results of a piece
-    pub piece_heard : (has_heard : List H → Type 0) (i : ℕ) → i ≡ length results
-        → Hears is_result jobs has_heard (min (piece * group) jobs + i) → Hears is_result jobs has_heard (min ((piece + 1) * group) jobs)
-    piece_heard has_heard i end heard =
+    pub piece_heard : (has_received : List H → Type 0) (i : ℕ) → i ≡ length results
+        → HasReceived is_result jobs has_received (min (piece * group) jobs + i) → HasReceived is_result jobs has_received (min ((piece + 1) * group) jobs)
+    piece_heard has_received i end received =
         let count = are.count in
-        heard_as has_heard (min (piece * group) jobs + i) (min ((piece + 1) * group) jobs) (omega (arith, end, count, next_piece))
-        heard
+        heard_as has_received (min (piece * group) jobs + i) (min ((piece + 1) * group) jobs) (omega (arith, end, count, next_piece))
+        received
 
 pub nothing_left : {H : Type 0} (l : List H) → length l ≡ 0 → l ≡ []
 nothing_left [] h = refl
@@ -110,8 +110,8 @@ piece_made is_made is_result jobs group piece results are made = record {
 
 -- after a pause, whatever it says
 pub heard_paused : {H : Type 0} (is_result : ℕ → H → Type 0) (jobs group : ℕ) (had has : List H → Type 0) (stops : Type 0) (next : ℕ)
-    (flow : Flow) → Hears is_result jobs had (min (next * group) jobs) → ((results : List H) → had results → has results)
-    → (flow ≡ GoOn → stops → ⊥) → (flow ≡ Stop → stops) → HeardBy is_result jobs group has stops next flow
+    (flow : Flow) → HasReceived is_result jobs had (min (next * group) jobs) → ((results : List H) → had results → has results)
+    → (flow ≡ GoOn → stops → ⊥) → (flow ≡ Stop → stops) → IsDelivered is_result jobs group has stops next flow
 heard_paused is_result jobs group had has stops next GoOn hears kept goes ends =
     (heard_still is_result jobs had has (min (next * group) jobs) kept hears, goes refl)
 heard_paused is_result jobs group had has stops next Stop hears kept goes ends = (
@@ -127,9 +127,9 @@ all_pieces jobs group piece some past =
     omega (arith, all, more)
 
 -- however a run ended, the first jobs are heard
-pub until_some : {H : Type 0} (is_result : ℕ → H → Type 0) (jobs group : ℕ) (has_heard : List H → Type 0) (stops : Type 0) (next : ℕ)
-    (ended : Option End) → HeardUntil is_result jobs group has_heard stops next ended → HearsSome is_result jobs has_heard
-until_some is_result jobs group has_heard stops next None heard =
-    heard_some is_result jobs has_heard (min (next * group) jobs) heard.0
-until_some is_result jobs group has_heard stops next (Some Stopped) heard = heard.0
-until_some is_result jobs group has_heard stops next (Some OutOfMemory) heard = heard
+pub until_some : {H : Type 0} (is_result : ℕ → H → Type 0) (jobs group : ℕ) (has_received : List H → Type 0) (stops : Type 0) (next : ℕ)
+    (ended : Option End) → HasReceivedUntil is_result jobs group has_received stops next ended → HasReceivedSome is_result jobs has_received
+until_some is_result jobs group has_received stops next None received =
+    heard_some is_result jobs has_received (min (next * group) jobs) received.0
+until_some is_result jobs group has_received stops next (Some Stopped) received = received.0
+until_some is_result jobs group has_received stops next (Some OutOfMemory) received = received

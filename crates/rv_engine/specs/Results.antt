@@ -16,23 +16,23 @@ AreResults {H} is_result results = (k : ℕ) (any : H) → k < length results �
 -- ---- heard in order
 
 -- what a listener has heard: the results of the first so many jobs, each once and in order
-pub record Hears {H : Type 0} (is_result : ℕ → H → Type 0) (jobs : ℕ) (has_heard : List H → Type 0) (count : ℕ) : Type 0 where
+pub record HasReceived {H : Type 0} (is_result : ℕ → H → Type 0) (jobs : ℕ) (has_received : List H → Type 0) (count : ℕ) : Type 0 where
   pub results : List H
-  pub heard : has_heard results
+  pub received : has_received results
   pub each : AreResults is_result results
   pub count_is : length results ≡ count
   pub few : count ≤ jobs
 
 -- the same of the first jobs, however many
-pub record HearsSome {H : Type 0} (is_result : ℕ → H → Type 0) (jobs : ℕ) (has_heard : List H → Type 0) : Type 0 where
+pub record HasReceivedSome {H : Type 0} (is_result : ℕ → H → Type 0) (jobs : ℕ) (has_received : List H → Type 0) : Type 0 where
   pub count : ℕ
-  pub hears : Hears is_result jobs has_heard count
+  pub hears : HasReceived is_result jobs has_received count
 
 -- behind a run: it heard of all jobs, or said stop, or there was an error
-abbrev pub HeardRun : {H : Type 0} → (ℕ → H → Type 0) → ℕ → (List H → Type 0) → Type 0 → Result Flow RunError → Type 0
-HeardRun is_result jobs has_heard stops (Ok GoOn) = Hears is_result jobs has_heard jobs × (stops → ⊥)
-HeardRun is_result jobs has_heard stops (Ok Stop) = HearsSome is_result jobs has_heard × stops
-HeardRun is_result jobs has_heard stops (Err error) = HearsSome is_result jobs has_heard
+abbrev pub IsRunDelivered : {H : Type 0} → (ℕ → H → Type 0) → ℕ → (List H → Type 0) → Type 0 → Result Flow RunError → Type 0
+IsRunDelivered is_result jobs has_received stops (Ok GoOn) = HasReceived is_result jobs has_received jobs × (stops → ⊥)
+IsRunDelivered is_result jobs has_received stops (Ok Stop) = HasReceivedSome is_result jobs has_received × stops
+IsRunDelivered is_result jobs has_received stops (Err error) = HasReceivedSome is_result jobs has_received
 
 -- ---- made in pieces
 
@@ -46,30 +46,30 @@ pub record IsPiece {H : Type 0} (is_result : ℕ → H → Type 0) (jobs group p
   pub count : length results ≡ min group (jobs - piece * group)
 
 -- the results that came early, each piece's at its place
-abbrev pub AreEarly : {H : Type 0} → (ℕ → H → Type 0) → ℕ → ℕ → List (Option (Vec H Global)) → Type 0
-AreEarly is_result jobs group early = (k : ℕ)
-    → IfSome (slice_index_or early k None) (λ results. IsPiece is_result jobs group k results.items)
+abbrev pub ArePending : {H : Type 0} → (ℕ → H → Type 0) → ℕ → ℕ → List (Option (Vec H Global)) → Type 0
+ArePending is_result jobs group pending = (k : ℕ)
+    → IfSome (slice_index_or pending k None) (λ results. IsPiece is_result jobs group k results.items)
 
 -- a listener has heard of the jobs of the pieces before one, and goes on
-abbrev pub HearsUpTo : {H : Type 0} → (ℕ → H → Type 0) → ℕ → ℕ → (List H → Type 0) → Type 0 → ℕ → Type 0
-HearsUpTo is_result jobs group has_heard stops piece = Hears is_result jobs has_heard (min (piece * group) jobs) × (stops → ⊥)
+abbrev pub HasReceivedUpTo : {H : Type 0} → (ℕ → H → Type 0) → ℕ → ℕ → (List H → Type 0) → Type 0 → ℕ → Type 0
+HasReceivedUpTo is_result jobs group has_received stops piece = HasReceived is_result jobs has_received (min (piece * group) jobs) × (stops → ⊥)
 
 -- the same where nothing ended the run, and else of the first jobs
-abbrev pub HeardUntil : {H : Type 0} → (ℕ → H → Type 0) → ℕ → ℕ → (List H → Type 0) → Type 0 → ℕ → Option End → Type 0
-HeardUntil is_result jobs group has_heard stops next None = HearsUpTo is_result jobs group has_heard stops next
-HeardUntil is_result jobs group has_heard stops next (Some Stopped) = HearsSome is_result jobs has_heard × stops
-HeardUntil is_result jobs group has_heard stops next (Some OutOfMemory) = HearsSome is_result jobs has_heard
+abbrev pub HasReceivedUntil : {H : Type 0} → (ℕ → H → Type 0) → ℕ → ℕ → (List H → Type 0) → Type 0 → ℕ → Option End → Type 0
+HasReceivedUntil is_result jobs group has_received stops next None = HasReceivedUpTo is_result jobs group has_received stops next
+HasReceivedUntil is_result jobs group has_received stops next (Some Stopped) = HasReceivedSome is_result jobs has_received × stops
+HasReceivedUntil is_result jobs group has_received stops next (Some OutOfMemory) = HasReceivedSome is_result jobs has_received
 
 -- what is known under the lock
-pub record IsInOrder {H : Type 0} (is_result : ℕ → H → Type 0) (jobs group : ℕ) (has_heard : List H → Type 0) (stops : Type 0)
-    (next : ℕ) (ended : Option End) (early : List (Option (Vec H Global))) : Type 0 where
-  pub heard : HeardUntil is_result jobs group has_heard stops next ended
-  pub waiting : AreEarly is_result jobs group early
+pub record IsInOrder {H : Type 0} (is_result : ℕ → H → Type 0) (jobs group : ℕ) (has_received : List H → Type 0) (stops : Type 0)
+    (next : ℕ) (ended : Option End) (pending : List (Option (Vec H Global))) : Type 0 where
+  pub received : HasReceivedUntil is_result jobs group has_received stops next ended
+  pub waiting : ArePending is_result jobs group pending
 
 -- what a listener has heard in front of a piece, or before that where it said stop
-abbrev pub HeardBy : {H : Type 0} → (ℕ → H → Type 0) → ℕ → ℕ → (List H → Type 0) → Type 0 → ℕ → Flow → Type 0
-HeardBy is_result jobs group has_heard stops next GoOn = HearsUpTo is_result jobs group has_heard stops next
-HeardBy is_result jobs group has_heard stops next Stop = HearsSome is_result jobs has_heard × stops
+abbrev pub IsDelivered : {H : Type 0} → (ℕ → H → Type 0) → ℕ → ℕ → (List H → Type 0) → Type 0 → ℕ → Flow → Type 0
+IsDelivered is_result jobs group has_received stops next GoOn = HasReceivedUpTo is_result jobs group has_received stops next
+IsDelivered is_result jobs group has_received stops next Stop = HasReceivedSome is_result jobs has_received × stops
 
 -- what a work makes of jobs is what a run speaks of
 abbrev pub AreMade : {H : Type 0} → (ℕ → H → Type 0) → (ℕ → H → Type 0) → Type 0

@@ -15,13 +15,13 @@ pub struct Both<A: Drop, B: Drop> {
 impl<H, A: Observer<H> + Drop, B: Listener<H> + Drop> Listener<H> for Both<A, B> {
     ghost use Rattle.std.specs.Prelude.{◌⊎◌};
 
-    ghost has_heard = { λ s results. A.has_seen s.first results × B.has_heard s.second results };
+    ghost has_received = { λ s results. A.has_seen s.first results × B.has_received s.second results };
 
     ghost stops = { λ s. A.stops s.first ⊎ B.stops s.second };
 
-    fn hear(&mut self, made: H) -> Flow {
+    fn receive(&mut self, made: H) -> Flow {
         let first = self.first.see(&made);
-        let second = self.second.hear(made);
+        let second = self.second.receive(made);
         first_stop(first, second)
     }
 

@@ -13,13 +13,13 @@ mod listener;
 mod piece;
 mod threads;
 mod work;
-mod workbench;
 mod worker;
+mod worker_state;
 
 pub use both::Both;
 pub use crew::Crew;
 pub use engine::{RunError, run_jobs};
-pub use in_order::Heard;
+pub use in_order::RunSpec;
 pub use listener::{Flow, Listener, Observer};
 pub use work::Work;
-pub use workbench::Workbench;
+pub use worker_state::WorkerState;

@@ -13,22 +13,22 @@ pub trait Listener<H> {
     ghost use Rattle.rv_engine.specs.declared.listener.Flow.TheVariants.{GoOn, Stop};
 
     // What is so of it once it has heard these results.
-    ghost has_heard: { Self → List H → Type 0 };
+    ghost has_received: { Self → List H → Type 0 };
 
     // What is so of it once it said stop.
     ghost stops: { Self → Type 0 };
 
     /// Takes the result of the next job, and answers whether to go on. After a stop it hears no more.
-    fn hear(&mut self, made: H) -> Flow
+    fn receive(&mut self, made: H) -> Flow
         requires goes { stops self.old → ⊥ }
-        ensures heard { (results : List H) → has_heard self.old results → has_heard self.new (results ++ made ∷ []) }
+        ensures received { (results : List H) → has_received self.old results → has_received self.new (results ++ made ∷ []) }
         ensures goes { result ≡ GoOn → stops self.new → ⊥ }
         ensures stops { result ≡ Stop → stops self.new };
 
     /// Sends out what it kept back, since the next result is not there yet. Answers whether to go on.
     fn pause(&mut self) -> Flow
         requires goes { stops self.old → ⊥ }
-        ensures heard { (results : List H) → has_heard self.old results → has_heard self.new results }
+        ensures received { (results : List H) → has_received self.old results → has_received self.new results }
         ensures goes { result ≡ GoOn → stops self.new → ⊥ }
         ensures stops { result ≡ Stop → stops self.new };
 }

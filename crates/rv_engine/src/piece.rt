@@ -5,7 +5,7 @@ ghost use Rattle.rv_jobs.specs.Limits.{most_group, most_jobs};
 ghost use Rattle.rv_engine.specs.Results.{IsPiece, piece_count};
 
 use crate::work::Work;
-use crate::workbench::Workbench;
+use crate::worker_state::WorkerState;
 use std::alloc::{AllocError, Global};
 
 /// How many pieces jobs are run in: groups of them, in order. The last piece may have fewer.
@@ -24,13 +24,13 @@ pub(crate) fn make_piece<H: Drop, W: Work<H>>(
     work: &W,
     group: u32,
     piece: u64,
-    bench: &mut Workbench,
+    worker_state: &mut WorkerState,
 ) -> Result<Vec<H>, AllocError>
     requires group { (0 < group) × (group ≤ most_group) }
     requires piece { piece < piece_count (W.jobs work.now) group }
-    requires bench { W.is_bench work.now bench.old }
+    requires worker_state { W.is_worker_state work.now worker_state.old }
     ensures made { IfOk result (λ made. IsPiece (W.is_made work.now) (W.jobs work.now) group piece made.items) }
-    ensures bench { OnOk result (W.is_bench work.now bench.new) }
+    ensures worker_state { OnOk result (W.is_worker_state work.now worker_state.new) }
 {
     let jobs = work.jobs();
     let group = group as usize;
@@ -38,7 +38,7 @@ pub(crate) fn make_piece<H: Drop, W: Work<H>>(
     let end = start + group.min(jobs - start);
     let mut made = Vec::with_capacity(alloc, end - start)?;
     for number in start..end {
-        made.push(work.make(alloc, number, bench)?)?;
+        made.push(work.make(alloc, number, worker_state)?)?;
     }
     Ok(made)
 }

@@ -4,19 +4,19 @@ ghost use Rattle.rv_jobs.specs.Limits.{most_group};
 ghost use Rattle.std.specs.Prelude.{◌≡◌, ◌<◌, ◌≤◌, OnOk};
 ghost use Rattle.rv_engine.specs.Results.{AreMade, piece_count};
 
-use crate::in_order::{Heard, InOrder};
+use crate::in_order::{InOrder, RunSpec};
 use crate::listener::{Flow, Listener};
 use crate::piece::make_piece;
 use crate::threads::Worker;
 use crate::work::Work;
-use crate::workbench::Workbench;
+use crate::worker_state::WorkerState;
 use rv_claims::{Claims, Pass};
 use std::alloc::{AllocError, Global};
 use std::sync::{Mutex, Wait};
 
 /// What all workers of a run have before them.
 #[derive(Drop)]
-pub(crate) struct Shop<'a, J: Heard<H>, H: Drop, R, W: Work<H>, L: Listener<H> + Drop> {
+pub(crate) struct WorkerContext<'a, J: RunSpec<H>, H: Drop, R, W: Work<H>, L: Listener<H> + Drop> {
     pub(crate) rt: &'a R,
     pub(crate) alloc: Global,
     pub(crate) work: &'a W,
@@ -29,12 +29,12 @@ pub(crate) struct Shop<'a, J: Heard<H>, H: Drop, R, W: Work<H>, L: Listener<H> +
 
 impl<
     'a,
-    J: Heard<H> + Send,
+    J: RunSpec<H> + Send,
     H: Drop + Send,
     R: Wait + Sync,
     W: Work<H> + Sync,
     L: Listener<H> + Drop + Send,
-> Worker for Shop<'a, J, H, R, W, L> {
+> Worker for WorkerContext<'a, J, H, R, W, L> {
     ghost use Rattle.std.specs.Prelude.{◌≡◌};
     ghost use Rattle.rv_engine.specs.Results.{AreMade, piece_count};
 
@@ -42,9 +42,9 @@ impl<
 
     fn work_on_pieces(&self, claims: &Claims, pass: Pass) -> Result<(), AllocError> {
         let mut pass = pass;
-        let mut bench = self.work.new_bench(self.alloc);
+        let mut worker_state = self.work.new_worker_state(self.alloc);
         while let Some(piece) = claims.take(&mut pass) {
-            if let Flow::Stop = self.work_on_piece(piece, &mut bench)? {
+            if let Flow::Stop = self.work_on_piece(piece, &mut worker_state)? {
                 return Ok(());
             }
         }
@@ -56,15 +56,22 @@ impl<
     }
 }
 
-impl<'a, J: Heard<H>, H: Drop, R: Wait, W: Work<H>, L: Listener<H> + Drop> Shop<'a, J, H, R, W, L> {
+impl<'a, J: RunSpec<H>, H: Drop, R: Wait, W: Work<H>, L: Listener<H> + Drop> WorkerContext<
+    'a,
+    J,
+    H,
+    R,
+    W,
+    L,
+> {
     // Makes a piece, and hands it on. After a refusal of memory the other workers end, too.
-    fn work_on_piece(&self, piece: u64, bench: &mut Workbench) -> Result<Flow, AllocError>
+    fn work_on_piece(&self, piece: u64, worker_state: &mut WorkerState) -> Result<Flow, AllocError>
         requires piece { piece < piece_count (W.jobs self.now.work.now) self.now.group }
         requires results { AreMade (W.is_made self.now.work.now) J.is_result }
-        requires bench { W.is_bench self.now.work.now bench.old }
-        ensures { OnOk result (W.is_bench self.now.work.now bench.new) }
+        requires worker_state { W.is_worker_state self.now.work.now worker_state.old }
+        ensures { OnOk result (W.is_worker_state self.now.work.now worker_state.new) }
     {
-        let made = make_piece::<H, W>(self.alloc, self.work, self.group, piece, bench);
+        let made = make_piece::<H, W>(self.alloc, self.work, self.group, piece, worker_state);
         let mut in_order = self.in_order.lock(self.rt);
         match made {
             Ok(results) => Ok(in_order.take_piece(piece, results)),

@@ -16,15 +16,15 @@ abbrev pub end_kind_count : ℕ
 end_kind_count = length fault_kinds + 3
 
 -- a kind of fault, or what stands behind the last of them
-abbrev pub fault_or_refused : Option FaultKind → EndKind
-fault_or_refused (Some kind) = end_kind.Fault kind
-fault_or_refused None = end_kind.Refused
+abbrev pub end_kind_of_index : Option FaultKind → EndKind
+end_kind_of_index (Some kind) = end_kind.Fault kind
+end_kind_of_index None = end_kind.Refused
 
 -- the kind at a place among them
 abbrev pub end_kind_at : ℕ → EndKind
 end_kind_at place =
     if place == 0 then end_kind.Exit
-    else (if place == 1 then end_kind.Budget else fault_or_refused (slice_get fault_kinds (place - 2)))
+    else (if place == 1 then end_kind.Budget else end_kind_of_index (slice_get fault_kinds (place - 2)))
 
 -- whether an ending is of the kind
 abbrev pub has_end_kind : EndKind → RowEnd → Bool

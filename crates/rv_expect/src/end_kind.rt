@@ -3,7 +3,7 @@
 ghost use Rattle.std.specs.Prelude.{◌≡◌, slice_get};
 ghost use Rattle.rv_machine.specs.Faults.{fault_kinds};
 ghost use Rattle.rv_expect.specs.Judgement.{judging_of};
-ghost use Rattle.rv_expect.specs.EndKinds.{fails_with_end_kind, fault_or_refused, has_end_kind, end_kind_at};
+ghost use Rattle.rv_expect.specs.EndKinds.{fails_with_end_kind, end_kind_of_index, has_end_kind, end_kind_at};
 
 use crate::judgement::Judge;
 use rv_machine::FaultKind;
@@ -35,13 +35,13 @@ impl EndKind {
         } else if place == 1 {
             EndKind::Budget
         } else {
-            fault_or_refused(place - 2)
+            end_kind_of_index(place - 2)
         }
     }
 }
 
-fn fault_or_refused(place: usize) -> EndKind
-    ensures { result ≡ fault_or_refused (slice_get fault_kinds place) }
+fn end_kind_of_index(place: usize) -> EndKind
+    ensures { result ≡ end_kind_of_index (slice_get fault_kinds place) }
 {
     match FaultKind::ALL.get(place) {
         Some(kind) => EndKind::Fault(*kind),

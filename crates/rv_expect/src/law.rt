@@ -12,7 +12,7 @@ ghost use Rattle.rv_expect.specs.Comparisons.{Sides};
 ghost use Rattle.rv_expect.specs.Difference.{IsDifference, first_difference};
 ghost use Rattle.rv_expect.specs.UnmetInPlan.{unmet_in};
 ghost use Rattle.rv_expect.specs.Reference.{IsReferenceOf, IsWord, read_reference, signature_words_or_empty};
-ghost use Rattle.rv_expect.specs.Telling.{HasItsVerdict, TellsWhatDoesNotHold, named_outcome, outcome_in_row, passes};
+ghost use Rattle.rv_expect.specs.RowReporter.{HasItsVerdict, TellsWhatDoesNotHold, named_outcome, outcome_in_row, passes};
 ghost use Rattle.rv_expect.specs.Unmet.{unmet_of};
 
 /// What is said to differ between two lists differs, and at the first place: before it they are equal. Where nothing is

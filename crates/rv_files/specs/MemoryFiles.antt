@@ -3,7 +3,7 @@ use Rattle.std.specs.Prelude.{List, find, map, option_map}
 use Rattle.std.specs.Str.{bytes_eq}
 use Rattle.rv_base.specs.Files.{FileContents}
 use Rattle.rv_files.specs.declared.memory_files.MemoryFile.{MemoryFile}
-use Rattle.rv_files.specs.Placed.{PlacedFile, placed_file}
+use Rattle.rv_files.specs.Placed.{CommittedFile, placed_file}
 
 -- the bytes of the first file of each path
 abbrev pub memory_contents : List MemoryFile → FileContents
@@ -11,5 +11,5 @@ memory_contents files path = option_map (λ (file : MemoryFile). file.bytes.item
     (find (λ (file : MemoryFile). bytes_eq path file.path) files)
 
 -- the files as they are told
-abbrev pub memory_placed : List MemoryFile → List PlacedFile
+abbrev pub memory_placed : List MemoryFile → List CommittedFile
 memory_placed files = map (λ (file : MemoryFile). placed_file file.path file.bytes.items) files

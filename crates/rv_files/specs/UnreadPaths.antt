@@ -5,7 +5,7 @@ use Rattle.std.specs.Path.{path_join}
 use Rattle.rv_base.specs.Files.{FileContents}
 use Rattle.rv_files.specs.declared.file_store.WholeError.{WholeError}
 use Rattle.rv_files.specs.declared.file_store.WholeError.TheVariants as whole
-use Rattle.rv_files.specs.declared.noting_store.Unread.{Unread}
+use Rattle.rv_files.specs.declared.recording_store.UnreadPath.{UnreadPath}
 
 -- the place of a path's file: below the folder, where one is given and the path is not absolute
 abbrev pub resolved_path : Option (List ℕ) → List ℕ → List ℕ
@@ -23,14 +23,14 @@ HoldsNothingIfUnreadable known path whole.TooLong = Unit {0}
 HoldsNothingIfUnreadable known path whole.OutOfMemory = Unit {0}
 
 -- a path was unreadable for a reason
-abbrev pub unread_entry : List ℕ → ErrorKind → Unread
+abbrev pub unread_entry : List ℕ → ErrorKind → UnreadPath
 unread_entry path reason = record {
   path = path;
   reason = reason;
 }
 
 -- what is noted of a path that was not read
-abbrev pub unread_entries : List ℕ → WholeError → List Unread
+abbrev pub unread_entries : List ℕ → WholeError → List UnreadPath
 unread_entries path (whole.Failed reason) = unread_entry path reason ∷ []
 unread_entries path whole.TooLong = []
 unread_entries path whole.OutOfMemory = []

@@ -4,7 +4,7 @@
 //! [`read_whole`] give what a reader has, and a [`StreamSink`] puts what its writer takes. A command that is generic over
 //! [`Inputs`] and [`Outputs`] says in its contract what it read and which files it wrote: [`SystemInputs`] and
 //! [`SystemOutputs`] are the system's, [`MemoryInputs`] and [`MemoryOutputs`] are for tests. [`FileStore`] opens a file
-//! and reads it; a [`NotingStore`] reads inputs and notes why a file was unreadable, too.
+//! and reads it; a [`RecordingStore`] reads inputs and notes why a file was unreadable, too.
 #![tactic(auto)]
 
 mod file_error;
@@ -18,9 +18,9 @@ mod io_errors;
 mod last_error;
 mod memory_files;
 mod new_file;
-mod noting_store;
 mod outputs;
 mod pipe_sink;
+mod recording_store;
 mod roots;
 mod sink_paths;
 mod streams;
@@ -36,9 +36,9 @@ pub use inputs::{Inputs, SystemInputs, read_whole_up_to};
 pub use io_errors::{io_error_text, write_error_text};
 pub use last_error::LastError;
 pub use memory_files::{MemoryFile, MemoryInputs, MemoryOutputs};
-pub use noting_store::{NotingStore, Unread};
 pub use outputs::Outputs;
 pub use pipe_sink::{Closable, PipeSink};
+pub use recording_store::{RecordingStore, UnreadPath};
 pub use roots::resolved_path;
 pub use streams::StreamSink;
 pub use system_outputs::SystemOutputs;

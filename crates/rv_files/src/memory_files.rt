@@ -145,7 +145,7 @@ impl Outputs for MemoryOutputs {
 
     ghost placed = { λ outputs. Some (memory_placed outputs.placed.items) };
 
-    ghost place_path = { λ path. path };
+    ghost pending_path = { λ path. path };
 
     ghost synced_bytes = { λ bytes. Some bytes.items };
 

@@ -1,7 +1,7 @@
 //! Where a command writes its files, each of which stands there whole in the end, or not at all.
 
 ghost use Rattle.std.specs.Prelude.{◌≡◌, ◌≢◌, ◌∷◌, [], List, ℕ, Option, Some, IfErr, IfOk, IfSome, IsTrue, OnErr, OnOk};
-ghost use Rattle.rv_files.specs.Placed.{PlacedFile, IsOneMorePlaced};
+ghost use Rattle.rv_files.specs.Placed.{CommittedFile, IsOneMorePlaced};
 
 use crate::file_error::FileError;
 use crate::last_error::LastError;
@@ -20,10 +20,10 @@ pub trait Outputs {
     type Synced: Drop;
 
     // The files that stand in their places, in the order in which they were put there, where that is told.
-    ghost placed: { Self → Option (List PlacedFile) };
+    ghost placed: { Self → Option (List CommittedFile) };
 
     // The path that a place is for.
-    ghost place_path: { Self.Place → List ℕ };
+    ghost pending_path: { Self.Place → List ℕ };
 
     // The bytes of a file that the disk has, where these are told.
     ghost synced_bytes: { Self.Synced → Option (List ℕ) };
@@ -46,7 +46,7 @@ pub trait Outputs {
     /// A new file without bytes for a path, and its place. What stands at the path stays.
     fn create(&mut self, alloc: Global, path: &str) -> Result<(Self::Place, Self::File), FileError>
         ensures same { placed self.new ≡ placed self.old }
-        ensures path { IfOk result (λ made. place_path made.0 ≡ path.now) }
+        ensures path { IfOk result (λ made. pending_path made.0 ≡ path.now) }
         ensures empty { IfOk result (λ made. IfSome (Self.File.taken made.1) (λ bytes. bytes ≡ [])) }
 
         // Where it is told which files are placed, it is told which bytes this one takes, too.
@@ -64,7 +64,7 @@ pub trait Outputs {
     /// Puts a file in its place.
     fn place(&mut self, place: Self::Place, file: Self::Synced) -> Result<(), FileError>
         ensures placed { OnOk result
-            (IsOneMorePlaced (placed self.old) (placed self.new) (place_path place) (synced_bytes file)) }
+            (IsOneMorePlaced (placed self.old) (placed self.new) (pending_path place) (synced_bytes file)) }
         ensures same { OnErr result (placed self.new ≡ placed self.old) }
         ensures another_error { IfErr result (λ error. error ≢ FileError.SamePlace) };
 

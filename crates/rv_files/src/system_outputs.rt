@@ -34,7 +34,7 @@ pub struct SystemOutputs<'a, R: Files> {
 
 /// Where a file of the system is to stand.
 #[derive(Drop)]
-pub struct SystemPlace {
+pub struct PendingFile {
     // The path as it was given.
     given: Text,
     // None where the bytes go to what stands at the path.
@@ -160,7 +160,7 @@ impl<'a, R: Files> Outputs for SystemOutputs<'a, R>
 where
     R::File: FileLock,
 {
-    type Place = SystemPlace;
+    type Place = PendingFile;
 
     type File = FileSink<R::File>;
 
@@ -168,7 +168,7 @@ where
 
     ghost placed = { λ _. None };
 
-    ghost place_path = { λ place. place.given };
+    ghost pending_path = { λ place. place.given };
 
     ghost synced_bytes = { λ _. None };
 
@@ -203,7 +203,7 @@ where
         &mut self,
         alloc: Global,
         path: &str,
-    ) -> Result<(SystemPlace, FileSink<R::File>), FileError>
+    ) -> Result<(PendingFile, FileSink<R::File>), FileError>
         ensures path { IfOk result (λ made. made.0.given ≡ path.now) }
         ensures unfailed { IfOk result (λ made. made.1.stream.failures ≡ 0) }
         ensures first { IfErr result (λ error. error ≡ FileError.SamePlace → 0 < vec_len self.old.unplaced) }
@@ -215,7 +215,7 @@ where
             stream: StreamSink::new(file),
             is_on_disk: places.is_some(),
         };
-        Ok((SystemPlace { given, places }, file))
+        Ok((PendingFile { given, places }, file))
     }
 
     fn sync(&mut self, file: FileSink<R::File>) -> Result<SyncedFile<R::File>, FileError> {
@@ -227,7 +227,7 @@ where
         Ok(SyncedFile { file })
     }
 
-    fn place(&mut self, place: SystemPlace, file: SyncedFile<R::File>) -> Result<(), FileError> {
+    fn place(&mut self, place: PendingFile, file: SyncedFile<R::File>) -> Result<(), FileError> {
         // Its lock ends here, once the file has its own path.
         let SyncedFile { file: _locked } = file;
         let Some(places) = &place.places else {
@@ -244,7 +244,7 @@ where
         Ok(())
     }
 
-    fn abandon(&mut self, place: SystemPlace) {
+    fn abandon(&mut self, place: PendingFile) {
         if let Some(places) = &place.places {
             let _ = self.files.remove_file(places.new.as_str());
             self.forget_unplaced(places.new.as_str());

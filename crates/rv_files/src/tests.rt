@@ -4,7 +4,7 @@ ghost use Rattle.std.specs.Prelude.{◌≡◌, ◌++◌, ◌∷◌, [], Some, If
 ghost use Rattle.rv_files.specs.Placed.{placed_file};
 
 use crate::{
-    FileError, FileLock, Inputs, MemoryFile, MemoryInputs, MemoryOutputs, NotingStore, Outputs,
+    FileError, FileLock, Inputs, MemoryFile, MemoryInputs, MemoryOutputs, Outputs, RecordingStore,
     SystemInputs, SystemOutputs,
 };
 use rv_base::{Store, Text, put_all};
@@ -318,7 +318,7 @@ fn memory_is_read(rt: HostRuntime) -> Result<(), Fail> {
         (Some("folder"), "/image", "unread"),
         (None, "folder", "unread"),
     ] {
-        let mut store = NotingStore::new(&inputs, rt.alloc(), folder);
+        let mut store = RecordingStore::new(&inputs, rt.alloc(), folder);
         match store.read(rt.alloc(), path) {
             Ok(bytes) => assert_eq!(rt; bytes.as_slice(), wanted.as_bytes(), "{path}"),
             Err(_) => assert_eq!(rt; store.unread_paths().len(), 1, "{path}"),

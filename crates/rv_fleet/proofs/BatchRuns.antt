@@ -5,7 +5,7 @@ use Rattle.std.proofs.lemmas.List.{length-map, get_or-map, ext_get_or}
 use Rattle.rv_engine.specs.declared.engine.RunError.{RunError}
 use Rattle.rv_engine.specs.declared.listener.Flow.{Flow}
 use Rattle.rv_engine.specs.declared.listener.Flow.TheVariants.{GoOn}
-use Rattle.rv_engine.specs.Results.{HeardRun}
+use Rattle.rv_engine.specs.Results.{IsRunDelivered}
 use Rattle.rv_fleet.specs.declared.batch.Batch.{Batch}
 use Rattle.rv_fleet.specs.Batches.{batch_rows, row_of_number}
 use Rattle.rv_jobs.specs.Jobs.{single_job}
@@ -25,11 +25,11 @@ heard_rows batch rows count each =
 
 -- a run that was not stopped heard all of them, and its rows are kept
 pub all_heard : (batch : Batch) (refused : Bool) (kept : List Row) (ran : Result Flow RunError) → ran ≡ Ok GoOn
-    → HeardRun (λ (k : ℕ) (row : Row). row ≡ row_of_number batch k) (length batch.places.now)
+    → IsRunDelivered (λ (k : ℕ) (row : Row). row ≡ row_of_number batch k) (length batch.places.now)
     (λ (rows : List Row). refused ≡ false → kept ≡ rows) (refused ≡ true) ran
     → kept ≡ batch_rows batch
-all_heard batch refused kept ran is heard =
-    let run = subst (HeardRun (λ (k : ℕ) (row : Row). row ≡ row_of_number batch k) (length batch.places.now)
-    (λ (rows : List Row). refused ≡ false → kept ≡ rows) (refused ≡ true)) is heard in
+all_heard batch refused kept ran is received =
+    let run = subst (IsRunDelivered (λ (k : ℕ) (row : Row). row ≡ row_of_number batch k) (length batch.places.now)
+    (λ (rows : List Row). refused ≡ false → kept ≡ rows) (refused ≡ true)) is received in
     let hears = run.0 in
-    hears.heard (false_from_ne_true refused run.1) ∙ heard_rows batch hears.results hears.count_is hears.each
+    hears.received (false_from_ne_true refused run.1) ∙ heard_rows batch hears.results hears.count_is hears.each

@@ -3,7 +3,7 @@ use Rattle.std.proofs.Common.{◌≡◌, ℕ, zero, suc, ◌<◌, ◌≤◌, Lis
 use Rattle.std.proofs.Common.{◌∙◌, ◌+◌}
 use Rattle.std.specs.List.{All}
 use Rattle.rv_jobs.specs.Plans.{Planned}
-use Rattle.rv_fleet.specs.Choices.{AreJobPlaces}
+use Rattle.rv_fleet.specs.Choices.{AreJobIndices}
 use Rattle.rv_rows.specs.Rows.{rows_at}
 use Rattle.std.specs.List.Sorted.{IsStrictlyIncreasing}
 use Rattle.rv_rows.specs.declared_row.Row.{Row}
@@ -29,7 +29,7 @@ module _ (places : List ℕ) (each : (k d : ℕ) → k < length places → get_o
   counted_rising k inside = let one = each k 0 (omega arith) in let two = each (k + 1) 0 inside in omega arith
 
 pub counted_within : (plan : Planned) (places : List ℕ) → length places ≡ length plan.jobs
-    → ((k d : ℕ) → k < length places → get_or places k d ≡ k) → AreJobPlaces plan places
+    → ((k d : ℕ) → k < length places → get_or places k d ≡ k) → AreJobIndices plan places
 counted_within plan places count each k d inside = let is = each k d inside in omega arith
 
 -- the rows at all places are those of the plan

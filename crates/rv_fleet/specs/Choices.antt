@@ -4,5 +4,5 @@ use Rattle.std.specs.List.{All}
 use Rattle.rv_jobs.specs.Plans.{Planned}
 
 -- each is the place of a job
-abbrev pub AreJobPlaces : Planned → List ℕ → Type 0
-AreJobPlaces plan places = All (λ place. place < length plan.jobs) places
+abbrev pub AreJobIndices : Planned → List ℕ → Type 0
+AreJobIndices plan places = All (λ place. place < length plan.jobs) places

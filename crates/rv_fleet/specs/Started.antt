@@ -9,12 +9,12 @@ use Rattle.rv_fleet.specs.declared.worker_promise.Worked.{Worked}
 use Rattle.rv_fleet.specs.declared.worker_promise.Works.{Works}
 use Rattle.rv_claims.specs.Passes.{SharedDraw}
 use Rattle.rv_jobs.specs.Plans.{Planned}
-use Rattle.rv_fleet.specs.Choices.{AreJobPlaces}
+use Rattle.rv_fleet.specs.Choices.{AreJobIndices}
 use Rattle.rv_fleet.specs.Pieces.{piece_count_of_rows}
 
 -- jobs that may be a batch, in groups that may be its pieces
 pub record AreGrouped (plan : Planned) (places : List ℕ) (group : ℕ) : Type 0 where
-  pub within : AreJobPlaces plan places
+  pub within : AreJobIndices plan places
   pub rising : IsStrictlyIncreasing places
   pub few : length places ≤ most_jobs
   pub group_few : (0 < group) × (group ≤ most_group)

@@ -3,7 +3,7 @@
 ghost use Rattle.std.specs.Prelude.{◌≡◌, ◌≤◌, length};
 ghost use Rattle.std.specs.List.Sorted.{IsStrictlyIncreasing};
 ghost use Rattle.rv_jobs.specs.Limits.{most_jobs};
-ghost use Rattle.rv_fleet.specs.Choices.{AreJobPlaces};
+ghost use Rattle.rv_fleet.specs.Choices.{AreJobIndices};
 
 use rv_jobs::Plan;
 
@@ -12,14 +12,14 @@ use rv_jobs::Plan;
 pub struct Batch<'a> {
     pub plan: &'a Plan,
     pub places: &'a [usize],
-    pub ghost within: { AreJobPlaces plan.now places.now },
+    pub ghost within: { AreJobIndices plan.now places.now },
     pub ghost rising: { IsStrictlyIncreasing places.now },
     pub ghost few: { length places.now ≤ most_jobs },
 }
 
 impl<'a> Batch<'a> {
     pub fn new(plan: &'a Plan, places: &'a [usize]) -> Batch<'a>
-        requires within { AreJobPlaces plan.now places.now }
+        requires within { AreJobIndices plan.now places.now }
         requires rising { IsStrictlyIncreasing places.now }
         ensures plan { result.plan.now ≡ plan.now }
         ensures places { result.places.now ≡ places.now }

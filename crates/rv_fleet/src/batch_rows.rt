@@ -4,7 +4,7 @@ ghost use Rattle.std.specs.Prelude.{◌≡◌, [], IfOk, false};
 ghost use Rattle.rv_fleet.specs.Batches.{batch_rows};
 
 use crate::batch::Batch;
-use rv_engine::{Crew, Flow, Listener, RunError, Work, Workbench, run_jobs};
+use rv_engine::{Crew, Flow, Listener, RunError, Work, WorkerState, run_jobs};
 use rv_rows::{Row, Rows, row_at_with_recent};
 use std::alloc::{AllocError, Global};
 use std::sync::Wait;
@@ -25,52 +25,57 @@ impl Work<Row> for BatchRows<'_> {
 
     ghost is_made = { λ s number row. row ≡ row_of_number s.batch.now number };
 
-    ghost is_bench = { λ s bench. AreOutcomes s.batch.now.plan.now bench.recent };
+    ghost is_worker_state = { λ s worker_state. AreOutcomes s.batch.now.plan.now worker_state.recent };
 
     fn jobs(&self) -> usize {
         self.batch.places.len()
     }
 
-    fn new_bench(&self, alloc: Global) -> Workbench {
-        Workbench::new(alloc)
+    fn new_worker_state(&self, alloc: Global) -> WorkerState {
+        WorkerState::new(alloc)
     }
 
-    fn make(&self, alloc: Global, number: usize, bench: &mut Workbench) -> Result<Row, AllocError> {
+    fn make(
+        &self,
+        alloc: Global,
+        number: usize,
+        worker_state: &mut WorkerState,
+    ) -> Result<Row, AllocError> {
         let place = self.batch.places[number];
-        let (spare, recent) = (&mut bench.spare, &mut bench.recent);
+        let (spare, recent) = (&mut worker_state.spare, &mut worker_state.recent);
         row_at_with_recent(alloc, self.batch.plan, place, spare, recent)
     }
 }
 
 /// Keeps the rows that it hears.
 #[derive(Drop)]
-pub(crate) struct KeptRows {
+pub(crate) struct CollectedRows {
     rows: Vec<Row>,
     // Whether a growth was refused.
     refused: bool,
 }
 
-impl KeptRows {
+impl CollectedRows {
     // It has heard nothing yet.
-    fn new(alloc: Global) -> KeptRows
+    fn new(alloc: Global) -> CollectedRows
         ensures rows { result.rows.items ≡ [] }
         ensures refused { result.refused ≡ false }
     {
-        KeptRows {
+        CollectedRows {
             rows: Vec::new(alloc),
             refused: false,
         }
     }
 }
 
-impl Listener<Row> for KeptRows {
+impl Listener<Row> for CollectedRows {
     ghost use Rattle.std.specs.Prelude.{◌≡◌, false, true};
 
-    ghost has_heard = { λ s rows. s.refused ≡ false → s.rows.items ≡ rows };
+    ghost has_received = { λ s rows. s.refused ≡ false → s.rows.items ≡ rows };
 
     ghost stops = { λ s. s.refused ≡ true };
 
-    fn hear(&mut self, made: Row) -> Flow {
+    fn receive(&mut self, made: Row) -> Flow {
         match self.rows.push(made) {
             Ok(()) => Flow::GoOn,
             Err(_) => {
@@ -93,7 +98,7 @@ pub fn run_batch<R: Threads + Wait + Sync>(
     ensures { IfOk result (λ rows. rows ≡ batch_rows batch.now) }
 {
     let work = BatchRows { batch };
-    let (kept, ran) = run_jobs(crew, &work, KeptRows::new(crew.alloc));
+    let (kept, ran) = run_jobs(crew, &work, CollectedRows::new(crew.alloc));
     match ran? {
         Flow::GoOn => Ok(Rows::new(kept.rows)),
         // Out of memory: the rows stop a run for that alone.

@@ -11,7 +11,7 @@ use crate::piece::{Piece, make_piece};
 use crate::pieces::Pieces;
 use crate::worker_promise::Worked;
 use rv_claims::{Claims, Pass};
-use rv_engine::Workbench;
+use rv_engine::WorkerState;
 use rv_rows::{Row, Rows};
 use std::alloc::{AllocError, Global};
 
@@ -125,8 +125,8 @@ fn rows_in_slot<G: Gate>(
     match slot {
         Some(rows) => Ok(rows),
         None => {
-            let mut bench = Workbench::new(alloc);
-            let piece = make_piece(alloc, pieces, gate, number, &mut bench)?;
+            let mut worker_state = WorkerState::new(alloc);
+            let piece = make_piece(alloc, pieces, gate, number, &mut worker_state)?;
             Ok(piece.rows)
         }
     }

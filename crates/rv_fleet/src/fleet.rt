@@ -9,7 +9,7 @@ use crate::batch::Batch;
 use crate::collect::rows_of_all_pieces;
 use crate::gate::Gate;
 use crate::pieces::Pieces;
-use crate::places::all_places;
+use crate::places::all_indices;
 use crate::threads::make_pieces;
 use rv_engine::Crew;
 use rv_jobs::Plan;
@@ -55,7 +55,7 @@ pub fn run_fleet<R: Threads + Wait, G: Gate>(
     requires group { (0 < group) × (group ≤ most_group) }
     ensures { IfOk result (λ report. report.rows ≡ rows_of plan.now) }
 {
-    let places = all_places(alloc, plan)?;
+    let places = all_indices(alloc, plan)?;
     let batch = Batch::new(plan, places.as_slice());
     let crew = Crew::new(rt, alloc, workers, group);
     let pieces = Pieces { batch, group };

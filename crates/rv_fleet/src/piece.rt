@@ -6,7 +6,7 @@ ghost use Rattle.rv_fleet.specs.Pieces.{count_of_pieces, numbered_piece, piece_r
 
 use crate::gate::Gate;
 use crate::pieces::Pieces;
-use rv_engine::Workbench;
+use rv_engine::WorkerState;
 use rv_rows::{Rows, row_at_with_recent};
 use std::alloc::{AllocError, Global};
 
@@ -24,15 +24,15 @@ pub(crate) fn make_piece<G: Gate>(
     pieces: &Pieces<'_>,
     gate: &G,
     number: u64,
-    bench: &mut Workbench,
+    worker_state: &mut WorkerState,
 ) -> Result<Piece, AllocError>
     requires number { number < count_of_pieces pieces.now }
-    requires recent { AreOutcomes pieces.now.batch.plan.now bench.old.recent }
+    requires recent { AreOutcomes pieces.now.batch.plan.now worker_state.old.recent }
     ensures piece { IfOk result (λ piece. piece ≡ numbered_piece pieces.now number) }
-    ensures recent { OnOk result (AreOutcomes pieces.now.batch.plan.now bench.new.recent) }
+    ensures recent { OnOk result (AreOutcomes pieces.now.batch.plan.now worker_state.new.recent) }
 {
     gate.enter(number);
-    let rows = rows_of_piece(alloc, pieces, number, bench)?;
+    let rows = rows_of_piece(alloc, pieces, number, worker_state)?;
     Ok(Piece { number, rows })
 }
 
@@ -40,12 +40,12 @@ fn rows_of_piece(
     alloc: Global,
     pieces: &Pieces<'_>,
     number: u64,
-    bench: &mut Workbench,
+    worker_state: &mut WorkerState,
 ) -> Result<Rows, AllocError>
     requires number { number < count_of_pieces pieces.now }
-    requires recent { AreOutcomes pieces.now.batch.plan.now bench.old.recent }
+    requires recent { AreOutcomes pieces.now.batch.plan.now worker_state.old.recent }
     ensures rows { IfOk result (λ rows. rows ≡ piece_rows pieces.now number) }
-    ensures recent { OnOk result (AreOutcomes pieces.now.batch.plan.now bench.new.recent) }
+    ensures recent { OnOk result (AreOutcomes pieces.now.batch.plan.now worker_state.new.recent) }
 {
     let (plan, places) = (pieces.batch.plan, pieces.batch.places);
     let jobs = places.len();
@@ -54,7 +54,13 @@ fn rows_of_piece(
     let end = start + group.min(jobs - start);
     let mut rows = Vec::with_capacity(alloc, end - start)?;
     for i in start..end {
-        let row = row_at_with_recent(alloc, plan, places[i], &mut bench.spare, &mut bench.recent)?;
+        let row = row_at_with_recent(
+            alloc,
+            plan,
+            places[i],
+            &mut worker_state.spare,
+            &mut worker_state.recent,
+        )?;
         rows.push(row)?;
     }
     Ok(Rows::new(rows))

@@ -1,7 +1,7 @@
 //! The places of a plan's jobs.
 
 ghost use Rattle.std.specs.Prelude.{◌≡◌, IfOk, length, vec_len};
-ghost use Rattle.rv_fleet.specs.Choices.{AreJobPlaces};
+ghost use Rattle.rv_fleet.specs.Choices.{AreJobIndices};
 ghost use Rattle.rv_rows.specs.Rows.{rows_at, rows_of};
 ghost use Rattle.std.specs.List.Sorted.{IsStrictlyIncreasing};
 
@@ -9,8 +9,8 @@ use rv_jobs::Plan;
 use std::alloc::{AllocError, Global};
 
 /// The places of all jobs, in order.
-pub(crate) fn all_places(alloc: Global, plan: &Plan) -> Result<Vec<usize>, AllocError>
-    ensures within { IfOk result (λ places. AreJobPlaces plan.now places.items) }
+pub(crate) fn all_indices(alloc: Global, plan: &Plan) -> Result<Vec<usize>, AllocError>
+    ensures within { IfOk result (λ places. AreJobIndices plan.now places.items) }
     ensures count { IfOk result (λ places. vec_len places ≡ length plan.now.jobs) }
     ensures rising { IfOk result (λ places. IsStrictlyIncreasing places.items) }
     ensures rows { IfOk result (λ places. rows_at plan.now places.items ≡ rows_of plan.now) }

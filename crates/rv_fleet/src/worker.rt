@@ -12,10 +12,10 @@ use crate::batch::Batch;
 use crate::gate::Gate;
 use crate::piece::{Piece, make_piece};
 use crate::pieces::Pieces;
-use crate::places::all_places;
+use crate::places::all_indices;
 use crate::worker_promise::Worked;
 use rv_claims::{Claims, Pass};
-use rv_engine::Workbench;
+use rv_engine::WorkerState;
 use rv_jobs::Plan;
 use std::alloc::{AllocError, Global};
 
@@ -37,7 +37,7 @@ pub fn work<G: Gate>(
     ensures made { IfOk result (λ made. made.items
         ≡ map (piece_at plan.now group) (new_pieces pass.old pass.new)) }
 {
-    let places = all_places(alloc, plan)?;
+    let places = all_indices(alloc, plan)?;
     let batch = Batch::new(plan, places.as_slice());
     let pieces = Pieces { batch, group };
     work_on_pieces(alloc, claims, pass, &pieces, gate)
@@ -59,9 +59,9 @@ pub(crate) fn work_on_pieces<G: Gate>(
         ≡ map (numbered_piece pieces.now) (new_pieces pass.old pass.new)) }
 {
     let mut drawn = Vec::new(alloc);
-    let mut bench = Workbench::new(alloc);
+    let mut worker_state = WorkerState::new(alloc);
     while let Some(number) = claims.take(pass) {
-        let made = make_piece(alloc, pieces, gate, number, &mut bench)?;
+        let made = make_piece(alloc, pieces, gate, number, &mut worker_state)?;
         drawn.push(made)?;
     }
     Ok(drawn)

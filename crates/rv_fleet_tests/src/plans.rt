@@ -2,7 +2,7 @@
 ghost use Rattle.std.specs.Prelude.{◌<◌, ◌≤◌, None, length};
 
 use rv_jobs::{
-    JobList, Kept, Plan, ReadError, Store, What, gather, gather_places, marked_places, read_jobs,
+    JobList, Kept, Plan, ReadError, Store, What, gather, gather_jobs, read_jobs, selected_indices,
 };
 use samples::{agree, cell_of, has_lines};
 use std::alloc::{AllocError, Global};
@@ -70,8 +70,8 @@ fn chosen(alloc: Global, jobs: JobList, marks: &[bool], store: &mut Files) -> Re
     if marks.len() != jobs.as_slice().len() {
         return Err("a mark for each job".into());
     }
-    let places = marked_places(alloc, marks)?;
-    Ok(gather_places(alloc, jobs, places, store)?)
+    let places = selected_indices(alloc, marks)?;
+    Ok(gather_jobs(alloc, jobs, places, store)?)
 }
 
 fn plan_of(alloc: Global, list: &str, choice: &str, store: &mut Files) -> Result<Plan, Fail> {

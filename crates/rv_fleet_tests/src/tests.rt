@@ -2,10 +2,10 @@
 //! which is the last cell.
 ghost use Rattle.std.specs.Prelude.{◌<◌, ◌≤◌, IfOk, None};
 ghost use Rattle.std.specs.List.Sorted.{IsStrictlyIncreasing};
-ghost use Rattle.rv_fleet.specs.Choices.{AreJobPlaces};
+ghost use Rattle.rv_fleet.specs.Choices.{AreJobIndices};
 
 use rv_fleet::Row;
-use rv_jobs::{Plan, ReadError, Store, gather, marked_places, read_jobs};
+use rv_jobs::{Plan, ReadError, Store, gather, read_jobs, selected_indices};
 use samples::{agree, cell_of, file, has_lines};
 use std::alloc::{AllocError, Global};
 use std::sync::Wait;
@@ -106,11 +106,11 @@ fn crew_of(line: &str) -> (u32, u32)
 
 // The plan of a line, and the places of the jobs that are chosen of it.
 fn chosen(alloc: Global, line: &str) -> Result<(Plan, Vec<usize>), Fail>
-    ensures within { IfOk result (λ chosen. AreJobPlaces chosen.0 chosen.1.items) }
+    ensures within { IfOk result (λ chosen. AreJobIndices chosen.0 chosen.1.items) }
     ensures rising { IfOk result (λ chosen. IsStrictlyIncreasing chosen.1.items) }
 {
     let marks = marks_of(alloc, cell_of(line, 2))?;
-    let places = marked_places(alloc, marks.as_slice())?;
+    let places = selected_indices(alloc, marks.as_slice())?;
     let plan = plan_of(alloc, cell_of(line, 1))?;
     if marks.len() != plan.jobs() {
         return Err("a mark for each job".into());

@@ -2,7 +2,7 @@
 use Rattle.std.specs.Prelude.{◌≡◌, ◌⊎◌, ◌+◌, ◌<◌, ◌==◌, ℕ, Bool, List, None, Some, Option, false, is_some, length, slice_index_or, true}
 use Rattle.std.specs.Io.KnownBytes.{Appends}
 use Rattle.rv_gdb.specs.Conversing.{IsChunkRead}
-use Rattle.rv_session.specs.Heard.{IsByteFed, IsFed, IsWorked, is_interrupted}
+use Rattle.rv_session.specs.Incoming.{IsByteFed, IsFed, IsWorked, is_interrupted}
 use Rattle.rv_session.specs.declared.session.Session.{Session}
 
 -- what the session answers to a byte went out

@@ -1,7 +1,7 @@
 -- What gdb sends, and what it is answered.
 use Rattle.std.specs.Prelude.{◌≡◌, ◌≤◌, ◌++◌, ◌⊎◌, ℕ, Bool, List, [], None, Option, false, length, true}
 use Rattle.std.specs.Io.KnownBytes.{Appends, Consumes, IsAtEnd}
-use Rattle.rv_session.specs.Heard.{IsFed, is_interrupted}
+use Rattle.rv_session.specs.Incoming.{IsFed, is_interrupted}
 use Rattle.rv_session.specs.declared.session.Session.{Session}
 
 -- the most bytes of a read

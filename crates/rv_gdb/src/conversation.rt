@@ -5,10 +5,10 @@ ghost use Rattle.std.specs.Io.KnownBytes.{Appends};
 ghost use Rattle.rv_base.specs.Counts.{one_more};
 ghost use Rattle.rv_gdb.specs.Conversing.{IsChunkRead, IsConversed, IsEnded};
 ghost use Rattle.rv_gdb.specs.Chunks.{IsByteAnswered, IsBytePut, IsChunkAnswered, IsMovePut};
-ghost use Rattle.rv_session.specs.Heard.{is_interrupted};
+ghost use Rattle.rv_session.specs.Incoming.{is_interrupted};
 ghost use Rattle.rv_session.specs.Sessions.{IsSameRun, MayAsk};
 
-use crate::ctrl_c::{CTRL_C, Coming, Raised, Unraised};
+use crate::ctrl_c::{CTRL_C, Raised, SharedInterrupt, Unraised};
 use crate::reads::{check_raised, read_ahead, read_chunk};
 use rv_base::{Sink, put_all};
 use rv_history::Interrupt;
@@ -20,22 +20,22 @@ use std::thread::{Threads, join_mut};
 
 /// Why a session was broken off.
 #[derive(Clone, Copy, Debug, PartialEq, Eq)]
-pub enum Broken {
+pub enum SessionError {
     /// A growth was refused.
     OutOfMemory,
     /// A read failed, for this reason.
-    Unread(ErrorKind),
+    UnreadPath(ErrorKind),
     /// A put failed.
     Unput,
 }
 
-impl From<AllocError> for Broken {
-    ghost use Rattle.rv_gdb.specs.declared.conversation.Broken.TheVariants.{OutOfMemory};
+impl From<AllocError> for SessionError {
+    ghost use Rattle.rv_gdb.specs.declared.conversation.SessionError.TheVariants.{OutOfMemory};
 
     ghost from_gives = { λ _ error. error ≡ OutOfMemory };
 
-    fn from(_: AllocError) -> Broken {
-        Broken::OutOfMemory
+    fn from(_: AllocError) -> SessionError {
+        SessionError::OutOfMemory
     }
 }
 
@@ -44,7 +44,7 @@ const NO_MEMORY: &str = "$E.out of memory#79";
 
 /// The means of a conversation.
 #[derive(Drop)]
-pub struct Means<'a, R, E> {
+pub struct SessionContext<'a, R, E> {
     pub rt: &'a R,
     pub alloc: Global,
     /// What is said at the end of the session's run.
@@ -54,19 +54,19 @@ pub struct Means<'a, R, E> {
 /// Hears the bytes of a reader, and puts what the session answers to them, until gdb ends the session or the reader has no more. No
 /// read begins once the session is over. While a move is under way that nothing waits behind, another thread reads on: only 0x03 breaks
 /// the move off, or the end of the bytes.
-pub fn converse<R: Threads, E: EndText, I: Read + Send, O: Sink>(
-    means: &Means<'_, R, E>,
+pub fn serve<R: Threads, E: EndText, I: Read + Send, O: Sink>(
+    means: &SessionContext<'_, R, E>,
     session: &mut Session,
     input: &mut I,
     out: &mut O,
-) -> Result<(), Broken>
+) -> Result<(), SessionError>
     requires asked { session.old.asked ≡ None }
     requires of_run { E.start means.now.end.now ≡ session.old.history.start }
     ensures heard { OnOk result (IsConversed (E.end_text means.now.end.now) session.old (I.remaining input.old)
         (I.remaining input.new) (O.taken out.old) (O.taken out.new) session.new) }
     ensures ended { OnOk result (IsEnded session.new (I.remaining input.new)) }
-    ensures failed { IfErr result (λ broken. broken ≡ Broken.Unput → O.failed out.new ≡ one_more (O.failed out.old)) }
-    ensures unfailed { IfErr result (λ broken. broken ≢ Broken.Unput → O.failed out.new ≡ O.failed out.old) }
+    ensures failed { IfErr result (λ broken. broken ≡ SessionError.Unput → O.failed out.new ≡ one_more (O.failed out.old)) }
+    ensures unfailed { IfErr result (λ broken. broken ≢ SessionError.Unput → O.failed out.new ≡ O.failed out.old) }
     ensures counted { OnOk result (O.failed out.new ≡ O.failed out.old) }
 {
     if session.is_over() {
@@ -83,25 +83,25 @@ pub fn converse<R: Threads, E: EndText, I: Read + Send, O: Sink>(
         }
     }
     // So many reads are never done.
-    Err(Broken::Unread(ErrorKind::TimedOut))
+    Err(SessionError::UnreadPath(ErrorKind::TimedOut))
 }
 
 // Answers the bytes of a read, and reads once more unless the session is over then.
 fn answer_chunk<R: Threads, E: EndText, I: Read + Send, O: Sink>(
-    means: &Means<'_, R, E>,
+    means: &SessionContext<'_, R, E>,
     session: &mut Session,
     chunk: &[u8],
     input: &mut I,
     out: &mut O,
-) -> Result<Option<Vec<u8>>, Broken>
+) -> Result<Option<Vec<u8>>, SessionError>
     requires asked { session.old.asked ≡ None }
     requires of_run { E.start means.now.end.now ≡ session.old.history.start }
     ensures answered { IfOk result (λ next. IsChunkAnswered (E.end_text means.now.end.now) session.old chunk.now
         (I.remaining input.old) (I.remaining input.new) (O.taken out.old) (O.taken out.new)
         (option_map (λ bytes. bytes.items) next) session.new) }
     ensures run { OnOk result (IsSameRun session.old session.new) }
-    ensures failed { IfErr result (λ broken. broken ≡ Broken.Unput → O.failed out.new ≡ one_more (O.failed out.old)) }
-    ensures unfailed { IfErr result (λ broken. broken ≢ Broken.Unput → O.failed out.new ≡ O.failed out.old) }
+    ensures failed { IfErr result (λ broken. broken ≡ SessionError.Unput → O.failed out.new ≡ one_more (O.failed out.old)) }
+    ensures unfailed { IfErr result (λ broken. broken ≢ SessionError.Unput → O.failed out.new ≡ O.failed out.old) }
     ensures counted { OnOk result (O.failed out.new ≡ O.failed out.old) }
 {
     for index in 0..chunk.len() {
@@ -117,12 +117,12 @@ fn answer_chunk<R: Threads, E: EndText, I: Read + Send, O: Sink>(
 
 // Answers a byte of a chunk, and makes the move that it asks for if another byte waits behind it. It says whether a move waits.
 fn answer_byte<R, E: EndText, O: Sink>(
-    means: &Means<'_, R, E>,
+    means: &SessionContext<'_, R, E>,
     session: &mut Session,
     chunk: &[u8],
     index: usize,
     out: &mut O,
-) -> Result<bool, Broken>
+) -> Result<bool, SessionError>
     requires within { index < length chunk.now }
     requires asked { session.old.asked ≡ None }
     requires of_run { E.start means.now.end.now ≡ session.old.history.start }
@@ -130,8 +130,8 @@ fn answer_byte<R, E: EndText, O: Sink>(
         (O.taken out.old) (O.taken out.new) session.new) }
     ensures not_over { OnOk result (MayAsk session.new) }
     ensures run { OnOk result (IsSameRun session.old session.new) }
-    ensures failed { IfErr result (λ broken. broken ≡ Broken.Unput → O.failed out.new ≡ one_more (O.failed out.old)) }
-    ensures unfailed { IfErr result (λ broken. broken ≢ Broken.Unput → O.failed out.new ≡ O.failed out.old) }
+    ensures failed { IfErr result (λ broken. broken ≡ SessionError.Unput → O.failed out.new ≡ one_more (O.failed out.old)) }
+    ensures unfailed { IfErr result (λ broken. broken ≢ SessionError.Unput → O.failed out.new ≡ O.failed out.old) }
     ensures counted { OnOk result (O.failed out.new ≡ O.failed out.old) }
 {
     put_answer(means.alloc, session, chunk[index], out)?;
@@ -147,18 +147,18 @@ fn answer_byte<R, E: EndText, O: Sink>(
 
 // Makes the move behind which a byte waits: 0x03 breaks it off.
 fn put_move_before<R, E: EndText, O: Sink>(
-    means: &Means<'_, R, E>,
+    means: &SessionContext<'_, R, E>,
     session: &mut Session,
     behind: u8,
     out: &mut O,
-) -> Result<(), Broken>
+) -> Result<(), SessionError>
     requires asked { is_some session.old.asked ≡ true }
     requires of_run { E.start means.now.end.now ≡ session.old.history.start }
     ensures moved { OnOk result (IsMovePut (E.end_text means.now.end.now) (behind == 3) session.old (O.taken out.old)
         (O.taken out.new) session.new) }
     ensures run { OnOk result (IsSameRun session.old session.new) }
-    ensures failed { IfErr result (λ broken. broken ≡ Broken.Unput → O.failed out.new ≡ one_more (O.failed out.old)) }
-    ensures unfailed { IfErr result (λ broken. broken ≢ Broken.Unput → O.failed out.new ≡ O.failed out.old) }
+    ensures failed { IfErr result (λ broken. broken ≡ SessionError.Unput → O.failed out.new ≡ one_more (O.failed out.old)) }
+    ensures unfailed { IfErr result (λ broken. broken ≢ SessionError.Unput → O.failed out.new ≡ O.failed out.old) }
     ensures counted { OnOk result (O.failed out.new ≡ O.failed out.old) }
 {
     if behind == CTRL_C {
@@ -174,33 +174,33 @@ fn put_answer<O: Sink>(
     session: &mut Session,
     byte: u8,
     out: &mut O,
-) -> Result<(), Broken>
+) -> Result<(), SessionError>
     requires { session.old.asked ≡ None }
     ensures answered { OnOk result (IsBytePut session.old byte (O.taken out.old) (O.taken out.new) session.new) }
     ensures not_over { OnOk result (MayAsk session.new) }
     ensures run { OnOk result (IsSameRun session.old session.new) }
-    ensures failed { IfErr result (λ broken. broken ≡ Broken.Unput → O.failed out.new ≡ one_more (O.failed out.old)) }
-    ensures unfailed { IfErr result (λ broken. broken ≢ Broken.Unput → O.failed out.new ≡ O.failed out.old) }
+    ensures failed { IfErr result (λ broken. broken ≡ SessionError.Unput → O.failed out.new ≡ one_more (O.failed out.old)) }
+    ensures unfailed { IfErr result (λ broken. broken ≢ SessionError.Unput → O.failed out.new ≡ O.failed out.old) }
     ensures counted { OnOk result (O.failed out.new ≡ O.failed out.old) }
 {
-    let told = session.hear(alloc, byte)?;
+    let told = session.receive(alloc, byte)?;
     put_told(out, told.as_slice())
 }
 
 // Makes the move that is asked for, and puts what the session says of it.
 fn put_move<R, E: EndText, J: Interrupt, O: Sink>(
-    means: &Means<'_, R, E>,
+    means: &SessionContext<'_, R, E>,
     session: &mut Session,
     interrupt: &mut J,
     out: &mut O,
-) -> Result<(), Broken>
+) -> Result<(), SessionError>
     requires asked { is_some session.old.asked ≡ true }
     requires of_run { E.start means.now.end.now ≡ session.old.history.start }
     ensures moved { OnOk result (IsMovePut (E.end_text means.now.end.now) (J.was_raised interrupt.new) session.old
         (O.taken out.old) (O.taken out.new) session.new) }
     ensures run { OnOk result (IsSameRun session.old session.new) }
-    ensures failed { IfErr result (λ broken. broken ≡ Broken.Unput → O.failed out.new ≡ one_more (O.failed out.old)) }
-    ensures unfailed { IfErr result (λ broken. broken ≢ Broken.Unput → O.failed out.new ≡ O.failed out.old) }
+    ensures failed { IfErr result (λ broken. broken ≡ SessionError.Unput → O.failed out.new ≡ one_more (O.failed out.old)) }
+    ensures unfailed { IfErr result (λ broken. broken ≢ SessionError.Unput → O.failed out.new ≡ O.failed out.old) }
     ensures counted { OnOk result (O.failed out.new ≡ O.failed out.old) }
 {
     match session.work(means.alloc, means.end, interrupt) {
@@ -213,33 +213,33 @@ fn put_move<R, E: EndText, J: Interrupt, O: Sink>(
     }
 }
 
-fn put_told<O: Sink>(out: &mut O, told: &[u8]) -> Result<(), Broken>
+fn put_told<O: Sink>(out: &mut O, told: &[u8]) -> Result<(), SessionError>
     ensures put { OnOk result (Appends (O.taken out.old) (O.taken out.new) told.now) }
-    ensures failed { IfErr result (λ broken. broken ≡ Broken.Unput → O.failed out.new ≡ one_more (O.failed out.old)) }
-    ensures unfailed { IfErr result (λ broken. broken ≢ Broken.Unput → O.failed out.new ≡ O.failed out.old) }
+    ensures failed { IfErr result (λ broken. broken ≡ SessionError.Unput → O.failed out.new ≡ one_more (O.failed out.old)) }
+    ensures unfailed { IfErr result (λ broken. broken ≢ SessionError.Unput → O.failed out.new ≡ O.failed out.old) }
     ensures counted { OnOk result (O.failed out.new ≡ O.failed out.old) }
 {
     match put_all(out, told) {
         Ok(()) => Ok(()),
-        Err(_) => Err(Broken::Unput),
+        Err(_) => Err(SessionError::Unput),
     }
 }
 
 // Makes the move while another thread reads once.
 fn move_while_reading<R: Threads, E: EndText, I: Read + Send, O: Sink>(
-    means: &Means<'_, R, E>,
+    means: &SessionContext<'_, R, E>,
     session: &mut Session,
     input: &mut I,
     out: &mut O,
-) -> Result<Vec<u8>, Broken>
+) -> Result<Vec<u8>, SessionError>
     requires asked { is_some session.old.asked ≡ true }
     requires of_run { E.start means.now.end.now ≡ session.old.history.start }
     ensures read { IfOk result (λ chunk. IsChunkRead (I.remaining input.old) (I.remaining input.new) chunk.items) }
     ensures moved { IfOk result (λ chunk. IsMovePut (E.end_text means.now.end.now) (is_interrupted chunk.items true)
         session.old (O.taken out.old) (O.taken out.new) session.new) }
     ensures run { OnOk result (IsSameRun session.old session.new) }
-    ensures failed { IfErr result (λ broken. broken ≡ Broken.Unput → O.failed out.new ≡ one_more (O.failed out.old)) }
-    ensures unfailed { IfErr result (λ broken. broken ≢ Broken.Unput → O.failed out.new ≡ O.failed out.old) }
+    ensures failed { IfErr result (λ broken. broken ≡ SessionError.Unput → O.failed out.new ≡ one_more (O.failed out.old)) }
+    ensures unfailed { IfErr result (λ broken. broken ≢ SessionError.Unput → O.failed out.new ≡ O.failed out.old) }
     ensures counted { OnOk result (O.failed out.new ≡ O.failed out.old) }
 {
     let raised = AtomicBool::new(false);
@@ -248,24 +248,24 @@ fn move_while_reading<R: Threads, E: EndText, I: Read + Send, O: Sink>(
 
 // Makes the move while another thread reads once, which raises an interrupt where the move is to be broken off.
 fn move_beside_reader<R: Threads, E: EndText, I: Read + Send, O: Sink>(
-    means: &Means<'_, R, E>,
+    means: &SessionContext<'_, R, E>,
     session: &mut Session,
     input: &mut I,
     out: &mut O,
     raised: &AtomicBool,
-) -> Result<Vec<u8>, Broken>
+) -> Result<Vec<u8>, SessionError>
     requires asked { is_some session.old.asked ≡ true }
     requires of_run { E.start means.now.end.now ≡ session.old.history.start }
     ensures read { IfOk result (λ chunk. IsChunkRead (I.remaining input.old) (I.remaining input.new) chunk.items) }
     ensures moved { IfOk result (λ chunk. IsMovePut (E.end_text means.now.end.now) (is_interrupted chunk.items true)
         session.old (O.taken out.old) (O.taken out.new) session.new) }
     ensures run { OnOk result (IsSameRun session.old session.new) }
-    ensures failed { IfErr result (λ broken. broken ≡ Broken.Unput → O.failed out.new ≡ one_more (O.failed out.old)) }
-    ensures unfailed { IfErr result (λ broken. broken ≢ Broken.Unput → O.failed out.new ≡ O.failed out.old) }
+    ensures failed { IfErr result (λ broken. broken ≡ SessionError.Unput → O.failed out.new ≡ one_more (O.failed out.old)) }
+    ensures unfailed { IfErr result (λ broken. broken ≢ SessionError.Unput → O.failed out.new ≡ O.failed out.old) }
     ensures counted { OnOk result (O.failed out.new ≡ O.failed out.old) }
 {
     let alloc = means.alloc;
-    let mut coming = Coming {
+    let mut coming = SharedInterrupt {
         raised,
         was_seen: false,
     };

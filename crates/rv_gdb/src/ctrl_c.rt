@@ -37,13 +37,13 @@ impl Interrupt for Unraised {
 
 /// An interrupt that another thread raises.
 #[derive(Drop)]
-pub(crate) struct Coming<'a> {
+pub(crate) struct SharedInterrupt<'a> {
     pub raised: &'a AtomicBool,
     /// Whether it was seen.
     pub was_seen: bool,
 }
 
-impl Interrupt for Coming<'_> {
+impl Interrupt for SharedInterrupt<'_> {
     ghost was_raised = { λ coming. coming.was_seen };
 
     fn is_raised(&mut self) -> bool {

@@ -2,9 +2,9 @@
 
 ghost use Rattle.std.specs.Prelude.{◌≡◌, ◌≢◌, IfErr, IfOk, OnOk, true};
 ghost use Rattle.rv_gdb.specs.Conversing.{IsChunkRead};
-ghost use Rattle.rv_session.specs.Heard.{is_interrupted};
+ghost use Rattle.rv_session.specs.Incoming.{is_interrupted};
 
-use crate::conversation::Broken;
+use crate::conversation::SessionError;
 use crate::ctrl_c::CTRL_C;
 use std::alloc::Global;
 use std::io::{ErrorKind, Read};
@@ -15,24 +15,24 @@ use std::sync::atomic::Ordering::SeqCst;
 const CHUNK: usize = 16_384;
 
 // Reads once: no byte is the end.
-pub(crate) fn read_chunk<I: Read>(alloc: Global, input: &mut I) -> Result<Vec<u8>, Broken>
+pub(crate) fn read_chunk<I: Read>(alloc: Global, input: &mut I) -> Result<Vec<u8>, SessionError>
     ensures read { IfOk result (λ chunk. IsChunkRead (I.remaining input.old) (I.remaining input.new) chunk.items) }
-    ensures failed { IfErr result (λ broken. broken ≢ Broken.Unput) }
+    ensures failed { IfErr result (λ broken. broken ≢ SessionError.Unput) }
 {
     let mut buffer = [0u8; CHUNK];
     match input.read(&mut buffer) {
         Ok(count) => Ok(Vec::from_slice(alloc, &buffer[..count])?),
-        Err(error) => Err(Broken::Unread(error.kind())),
+        Err(error) => Err(SessionError::UnreadPath(error.kind())),
     }
 }
 
 // The reading thread raises an interrupt for what it read alone. No clause says what another thread stored, so it is looked at.
-pub(crate) fn check_raised(was_seen: bool, chunk: &[u8]) -> Result<(), Broken>
+pub(crate) fn check_raised(was_seen: bool, chunk: &[u8]) -> Result<(), SessionError>
     ensures raised { OnOk result (was_seen ≡ true → is_interrupted chunk.now true ≡ true) }
-    ensures failed { IfErr result (λ broken. broken ≢ Broken.Unput) }
+    ensures failed { IfErr result (λ broken. broken ≢ SessionError.Unput) }
 {
     if was_seen && !is_interrupted(chunk) {
-        return Err(Broken::Unread(ErrorKind::Interrupted));
+        return Err(SessionError::UnreadPath(ErrorKind::Interrupted));
     }
     Ok(())
 }
@@ -42,9 +42,9 @@ pub(crate) fn read_ahead<I: Read>(
     alloc: Global,
     input: &mut I,
     raised: &AtomicBool,
-) -> Result<Vec<u8>, Broken>
+) -> Result<Vec<u8>, SessionError>
     ensures read { IfOk result (λ chunk. IsChunkRead (I.remaining input.old) (I.remaining input.new) chunk.items) }
-    ensures failed { IfErr result (λ broken. broken ≢ Broken.Unput) }
+    ensures failed { IfErr result (λ broken. broken ≢ SessionError.Unput) }
 {
     let read = read_chunk(alloc, input);
     let is_raised = match &read {

@@ -5,12 +5,12 @@ use Rattle.std.proofs.lemmas.Bool.{and_from, and_parts, cases_Bool, cond-true, c
 use Rattle.std.proofs.lemmas.List.Folds.{list_all-append}
 use Rattle.hex.specs.Hex.{encode_with, hex_digit_value, lower_digits}
 use Rattle.hex.proofs.HexLemmas.{IsDigits-lower_digits}
-use Rattle.rv_gdb_protocol.proofs.Hearing.{heard_in-append, heard_in-empty}
+use Rattle.rv_gdb_protocol.proofs.Hearing.{incoming_in-append, incoming_in-empty}
 use Rattle.rv_gdb_protocol.specs.Escapes.{begin_mark, changed, data_of, end_mark, escape, escaped, escaped_byte, has_meaning, is_escape}
-use Rattle.rv_gdb_protocol.specs.Frames.{Frame, between, frame_behind, heard_in, most_body}
+use Rattle.rv_gdb_protocol.specs.Frames.{Frame, between, frame_after, incoming_in, most_body}
 use Rattle.rv_gdb_protocol.specs.Readback.{CanBeSent, IsHeardAlone, IsReadBack, heard_in_pieces, is_plain, joined, sent, verdict_of}
 use Rattle.rv_gdb_protocol.specs.Sums.{framed, judged_sum, sum_digits, sum_of, sum_told}
-use Rattle.rv_gdb_protocol.specs.declared.frame.Heard.TheVariants.{Packet}
+use Rattle.rv_gdb_protocol.specs.declared.frame.Incoming.TheVariants.{Packet}
 use Rattle.rv_gdb_protocol.specs.declared.frame.Place.TheVariants as place
 use Rattle.rv_gdb_protocol.specs.declared.frame.Sum.TheVariants as verdict
 
@@ -21,53 +21,53 @@ in_body body = record { place = place.Body; body = body }
 
 -- a plain byte makes a body longer that has room for it
 body_longer : (front : List ℕ) (byte : ℕ) → is_plain byte ≡ true → length front < most_body
-    → frame_behind (in_body front) byte ≡ in_body (front ++ byte ∷ [])
+    → frame_after (in_body front) byte ≡ in_body (front ++ byte ∷ [])
 body_longer front byte plain room =
     let neither = or_parts (byte == begin_mark) (byte == end_mark) (not-true (byte == begin_mark || byte == end_mark) plain) in
     rw (neither.0, neither.1, lt-ltb (length front) most_body room) refl
 
 body_heard : (front text rest : List ℕ) → list_all is_plain text ≡ true → length front + length text ≤ most_body
-    → heard_in (in_body front) (text ++ rest) ≡ heard_in (in_body (front ++ text)) rest
-unfolding heard_in
-body_heard front [] rest plain fits = ap (λ (body : List ℕ). heard_in (in_body body) rest) (sym (append-nil front))
+    → incoming_in (in_body front) (text ++ rest) ≡ incoming_in (in_body (front ++ text)) rest
+unfolding incoming_in
+body_heard front [] rest plain fits = ap (λ (body : List ℕ). incoming_in (in_body body) rest) (sym (append-nil front))
 body_heard front (byte ∷ text) rest plain fits =
     let parts = and_parts (is_plain byte) (list_all is_plain text) plain in
     let grown : length (front ++ byte ∷ []) ≡ length front + 1 = length-append front (byte ∷ []) in
-    ap (λ (frame : Frame). heard_in frame (text ++ rest)) (body_longer front byte parts.0 (omega arith))
+    ap (λ (frame : Frame). incoming_in frame (text ++ rest)) (body_longer front byte parts.0 (omega arith))
     ∙ body_heard (front ++ byte ∷ []) text rest parts.1 (omega arith)
-    ∙ ap (λ (body : List ℕ). heard_in (in_body body) rest) (append_assoc front (byte ∷ []) text)
+    ∙ ap (λ (body : List ℕ). incoming_in (in_body body) rest) (append_assoc front (byte ∷ []) text)
 
 body_behind : (front text rest : List ℕ) → list_all is_plain text ≡ true → length front + length text ≤ most_body
-    → fold frame_behind (in_body front) (text ++ rest) ≡ fold frame_behind (in_body (front ++ text)) rest
-body_behind front [] rest plain fits = ap (λ (body : List ℕ). fold frame_behind (in_body body) rest) (sym (append-nil front))
+    → fold frame_after (in_body front) (text ++ rest) ≡ fold frame_after (in_body (front ++ text)) rest
+body_behind front [] rest plain fits = ap (λ (body : List ℕ). fold frame_after (in_body body) rest) (sym (append-nil front))
 body_behind front (byte ∷ text) rest plain fits =
     let parts = and_parts (is_plain byte) (list_all is_plain text) plain in
     let grown : length (front ++ byte ∷ []) ≡ length front + 1 = length-append front (byte ∷ []) in
-    ap (λ (frame : Frame). fold frame_behind frame (text ++ rest)) (body_longer front byte parts.0 (omega arith))
+    ap (λ (frame : Frame). fold frame_after frame (text ++ rest)) (body_longer front byte parts.0 (omega arith))
     ∙ body_behind (front ++ byte ∷ []) text rest parts.1 (omega arith)
-    ∙ ap (λ (body : List ℕ). fold frame_behind (in_body body) rest) (append_assoc front (byte ∷ []) text)
+    ∙ ap (λ (body : List ℕ). fold frame_after (in_body body) rest) (append_assoc front (byte ∷ []) text)
 
 sent_heard : (text : List ℕ) (high low : ℕ) → CanBeSent text
-    → heard_in between (sent text high low) ≡ Packet text (verdict_of text high low) ∷ []
-unfolding heard_in
+    → incoming_in between (sent text high low) ≡ Packet text (verdict_of text high low) ∷ []
+unfolding incoming_in
 sent_heard text high low can = body_heard [] text (end_mark ∷ high ∷ low ∷ []) can.plain (omega arith)
 
-sent_behind : (text : List ℕ) (high low : ℕ) → CanBeSent text → fold frame_behind between (sent text high low) ≡ between
+sent_behind : (text : List ℕ) (high low : ℕ) → CanBeSent text → fold frame_after between (sent text high low) ≡ between
 sent_behind text high low can = body_behind [] text (end_mark ∷ high ∷ low ∷ []) can.plain (omega arith)
 
 -- ---- pieces
 
-pieces_heard : (frame : Frame) (pieces : List (List ℕ)) → heard_in_pieces frame pieces ≡ heard_in frame (joined pieces)
+pieces_heard : (frame : Frame) (pieces : List (List ℕ)) → heard_in_pieces frame pieces ≡ incoming_in frame (joined pieces)
 unfolding heard_in_pieces
-pieces_heard frame [] = sym (heard_in-empty frame)
+pieces_heard frame [] = sym (incoming_in-empty frame)
 pieces_heard frame (piece ∷ rest) =
-    ap (λ more. heard_in frame piece ++ more) (pieces_heard (fold frame_behind frame piece) rest)
-    ∙ sym (heard_in-append frame piece (joined rest))
+    ap (λ more. incoming_in frame piece ++ more) (pieces_heard (fold frame_after frame piece) rest)
+    ∙ sym (incoming_in-append frame piece (joined rest))
 
 pub sent_alone : (text : List ℕ) (high low : ℕ) → CanBeSent text
     → IsHeardAlone (sent text high low) text (verdict_of text high low)
 sent_alone text high low can = record {
-  heard = λ pieces are. pieces_heard between pieces ∙ ap (heard_in between) are ∙ sent_heard text high low can;
+  heard = λ pieces are. pieces_heard between pieces ∙ ap (incoming_in between) are ∙ sent_heard text high low can;
   behind = sent_behind text high low can;
 }
 

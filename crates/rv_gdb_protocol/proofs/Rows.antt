@@ -11,8 +11,8 @@ use Rattle.rv_gdb_protocol.specs.declared.request.Move.{Move}
 use Rattle.rv_gdb_protocol.specs.declared.request.Range.{Range}
 use Rattle.rv_gdb_protocol.specs.declared.request.Request.{Request}
 use Rattle.rv_gdb_protocol.specs.declared.request.Request.TheVariants as ask
-use Rattle.rv_gdb_protocol.specs.declared.request.Trap.{Trap}
-use Rattle.rv_gdb_protocol.specs.declared.request.Trap.TheVariants as trap
+use Rattle.rv_gdb_protocol.specs.declared.request.Stoppoint.{Stoppoint}
+use Rattle.rv_gdb_protocol.specs.declared.request.Stoppoint.TheVariants as trap
 use Rattle.rv_gdb_protocol.specs.declared.request.Watched.{Watched}
 use Rattle.rv_gdb_protocol.specs.declared.request.Watched.TheVariants as watch
 use Rattle.rv_gdb_protocol.proofs.Marks.{before_mark, behind_mark, is_other, number_lacks, place_between, two_lack, two_numbers, until_all, until_mark, until_other}
@@ -24,19 +24,19 @@ watch_fits : (kind : Watched) (address count : ℕ) → 1 ≤ count → count �
 watch_fits kind address count some few within =
     rw (le-leb 1 count some, le-leb count 65536 few, le-leb (address + count) 4294967296 within) refl
 
-trap_read : (text : List ℕ) (place : Trap) → IsTrap text place → trap_at text ≡ Some (Some place)
+trap_read : (text : List ℕ) (place : Stoppoint) → IsTrap text place → trap_at text ≡ Some (Some place)
 unfolding behind watch_at
 trap_read text place (software fields address kind tells) = rw (two_numbers fields address kind tells) refl
 trap_read text place (hardware fields address kind tells) = rw (two_numbers fields address kind tells) refl
 trap_read text place (writes fields address count tells some few within) =
     rw (two_numbers fields address count tells)
-    (ap (λ (found : Option Trap). Some found) (watch_fits watch.Writes address count some few within))
+    (ap (λ (found : Option Stoppoint). Some found) (watch_fits watch.Writes address count some few within))
 trap_read text place (reads fields address count tells some few within) =
     rw (two_numbers fields address count tells)
-    (ap (λ (found : Option Trap). Some found) (watch_fits watch.Reads address count some few within))
+    (ap (λ (found : Option Stoppoint). Some found) (watch_fits watch.Reads address count some few within))
 trap_read text place (accesses fields address count tells some few within) =
     rw (two_numbers fields address count tells)
-    (ap (λ (found : Option Trap). Some found) (watch_fits watch.Accesses address count some few within))
+    (ap (λ (found : Option Stoppoint). Some found) (watch_fits watch.Accesses address count some few within))
 
 -- ---- bytes that are written
 

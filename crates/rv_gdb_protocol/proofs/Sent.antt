@@ -4,9 +4,9 @@ use Rattle.std.specs.List.{list_all}
 use Rattle.std.proofs.lemmas.Bool.{and_from, cond_both, eqb-true, ltb-true, not_from_false, or_from}
 use Rattle.std.proofs.lemmas.List.Folds.{list_all-append}
 use Rattle.rv_gdb_protocol.specs.Escapes.{begin_mark, end_mark}
-use Rattle.rv_gdb_protocol.specs.Frames.{Frame, behind_byte, between, frame_behind, heard_at, heard_at_place, longer_body, most_body, opened, passed_over, signal}
+use Rattle.rv_gdb_protocol.specs.Frames.{Frame, behind_byte, between, frame_after, incoming_at, heard_at_place, longer_body, most_body, opened, passed_over, signal}
 use Rattle.rv_gdb_protocol.specs.Readback.{CanBeSent, EndsWithSent, is_plain, sent, verdict_of}
-use Rattle.rv_gdb_protocol.specs.declared.frame.Heard.TheVariants as heard
+use Rattle.rv_gdb_protocol.specs.declared.frame.Incoming.TheVariants as heard
 use Rattle.rv_gdb_protocol.specs.declared.frame.Place.{Place}
 use Rattle.rv_gdb_protocol.specs.declared.frame.Place.TheVariants as place
 use Rattle.rv_gdb_protocol.specs.declared.frame.Sum.{Sum}
@@ -99,11 +99,11 @@ one_byte place.LongFirstDigit text bytes byte told = tt
 one_byte place.LongSecondDigit text bytes byte told = tt
 
 frames_tell : (front rest : List ℕ) (frame : Frame) → FrameTells front frame
-    → FrameTells (front ++ rest) (fold frame_behind frame rest)
+    → FrameTells (front ++ rest) (fold frame_after frame rest)
 frames_tell front [] frame told = rw (append-nil front) told
 frames_tell front (byte ∷ rest) frame told =
     rw (← append_assoc front (byte ∷ []) rest)
-    (frames_tell (front ++ byte ∷ []) rest (frame_behind frame byte) (one_byte frame.place frame.body front byte told))
+    (frames_tell (front ++ byte ∷ []) rest (frame_after frame byte) (one_byte frame.place frame.body front byte told))
 
 no_signal : (byte : ℕ) (text : List ℕ) (sum : Sum) → signal byte ≡ Some (heard.Packet text sum) → ⊥
 no_signal byte text sum is = grind arith
@@ -128,8 +128,8 @@ was_sent place.LongFirstDigit body bytes text byte sum told is = absurd (cc is)
 was_sent place.LongSecondDigit body bytes text byte sum told is = absurd (cc is)
 
 pub heard_was_sent : (bytes text : List ℕ) (byte : ℕ) (sum : Sum)
-    → heard_at (fold frame_behind between bytes) byte ≡ Some (heard.Packet text sum)
+    → incoming_at (fold frame_after between bytes) byte ≡ Some (heard.Packet text sum)
     → EndsWithSent (bytes ++ byte ∷ []) text sum
 heard_was_sent bytes text byte sum is =
-    let last : Frame = fold frame_behind between bytes in
+    let last : Frame = fold frame_after between bytes in
     was_sent last.place last.body bytes text byte sum (frames_tell [] bytes between tt) is

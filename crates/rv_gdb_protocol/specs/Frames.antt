@@ -3,8 +3,8 @@ use Rattle.std.specs.Prelude.{ℕ, List, [], ◌∷◌, ◌++◌, ◌==◌, Opti
 use Rattle.hex.specs.Hex.{hex_digit_value}
 use Rattle.rv_gdb_protocol.specs.Escapes.{begin_mark, end_mark}
 use Rattle.rv_gdb_protocol.specs.Sums.{judged_sum, sum_of, sum_told}
-use Rattle.rv_gdb_protocol.specs.declared.frame.Heard.{Heard}
-use Rattle.rv_gdb_protocol.specs.declared.frame.Heard.TheVariants as heard
+use Rattle.rv_gdb_protocol.specs.declared.frame.Incoming.{Incoming}
+use Rattle.rv_gdb_protocol.specs.declared.frame.Incoming.TheVariants as heard
 use Rattle.rv_gdb_protocol.specs.declared.frame.Place.{Place}
 use Rattle.rv_gdb_protocol.specs.declared.frame.Place.TheVariants as place
 
@@ -58,17 +58,17 @@ behind_byte place.LongBody frame byte =
 behind_byte place.LongFirstDigit frame byte = record { place = place.LongSecondDigit; body = frame.body }
 behind_byte place.LongSecondDigit frame byte = record { place = place.Between; body = frame.body }
 
-abbrev pub frame_behind : Frame → ℕ → Frame
-frame_behind frame byte = behind_byte frame.place frame byte
+abbrev pub frame_after : Frame → ℕ → Frame
+frame_after frame byte = behind_byte frame.place frame byte
 
 -- what a byte says between packets: 0x03 is Ctrl-C, `+` and `-` acknowledge
-abbrev pub signal : ℕ → Option Heard
+abbrev pub signal : ℕ → Option Incoming
 signal byte = if byte == 3 then Some heard.Interrupt
     else if byte == 43 then Some heard.Arrived
     else if byte == 45 then Some heard.Again else None
 
 -- a packet is heard at the second digit of its sum
-abbrev pub heard_at_place : Place → List ℕ → ℕ → Option Heard
+abbrev pub heard_at_place : Place → List ℕ → ℕ → Option Incoming
 heard_at_place place.Between body byte = signal byte
 heard_at_place place.Body body byte = None
 heard_at_place place.FirstDigit body byte = None
@@ -78,14 +78,14 @@ heard_at_place place.LongBody body byte = None
 heard_at_place place.LongFirstDigit body byte = None
 heard_at_place place.LongSecondDigit body byte = Some heard.TooLong
 
-abbrev pub heard_at : Frame → ℕ → Option Heard
-heard_at frame byte = heard_at_place frame.place frame.body byte
+abbrev pub incoming_at : Frame → ℕ → Option Incoming
+incoming_at frame byte = heard_at_place frame.place frame.body byte
 
-abbrev pub option_list : Option Heard → List Heard
+abbrev pub option_list : Option Incoming → List Incoming
 option_list None = []
 option_list (Some heard) = heard ∷ []
 
 -- what is heard in bytes, in their order
-unfoldable pub heard_in : Frame → List ℕ → List Heard
-heard_in frame [] = []
-heard_in frame (byte ∷ rest) = option_list (heard_at frame byte) ++ heard_in (frame_behind frame byte) rest
+unfoldable pub incoming_in : Frame → List ℕ → List Incoming
+incoming_in frame [] = []
+incoming_in frame (byte ∷ rest) = option_list (incoming_at frame byte) ++ incoming_in (frame_after frame byte) rest

@@ -8,8 +8,8 @@ use Rattle.rv_gdb_protocol.specs.declared.request.Move.TheVariants as move
 use Rattle.rv_gdb_protocol.specs.declared.request.Register.{Register}
 use Rattle.rv_gdb_protocol.specs.declared.request.Request.{Request}
 use Rattle.rv_gdb_protocol.specs.declared.request.Request.TheVariants as ask
-use Rattle.rv_gdb_protocol.specs.declared.request.Trap.{Trap}
-use Rattle.rv_gdb_protocol.specs.declared.request.Trap.TheVariants as trap
+use Rattle.rv_gdb_protocol.specs.declared.request.Stoppoint.{Stoppoint}
+use Rattle.rv_gdb_protocol.specs.declared.request.Stoppoint.TheVariants as trap
 use Rattle.rv_gdb_protocol.specs.declared.request.Watched.TheVariants as watch
 
 -- two texts with a mark between them
@@ -28,7 +28,7 @@ pub record TellsTwo (text : List ℕ) (first second : ℕ) : Type 0 where
   pub front_tells : number_of front ≡ Some first
   pub behind_tells : number_of behind ≡ Some second
 
-pub data IsTrap : List ℕ → Trap → Type 0 where
+pub data IsTrap : List ℕ → Stoppoint → Type 0 where
   software : (fields : List ℕ) (address kind : ℕ) → TellsTwo fields address kind → IsTrap (codes "0," ++ fields) (trap.Break address)
   hardware : (fields : List ℕ) (address kind : ℕ) → TellsTwo fields address kind → IsTrap (codes "1," ++ fields) (trap.Break address)
   writes : (fields : List ℕ) (address count : ℕ) → TellsTwo fields address count → 1 ≤ count → count ≤ 65536
@@ -76,8 +76,8 @@ pub data IsRequest : List ℕ → Request → Type 0 where
   write_data : (range data_text bytes : List ℕ) (address count : ℕ) → TellsTwo range address count
       → whole_data data_text ≡ Some bytes → length bytes ≡ count
       → IsRequest (codes "X" ++ parted colon range data_text) (ask.WriteMemory address bytes)
-  set_trap : (text : List ℕ) (place : Trap) → IsTrap text place → IsRequest (codes "Z" ++ text) (ask.Set place)
-  clear_trap : (text : List ℕ) (place : Trap) → IsTrap text place → IsRequest (codes "z" ++ text) (ask.Clear place)
+  set_trap : (text : List ℕ) (place : Stoppoint) → IsTrap text place → IsRequest (codes "Z" ++ text) (ask.Set place)
+  clear_trap : (text : List ℕ) (place : Stoppoint) → IsTrap text place → IsRequest (codes "z" ++ text) (ask.Clear place)
   actions : IsRequest (codes "vCont?") ask.Actions
   plain_move : (text : List ℕ) (step : Move) → IsMove text step → IsRequest text (ask.Move step)
   on_with_signal : (signal : List ℕ) (number : ℕ) → number_of signal ≡ Some number

@@ -3,10 +3,10 @@ use Rattle.std.specs.Prelude.{ℕ, List, [], ◌∷◌, ◌++◌, ◌≡◌, ◌
 use Rattle.std.specs.List.{flat_map, list_all}
 use Rattle.hex.specs.Hex.{hex_digit_value}
 use Rattle.rv_gdb_protocol.specs.Escapes.{begin_mark, data_of, end_mark, escaped, is_whole}
-use Rattle.rv_gdb_protocol.specs.Frames.{Frame, between, frame_behind, heard_in, most_body}
+use Rattle.rv_gdb_protocol.specs.Frames.{Frame, between, frame_after, incoming_in, most_body}
 use Rattle.rv_gdb_protocol.specs.Sums.{framed, judged_sum, sum_of, sum_told}
-use Rattle.rv_gdb_protocol.specs.declared.frame.Heard.{Heard}
-use Rattle.rv_gdb_protocol.specs.declared.frame.Heard.TheVariants.{Packet}
+use Rattle.rv_gdb_protocol.specs.declared.frame.Incoming.{Incoming}
+use Rattle.rv_gdb_protocol.specs.declared.frame.Incoming.TheVariants.{Packet}
 use Rattle.rv_gdb_protocol.specs.declared.frame.Sum.{Sum}
 use Rattle.rv_gdb_protocol.specs.declared.frame.Sum.TheVariants as verdict
 
@@ -28,10 +28,10 @@ abbrev pub verdict_of : List ℕ → ℕ → ℕ → Sum
 verdict_of text high low = judged_sum (sum_of text) (sum_told (hex_digit_value high) (hex_digit_value low))
 
 -- what is heard in bytes that come in pieces
-unfoldable pub heard_in_pieces : Frame → List (List ℕ) → List Heard
+unfoldable pub heard_in_pieces : Frame → List (List ℕ) → List Incoming
 heard_in_pieces frame [] = []
 heard_in_pieces frame (piece ∷ rest) =
-    heard_in frame piece ++ heard_in_pieces (fold frame_behind frame piece) rest
+    incoming_in frame piece ++ heard_in_pieces (fold frame_after frame piece) rest
 
 abbrev pub joined : List (List ℕ) → List ℕ
 joined pieces = flat_map (λ piece. piece) pieces
@@ -40,7 +40,7 @@ joined pieces = flat_map (λ piece. piece) pieces
 -- packets again.
 pub record IsHeardAlone (bytes text : List ℕ) (sum : Sum) : Type 0 where
   pub heard : (pieces : List (List ℕ)) → joined pieces ≡ bytes → heard_in_pieces between pieces ≡ Packet text sum ∷ []
-  pub behind : fold frame_behind between bytes ≡ between
+  pub behind : fold frame_after between bytes ≡ between
 
 -- a framed body is heard alone and with its sum, and the data of what is heard is the body
 pub record IsReadBack (body : List ℕ) : Type 0 where

@@ -13,8 +13,8 @@ use Rattle.rv_gdb_protocol.specs.declared.request.Register.{Register}
 use Rattle.rv_gdb_protocol.specs.declared.request.Register.TheVariants as register
 use Rattle.rv_gdb_protocol.specs.declared.request.Request.{Request}
 use Rattle.rv_gdb_protocol.specs.declared.request.Request.TheVariants as ask
-use Rattle.rv_gdb_protocol.specs.declared.request.Trap.{Trap}
-use Rattle.rv_gdb_protocol.specs.declared.request.Trap.TheVariants as trap
+use Rattle.rv_gdb_protocol.specs.declared.request.Stoppoint.{Stoppoint}
+use Rattle.rv_gdb_protocol.specs.declared.request.Stoppoint.TheVariants as trap
 use Rattle.rv_gdb_protocol.specs.declared.request.Watched.{Watched}
 use Rattle.rv_gdb_protocol.specs.declared.request.Watched.TheVariants as watch
 
@@ -155,26 +155,26 @@ trap_range text = do
   range_at fields
 
 -- 1 to 65,536 bytes, none of them past the end of the addresses
-abbrev pub watched : Watched → Range → Option Trap
+abbrev pub watched : Watched → Range → Option Stoppoint
 watched kind range = if (nat_le 1 range.count && nat_le range.count 65536) && nat_le (range.address + range.count) 4294967296
     then Some (trap.Watch kind range) else None
 
-abbrev pub break_at : List ℕ → Option Trap
+abbrev pub break_at : List ℕ → Option Stoppoint
 break_at text = option_map (λ (range : Range). trap.Break range.address) (trap_range text)
 
-unfoldable pub watch_at : Watched → List ℕ → Option Trap
+unfoldable pub watch_at : Watched → List ℕ → Option Stoppoint
 watch_at kind text = do
   range ← trap_range text
   watched kind range
 
 -- what a kind and its fields ask, if they are a watch of writes, 2, of reads, 3, or of both, 4
-abbrev pub kind_at : List ℕ → Option (Option Trap)
+abbrev pub kind_at : List ℕ → Option (Option Stoppoint)
 kind_at args = option_or (option_map (watch_at watch.Writes) (behind (codes "2") args))
     (option_or (option_map (watch_at watch.Reads) (behind (codes "3") args))
     (option_map (watch_at watch.Accesses) (behind (codes "4") args)))
 
 -- the same, or a break, 0 or 1
-abbrev pub trap_at : List ℕ → Option (Option Trap)
+abbrev pub trap_at : List ℕ → Option (Option Stoppoint)
 trap_at args = option_or (option_map break_at (behind (codes "0") args))
     (option_or (option_map break_at (behind (codes "1") args)) (kind_at args))
 
@@ -182,7 +182,7 @@ trap_at args = option_or (option_map break_at (behind (codes "0") args))
 abbrev pub other_kind : List ℕ → Request
 other_kind args = if length args == 0 then ask.Refused refusal.Malformed else ask.Refused refusal.Unknown
 
-unfoldable pub trap_of : (Trap → Request) → List ℕ → Request
+unfoldable pub trap_of : (Stoppoint → Request) → List ℕ → Request
 trap_of change args = unwrap_or (option_map (λ found. or_refused refusal.Malformed (option_map change found)) (trap_at args))
     (other_kind args)
 

@@ -4,7 +4,7 @@ ghost use Rattle.std.specs.Prelude.{◌≡◌};
 ghost use Rattle.rv_gdb_protocol.specs.Requests.{all_registers, break_at, description, elsewhere, image_path, kind_at, move_within, other_kind, part_at, plain_move, range_at, read_file, read_memory, read_register, register_at, register_of, register_write, signal_move, signalled, trap_at, trap_range, watch_at, watched, write_register, written};
 
 use crate::number::{behind, number_of, numbers_at, place_of, value_of};
-use crate::request::{Move, Part, Range, Refusal, Register, Request, Trap, Watched};
+use crate::request::{Move, Part, Range, Refusal, Register, Request, Stoppoint, Watched};
 use rv_base::Bytes;
 
 /// `target.xml:OFFSET,COUNT`
@@ -140,7 +140,7 @@ pub(crate) fn written(range: Range, bytes: Vec<u8>) -> Option<Request>
 }
 
 /// A kind and `,ADDRESS,COUNT`: a break, 0 or 1, or a watch of writes, 2, of reads, 3, or of both, 4.
-pub(crate) fn trap_at(args: &[u8]) -> Option<Option<Trap>>
+pub(crate) fn trap_at(args: &[u8]) -> Option<Option<Stoppoint>>
     ensures { result ≡ trap_at args.now }
 {
     if let Some(fields) = behind(b"0", args) {
@@ -152,7 +152,7 @@ pub(crate) fn trap_at(args: &[u8]) -> Option<Option<Trap>>
     kind_at(args)
 }
 
-fn kind_at(args: &[u8]) -> Option<Option<Trap>>
+fn kind_at(args: &[u8]) -> Option<Option<Stoppoint>>
     ensures { result ≡ kind_at args.now }
 {
     if let Some(fields) = behind(b"2", args) {
@@ -165,15 +165,15 @@ fn kind_at(args: &[u8]) -> Option<Option<Trap>>
     Some(watch_at(Watched::Accesses, fields))
 }
 
-fn break_at(text: &[u8]) -> Option<Trap>
+fn break_at(text: &[u8]) -> Option<Stoppoint>
     ensures { result ≡ break_at text.now }
 {
     let range = trap_range(text)?;
-    Some(Trap::Break(range.address))
+    Some(Stoppoint::Break(range.address))
 }
 
 #[tactic(auto, unfolding(crate::specs::Requests::watch_at))]
-fn watch_at(kind: Watched, text: &[u8]) -> Option<Trap>
+fn watch_at(kind: Watched, text: &[u8]) -> Option<Stoppoint>
     ensures { result ≡ watch_at kind text.now }
 {
     watched(kind, trap_range(text)?)
@@ -185,12 +185,12 @@ fn trap_range(text: &[u8]) -> Option<Range>
     range_at(behind(b",", text)?)
 }
 
-fn watched(kind: Watched, range: Range) -> Option<Trap>
+fn watched(kind: Watched, range: Range) -> Option<Stoppoint>
     ensures { result ≡ watched kind range }
 {
     let end = u64::from(range.address) + u64::from(range.count);
     if 1 <= range.count && range.count <= 65_536 && end <= 1 << 32 {
-        Some(Trap::Watch(kind, range))
+        Some(Stoppoint::Watch(kind, range))
     } else {
         None
     }

@@ -18,7 +18,7 @@ pub enum Sum {
 
 /// What is heard from gdb.
 #[derive(Debug, Drop)]
-pub enum Heard {
+pub enum Incoming {
     /// Ctrl-C: the byte 0x03 between packets.
     Interrupt,
     /// `+`: the last reply arrived.

@@ -2,7 +2,7 @@
 
 ghost use Rattle.std.specs.Prelude.{◌≡◌, ◌≤◌, ◌++◌, ◌∷◌, [], ℕ, List, fold, length};
 ghost use Rattle.rv_gdb_protocol.specs.Escapes.{escaped};
-ghost use Rattle.rv_gdb_protocol.specs.Frames.{Frame, between, frame_behind, heard_at, heard_in, most_body};
+ghost use Rattle.rv_gdb_protocol.specs.Frames.{Frame, between, frame_after, incoming_at, incoming_in, most_body};
 ghost use Rattle.rv_gdb_protocol.specs.Readback.{CanBeSent, EndsWithSent, IsHeardAlone, IsReadBack, sent, verdict_of};
 ghost use Rattle.rv_gdb_protocol.specs.Grammar.{IsRequest};
 ghost use Rattle.rv_gdb_protocol.specs.Packets.{request_of};
@@ -12,12 +12,12 @@ ghost use Rattle.rv_gdb_protocol.specs.declared.frame.Sum.{Sum};
 ghost use Rattle.rv_gdb_protocol.specs.declared.request.Part.{Part};
 ghost use Rattle.rv_gdb_protocol.specs.declared.request.Request.{Request};
 ghost use Rattle.rv_gdb_protocol.specs.declared.stop.Stop.{Stop};
-ghost use Rattle.rv_gdb_protocol.specs.declared.frame.Heard.TheVariants.{Packet};
+ghost use Rattle.rv_gdb_protocol.specs.declared.frame.Incoming.TheVariants.{Packet};
 
 /// What is heard in bytes does not depend on how they are cut.
 pub fn cuts_are_not_heard()
-    ensures { (frame : Frame) (front rest : List ℕ) → heard_in frame (front ++ rest)
-        ≡ heard_in frame front ++ heard_in (fold frame_behind frame front) rest }
+    ensures { (frame : Frame) (front rest : List ℕ) → incoming_in frame (front ++ rest)
+        ≡ incoming_in frame front ++ incoming_in (fold frame_after frame front) rest }
 {}
 
 /// A framed body is heard alone and with its sum, and the data of what is heard is the body.
@@ -34,7 +34,7 @@ pub fn sent_texts_are_heard()
 /// A packet that is heard was sent: the bytes so far end with its text in a frame.
 pub fn heard_texts_were_sent()
     ensures { (bytes text : List ℕ) (byte : ℕ) (sum : Sum)
-        → heard_at (fold frame_behind between bytes) byte ≡ Some (Packet text sum)
+        → incoming_at (fold frame_after between bytes) byte ≡ Some (Packet text sum)
         → EndsWithSent (bytes ++ byte ∷ []) text sum }
 {}
 

@@ -1,6 +1,6 @@
 //! gdb's remote protocol, as bytes that come and bytes that go. Nothing here runs, reads a file or waits.
 //!
-//! A [`Reader`] takes bytes in any cuts and says what it heard ([`Heard`]): bodies with their sums, acknowledgements, Ctrl-C.
+//! A [`Reader`] takes bytes in any cuts and says what it heard ([`Incoming`]): bodies with their sums, acknowledgements, Ctrl-C.
 //! [`push_frame`] frames a body. The other functions `push_..` append the bodies of replies.
 #![tactic(auto)]
 
@@ -20,7 +20,7 @@ mod sum;
 mod target;
 
 pub use escapes::{push_data, push_escaped};
-pub use frame::{Heard, Sum, push_frame};
+pub use frame::{Incoming, Sum, push_frame};
 pub use law::{
     cuts_are_not_heard, framed_bodies_are_read_back, heard_texts_were_sent, packets_are_read,
     parts_fit, sent_texts_are_heard, stops_tell_the_ending,
@@ -29,6 +29,6 @@ pub use parse::parse_request;
 pub use reader::Reader;
 pub use registers::{push_memory, push_printed, push_register, push_registers};
 pub use reply::{fixed_reply, push_part, refusal_text};
-pub use request::{Move, Part, Range, Refusal, Register, Request, Trap, Watched};
+pub use request::{Move, Part, Range, Refusal, Register, Request, Stoppoint, Watched};
 pub use stop::{Stop, push_stop};
 pub use target::TARGET;

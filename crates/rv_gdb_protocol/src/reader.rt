@@ -2,7 +2,7 @@
 
 ghost use Rattle.std.specs.Prelude.{◌≡◌, ◌≤◌, IfOk, OnErr, OnOk, Some, fold, length, take};
 
-use crate::frame::{Heard, Place};
+use crate::frame::{Incoming, Place};
 use crate::sum::judged_sum;
 use rv_base::Bytes;
 use std::alloc::{AllocError, Global};
@@ -31,7 +31,7 @@ impl Model for Reader {
 }
 
 impl Reader {
-    ghost use Rattle.rv_gdb_protocol.specs.Frames.{between, frame_behind, heard_at, heard_in, opened, option_list};
+    ghost use Rattle.rv_gdb_protocol.specs.Frames.{between, frame_after, incoming_at, incoming_in, opened, option_list};
     ghost use Rattle.rv_gdb_protocol.specs.declared.frame.Place.TheVariants as place;
 
     /// Between packets.
@@ -45,14 +45,14 @@ impl Reader {
     }
 
     /// Takes bytes up to and with the first at which something is heard: how many, and what. The rest is for the next call.
-    pub fn hear(
+    pub fn receive(
         &mut self,
         alloc: Global,
         bytes: &[u8],
-    ) -> Result<(usize, Option<Heard>), AllocError>
+    ) -> Result<(usize, Option<Incoming>), AllocError>
         ensures within { IfOk result (λ heard. heard.0 ≤ length bytes.now) }
-        ensures heard { IfOk result (λ heard. heard_in self.old (take heard.0 bytes.now) ≡ option_list heard.1) }
-        ensures frame { IfOk result (λ heard. self.new ≡ fold frame_behind self.old (take heard.0 bytes.now)) }
+        ensures heard { IfOk result (λ heard. incoming_in self.old (take heard.0 bytes.now) ≡ option_list heard.1) }
+        ensures frame { IfOk result (λ heard. self.new ≡ fold frame_after self.old (take heard.0 bytes.now)) }
     {
         for (at, byte) in bytes.iter().enumerate() {
             if let Some(heard) = self.take(alloc, *byte)? {
@@ -63,9 +63,9 @@ impl Reader {
     }
 
     /// Takes a byte, and says what is heard at it.
-    pub fn take(&mut self, alloc: Global, byte: u8) -> Result<Option<Heard>, AllocError>
-        ensures heard { IfOk result (λ heard. heard ≡ heard_at self.old byte) }
-        ensures frame { OnOk result (self.new ≡ frame_behind self.old byte) }
+    pub fn take(&mut self, alloc: Global, byte: u8) -> Result<Option<Incoming>, AllocError>
+        ensures heard { IfOk result (λ heard. heard ≡ incoming_at self.old byte) }
+        ensures frame { OnOk result (self.new ≡ frame_after self.old byte) }
         ensures same { OnErr result (self.new ≡ self.old) }
     {
         match self.place {
@@ -89,32 +89,32 @@ impl Reader {
             }
             Place::LongSecondDigit => {
                 self.place = Place::Between;
-                Ok(Some(Heard::TooLong))
+                Ok(Some(Incoming::TooLong))
             }
         }
     }
 
     // A byte between packets. Noise there is dropped.
-    fn take_between(&mut self, byte: u8) -> Option<Heard>
+    fn take_between(&mut self, byte: u8) -> Option<Incoming>
         requires { self.old.place ≡ place.Between }
-        ensures heard { result ≡ heard_at self.old byte }
-        ensures frame { self.new ≡ frame_behind self.old byte }
+        ensures heard { result ≡ incoming_at self.old byte }
+        ensures frame { self.new ≡ frame_after self.old byte }
     {
         match byte {
             b'$' => {
                 self.open();
                 None
             }
-            0x03 => Some(Heard::Interrupt),
-            b'+' => Some(Heard::Arrived),
-            b'-' => Some(Heard::Again),
+            0x03 => Some(Incoming::Interrupt),
+            b'+' => Some(Incoming::Arrived),
+            b'-' => Some(Incoming::Again),
             _ => None,
         }
     }
 
     fn take_of_body(&mut self, byte: u8) -> Result<(), AllocError>
         requires { self.old.place ≡ place.Body }
-        ensures frame { OnOk result (self.new ≡ frame_behind self.old byte) }
+        ensures frame { OnOk result (self.new ≡ frame_after self.old byte) }
         ensures same { OnErr result (self.new ≡ self.old) }
     {
         match byte {
@@ -132,7 +132,7 @@ impl Reader {
     // A byte of a body that is too long to be kept.
     fn pass_over(&mut self, byte: u8)
         requires { self.old.place ≡ place.LongBody }
-        ensures { self.new ≡ frame_behind self.old byte }
+        ensures { self.new ≡ frame_after self.old byte }
     {
         match byte {
             b'$' => self.open(),
@@ -149,14 +149,14 @@ impl Reader {
     }
 
     // The packet ends on the second digit of its sum.
-    fn finish(&mut self, alloc: Global, high: u8, low: u8) -> Heard
+    fn finish(&mut self, alloc: Global, high: u8, low: u8) -> Incoming
         requires { self.old.place ≡ place.SecondDigit high }
-        ensures heard { Some result ≡ heard_at self.old low }
-        ensures frame { self.new ≡ frame_behind self.old low }
+        ensures heard { Some result ≡ incoming_at self.old low }
+        ensures frame { self.new ≡ frame_after self.old low }
     {
         self.place = Place::Between;
         let body = mem::replace(&mut self.body, Vec::new(alloc));
         let sum = judged_sum(body.as_slice(), high, low);
-        Heard::Packet(Bytes::new(body), sum)
+        Incoming::Packet(Bytes::new(body), sum)
     }
 }

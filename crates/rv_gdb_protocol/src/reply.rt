@@ -39,8 +39,8 @@ pub fn refusal_text(refusal: Refusal) -> &'static str
         Refusal::OtherAnnex => "E00",
         Refusal::OtherFile => "F-1,2",
         Refusal::Malformed => "E.malformed",
-        Refusal::WouldChange => "E.the run is what it is: the debugger does not change it",
-        Refusal::NotReached => "E.the run does not come there",
+        Refusal::WouldChange => "E.the run is read-only: the debugger cannot change it",
+        Refusal::NotReached => "E.the run does not reach that point",
         Refusal::TooManyTraps => "E.too many breakpoints",
         Refusal::TooLong => "E.packet too long",
     }

@@ -38,9 +38,9 @@ pub enum Request {
     /// `M` and `X`: the bytes for this address and those behind it.
     WriteMemory(u32, Bytes),
     /// `Z`
-    Set(Trap),
+    Set(Stoppoint),
     /// `z`
-    Clear(Trap),
+    Clear(Stoppoint),
     /// `vCont?`: which moves the stub knows.
     Actions,
     /// `vCont;`, `c`, `C`, `s`, `S`, `bc`, `bs`
@@ -107,7 +107,7 @@ pub enum Watched {
 
 /// Where a run is to stop.
 #[derive(Clone, Copy, Debug)]
-pub enum Trap {
+pub enum Stoppoint {
     /// In front of the instruction at this address.
     Break(u32),
     /// Where one of 1 to 65,536 bytes is met so; none of them is past the end of the addresses.
@@ -140,9 +140,9 @@ pub enum Refusal {
     OtherFile,
     /// Arguments of another form: `E.malformed`.
     Malformed,
-    /// What would change the run: `E.the run is what it is: the debugger does not change it`.
+    /// What would change the run: `E.the run is read-only: the debugger cannot change it`.
     WouldChange,
-    /// A seek to where the run does not come: `E.the run does not come there`.
+    /// A seek to where the run does not come: `E.the run does not reach that point`.
     NotReached,
     /// More places to stop at than are kept: `E.too many breakpoints`.
     TooManyTraps,

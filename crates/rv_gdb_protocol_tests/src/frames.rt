@@ -1,5 +1,5 @@
 //! Frames: what is heard in bytes, in one piece and byte by byte, and bodies in their frames.
-use rv_gdb_protocol::{Heard, Reader, Sum, push_frame};
+use rv_gdb_protocol::{Incoming, Reader, Sum, push_frame};
 use samples::{agree, cell_of, has_lines};
 use std::alloc::{AllocError, Global};
 use std::test::Fail;
@@ -32,13 +32,13 @@ actions | vCont;c;C;s;S;r | $vCont;c;C;s;S;r#0f
 a register | f8000080 | $f8000080#c6
 ";
 
-fn push_told(text: &mut String, heard: &Heard) -> Result<(), Fail> {
+fn push_told(text: &mut String, heard: &Incoming) -> Result<(), Fail> {
     match heard {
-        Heard::Interrupt => text.push_str("^C")?,
-        Heard::Arrived => text.push_str("+")?,
-        Heard::Again => text.push_str("-")?,
-        Heard::TooLong => text.push_str("too long")?,
-        Heard::Packet(body, sum) => {
+        Incoming::Interrupt => text.push_str("^C")?,
+        Incoming::Arrived => text.push_str("+")?,
+        Incoming::Again => text.push_str("-")?,
+        Incoming::TooLong => text.push_str("too long")?,
+        Incoming::Packet(body, sum) => {
             if *sum == Sum::Wrong {
                 text.push_str("wrong ")?;
             }
@@ -57,7 +57,7 @@ fn told_in_pieces(alloc: Global, bytes: &[u8], length: usize) -> Result<String, 
     for piece in bytes.chunks(length.max(1)) {
         let mut rest = piece;
         for _ in 0..piece.len() {
-            let (taken, heard) = reader.hear(alloc, rest)?;
+            let (taken, heard) = reader.receive(alloc, rest)?;
             rest = &rest[taken..];
             if let Some(heard) = heard {
                 if !text.as_str().is_empty() {

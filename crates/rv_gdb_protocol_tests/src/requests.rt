@@ -105,9 +105,9 @@ vCont; | E.malformed
 vCont;x | E.malformed
 vCont;r1 | E.malformed
 vCont;C | E.malformed
-c80000000 | E.the run is what it is: the debugger does not change it
-s80000000 | E.the run is what it is: the debugger does not change it
-C05;80000000 | E.the run is what it is: the debugger does not change it
+c80000000 | E.the run is read-only: the debugger cannot change it
+s80000000 | E.the run is read-only: the debugger cannot change it
+C05;80000000 | E.the run is read-only: the debugger cannot change it
 cx | E.malformed
 C | E.malformed
 qXfer:features | 

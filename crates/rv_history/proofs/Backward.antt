@@ -5,13 +5,13 @@ use Rattle.rv_machine.specs.Run.{run_of, step_of}
 use Rattle.rv_machine.specs.State.{State}
 use Rattle.rv_trace.specs.Trace.{state_after}
 use Rattle.rv_trace.proofs.Public.{each_completes}
-use Rattle.rv_history.specs.declared.found.Arrival.{Arrival}
+use Rattle.rv_history.specs.declared.found.StopInfo.{StopInfo}
 use Rattle.rv_history.specs.declared.found.Found.{Found}
 use Rattle.rv_history.specs.declared.found.Found.TheVariants as found
 use Rattle.rv_history.specs.declared.stepping.Stepped.{Stepped}
 use Rattle.rv_history.specs.declared.stepping.Stepped.TheVariants as stepped
 use Rattle.rv_history.specs.declared.stops.Stops.{Stops}
-use Rattle.rv_history.specs.LastStop.{AreQuiet, IsLastOn, IsQuietAt, last_at, last_behind}
+use Rattle.rv_history.specs.LastStop.{AreQuiet, IsLastOn, IsQuietAt, last_at, last_stop_after}
 use Rattle.rv_history.specs.Moves.{GoesOnBack, IsChangeBefore, IsStepBefore, IsStopBefore, IsUnbroken, MeetsBack}
 use Rattle.rv_history.specs.Places.{IsBreakAt, IsChangeAt, IsReached, last_place}
 use Rattle.rv_history.specs.Stepping.{IsStepped}
@@ -20,7 +20,7 @@ use Rattle.rv_history.proofs.Reaching.{next_place}
 use Rattle.rv_history.proofs.Forward.{change_at, no_change_at}
 
 -- the stop before, as it is kept
-abbrev pub IsLastStop : Stops → ℕ → State → ℕ → Arrival → Type 0
+abbrev pub IsLastStop : Stops → ℕ → State → ℕ → StopInfo → Type 0
 IsLastStop stops budget start from last = IsStopBefore stops budget start from last.place last.found
 
 -- a change is behind one place alone
@@ -76,7 +76,7 @@ goes_there stops budget from start none = record {
 }
 
 -- behind a step that changes nothing, at whose place there is no breakpoint
-last_stays : (stops : Stops) (budget from : ℕ) (start : State) (last : Arrival) → (IsBreakAt stops start from → ⊥)
+last_stays : (stops : Stops) (budget from : ℕ) (start : State) (last : StopInfo) → (IsBreakAt stops start from → ⊥)
     → (IsChangeAt stops budget start from → ⊥) → IsUnbroken last.found → IsLastStop stops budget start from last
     → IsLastStop stops budget start (from + 1) last
 last_stays stops budget from start last absent none unbroken stop = record {
@@ -109,7 +109,7 @@ last_changes stops budget from start change = record {
 }
 
 -- before a step that is quiet nothing else comes to be the last stop
-last_stays_on : (stops : Stops) (budget begin from : ℕ) (start : State) (last : Option Arrival) → IsQuietAt stops budget start from
+last_stays_on : (stops : Stops) (budget begin from : ℕ) (start : State) (last : Option StopInfo) → IsQuietAt stops budget start from
     → IsLastOn stops budget start begin from last → IsLastOn stops budget start begin (from + 1) last
 last_stays_on stops budget begin from start None quiet stop = λ j low high. elim (cases_eq j from) [
   | inl here ↦ rw here quiet
@@ -119,7 +119,7 @@ last_stays_on stops budget begin from start (Some last) quiet stop =
     (last_stays stops budget from start last quiet.no_break quiet.no_change stop.1 stop.0, stop.1)
 
 -- with a breakpoint or without one
-last_quiet : (stops : Stops) (budget begin from : ℕ) (start s : State) (last : Option Arrival) (is : Bool) → IsReached start from s
+last_quiet : (stops : Stops) (budget begin from : ℕ) (start s : State) (last : Option StopInfo) (is : Bool) → IsReached start from s
     → is ≡ is_break stops s.pc → (IsChangeAt stops budget start from → ⊥) → IsLastOn stops budget start begin from last
     → IsLastOn stops budget start begin (from + 1) (last_at last from is)
 last_quiet stops budget begin from start s last true reached told none stop =
@@ -131,9 +131,9 @@ last_quiet stops budget begin from start s last false reached told none stop =
     }) stop
 
 -- behind a step of any kind
-pub last_more : (stops : Stops) (budget begin from : ℕ) (start s t : State) (last : Option Arrival) (is : Bool) (kind : Stepped)
+pub last_more : (stops : Stops) (budget begin from : ℕ) (start s t : State) (last : Option StopInfo) (is : Bool) (kind : Stepped)
     → IsReached start from s → from < last_place budget start → is ≡ is_break stops s.pc → IsStepped stops s t kind → from < budget
-    → IsLastOn stops budget start begin from last → IsLastOn stops budget start begin (from + 1) (last_behind last from is kind)
+    → IsLastOn stops budget start begin from last → IsLastOn stops budget start begin (from + 1) (last_stop_after last from is kind)
 last_more stops budget begin from start s t last is stepped.Changed reached goes told did within stop =
     (last_changes stops budget from start (change_at stops budget from start s t reached within did.0 did.1), λ same. cc same)
 last_more stops budget begin from start s t last is stepped.Quiet reached goes told did within stop =
@@ -144,7 +144,7 @@ last_more stops budget begin from start s t last is (stepped.Ended ending) reach
 -- ---- the parts of a search
 
 -- the last stop before a place is that before a later one, if the steps between them are quiet
-stays_over : (stops : Stops) (budget end more : ℕ) (start : State) (last : Arrival) → AreQuiet stops budget start end (end + more)
+stays_over : (stops : Stops) (budget end more : ℕ) (start : State) (last : StopInfo) → AreQuiet stops budget start end (end + more)
     → IsUnbroken last.found → IsLastStop stops budget start end last → IsLastStop stops budget start (end + more) last
 stays_over stops budget end zero start last quiet unbroken stop =
     subst (λ (k : ℕ). IsLastStop stops budget start k last) (sym (add-zero end)) stop
@@ -155,7 +155,7 @@ stays_over stops budget end (suc more) start last quiet unbroken stop =
     (last_stays stops budget (end + more) start last here.no_break here.no_change unbroken
     (stays_over stops budget end more start last (λ j low high. quiet j low (omega arith)) unbroken stop))
 
-pub last_before : (stops : Stops) (budget end from : ℕ) (start : State) (last : Arrival) → end ≤ from
+pub last_before : (stops : Stops) (budget end from : ℕ) (start : State) (last : StopInfo) → end ≤ from
     → AreQuiet stops budget start end from → IsUnbroken last.found → IsLastStop stops budget start end last
     → IsLastStop stops budget start from last
 last_before stops budget end from start last order quiet unbroken stop =

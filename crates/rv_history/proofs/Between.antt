@@ -4,8 +4,8 @@ use Rattle.std.specs.List.{list_any}
 use Rattle.std.specs.Prelude.{◌==◌, slice_index_or}
 use Rattle.std.proofs.lemmas.Bool.{and_right, cases_Bool, eqb-true}
 use Rattle.std.proofs.lemmas.List.Folds.{list_any_more}
-use Rattle.rv_machine.specs.KeptTable.{KeptInstrs}
-use Rattle.rv_machine.specs.Waking.{IsAwake, NoneWakes}
+use Rattle.rv_machine.specs.DecodeCache.{CachedInstrs}
+use Rattle.rv_machine.specs.Waking.{IsCached, NoneWakes}
 use Rattle.rv_machine.specs.declared.ending.Ending.{Ending}
 use Rattle.rv_machine.specs.declared.ending.Ending.TheVariants.{Budget}
 use Rattle.rv_machine.specs.Run.{Ran, one_step_more, run_of, step_of}
@@ -13,7 +13,7 @@ use Rattle.rv_machine.specs.State.{State}
 use Rattle.rv_trace.proofs.Public.{each_completes}
 use Rattle.rv_history.specs.declared.bounds.Bounds.{Bounds}
 use Rattle.rv_history.specs.declared.bounds.Bounds.TheVariants as bounds
-use Rattle.rv_history.specs.declared.found.Arrival.{Arrival}
+use Rattle.rv_history.specs.declared.found.StopInfo.{StopInfo}
 use Rattle.rv_history.specs.declared.stepping.Stepped.TheVariants as stepped
 use Rattle.rv_history.specs.declared.stops.Stops.{Stops}
 use Rattle.rv_history.specs.LastStop.{IsLastOn}
@@ -66,23 +66,23 @@ module _ (stops : Stops) (P : ℕ → Type 0) (start : State) (budget : ℕ)
 
 -- ---- breakpoints that sleep
 
-pub begins_at_none : (stops : Stops) (kept : KeptInstrs) (pc : ℕ) → (is_break stops pc ≡ true → IsAwake kept pc → ⊥) → IsAwake kept pc
+pub begins_at_none : (stops : Stops) (kept : CachedInstrs) (pc : ℕ) → (is_break stops pc ≡ true → IsCached kept pc → ⊥) → IsCached kept pc
     → is_break stops pc ≡ false
 begins_at_none stops kept pc asleep is = elim (cases_Bool (is_break stops pc)) [
   | inl breaks ↦ absurd (asleep breaks is)
   | inr none ↦ none
 ]
 
-pub asleep_more : (xs : List ℕ) (i d pc : ℕ) (old new : KeptInstrs) → i < length xs → NoneWakes old new
-    → (IsAwake new (slice_index_or xs i d) → ⊥) → (list_any (λ a. a == pc) (take i xs) ≡ true → IsAwake old pc → ⊥)
-    → list_any (λ a. a == pc) (take (i + 1) xs) ≡ true → IsAwake new pc → ⊥
+pub asleep_more : (xs : List ℕ) (i d pc : ℕ) (old new : CachedInstrs) → i < length xs → NoneWakes old new
+    → (IsCached new (slice_index_or xs i d) → ⊥) → (list_any (λ a. a == pc) (take i xs) ≡ true → IsCached old pc → ⊥)
+    → list_any (λ a. a == pc) (take (i + 1) xs) ≡ true → IsCached new pc → ⊥
 asleep_more xs i d pc old new low none here before found is =
     elim (cases_Bool (list_any (λ a. a == pc) (take i xs))) [
       | inl earlier ↦ before earlier (none pc is)
       | inr other ↦
           let this : (slice_index_or xs i d == pc) ≡ true =
           sym (ap (λ b. b || (slice_index_or xs i d == pc)) other) ∙ sym (list_any_more (λ a. a == pc) xs i d low) ∙ found in
-          here (subst (λ (a : ℕ). IsAwake new a) (sym (eqb-true (slice_index_or xs i d) pc this)) is)
+          here (subst (λ (a : ℕ). IsCached new a) (sym (eqb-true (slice_index_or xs i d) pc this)) is)
     ]
 
 -- ---- forwards
@@ -113,7 +113,7 @@ step_completes None end place start s t reached goes did = did
 step_completes (Some e) end place start s t reached goes did =
     let ok = ap step_of reached.same ∙ each_completes end place start goes in absurd (cc (sym did.0, ok))
 
-pub last_run : (stops : Stops) (budget begin place n : ℕ) (start s t : State) (last : Option Arrival) → AreUnwatched stops
+pub last_run : (stops : Stops) (budget begin place n : ℕ) (start s t : State) (last : Option StopInfo) → AreUnwatched stops
     → IsReached start place s → place + n ≤ last_place budget start → last_place budget start ≤ budget → Completes n s t
     → BeginsAtNone stops n s → IsLastOn stops budget start begin place last
     → IsLastOn stops budget start begin (place + n) last × IsReached start (place + n) t

@@ -7,7 +7,7 @@ use Rattle.std.proofs.lemmas.List.{at_drop_more}
 use Rattle.rv_memory.specs.Bus.{Contents}
 use Rattle.rv_machine.specs.State.{State}
 use Rattle.rv_history.specs.Stops.{first_differing, first_set_off, watch_bytes}
-use Rattle.rv_history.specs.declared.stops.SetOff.{SetOff}
+use Rattle.rv_history.specs.declared.stops.WatchHit.{WatchHit}
 use Rattle.rv_history.specs.declared.stops.Stops.{Stops}
 use Rattle.rv_history.specs.declared.stops.Watch.{Watch}
 
@@ -21,7 +21,7 @@ differing_at watches one other i watch within =
     at_drop_more (λ (rest : List Watch). first_differing rest one other) watches i watch within
 
 -- the states by other names
-pub set_off_in : {E : Type 0} (result : Result (Option SetOff) E) (stops : Stops) (one other here there : State)
+pub set_off_in : {E : Type 0} (result : Result (Option WatchHit) E) (stops : Stops) (one other here there : State)
     → one ≡ here → other ≡ there → IfOk result (λ found. found ≡ first_set_off stops one other)
     → IfOk result (λ found. found ≡ first_set_off stops here there)
 set_off_in result stops one other here there first second found =

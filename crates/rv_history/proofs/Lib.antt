@@ -2,7 +2,7 @@ mod Bytes
 mod Watched
 mod Reaching
 mod SingleSteps
-mod Standing
+mod CurrentVerdict
 mod Forward
 mod Ways
 mod Backward

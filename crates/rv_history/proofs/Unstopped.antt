@@ -15,13 +15,13 @@ use Rattle.rv_history.specs.declared.bounds.Bounds.{Bounds}
 use Rattle.rv_history.specs.declared.bounds.Bounds.TheVariants as bounds
 use Rattle.rv_history.specs.declared.found.Found.TheVariants as found
 use Rattle.rv_history.specs.declared.leg.Arrived.{Arrived}
-use Rattle.rv_history.specs.declared.leg.Leg.{Leg}
+use Rattle.rv_history.specs.declared.leg.ForwardMove.{ForwardMove}
 use Rattle.rv_history.specs.declared.machine_at.MachineAt.{MachineAt}
 use Rattle.rv_history.specs.declared.stops.Stops.{Stops}
 use Rattle.rv_history.specs.declared.stops.Watch.{Watch}
 use Rattle.rv_history.specs.declared.access.Access.{Access}
-use Rattle.rv_history.specs.declared.stops.SetOff.{SetOff}
-use Rattle.rv_history.specs.declared.stops.SetOff.TheVariants as set_off
+use Rattle.rv_history.specs.declared.stops.WatchHit.{WatchHit}
+use Rattle.rv_history.specs.declared.stops.WatchHit.TheVariants as set_off
 use Rattle.rv_history.specs.Accesses.{access_at}
 use Rattle.rv_history.specs.Kept.{IsAt}
 use Rattle.rv_history.specs.LastStop.{IsQuietAt}
@@ -44,7 +44,7 @@ pub nothing_touched : (stops : Stops) (access : Option Access) → (stops.reads 
     → touched_by stops access ≡ None
 nothing_touched stops None none = refl
 nothing_touched stops (Some access) none =
-    let found : List Watch → List Watch → Option SetOff = λ reads accesses. told_or set_off.Read (first_read access reads)
+    let found : List Watch → List Watch → Option WatchHit = λ reads accesses. told_or set_off.Read (first_read access reads)
     (told_or set_off.Access (first_hit access accesses) None) in
     ap (λ (reads : List Watch). found reads stops.accesses) none.0
     ∙ ap (λ (accesses : List Watch). found [] accesses) none.1 ∙ nothing access.is_read
@@ -139,7 +139,7 @@ ends_within budget end place start t ending ran short within =
     (there.0, sym (ap (λ r. r.ending) ran) ∙ sym here.1 ∙ there.1))
 
 -- a move is under way wherever it stands
-pub under_way : (stops : Stops) (start : State) (leg : Leg) → AreNone stops → leg.bounds ≡ bounds.All → IsAt start leg.at
+pub under_way : (stops : Stops) (start : State) (leg : ForwardMove) → AreNone stops → leg.bounds ≡ bounds.All → IsAt start leg.at
     → leg.from ≤ leg.at.place → leg.at.place ≤ leg.budget → IsUnderWay stops start leg
 under_way stops start leg none all there order within = record {
   there = there;
@@ -151,7 +151,7 @@ under_way stops start leg none all there order within = record {
 }
 
 -- a move that meets nothing comes to an end before its budget
-pub ends_before : (stops : Stops) (start : State) (leg : Leg) (at : MachineAt) (arrived : Arrived) (end : ℕ) (ending : Ending)
+pub ends_before : (stops : Stops) (start : State) (leg : ForwardMove) (at : MachineAt) (arrived : Arrived) (end : ℕ) (ending : Ending)
     → AreNone stops → leg.bounds ≡ bounds.All → leg.from ≤ at.place → arrived ≡ record { at = at; found = found.End ending }
     → run_of end start ≡ record { ending = ending; steps = at.place; state = state_of at.machine } → at.place < end
     → end ≤ leg.budget → IsArrival stops start leg arrived
@@ -165,7 +165,7 @@ ends_before stops start leg at arrived end ending none all order is ran short wi
     )
 
 -- or it comes to its budget
-pub ends_at : (stops : Stops) (start : State) (leg : Leg) (at : MachineAt) (arrived : Arrived) → AreNone stops
+pub ends_at : (stops : Stops) (start : State) (leg : ForwardMove) (at : MachineAt) (arrived : Arrived) → AreNone stops
     → leg.bounds ≡ bounds.All → leg.from ≤ at.place → arrived ≡ record { at = at; found = found.End Budget } → IsAt start at
     → at.place ≡ leg.budget → IsArrival stops start leg arrived
 ends_at stops start leg at arrived none all order is there end =
@@ -176,7 +176,7 @@ ends_at stops start leg at arrived none all order is there end =
     subst (λ (a : Arrived). IsArrival stops start leg a) (sym is)
     (there, ends_anywhere stops leg.bounds leg.budget leg.from at.place start Budget none all (omega (arith, order, far)) here)
 
-pub ends_told : {E : Type 0} (stops : Stops) (start : State) (leg : Leg) (result : Result Arrived E) → AreNone stops
+pub ends_told : {E : Type 0} (stops : Stops) (start : State) (leg : ForwardMove) (result : Result Arrived E) → AreNone stops
     → IfOk result (λ arrived. (none : Stops) → AreNone none → IsArrival none start leg arrived) → IfOk result (IsArrival stops start leg)
 ends_told stops start leg (Ok arrived) none arrives = arrives stops none
 ends_told stops start leg (Err error) none arrives = tt

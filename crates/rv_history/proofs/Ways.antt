@@ -13,19 +13,19 @@ use Rattle.rv_history.specs.declared.bounds.Bounds.TheVariants as bounds
 use Rattle.rv_history.specs.declared.found.Found.{Found}
 use Rattle.rv_history.specs.declared.found.Found.TheVariants as found
 use Rattle.rv_history.specs.declared.leg.Arrived.{Arrived}
-use Rattle.rv_history.specs.declared.leg.Leg.{Leg}
+use Rattle.rv_history.specs.declared.leg.ForwardMove.{ForwardMove}
 use Rattle.rv_history.specs.declared.machine_at.MachineAt.{MachineAt}
 use Rattle.rv_history.specs.declared.stops.Stops.{Stops}
 use Rattle.rv_history.proofs.Forward.{stops_at_budget, stops_by_break, stops_by_change, stops_by_end, stops_by_interrupt}
 
 -- what changes of a move is where it stands
-pub still_on : (leg now next : Leg) → now ≡ record leg { at = now.at } → next ≡ record now { at = next.at }
+pub still_on : (leg now next : ForwardMove) → now ≡ record leg { at = now.at } → next ≡ record now { at = next.at }
     → next ≡ record leg { at = next.at }
-still_on leg now next same is = is ∙ ap (λ (l : Leg). record l { at = next.at }) same
+still_on leg now next same is = is ∙ ap (λ (l : ForwardMove). record l { at = next.at }) same
 
 -- so the addresses are all where they were
-pub all_addresses : (leg now : Leg) → now ≡ record leg { at = now.at } → leg.bounds ≡ bounds.All → now.bounds ≡ bounds.All
-all_addresses leg now same all = ap (λ (l : Leg). l.bounds) same ∙ all
+pub all_addresses : (leg now : ForwardMove) → now ≡ record leg { at = now.at } → leg.bounds ≡ bounds.All → now.bounds ≡ bounds.All
+all_addresses leg now same all = ap (λ (l : ForwardMove). l.bounds) same ∙ all
 
 -- a machine at the same place, with the same state
 same_at : (start : State) (one other : MachineAt) → IsAt start one → other.place ≡ one.place
@@ -36,16 +36,16 @@ same_at start one other there place state = record {
 }
 
 -- a move that ends ends where it stands
-pub arrives : (stops : Stops) (start : State) (leg now : Leg) (at : MachineAt) (told : Found) (arrived : Arrived)
+pub arrives : (stops : Stops) (start : State) (leg now : ForwardMove) (at : MachineAt) (told : Found) (arrived : Arrived)
     → now ≡ record leg { at = now.at } → arrived ≡ record { at = at; found = told } → IsAt start at → at.place ≡ now.at.place
     → IsNextStop stops now.bounds now.budget start now.from now.at.place told → IsArrival stops start leg arrived
 arrives stops start leg now at told arrived same is there place stop =
     let here : IsArrival stops start now (record { at = at; found = told }) =
     (there, subst (λ (k : ℕ). IsNextStop stops now.bounds now.budget start now.from k told) (sym place) stop) in
     subst (λ (a : Arrived). IsArrival stops start leg a) (sym is)
-    (subst (λ (l : Leg). IsArrival stops start l (record { at = at; found = told })) same here)
+    (subst (λ (l : ForwardMove). IsArrival stops start l (record { at = at; found = told })) same here)
 
-module _ (stops : Stops) (start : State) (leg now : Leg) (arrived : Arrived) (way : IsUnderWay stops start now)
+module _ (stops : Stops) (start : State) (leg now : ForwardMove) (arrived : Arrived) (way : IsUnderWay stops start now)
     (same : now ≡ record leg { at = now.at }) where
   pub arrives_halted : arrived ≡ record { at = now.at; found = found.Break }
       → (ltb now.from now.at.place && is_halt stops now.bounds (state_of now.at.machine).pc) ≡ true → IsArrival stops start leg arrived

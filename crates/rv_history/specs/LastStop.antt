@@ -3,21 +3,21 @@ use Rattle.std.specs.Prelude.{ℕ, ◌+◌, ◌<◌, ◌≤◌, Bool, Option, So
 use Rattle.rv_machine.specs.State.{State}
 use Rattle.rv_history.specs.Moves.{IsStopBefore, IsUnbroken}
 use Rattle.rv_history.specs.Places.{IsBreakAt, IsChangeAt}
-use Rattle.rv_history.specs.declared.found.Arrival.{Arrival}
+use Rattle.rv_history.specs.declared.found.StopInfo.{StopInfo}
 use Rattle.rv_history.specs.declared.found.Found.TheVariants as found
 use Rattle.rv_history.specs.declared.search_back.Part.{Part}
 use Rattle.rv_history.specs.declared.stepping.Stepped.{Stepped}
 use Rattle.rv_history.specs.declared.stepping.Stepped.TheVariants as stepped
 use Rattle.rv_history.specs.declared.stops.Stops.{Stops}
 
-abbrev pub last_at : Option Arrival → ℕ → Bool → Option Arrival
+abbrev pub last_at : Option StopInfo → ℕ → Bool → Option StopInfo
 last_at last place is_break = if is_break then Some (record { place = place; found = found.Break }) else last
 
 -- behind the step at a place
-abbrev pub last_behind : Option Arrival → ℕ → Bool → Stepped → Option Arrival
-last_behind last place is_break stepped.Changed = Some (record { place = place + 1; found = found.Change })
-last_behind last place is_break stepped.Quiet = last_at last place is_break
-last_behind last place is_break (stepped.Ended ending) = last_at last place is_break
+abbrev pub last_stop_after : Option StopInfo → ℕ → Bool → Stepped → Option StopInfo
+last_stop_after last place is_break stepped.Changed = Some (record { place = place + 1; found = found.Change })
+last_stop_after last place is_break stepped.Quiet = last_at last place is_break
+last_stop_after last place is_break (stepped.Ended ending) = last_at last place is_break
 
 -- the step at a place begins at no breakpoint, and changes nothing
 pub record IsQuietAt (stops : Stops) (budget : ℕ) (start : State) (place : ℕ) : Type 0 where
@@ -29,7 +29,7 @@ abbrev pub AreQuiet : Stops → ℕ → State → ℕ → ℕ → Type 0
 AreQuiet stops budget start begin end = (j : ℕ) → begin ≤ j → j < end → IsQuietAt stops budget start j
 
 -- the last stop before a place, where a step from another place on is none of these
-abbrev pub IsLastOn : Stops → ℕ → State → ℕ → ℕ → Option Arrival → Type 0
+abbrev pub IsLastOn : Stops → ℕ → State → ℕ → ℕ → Option StopInfo → Type 0
 IsLastOn stops budget start begin end (Some last) = IsStopBefore stops budget start end last.place last.found × IsUnbroken last.found
 IsLastOn stops budget start begin end None = AreQuiet stops budget start begin end
 

@@ -4,17 +4,17 @@ use Rattle.rv_machine.specs.State.{State}
 use Rattle.rv_history.specs.Kept.{IsAt}
 use Rattle.rv_history.specs.Moves.{GoesOnAhead, IsNextStop}
 use Rattle.rv_history.specs.declared.leg.Arrived.{Arrived}
-use Rattle.rv_history.specs.declared.leg.Leg.{Leg}
+use Rattle.rv_history.specs.declared.leg.ForwardMove.{ForwardMove}
 use Rattle.rv_history.specs.declared.stops.Stops.{Stops}
 
 -- a move stands at a place of a run within its budget, and met nothing up to there
-pub record IsUnderWay (stops : Stops) (start : State) (leg : Leg) : Type 0 where
+pub record IsUnderWay (stops : Stops) (start : State) (leg : ForwardMove) : Type 0 where
   pub there : IsAt start leg.at
   pub order : leg.from ≤ leg.at.place
   pub within : leg.at.place ≤ leg.budget
   pub quiet : (j : ℕ) → leg.from ≤ j → j < leg.at.place → GoesOnAhead stops leg.bounds leg.budget start leg.from j
 
 -- a move ended at its next stop, where its machine stands
-abbrev pub IsArrival : Stops → State → Leg → Arrived → Type 0
+abbrev pub IsArrival : Stops → State → ForwardMove → Arrived → Type 0
 IsArrival stops start leg arrived =
     IsAt start arrived.at × IsNextStop stops leg.bounds leg.budget start leg.from arrived.at.place arrived.found

@@ -9,8 +9,8 @@ use Rattle.rv_history.specs.Accesses.{access_at, is_hit}
 use Rattle.rv_history.specs.declared.access.Access.{Access}
 use Rattle.rv_history.specs.declared.bounds.Bounds.{Bounds}
 use Rattle.rv_history.specs.declared.bounds.Bounds.TheVariants as bounds
-use Rattle.rv_history.specs.declared.stops.SetOff.{SetOff}
-use Rattle.rv_history.specs.declared.stops.SetOff.TheVariants as set_off
+use Rattle.rv_history.specs.declared.stops.WatchHit.{WatchHit}
+use Rattle.rv_history.specs.declared.stops.WatchHit.TheVariants as set_off
 use Rattle.rv_history.specs.declared.stops.Stops.{Stops}
 use Rattle.rv_history.specs.declared.stops.Watch.{Watch}
 
@@ -57,21 +57,21 @@ abbrev pub first_read : Access → List Watch → Option ℕ
 first_read access watches = if access.is_read then first_hit access watches else None
 
 -- a watch that is told, or what comes in its place
-abbrev pub told_or : (ℕ → SetOff) → Option ℕ → Option SetOff → Option SetOff
+abbrev pub told_or : (ℕ → WatchHit) → Option ℕ → Option WatchHit → Option WatchHit
 told_or told None other = other
 told_or told (Some address) other = Some (told address)
 
 -- the first watch of reads, else the first of accesses, that an instruction sets off by what it reads or writes
-abbrev pub touched_by : Stops → Option Access → Option SetOff
+abbrev pub touched_by : Stops → Option Access → Option WatchHit
 touched_by stops None = None
 touched_by stops (Some access) = told_or set_off.Read (first_read access stops.reads)
     (told_or set_off.Access (first_hit access stops.accesses) None)
 
-abbrev pub touched : Stops → State → Option SetOff
+abbrev pub touched : Stops → State → Option WatchHit
 touched stops s = touched_by stops (access_at s)
 
 -- the first watch of changes that a step from a state to another sets off, else the first of reads, else of accesses
-abbrev pub first_set_off : Stops → State → State → Option SetOff
+abbrev pub first_set_off : Stops → State → State → Option WatchHit
 first_set_off stops s t = told_or set_off.Change (first_differing stops.watches s.bus t.bus) (touched stops s)
 
 -- a step sets off a watch

@@ -12,20 +12,20 @@ ghost use Rattle.rv_history.specs.declared.found.Found.TheVariants.{Interrupted}
 
 use crate::found::Found;
 use crate::interrupt::Interrupt;
-use crate::leg::{Arrived, Leg};
-use crate::search_back::{Part, last_behind};
+use crate::leg::{Arrived, ForwardMove};
+use crate::search_back::{Part, last_stop_after};
 use crate::slices::{fill_a_slice, is_slice_end, slice_end};
 use crate::stepping::{Stepped, step};
 use crate::stops::Stops;
-use crate::track::Track;
+use crate::track::Checkpoints;
 use rv_machine::Machine;
 use std::alloc::{AllocError, Global};
 
 /// The next stop of a move without bounds, where no byte is watched.
 pub(crate) fn next_break<I: Interrupt>(
     alloc: Global,
-    track: &mut Track,
-    mut leg: Leg,
+    track: &mut Checkpoints,
+    mut leg: ForwardMove,
     stops: &Stops,
     interrupt: &mut I,
 ) -> Result<Arrived, AllocError>
@@ -40,7 +40,7 @@ pub(crate) fn next_break<I: Interrupt>(
         if leg.is_halted(stops) {
             return Ok(leg.arrived(Found::Break));
         }
-        if leg.keep_and_ask(alloc, track, interrupt)? {
+        if leg.store_and_poll(alloc, track, interrupt)? {
             return Ok(leg.arrived(Found::Interrupted));
         }
         let end = slice_end(leg.at.place, leg.budget);
@@ -59,7 +59,7 @@ pub(crate) fn next_break<I: Interrupt>(
 /// search off.
 pub(crate) fn search_breaks<I: Interrupt>(
     alloc: Global,
-    track: &Track,
+    track: &Checkpoints,
     end: u32,
     stops: &Stops,
     interrupt: &mut I,
@@ -80,7 +80,7 @@ pub(crate) fn search_breaks<I: Interrupt>(
         let slice = slice_end(at.place, end);
         let is_break = stops.has_break(at.machine.pc());
         let _ = step(&mut at.machine);
-        last = last_behind(last, at.place, is_break, Stepped::Quiet);
+        last = last_stop_after(last, at.place, is_break, Stepped::Quiet);
         at.place += 1;
         at.place += run_between(&mut at.machine, stops, slice - at.place);
     }
@@ -94,6 +94,6 @@ fn run_between(machine: &mut Machine, stops: &Stops, most: u32) -> u32
     ensures within { result ≤ most }
     ensures no_break { (j : ℕ) → j < result → is_break stops.now (run_of j (state_of machine.old)).state.pc ≡ false }
 {
-    stops.put_breaks_to_sleep(machine);
-    machine.run_awake(most)
+    stops.invalidate_breakpoints(machine);
+    machine.run_cached(most)
 }

@@ -21,7 +21,7 @@ pub enum Found {
 
 /// A place of a run, and what is found there.
 #[derive(Clone, Copy)]
-pub(crate) struct Arrival {
+pub(crate) struct StopInfo {
     pub place: u32,
     pub found: Found,
 }

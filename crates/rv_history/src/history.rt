@@ -6,16 +6,16 @@ ghost use Rattle.rv_trace.specs.Trace.{state_after};
 
 use crate::bounds::Bounds;
 use crate::counts::{Count, first_with};
-use crate::found::{Arrival, Found};
+use crate::found::{Found, StopInfo};
 use crate::interrupt::Interrupt;
-use crate::leg::Leg;
+use crate::leg::ForwardMove;
 use crate::machine_at::MachineAt;
 use crate::search::next_stop;
 use crate::search_back::{step_before, stop_before};
 use crate::start::Start;
 use crate::stepping::{Stepped, step_watched};
-use crate::stops::{SetOff, Stops};
-use crate::track::Track;
+use crate::stops::{Stops, WatchHit};
+use crate::track::Checkpoints;
 use rv_machine::{Ending, Machine};
 use std::alloc::{AllocError, Global};
 use std::marker::Model;
@@ -24,7 +24,7 @@ use std::marker::Model;
 /// on which states of the run are at hand, but for where an interrupt breaks a move off.
 #[derive(Drop)]
 pub struct History {
-    track: Track,
+    track: Checkpoints,
     budget: u32,
     place: u32,
     machine: Machine,
@@ -59,7 +59,7 @@ impl History {
     {
         let machine = start.machine(alloc)?;
         Ok(History {
-            track: Track::new(alloc, start),
+            track: Checkpoints::new(alloc, start),
             budget,
             place: 0,
             machine,
@@ -104,7 +104,7 @@ impl History {
         ensures same { OnErr result (self.new ≡ self.old) }
     {
         let machine = self.machine.copied(alloc)?;
-        let leg = Leg {
+        let leg = ForwardMove {
             from: self.place,
             budget: self.budget,
             bounds,
@@ -153,7 +153,7 @@ impl History {
         ensures same { OnErr result (self.new ≡ self.old) }
     {
         if stops.are_none() {
-            let begin = Arrival {
+            let begin = StopInfo {
                 place: 0,
                 found: Found::Begin,
             };
@@ -214,7 +214,7 @@ impl History {
         match first_with(alloc, self.track.start(), self.budget, count, value)? {
             Some(place) => {
                 let found = Found::Done;
-                let _ = self.arrive(alloc, Arrival { place, found })?;
+                let _ = self.arrive(alloc, StopInfo { place, found })?;
                 Ok(true)
             }
             None => Ok(false),
@@ -222,7 +222,7 @@ impl History {
     }
 
     /// Where the step in front completes within the budget, the first watch that it sets off, if it sets off any.
-    pub fn watch_ahead(&self, alloc: Global, stops: &Stops) -> Result<Option<SetOff>, AllocError>
+    pub fn watch_ahead(&self, alloc: Global, stops: &Stops) -> Result<Option<WatchHit>, AllocError>
         ensures { self.now.place < last_place self.now.budget self.now.start → IfOk result
             (λ found. found ≡ first_set_off stops.now (state_after self.now.place self.now.start)
             (state_after (self.now.place + 1) self.now.start)) }
@@ -233,7 +233,11 @@ impl History {
     }
 
     /// Behind the start, the first watch that the step behind sets off, if it sets off any.
-    pub fn watch_behind(&self, alloc: Global, stops: &Stops) -> Result<Option<SetOff>, AllocError>
+    pub fn watch_hit_by_last_step(
+        &self,
+        alloc: Global,
+        stops: &Stops,
+    ) -> Result<Option<WatchHit>, AllocError>
         ensures { IfOk result
             (λ found. found ≡ first_set_off stops.now (state_after (self.now.place - 1) self.now.start)
             (state_after self.now.place self.now.start)) }
@@ -245,7 +249,7 @@ impl History {
     }
 
     // Goes to where a search ended.
-    fn arrive(&mut self, alloc: Global, arrival: Arrival) -> Result<Found, AllocError>
+    fn arrive(&mut self, alloc: Global, arrival: StopInfo) -> Result<Found, AllocError>
         requires { arrival.place ≤ last_place self.old.budget self.old.start }
         ensures found { IfOk result (λ found. found ≡ arrival.found) }
         ensures moved { IfOk result (λ found. self.new ≡ record self.old { place = arrival.place }) }

@@ -10,12 +10,12 @@ use std::marker::Model;
 
 /// A few states of a run, at falling places, and at most so many.
 #[derive(Drop)]
-pub(crate) struct KeptStates {
+pub(crate) struct CheckpointList {
     most: usize,
     items: Vec<MachineAt>,
 }
 
-impl Model for KeptStates {
+impl Model for CheckpointList {
     ghost use Rattle.std.specs.Prelude.{◌<◌, ◌≤◌, List, length};
     ghost use Rattle.rv_history.specs.Kept.{AreFalling};
     ghost use Rattle.rv_history.specs.declared.machine_at.MachineAt.{MachineAt};
@@ -31,12 +31,12 @@ impl Model for KeptStates {
     ghost invariant = { λ kept. (0 < kept.most) × ((length kept.items.items ≤ kept.most) × AreFalling kept.items.items) };
 }
 
-impl KeptStates {
+impl CheckpointList {
     /// None yet. One is always room for.
-    pub(crate) fn new(alloc: Global, most: usize) -> KeptStates
+    pub(crate) fn new(alloc: Global, most: usize) -> CheckpointList
         ensures { result ≡ [] }
     {
-        KeptStates {
+        CheckpointList {
             most: most.max(1),
             items: Vec::new(alloc),
         }

@@ -12,13 +12,13 @@ use crate::interrupt::Interrupt;
 use crate::machine_at::MachineAt;
 use crate::slices::{fill_a_slice, is_slice_end};
 use crate::stops::Stops;
-use crate::track::Track;
+use crate::track::Checkpoints;
 use rv_machine::Ending;
 use std::alloc::{AllocError, Global};
 
 /// A move forward, as far as it has come.
 #[derive(Drop)]
-pub(crate) struct Leg {
+pub(crate) struct ForwardMove {
     /// The place where it began.
     pub from: u32,
     pub budget: u32,
@@ -34,7 +34,7 @@ pub(crate) struct Arrived {
     pub found: Found,
 }
 
-impl Leg {
+impl ForwardMove {
     /// It ends where it stands.
     pub(crate) fn arrived(self, found: Found) -> Arrived
         ensures { result ≡ record { at = self.at; found = found } }
@@ -64,10 +64,10 @@ impl Leg {
 
     /// Whether it is broken off where it stands. At the end of a slice its state may be kept, and it asks there once its steps fill a
     /// slice.
-    pub(crate) fn keep_and_ask<I: Interrupt>(
+    pub(crate) fn store_and_poll<I: Interrupt>(
         &self,
         alloc: Global,
-        track: &mut Track,
+        track: &mut Checkpoints,
         interrupt: &mut I,
     ) -> Result<bool, AllocError>
         requires there { IsAt track.old self.now.at }

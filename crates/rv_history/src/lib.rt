@@ -32,4 +32,4 @@ pub use history::History;
 pub use interrupt::Interrupt;
 pub use law::{moves_are_determined, printed_bytes_stay};
 pub use start::Start;
-pub use stops::{SetOff, Stops, Watch};
+pub use stops::{Stops, Watch, WatchHit};

@@ -11,19 +11,19 @@ ghost use Rattle.rv_history.specs.declared.stops.Stops.{Stops};
 use crate::breaks::next_break;
 use crate::found::Found;
 use crate::interrupt::Interrupt;
-use crate::leg::{Arrived, Leg};
+use crate::leg::{Arrived, ForwardMove};
 use crate::slices::slice_end;
 use crate::stepping::{Stepped, step_beside};
 use crate::stops::Stops;
-use crate::track::Track;
+use crate::track::Checkpoints;
 use rv_machine::Ending;
 use std::alloc::{AllocError, Global};
 
 /// The next stop of a move, with the machine there. States are kept on the way.
 pub(crate) fn next_stop<I: Interrupt>(
     alloc: Global,
-    track: &mut Track,
-    leg: Leg,
+    track: &mut Checkpoints,
+    leg: ForwardMove,
     stops: &Stops,
     interrupt: &mut I,
 ) -> Result<Arrived, AllocError>
@@ -48,8 +48,8 @@ pub(crate) fn next_stop<I: Interrupt>(
 // The same step by step.
 fn next_watched<I: Interrupt>(
     alloc: Global,
-    track: &mut Track,
-    mut leg: Leg,
+    track: &mut Checkpoints,
+    mut leg: ForwardMove,
     stops: &Stops,
     interrupt: &mut I,
 ) -> Result<Arrived, AllocError>
@@ -63,7 +63,7 @@ fn next_watched<I: Interrupt>(
         if leg.is_halted(stops) {
             return Ok(leg.arrived(Found::Break));
         }
-        if leg.keep_and_ask(alloc, track, interrupt)? {
+        if leg.store_and_poll(alloc, track, interrupt)? {
             return Ok(leg.arrived(Found::Interrupted));
         }
         match step_beside(alloc, &mut leg.at.machine, stops, &mut watched)? {
@@ -85,8 +85,8 @@ fn next_watched<I: Interrupt>(
 // The end of the run, where there is nowhere to stop before.
 fn end_of_run<I: Interrupt>(
     alloc: Global,
-    track: &mut Track,
-    leg: Leg,
+    track: &mut Checkpoints,
+    leg: ForwardMove,
     interrupt: &mut I,
 ) -> Result<Arrived, AllocError>
     requires there { IsAt track.old leg.at }
@@ -98,14 +98,14 @@ fn end_of_run<I: Interrupt>(
     ensures same { track.new ≡ track.old }
 {
     let at = track.last_of(alloc, leg.at, leg.budget)?;
-    let mut way = Leg {
+    let mut way = ForwardMove {
         from: leg.from,
         budget: leg.budget,
         bounds: leg.bounds,
         at,
     };
     'places: while way.at.place < way.budget {
-        if way.keep_and_ask(alloc, track, interrupt)? {
+        if way.store_and_poll(alloc, track, interrupt)? {
             return Ok(way.arrived(Found::Interrupted));
         }
         let end = slice_end(way.at.place, way.budget);

@@ -2,17 +2,17 @@
 
 ghost use Rattle.std.specs.Prelude.{◌≡◌, ◌≤◌, ◌<◌, ℕ, IfNone, IfOk, IfSome, true};
 ghost use Rattle.rv_machine.specs.Run.{run_of};
-ghost use Rattle.rv_history.specs.LastStop.{IsPart, last_behind};
+ghost use Rattle.rv_history.specs.LastStop.{IsPart, last_stop_after};
 ghost use Rattle.rv_history.specs.Moves.{IsStepBefore, IsStopBefore};
 ghost use Rattle.rv_history.specs.declared.found.Found.TheVariants.{Interrupted};
 
 use crate::breaks::search_breaks;
-use crate::found::{Arrival, Found};
+use crate::found::{Found, StopInfo};
 use crate::interrupt::Interrupt;
 use crate::slices::{fill_a_slice, is_slice_end};
 use crate::stepping::{Stepped, step_beside, step_watched};
 use crate::stops::Stops;
-use crate::track::Track;
+use crate::track::Checkpoints;
 use std::alloc::{AllocError, Global};
 
 /// What a search in the last part of a run found.
@@ -21,24 +21,24 @@ pub(crate) struct Part {
     /// The place where the part begins.
     pub begin: u32,
     /// The last stop in it.
-    pub last: Option<Arrival>,
+    pub last: Option<StopInfo>,
 }
 
 /// The stop before a place, whatever the budget within which the run comes there. It asks behind each part, once they fill a
 /// slice.
 pub(crate) fn stop_before<I: Interrupt>(
     alloc: Global,
-    track: &Track,
+    track: &Checkpoints,
     from: u32,
     stops: &Stops,
     interrupt: &mut I,
-) -> Result<Arrival, AllocError>
+) -> Result<StopInfo, AllocError>
     requires { (run_of from track.now).steps ≡ from }
     ensures stop { IfOk result (λ arrival. (budget : ℕ) → from ≤ budget
         → IsStopBefore stops.now budget track.now from arrival.place arrival.found) }
     ensures broken_off { IfOk result (λ arrival. arrival.found ≡ Interrupted → I.was_raised interrupt.new ≡ true) }
 {
-    let broken_off = Arrival {
+    let broken_off = StopInfo {
         place: from,
         found: Found::Interrupted,
     };
@@ -55,7 +55,7 @@ pub(crate) fn stop_before<I: Interrupt>(
         }
         end = part.begin;
     }
-    Ok(Arrival {
+    Ok(StopInfo {
         place: 0,
         found: Found::Begin,
     })
@@ -64,7 +64,7 @@ pub(crate) fn stop_before<I: Interrupt>(
 // The last stop up to a place, behind the last state at hand before it, unless an interrupt breaks the search off.
 fn search_part<I: Interrupt>(
     alloc: Global,
-    track: &Track,
+    track: &Checkpoints,
     end: u32,
     stops: &Stops,
     interrupt: &mut I,
@@ -87,29 +87,29 @@ fn search_part<I: Interrupt>(
         }
         let is_break = stops.has_break(at.machine.pc());
         let stepped = step_beside(alloc, &mut at.machine, stops, &mut watched)?;
-        last = last_behind(last, place, is_break, stepped);
+        last = last_stop_after(last, place, is_break, stepped);
     }
     Ok(Some(Part { begin, last }))
 }
 
 /// The last stop behind the step at a place, once the stop before it is known.
-pub(crate) fn last_behind(
-    last: Option<Arrival>,
+pub(crate) fn last_stop_after(
+    last: Option<StopInfo>,
     place: u32,
     is_break: bool,
     stepped: Stepped,
-) -> Option<Arrival>
+) -> Option<StopInfo>
     requires { place < 0xFFFF_FFFF }
-    ensures { result ≡ last_behind last place is_break stepped }
+    ensures { result ≡ last_stop_after last place is_break stepped }
 {
     match stepped {
-        Stepped::Changed => Some(Arrival {
+        Stepped::Changed => Some(StopInfo {
             place: place + 1,
             found: Found::Change,
         }),
         Stepped::Quiet | Stepped::Ended(_) => {
             if is_break {
-                Some(Arrival {
+                Some(StopInfo {
                     place,
                     found: Found::Break,
                 })
@@ -123,22 +123,22 @@ pub(crate) fn last_behind(
 /// A step backward from a place, whatever the budget within which the run comes there.
 pub(crate) fn step_before(
     alloc: Global,
-    track: &Track,
+    track: &Checkpoints,
     from: u32,
     stops: &Stops,
-) -> Result<Arrival, AllocError>
+) -> Result<StopInfo, AllocError>
     requires { (run_of from track.now).steps ≡ from }
     ensures { IfOk result (λ arrival. (budget : ℕ) → from ≤ budget
         → IsStepBefore stops.now budget track.now from arrival.place arrival.found) }
 {
     if from == 0 {
-        return Ok(Arrival {
+        return Ok(StopInfo {
             place: 0,
             found: Found::Begin,
         });
     }
     let before = from - 1;
-    let done = Arrival {
+    let done = StopInfo {
         place: before,
         found: Found::Done,
     };
@@ -147,7 +147,7 @@ pub(crate) fn step_before(
     }
     let mut machine = track.machine_after(alloc, before)?;
     match step_watched(alloc, &mut machine, stops)? {
-        Stepped::Changed => Ok(Arrival {
+        Stepped::Changed => Ok(StopInfo {
             place: from,
             found: Found::Change,
         }),

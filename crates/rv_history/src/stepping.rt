@@ -48,7 +48,7 @@ pub(crate) fn step_beside(
     if let Some(ending) = step(machine) {
         return Ok(Stepped::Ended(ending));
     }
-    if !stops.stand_as(machine.bus(), watched.as_slice()) {
+    if !stops.have_bytes(machine.bus(), watched.as_slice()) {
         *watched = stops.watched_bytes(alloc, machine.bus())?;
         return Ok(Stepped::Changed);
     }

@@ -30,7 +30,7 @@ pub struct Stops {
 
 /// What sets off a watch, and the watch's address.
 #[derive(Clone, Copy)]
-pub enum SetOff {
+pub enum WatchHit {
     /// A byte changes.
     Change(u32),
     /// A byte is read.
@@ -41,7 +41,7 @@ pub enum SetOff {
 
 impl Stops {
     ghost use Rattle.rv_machine.specs.Machine.{state_of};
-    ghost use Rattle.rv_machine.specs.Waking.{IsAwake};
+    ghost use Rattle.rv_machine.specs.Waking.{IsCached};
     ghost use Rattle.rv_history.specs.Stops.{first_differing, is_break, watched_bytes};
 
     /// Whether there are none at all.
@@ -67,12 +67,12 @@ impl Stops {
     }
 
     /// No instruction at a breakpoint is awake from now on.
-    pub(crate) fn put_breaks_to_sleep(&self, machine: &mut Machine)
+    pub(crate) fn invalidate_breakpoints(&self, machine: &mut Machine)
         ensures state { state_of machine.new ≡ state_of machine.old }
-        ensures asleep { (pc : ℕ) → is_break self.now pc ≡ true → IsAwake machine.new.kept pc → ⊥ }
+        ensures asleep { (pc : ℕ) → is_break self.now pc ≡ true → IsCached machine.new.kept pc → ⊥ }
     {
         for address in self.breaks.as_slice() {
-            machine.put_to_sleep(*address);
+            machine.invalidate(*address);
         }
     }
 
@@ -97,7 +97,7 @@ impl Stops {
 
     /// Whether the watched bytes that stand in regions are these. It takes no memory.
     #[tactic(auto, unfolding(crate::specs::Stops::watched_bytes))]
-    pub(crate) fn stand_as(&self, bus: &Bus, bytes: &[u8]) -> bool
+    pub(crate) fn have_bytes(&self, bus: &Bus, bytes: &[u8]) -> bool
         ensures { IsTrue result ↔ (watched_bytes self.now bus.now ≡ bytes.now) }
     {
         let mut seen = 0;

@@ -7,14 +7,14 @@ ghost use Rattle.rv_history.specs.Accesses.{is_hit};
 ghost use Rattle.rv_history.specs.Stops.{first_hit, first_read, first_set_off, touched};
 
 use crate::access::{Access, access_at};
-use crate::stops::{SetOff, Stops, Watch};
+use crate::stops::{Stops, Watch, WatchHit};
 use rv_machine::Machine;
 use std::alloc::{AllocError, Global};
 
 impl Stops {
     /// The watch that the instruction at a machine's pc sets off by what it reads or writes, if it does: the first of reads, else of
     /// accesses.
-    pub(crate) fn touched(&self, machine: &Machine) -> Option<SetOff>
+    pub(crate) fn touched(&self, machine: &Machine) -> Option<WatchHit>
         ensures { result ≡ touched self.now (state_of machine.now) }
     {
         // An instruction is decoded only where it matters.
@@ -23,10 +23,10 @@ impl Stops {
         }
         let access = access_at(machine)?;
         if let Some(address) = first_read(access, self.reads.as_slice()) {
-            return Some(SetOff::Read(address));
+            return Some(WatchHit::Read(address));
         }
         let address = first_hit(access, self.accesses.as_slice())?;
-        Some(SetOff::Access(address))
+        Some(WatchHit::Access(address))
     }
 
     /// The first watch of changes that differs between two machines, of which the second is behind the step of the first, else the one
@@ -36,11 +36,11 @@ impl Stops {
         alloc: Global,
         one: &Machine,
         other: &Machine,
-    ) -> Result<Option<SetOff>, AllocError>
+    ) -> Result<Option<WatchHit>, AllocError>
         ensures { IfOk result (λ found. found ≡ first_set_off self.now (state_of one.now) (state_of other.now)) }
     {
         match self.differing_watch(alloc, one.bus(), other.bus())? {
-            Some(address) => Ok(Some(SetOff::Change(address))),
+            Some(address) => Ok(Some(WatchHit::Change(address))),
             None => Ok(self.touched(one)),
         }
     }

@@ -5,7 +5,7 @@ ghost use Rattle.rv_machine.specs.Machine.{state_of};
 ghost use Rattle.rv_machine.specs.Run.{run_of};
 ghost use Rattle.rv_trace.specs.Trace.{state_after};
 
-use crate::kept_states::KeptStates;
+use crate::kept_states::CheckpointList;
 use crate::machine_at::MachineAt;
 use crate::start::Start;
 use rv_machine::{Ending, Machine};
@@ -41,16 +41,16 @@ const BYTES_BESIDE: usize = 1 << 18;
 /// A run from its start, with some of its states at hand, so that a move need not begin at the start: each is the state behind as many
 /// steps as its place says. Which they are is seen only where an interrupt breaks a move off.
 #[derive(Drop)]
-pub(crate) struct Track {
+pub(crate) struct Checkpoints {
     start: Start,
     interval: u32,
     // At multiples of the interval.
-    coarse: KeptStates,
+    coarse: CheckpointList,
     // On the way to where moves back, seeks and watches ended, each half as far from there as the one before.
-    near: KeptStates,
+    near: CheckpointList,
 }
 
-impl Model for Track {
+impl Model for Checkpoints {
     ghost use Rattle.std.specs.Prelude.{◌<◌};
     ghost use Rattle.rv_machine.specs.State.{State};
     ghost use Rattle.rv_history.specs.Kept.{AreStates};
@@ -67,16 +67,16 @@ impl Model for Track {
         × (AreStates (start_of track.start) track.near × (0 < track.interval)) };
 }
 
-impl Track {
+impl Checkpoints {
     ghost use Rattle.rv_history.specs.Kept.{IsAt};
     ghost use Rattle.rv_history.specs.Starts.{start_of};
 
     /// With none at hand but the start.
-    pub(crate) fn new(alloc: Global, start: Start) -> Track
+    pub(crate) fn new(alloc: Global, start: Start) -> Checkpoints
         ensures { result ≡ start_of start }
     {
         let (coarse, near) = kept_states(alloc, &start.bus, MEGABYTES);
-        Track {
+        Checkpoints {
             start,
             interval: INTERVAL,
             coarse,
@@ -233,7 +233,7 @@ impl Track {
 
 // None yet of the states of a machine over a bus, of which so many megabytes keep as many as they can: those at multiples, and those near
 // to where moves back, seeks and watches ended.
-fn kept_states(alloc: Global, bus: &Bus, megabytes: u32) -> (KeptStates, KeptStates)
+fn kept_states(alloc: Global, bus: &Bus, megabytes: u32) -> (CheckpointList, CheckpointList)
     ensures { (result.0 ≡ []) × (result.1 ≡ []) }
 {
     let room = (megabytes as usize)
@@ -241,8 +241,8 @@ fn kept_states(alloc: Global, bus: &Bus, megabytes: u32) -> (KeptStates, KeptSta
         .saturating_mul(MEGABYTE);
     let states = (room / machine_size(bus)).saturating_sub(MACHINES_BESIDE);
     let near = states / NEAR_SHARE;
-    let coarse = KeptStates::new(alloc, states - near);
-    (coarse, KeptStates::new(alloc, near))
+    let coarse = CheckpointList::new(alloc, states - near);
+    (coarse, CheckpointList::new(alloc, near))
 }
 
 // How many bytes a machine over a bus has, or more.

@@ -17,7 +17,7 @@ use Rattle.rv_rows.specs.Rows.{image_if_read}
 use Rattle.rv_trace.specs.declared.trace.Trace.{Trace}
 use Rattle.rv_trace.specs.Text.{trace_text}
 use Rattle.rv_job_text.specs.ImageSymbols.{signature_begin, signature_begin_in_image, symbol_in_file, symbol_in_image, value_if_defined}
-use Rattle.rv_job_text.specs.WayToEnd.{optional_calls_text, optional_trace_text, text_in_file, text_in_image}
+use Rattle.rv_job_text.specs.TraceOptions.{optional_calls_text, optional_trace_text, text_in_file, text_in_image}
 
 -- for the same set of instructions
 pub read_for : (one isa : Isa) (bytes : List ℕ) (image : Image) → one ≡ isa → image_of one bytes ≡ Ok image

@@ -14,7 +14,7 @@ use Rattle.rv_rows.specs.Report.{line}
 
 -- why a run goes round, where a load from the script at its end is in it
 abbrev pub waiting_text : Bool → List ℕ
-waiting_text waits = if waits then codes ", waiting for a script that is at its end" else []
+waiting_text waits = if waits then codes ", waiting for input after the end of the script" else []
 
 unfoldable pub repetition_line : Repetition → List ℕ
 repetition_line r = line (codes "     never ends: after " ++ decimal r.begin ++ codes " steps it repeats every "
@@ -25,7 +25,7 @@ abbrev pub last_or_all_text : ℕ → ℕ → List ℕ
 last_or_all_text steps within = if within == steps then codes "its " else codes "its last "
 
 unfoldable pub changes_line : ℕ → ℕ → List ℕ
-changes_line steps within = line (codes "     the budget may be too small: no loop that changes nothing in "
+changes_line steps within = line (codes "     the budget may be too small: no endless loop was found in "
     ++ last_or_all_text steps within ++ decimal within ++ codes " steps")
 
 -- what is found of a run of so many steps

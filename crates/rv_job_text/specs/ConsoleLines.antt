@@ -14,7 +14,7 @@ use Rattle.rv_jobs.specs.declared_job.ExpectedConsole.TheVariants as console
 use Rattle.rv_rows.specs.Report.{line}
 use Rattle.rv_text.specs.Printable.{printable_text}
 use Rattle.rv_text.specs.Spans.{span_text}
-use Rattle.rv_job_text.specs.declared.wanted_text.WantedText.{WantedText}
+use Rattle.rv_job_text.specs.declared.expected_text.ExpectedText.{ExpectedText}
 use Rattle.rv_job_text.specs.ConsoleTail.{is_feed}
 
 -- ---- lines
@@ -85,7 +85,7 @@ shown_line place text = text_shown_from (shown_begin place text) text
 -- that a line has no line feed
 abbrev pub feed_note : List ℕ → List ℕ
 feed_note whole =
-    if position_or_len is_feed whole == length whole then codes "     \\ no line feed at the end\n" else []
+    if position_or_len is_feed whole == length whole then codes "     \\ no newline at the end\n" else []
 
 -- the line of one side beside the other's, behind a margin
 unfoldable pub side_line : List ℕ → List ℕ → List ℕ → List ℕ
@@ -114,7 +114,7 @@ larger n m = if nat_lt n m then m else n
 
 -- in which line the first difference is, of how many: those of the longer side
 abbrev pub lines_heading : List ℕ → ℕ → ℕ → List ℕ
-lines_heading source number count = codes "     the console differs from " ++ source ++ codes " in line "
+lines_heading source number count = codes "     console differs from " ++ source ++ codes " at line "
     ++ decimal number ++ codes " of " ++ decimal count ++ codes ":\n"
 
 -- of lines of which so many in front are equal, the last of these
@@ -153,7 +153,7 @@ pub record Wanted : Type 0 where
 -- the text that a console is expected to be: of the list, or of a file as it was read
 abbrev pub wanted_console : Option ExpectedConsole → Option (List ℕ) → Option Wanted
 wanted_console None file = None
-wanted_console (Some (console.Text text)) file = Some record { source = codes "the list's text"; text = text }
+wanted_console (Some (console.Text text)) file = Some record { source = codes "the expected text"; text = text }
 wanted_console (Some (console.File path)) file = Some record { source = printable_text path; text = unwrap_or file [] }
 
 -- this text, where a difference from it is told by lines
@@ -163,15 +163,15 @@ told_by_lines difference met (Some wanted) =
     if is_told_by_lines difference met wanted.text then Some wanted else None
 
 -- the text from which an unmet expectation differs, where that is told by lines
-abbrev pub wanted_by_lines : Sides → Unmet → Option Wanted
-wanted_by_lines sides unmet.Exit = None
-wanted_by_lines sides unmet.End = None
-wanted_by_lines sides (unmet.Console difference) =
+abbrev pub expected_by_lines : Sides → Unmet → Option Wanted
+expected_by_lines sides unmet.Exit = None
+expected_by_lines sides unmet.End = None
+expected_by_lines sides (unmet.Console difference) =
     told_by_lines difference sides.row.console (wanted_console sides.job.expect_console sides.console)
-wanted_by_lines sides (unmet.Signature difference) = None
-wanted_by_lines sides (unmet.Same difference) = None
-wanted_by_lines sides unmet.Nothing = None
+expected_by_lines sides (unmet.Signature difference) = None
+expected_by_lines sides (unmet.Same difference) = None
+expected_by_lines sides unmet.Nothing = None
 
 -- the same as the code has it
-abbrev pub wanted_of : WantedText → Wanted
+abbrev pub wanted_of : ExpectedText → Wanted
 wanted_of wanted = record { source = span_text wanted.source; text = wanted.text.now }

@@ -47,11 +47,11 @@ outside_segment_text false at segment =
     codes "a segment's bytes from the file, " ++ address_range_text (load_address at segment) segment.filesz
 
 unfoldable pub unfit_segment_text : Job → Option Segment → List ℕ
-unfit_segment_text job None = codes "a segment does not lie in one region"
+unfit_segment_text job None = codes "a segment does not fit in one region"
 unfit_segment_text job (Some segment) =
     outside_segment_text (in_one job.regions (load_address job.load segment) segment.filesz)
     job.load segment
-    ++ codes ", do not lie in one region:" ++ regions_text job.regions
+    ++ codes ", do not fit in one region:" ++ regions_text job.regions
 
 -- the first segment that shares an address with a later one, and the first of those
 abbrev pub overlapping_segments : LoadAt → List Segment → Option (Segment × Segment)
@@ -67,15 +67,15 @@ segment_pair_text at one other =
     ++ address_range_text (load_address at other) other.filesz
 
 unfoldable pub segment_overlap_text : LoadAt → Option (Segment × Segment) → List ℕ
-segment_overlap_text at None = codes "the file bytes of two segments share addresses"
+segment_overlap_text at None = codes "the file contents of two segments overlap"
 segment_overlap_text at (Some pair) =
-    codes "the file bytes of two segments share addresses: " ++ segment_pair_text at pair.0 pair.1
+    codes "the file contents of two segments overlap: " ++ segment_pair_text at pair.0 pair.1
 
 -- ---- symbols
 
 unfoldable pub missing_symbol_text : Option (List ℕ) → List ℕ
-missing_symbol_text None = codes "a symbol of the signature is not defined"
-missing_symbol_text (Some name) = codes "no symbol " ++ printable_text name ++ codes " is defined"
+missing_symbol_text None = codes "a symbol of the signature is undefined"
+missing_symbol_text (Some name) = codes "symbol " ++ printable_text name ++ codes " is not defined"
 
 -- the address of a symbol, where there is one
 abbrev pub symbol_address_text : Result ℕ ImageError → List ℕ
@@ -91,38 +91,38 @@ signature_ends_text file names =
     named_symbol_text file names.begin ++ codes " to " ++ named_symbol_text file names.end
 
 unfoldable pub signature_range_text : List Region → List ℕ → Option Symbols → List ℕ
-signature_range_text regions file None = codes "the signature is not whole words of one region"
+signature_range_text regions file None = codes "the signature is not a sequence of words in one region"
 signature_range_text regions file (Some names) =
     codes "the signature from " ++ signature_ends_text file names
-    ++ codes " is not up to 65536 whole words of one region:" ++ regions_text regions
+    ++ codes " is not a sequence of up to 65536 words in one region:" ++ regions_text regions
 
 -- ---- the reason
 
 -- the sentence for a refusal, of which no details are told
 unfoldable pub image_error_sentence : ImageError → List ℕ
 image_error_sentence image.ShortHeader = codes "the file is shorter than an ELF header"
-image_error_sentence image.BadMagic = codes "the file is no ELF file"
-image_error_sentence image.Not32Bit = codes "the file is not of 32 bits"
-image_error_sentence image.NotLittleEndian = codes "the file is not little-endian"
-image_error_sentence image.BadVersion = codes "the file's ELF version is not 1"
-image_error_sentence image.NotExecutable = codes "the file is not linked as an executable"
-image_error_sentence image.NotRiscv = codes "the file is not for RISC-V"
-image_error_sentence image.ProgramTable = codes "the program header table is bad or goes past the file"
-image_error_sentence image.Dynamic = codes "the file is linked dynamically"
+image_error_sentence image.BadMagic = codes "not an ELF file"
+image_error_sentence image.Not32Bit = codes "not a 32-bit ELF file"
+image_error_sentence image.NotLittleEndian = codes "not a little-endian ELF file"
+image_error_sentence image.BadVersion = codes "the ELF version is not 1"
+image_error_sentence image.NotExecutable = codes "not linked as an executable"
+image_error_sentence image.NotRiscv = codes "not a RISC-V file"
+image_error_sentence image.ProgramTable = codes "the program header table is invalid or truncated"
+image_error_sentence image.Dynamic = codes "the file is dynamically linked"
 image_error_sentence image.SegmentSizes = codes "a segment has more bytes in the file than in memory"
-image_error_sentence image.SegmentFile = codes "the bytes of a segment go past the file"
-image_error_sentence image.NoSegment = codes "the file has no segment to load"
-image_error_sentence image.EntryOdd = codes "the entry is odd"
-image_error_sentence image.EntryAlign = codes "the entry is no multiple of 4"
-image_error_sentence image.SegmentMap = codes "a segment does not lie in one region"
-image_error_sentence image.SegmentOverlap = codes "the file bytes of two segments share addresses"
-image_error_sentence image.SectionTable = codes "the section header table is bad or goes past the file"
-image_error_sentence image.NoSymbols = codes "the file has no symbol table"
-image_error_sentence image.SymbolTable = codes "the symbol table is bad or goes past the file"
-image_error_sentence image.StringTable = codes "the symbols' names are missing or go past the file"
-image_error_sentence image.NoBegin = codes "a symbol of the signature is not defined"
-image_error_sentence image.NoEnd = codes "a symbol of the signature is not defined"
-image_error_sentence image.SignatureRange = codes "the signature is not whole words of one region"
+image_error_sentence image.SegmentFile = codes "a segment extends past the end of the file"
+image_error_sentence image.NoSegment = codes "no loadable segment"
+image_error_sentence image.EntryOdd = codes "the entry point is odd"
+image_error_sentence image.EntryAlign = codes "the entry point is not a multiple of 4"
+image_error_sentence image.SegmentMap = codes "a segment does not fit in one region"
+image_error_sentence image.SegmentOverlap = codes "the file contents of two segments overlap"
+image_error_sentence image.SectionTable = codes "the section header table is invalid or truncated"
+image_error_sentence image.NoSymbols = codes "no symbol table"
+image_error_sentence image.SymbolTable = codes "the symbol table is invalid or truncated"
+image_error_sentence image.StringTable = codes "the symbol names are missing or truncated"
+image_error_sentence image.NoBegin = codes "a symbol of the signature is undefined"
+image_error_sentence image.NoEnd = codes "a symbol of the signature is undefined"
+image_error_sentence image.SignatureRange = codes "the signature is not a sequence of words in one region"
 image_error_sentence image.OutOfMemory = codes "out of memory"
 
 -- the details of a refusal by the map, or of a signature, of an image that was read

@@ -4,9 +4,9 @@ pub mod UnmetLines
 pub mod MetLines
 pub mod ImageReasons
 pub mod RefusalReasons
-pub mod WayToEnd
+pub mod TraceOptions
 pub mod BudgetUseLine
-pub mod Telling
+pub mod RowReporter
 pub mod ConsoleTail
 pub mod ConsoleLines
 pub mod ResultLine

@@ -17,18 +17,18 @@ optional_path_text None = []
 optional_path_text (Some path) = codes " of " ++ printable_text path
 
 unfoldable pub same_as_job_text : Option Row → List ℕ
-same_as_job_text None = codes "the same as another job"
-same_as_job_text (Some other) = codes "the same as " ++ printable_text other.name
+same_as_job_text None = codes "the same result as another job"
+same_as_job_text (Some other) = codes "the same result as " ++ printable_text other.name
 
 unfoldable pub met_expectation_text : Sides → Expectation → List ℕ
 met_expectation_text sides expectation.Exit = expected_exit_text sides.job.expect_exit
 met_expectation_text sides expectation.End = expected_end_text sides.job.expect_end
 met_expectation_text sides expectation.Console =
-    codes "the console" ++ optional_path_text (console_path sides.job.expect_console)
+    codes "console" ++ optional_path_text (console_path sides.job.expect_console)
 met_expectation_text sides expectation.Signature =
-    codes "the signature" ++ optional_path_text sides.job.expect_signature
+    codes "signature" ++ optional_path_text sides.job.expect_signature
 met_expectation_text sides expectation.Same = same_as_job_text sides.other
-met_expectation_text sides expectation.Nothing = codes "exit 0, since it expects nothing else"
+met_expectation_text sides expectation.Nothing = codes "exit 0, since no expectation is set"
 
 -- behind five spaces, where it is met
 unfoldable pub met_line : Sides → List Unmet → Expectation → List ℕ

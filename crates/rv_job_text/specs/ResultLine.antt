@@ -41,7 +41,7 @@ abbrev pub known_reason_text : List ℕ → List ℕ
 known_reason_text why = if length why == 0 then [] else codes " (" ++ printable_text why ++ codes ")"
 
 abbrev pub now_passes_text : List ℕ → List ℕ
-now_passes_text path = codes "passes, and is known to fail: take it out of " ++ printable_text path
+now_passes_text path = codes "passes, but is listed as known to fail: remove it from " ++ printable_text path
 
 -- how a run ended, and of a failure that is known why; or that it passed, though it is known to fail
 abbrev pub judged_ending_text : Judged → Row → Option (List ℕ × ℕ) → Option (List ℕ) → List ℕ

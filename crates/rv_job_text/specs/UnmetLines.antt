@@ -26,7 +26,7 @@ use Rattle.rv_rows.specs.declared_row.RowEnd.{RowEnd}
 use Rattle.rv_rows.specs.declared_row.RowEnd.TheVariants as ending
 use Rattle.rv_rows.specs.Report.{line, refusal_name}
 use Rattle.rv_text.specs.Words.{word_digits}
-use Rattle.rv_job_text.specs.ConsoleLines.{Wanted, console_lines, wanted_by_lines}
+use Rattle.rv_job_text.specs.ConsoleLines.{Wanted, console_lines, expected_by_lines}
 
 -- ---- the exit code and the end
 
@@ -36,8 +36,8 @@ expected_exit_text (Some code) = codes "exit " ++ decimal code
 
 unfoldable pub expected_end_text : Option ExpectedEnd → List ℕ
 expected_end_text None = codes "another end"
-expected_end_text (Some expected.Budget) = codes "the end budget"
-expected_end_text (Some (expected.Fault kind)) = codes "the end " ++ fault_name kind
+expected_end_text (Some expected.Budget) = codes "budget used up"
+expected_end_text (Some (expected.Fault kind)) = codes "fault " ++ fault_name kind
 
 -- ---- bytes
 
@@ -58,15 +58,15 @@ count_difference_text met what wanted =
 unfoldable pub bytes_difference_text : Difference → List ℕ → List ℕ → List ℕ
 bytes_difference_text (difference.At place) met wanted = byte_difference_text place met wanted
 bytes_difference_text difference.Lengths met wanted = count_difference_text (length met) (codes " bytes") (length wanted)
-bytes_difference_text difference.Absent met wanted = codes "it was not read"
+bytes_difference_text difference.Absent met wanted = codes "the file was not read"
 
 -- a console that is expected: the bytes of a job, or those of a file
 unfoldable pub expected_console_text :
     ExpectedConsole → Option (List ℕ) → List ℕ → Difference → List ℕ
 expected_console_text (console.Text text) file met difference =
-    codes "the console: " ++ bytes_difference_text difference met text
+    codes "console: " ++ bytes_difference_text difference met text
 expected_console_text (console.File path) file met difference =
-    codes "the console of " ++ printable_text path ++ codes ": "
+    codes "console of " ++ printable_text path ++ codes ": "
     ++ bytes_difference_text difference met (unwrap_or file [])
 
 unfoldable pub console_difference_text :
@@ -101,7 +101,7 @@ word_difference_text first place met wanted = word_place_text first place ++ met
 unfoldable pub bad_reference_line_text : ℕ → List ℕ → List ℕ
 bad_reference_line_text number path =
     codes "line " ++ decimal number ++ codes " of " ++ printable_text path
-    ++ codes " is not eight lower-case digits and a line feed"
+    ++ codes " is not eight lower-case hexadecimal digits and a newline"
 
 -- what differs first between a signature and the reference at a path
 unfoldable pub reference_difference_text :
@@ -111,13 +111,13 @@ reference_difference_text first path words text (signature.Word place) =
     word_difference_text first place (signature_word_digits words place) (printable_text (reference_digits_at text place))
 reference_difference_text first path words text signature.Count =
     count_difference_text (length words) (codes " words") (length text / 9)
-reference_difference_text first path words text signature.Absent = codes "it was not read"
+reference_difference_text first path words text signature.Absent = codes "the file was not read"
 
 unfoldable pub signature_difference_text : Option ℕ → Option (List ℕ) → Option (List ℕ) → Option (List ℕ)
     → SignatureDifference → List ℕ
 signature_difference_text first None words bytes difference = codes "no signature"
 signature_difference_text first (Some path) words bytes difference =
-    codes "the signature of " ++ printable_text path ++ codes ": "
+    codes "signature of " ++ printable_text path ++ codes ": "
     ++ reference_difference_text first path (signature_words_or_empty words) (unwrap_or bytes []) difference
 
 -- ---- the named job
@@ -131,8 +131,8 @@ row_end_text (ending.Refused why) = codes "the refusal " ++ refusal_name why
 
 -- one of two signatures is absent
 abbrev pub absent_signature_text : Option (List ℕ) → List ℕ
-absent_signature_text None = codes "there is none, expected one"
-absent_signature_text (Some words) = codes "there is one, expected none"
+absent_signature_text None = codes "found none, expected one"
+absent_signature_text (Some words) = codes "found one, expected none"
 
 -- what differs first between two signatures, of which one may be absent
 unfoldable pub signatures_difference_text : Option ℕ → Option (List ℕ) → Option (List ℕ) → Difference → List ℕ
@@ -146,7 +146,7 @@ signatures_difference_text first words others difference.Absent = absent_signatu
 -- what differs first between a row and that of the named job
 unfoldable pub rows_difference_text : Option ℕ → Row → Row → SameDifference → List ℕ
 rows_difference_text first row other same.Ending =
-    codes "it ended with " ++ row_end_text other.ending ++ codes ", this with "
+    codes "it ended with " ++ row_end_text other.ending ++ codes ", this job with "
     ++ row_end_text row.ending
 rows_difference_text first row other (same.Console difference) =
     codes "console: " ++ bytes_difference_text difference row.console other.console
@@ -155,9 +155,9 @@ rows_difference_text first row other (same.Signature difference) =
 rows_difference_text first row other same.Absent = codes "it was not run"
 
 unfoldable pub same_difference_text : Option ℕ → Row → Option Row → SameDifference → List ℕ
-same_difference_text first row None difference = codes "the same as another job, which was not run"
+same_difference_text first row None difference = codes "the same result as another job, which was not run"
 same_difference_text first row (Some other) difference =
-    codes "the same as " ++ printable_text other.name ++ codes ": " ++ rows_difference_text first row other difference
+    codes "the same result as " ++ printable_text other.name ++ codes ": " ++ rows_difference_text first row other difference
 
 -- ---- the line
 
@@ -171,16 +171,16 @@ unmet_expectation_text address sides (unmet.Signature difference) =
     signature_difference_text address sides.job.expect_signature sides.row.signature sides.reference difference
 unmet_expectation_text address sides (unmet.Same difference) =
     same_difference_text address sides.row sides.other difference
-unmet_expectation_text address sides unmet.Nothing = codes "exit 0, since it expects nothing else"
+unmet_expectation_text address sides unmet.Nothing = codes "exit 0, since no expectation is set"
 
 -- by lines where that can be, else in one line behind five spaces
 abbrev pub unmet_line_by : Option ℕ → Sides → Unmet → Option Wanted → List ℕ
 unmet_line_by address sides unmet None =
-    line (codes "     expected " ++ unmet_expectation_text address sides unmet)
+    line (codes "     expected: " ++ unmet_expectation_text address sides unmet)
 unmet_line_by address sides unmet (Some wanted) = console_lines wanted.source sides.row.console wanted.text
 
 unfoldable pub unmet_line : Option ℕ → Sides → Unmet → List ℕ
-unmet_line address sides unmet = unmet_line_by address sides unmet (wanted_by_lines sides unmet)
+unmet_line address sides unmet = unmet_line_by address sides unmet (expected_by_lines sides unmet)
 
 -- in their order
 abbrev pub unmet_lines : Option ℕ → Sides → List Unmet → List ℕ

@@ -4,20 +4,20 @@ use Rattle.std.specs.Fmt.{decimal}
 use Rattle.std.specs.List.{find}
 use Rattle.std.specs.Str.{bytes_eq}
 use Rattle.rv_files.specs.IoErrors.{io_error_text}
-use Rattle.rv_files.specs.declared.noting_store.Unread.{Unread}
+use Rattle.rv_files.specs.declared.recording_store.UnreadPath.{UnreadPath}
 use Rattle.rv_jobs.specs.Limits.{most_bytes}
 
 -- the first that was noted of a path
-abbrev pub unread_note : List Unread → List ℕ → Option Unread
-unread_note unread path = find (λ (one : Unread). bytes_eq path one.path) unread
+abbrev pub unread_note : List UnreadPath → List ℕ → Option UnreadPath
+unread_note unread path = find (λ (one : UnreadPath). bytes_eq path one.path) unread
 
-abbrev pub unread_note_text : Option Unread → List ℕ
-unread_note_text None = codes "not readable"
+abbrev pub unread_note_text : Option UnreadPath → List ℕ
+unread_note_text None = codes "cannot be read"
 unread_note_text (Some one) = io_error_text one.reason
 
-unfoldable pub unread_file_text : List Unread → List ℕ → List ℕ
+unfoldable pub unread_file_text : List UnreadPath → List ℕ → List ℕ
 unread_file_text unread path = path ++ codes ": " ++ unread_note_text (unread_note unread path)
 
 unfoldable pub too_long_file_text : List ℕ → List ℕ
 too_long_file_text path =
-    path ++ codes ": the file has more than " ++ decimal most_bytes ++ codes " bytes"
+    path ++ codes ": the file is larger than " ++ decimal most_bytes ++ codes " bytes"

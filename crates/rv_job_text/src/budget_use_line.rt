@@ -44,7 +44,7 @@ fn waiting_text(waits: bool) -> &'static str
     ensures { result.now ≡ waiting_text waits }
 {
     if waits {
-        ", waiting for a script that is at its end"
+        ", waiting for input after the end of the script"
     } else {
         ""
     }
@@ -57,7 +57,7 @@ fn push_changes_line(text: &mut Vec<u8>, steps: u32, within: u32) -> Result<(), 
     push_spans(
         text,
         &[
-            Span::Text("     the budget may be too small: no loop that changes nothing in "),
+            Span::Text("     the budget may be too small: no endless loop was found in "),
             Span::Text(last_or_all_text(steps, within)),
             Span::Number(u64::from(within)),
             Span::Text(" steps\n"),

@@ -61,9 +61,9 @@ fn push_lines_heading(
     push_spans(
         bytes,
         &[
-            Span::Text("     the console differs from "),
+            Span::Text("     console differs from "),
             source,
-            Span::Text(" in line "),
+            Span::Text(" at line "),
             Span::Number(number as u64),
             Span::Text(" of "),
             Span::Number(count as u64),

@@ -6,7 +6,7 @@ ghost use Rattle.rv_job_text.specs.UnmetLines.{byte_difference_text, bytes_diffe
 
 use rv_expect::Difference;
 use rv_jobs::ExpectedConsole;
-use rv_text::{Span, met_and_expected_from, push_spans, push_text};
+use rv_text::{Span, actual_and_expected_from, push_spans, push_text};
 use std::alloc::AllocError;
 
 /// What differs from the console that is expected.
@@ -24,11 +24,11 @@ pub(crate) fn push_console_difference(
 {
     match expected {
         Some(ExpectedConsole::Text(text)) => {
-            push_text(bytes, "the console: ")?;
+            push_text(bytes, "console: ")?;
             push_bytes_difference(bytes, met, text.as_slice(), difference)
         }
         Some(ExpectedConsole::File(path)) => {
-            push_compared_name(bytes, "the console of ", path.as_str())?;
+            push_compared_name(bytes, "console of ", path.as_str())?;
             push_bytes_difference(bytes, met, bytes_or_empty(file), difference)
         }
         None => push_text(bytes, "no console"),
@@ -77,7 +77,7 @@ pub(crate) fn push_bytes_difference(
     match difference {
         Difference::At(place) => push_byte_difference(bytes, place, met, wanted),
         Difference::Lengths => push_count_difference(bytes, met.len(), " bytes", wanted.len()),
-        Difference::Absent => push_text(bytes, "it was not read"),
+        Difference::Absent => push_text(bytes, "the file was not read"),
     }
 }
 
@@ -90,7 +90,7 @@ fn push_byte_difference<'a>(
 ) -> Result<(), AllocError>
     ensures { OnOk result (bytes.new.items ≡ bytes.old.items ++ byte_difference_text place met.now wanted.now) }
 {
-    let (met, wanted) = met_and_expected_from(place, met, wanted);
+    let (met, wanted) = actual_and_expected_from(place, met, wanted);
     push_spans(
         bytes,
         &[

@@ -73,27 +73,27 @@ fn image_error_sentence(why: ImageError) -> &'static str
 {
     match why {
         ImageError::ShortHeader => "the file is shorter than an ELF header",
-        ImageError::BadMagic => "the file is no ELF file",
-        ImageError::Not32Bit => "the file is not of 32 bits",
-        ImageError::NotLittleEndian => "the file is not little-endian",
-        ImageError::BadVersion => "the file's ELF version is not 1",
-        ImageError::NotExecutable => "the file is not linked as an executable",
-        ImageError::NotRiscv => "the file is not for RISC-V",
-        ImageError::ProgramTable => "the program header table is bad or goes past the file",
-        ImageError::Dynamic => "the file is linked dynamically",
+        ImageError::BadMagic => "not an ELF file",
+        ImageError::Not32Bit => "not a 32-bit ELF file",
+        ImageError::NotLittleEndian => "not a little-endian ELF file",
+        ImageError::BadVersion => "the ELF version is not 1",
+        ImageError::NotExecutable => "not linked as an executable",
+        ImageError::NotRiscv => "not a RISC-V file",
+        ImageError::ProgramTable => "the program header table is invalid or truncated",
+        ImageError::Dynamic => "the file is dynamically linked",
         ImageError::SegmentSizes => "a segment has more bytes in the file than in memory",
-        ImageError::SegmentFile => "the bytes of a segment go past the file",
-        ImageError::NoSegment => "the file has no segment to load",
-        ImageError::EntryOdd => "the entry is odd",
-        ImageError::EntryAlign => "the entry is no multiple of 4",
-        ImageError::SegmentMap => "a segment does not lie in one region",
-        ImageError::SegmentOverlap => "the file bytes of two segments share addresses",
-        ImageError::SectionTable => "the section header table is bad or goes past the file",
-        ImageError::NoSymbols => "the file has no symbol table",
-        ImageError::SymbolTable => "the symbol table is bad or goes past the file",
-        ImageError::StringTable => "the symbols' names are missing or go past the file",
-        ImageError::NoBegin | ImageError::NoEnd => "a symbol of the signature is not defined",
-        ImageError::SignatureRange => "the signature is not whole words of one region",
+        ImageError::SegmentFile => "a segment extends past the end of the file",
+        ImageError::NoSegment => "no loadable segment",
+        ImageError::EntryOdd => "the entry point is odd",
+        ImageError::EntryAlign => "the entry point is not a multiple of 4",
+        ImageError::SegmentMap => "a segment does not fit in one region",
+        ImageError::SegmentOverlap => "the file contents of two segments overlap",
+        ImageError::SectionTable => "the section header table is invalid or truncated",
+        ImageError::NoSymbols => "no symbol table",
+        ImageError::SymbolTable => "the symbol table is invalid or truncated",
+        ImageError::StringTable => "the symbol names are missing or truncated",
+        ImageError::NoBegin | ImageError::NoEnd => "a symbol of the signature is undefined",
+        ImageError::SignatureRange => "the signature is not a sequence of words in one region",
         ImageError::OutOfMemory => "out of memory",
     }
 }
@@ -127,12 +127,12 @@ fn push_missing_symbol(bytes: &mut Vec<u8>, name: Option<&[u8]>) -> Result<(), A
         Some(name) => push_spans(
             bytes,
             &[
-                Span::Text("no symbol "),
+                Span::Text("symbol "),
                 Span::Shown(name),
-                Span::Text(" is defined"),
+                Span::Text(" is not defined"),
             ],
         ),
-        None => push_text(bytes, "a symbol of the signature is not defined"),
+        None => push_text(bytes, "a symbol of the signature is undefined"),
     }
 }
 
@@ -155,7 +155,10 @@ fn push_signature_range(
             push_signature_ends(bytes, file, image, names)?;
             push_regions(bytes, regions)
         }
-        None => push_text(bytes, "the signature is not whole words of one region"),
+        None => push_text(
+            bytes,
+            "the signature is not a sequence of words in one region",
+        ),
     }
 }
 
@@ -172,7 +175,7 @@ fn push_signature_ends(
     requires ends { 0 < length names.now.end }
     ensures { OnOk result (bytes.new.items ≡ bytes.old.items
         ++ (codes "the signature from " ++ signature_ends_text file.now names.now
-        ++ codes " is not up to 65536 whole words of one region:")) }
+        ++ codes " is not a sequence of up to 65536 words in one region:")) }
 {
     let begin = names.begin.as_str().as_bytes();
     let end = names.end.as_str().as_bytes();
@@ -189,7 +192,7 @@ fn push_signature_ends(
             Span::Shown(end),
             end_at,
             end_address,
-            Span::Text(" is not up to 65536 whole words of one region:"),
+            Span::Text(" is not a sequence of up to 65536 words in one region:"),
         ],
     )
 }

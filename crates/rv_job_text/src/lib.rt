@@ -2,7 +2,7 @@
 //! its run does not meet and the end of its console. Of an expectation it is told what was expected and what was met, and of
 //! a refused image why, with the addresses of segments beside the regions and the names of symbols.
 //!
-//! [`RowTelling`] is a [`Telling`](rv_rows::Telling) over a plan, and over what a store noted of the paths that it
+//! [`TextReporter`] is a [`RowReporter`](rv_rows::RowReporter) over a plan, and over what a store noted of the paths that it
 //! could not read. How much is told is a [`Verbosity`], and which rows pass a [`Rule`](rv_expect::Rule).
 //!
 //! [`push_result_line`] appends the line of a row alone, [`push_console_tail`] the end of its console, and [`push_totals_line`] the
@@ -13,6 +13,7 @@ mod budget_use_line;
 mod console_lines;
 mod console_tail;
 mod difference_text;
+mod expected_text;
 mod failures_by_end_kind;
 mod image_reason;
 mod image_symbols;
@@ -23,15 +24,14 @@ mod met_line;
 mod paths;
 mod refusal_reasons;
 mod result_line;
-mod row_telling;
 mod segment_reason;
 mod shown_line;
 mod signature_difference_text;
+mod text_reporter;
 mod totals_line;
 mod unmet_line;
 mod unread_files;
 mod verbosity;
-mod wanted_text;
 mod way_to_end;
 mod whole_lines;
 
@@ -41,8 +41,8 @@ pub use law::{lines_are_the_text, told_line_differs_first};
 pub use paths::{console_path, reference_path};
 pub use refusal_reasons::ending_reason;
 pub use result_line::{EndDetail, push_result_line};
-pub use row_telling::RowTelling;
+pub use text_reporter::TextReporter;
 pub use totals_line::{job_word, known_count, push_run_totals_line, push_totals_line};
 pub use unread_files::{too_long_file_text, unread_file_text};
 pub use verbosity::Verbosity;
-pub use way_to_end::{WayToEnd, budget_use_at};
+pub use way_to_end::{TraceOptions, budget_use_at};

@@ -83,14 +83,10 @@ fn push_met_expectation(
     match one {
         Expectation::Exit => push_expected_exit(bytes, comparison.job.expect_exit),
         Expectation::End => push_expected_end(bytes, comparison.job.expect_end),
-        Expectation::Console => push_met_file(bytes, "the console", console_path(comparison.job)),
-        Expectation::Signature => push_met_file(
-            bytes,
-            "the signature",
-            reference_path(comparison.job),
-        ),
+        Expectation::Console => push_met_file(bytes, "console", console_path(comparison.job)),
+        Expectation::Signature => push_met_file(bytes, "signature", reference_path(comparison.job)),
         Expectation::Same => push_same_as_job(bytes, comparison.other),
-        Expectation::Nothing => push_text(bytes, "exit 0, since it expects nothing else"),
+        Expectation::Nothing => push_text(bytes, "exit 0, since no expectation is set"),
     }
 }
 
@@ -122,8 +118,11 @@ fn push_same_as_job(bytes: &mut Vec<u8>, other: Option<&Row>) -> Result<(), Allo
         ++ same_as_job_text (option_map (λ row. row.now) other.entry)) }
 {
     let Some(other) = other else {
-        return push_text(bytes, "the same as another job");
+        return push_text(bytes, "the same result as another job");
     };
     let name = other.name.as_str().as_bytes();
-    push_spans(bytes, &[Span::Text("the same as "), Span::Shown(name)])
+    push_spans(
+        bytes,
+        &[Span::Text("the same result as "), Span::Shown(name)],
+    )
 }

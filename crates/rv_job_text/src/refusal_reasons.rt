@@ -11,7 +11,7 @@ use crate::image_reason::push_image_reason;
 use crate::paths::{console_path, reference_path};
 use crate::unread_files::{too_long_file_text, unread_file_text};
 use rv_elf::ImageError;
-use rv_files::Unread;
+use rv_files::UnreadPath;
 use rv_jobs::Plan;
 use rv_rows::{Refusal, RowEnd, expected_console_bytes, signature_reference_bytes};
 use rv_trace::image_bytes;
@@ -22,7 +22,7 @@ use std::alloc::{AllocError, Global};
 pub fn ending_reason(
     alloc: Global,
     plan: &Plan,
-    unread: &[Unread],
+    unread: &[UnreadPath],
     place: usize,
     ending: RowEnd,
 ) -> Result<Option<Vec<u8>>, AllocError>
@@ -40,7 +40,7 @@ pub fn ending_reason(
 fn refusal_reason(
     alloc: Global,
     plan: &Plan,
-    unread: &[Unread],
+    unread: &[UnreadPath],
     place: usize,
     why: Refusal,
 ) -> Result<Option<Vec<u8>>, AllocError>
@@ -65,7 +65,7 @@ fn refusal_reason(
 
 fn unread_file_reason(
     alloc: Global,
-    unread: &[Unread],
+    unread: &[UnreadPath],
     path: Option<&str>,
 ) -> Result<Option<Vec<u8>>, AllocError>
     ensures { IfOk result (λ reason. option_map (λ text. text.items) reason

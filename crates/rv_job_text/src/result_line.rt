@@ -108,7 +108,7 @@ fn push_now_passes(bytes: &mut Vec<u8>, path: &str) -> Result<(), AllocError>
     push_spans(
         bytes,
         &[
-            Span::Text("passes, and is known to fail: take it out of "),
+            Span::Text("passes, but is listed as known to fail: remove it from "),
             Span::Shown(path.as_bytes()),
         ],
     )

@@ -28,7 +28,7 @@ pub(crate) fn push_unfit_segment(
             push_outside_segment(bytes, job, segment)?;
             push_regions(bytes, job.regions.as_slice())
         }
-        None => push_text(bytes, "a segment does not lie in one region"),
+        None => push_text(bytes, "a segment does not fit in one region"),
     }
 }
 
@@ -37,9 +37,9 @@ pub(crate) fn push_unfit_segment(
 fn push_outside_segment(bytes: &mut Vec<u8>, job: &Job, segment: &Segment) -> Result<(), AllocError>
     ensures { OnOk result (bytes.new.items ≡ bytes.old.items
         ++ (outside_segment_text (in_one job.now.regions (load_address job.now.load segment.now)
-        segment.now.filesz) job.now.load segment.now ++ codes ", do not lie in one region:")) }
+        segment.now.filesz) job.now.load segment.now ++ codes ", do not fit in one region:")) }
 {
-    let behind = ", do not lie in one region:";
+    let behind = ", do not fit in one region:";
     let from = job.load.load_address(segment);
     let is_file_inside = job.regions.in_one(from, segment.filesz);
     if is_file_inside {
@@ -106,7 +106,7 @@ pub(crate) fn push_segment_overlap(
 {
     match overlapping_segments(at, segments) {
         Some((one, other)) => push_segment_pair(bytes, at, &one, &other),
-        None => push_text(bytes, "the file bytes of two segments share addresses"),
+        None => push_text(bytes, "the file contents of two segments overlap"),
     }
 }
 
@@ -119,7 +119,7 @@ fn push_segment_pair(
     other: &Segment,
 ) -> Result<(), AllocError>
     ensures { OnOk result (bytes.new.items ≡ bytes.old.items
-        ++ (codes "the file bytes of two segments share addresses: "
+        ++ (codes "the file contents of two segments overlap: "
         ++ segment_pair_text at one.now other.now)) }
 {
     let from = at.load_address(one);
@@ -127,7 +127,7 @@ fn push_segment_pair(
     push_spans(
         bytes,
         &[
-            Span::Text("the file bytes of two segments share addresses: "),
+            Span::Text("the file contents of two segments overlap: "),
             Span::Word(from),
             Span::Text(" to "),
             last_address_span(from, one.filesz),

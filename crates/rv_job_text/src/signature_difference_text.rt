@@ -35,7 +35,7 @@ pub(crate) fn push_signature_difference(
         return push_text(bytes, "no signature");
     };
     let path = path.as_str();
-    push_compared_name(bytes, "the signature of ", path)?;
+    push_compared_name(bytes, "signature of ", path)?;
     let words = signature_words_or_empty(&comparison.row.signature);
     let reference = ReferenceFile {
         path,
@@ -75,7 +75,7 @@ fn push_reference_difference(
             " words",
             text.len() / LINE,
         ),
-        SignatureDifference::Absent => push_text(bytes, "it was not read"),
+        SignatureDifference::Absent => push_text(bytes, "the file was not read"),
     }
 }
 
@@ -90,7 +90,7 @@ fn push_bad_reference_line(bytes: &mut Vec<u8>, number: usize, path: &str) -> Re
             Span::Number(number as u64),
             Span::Text(" of "),
             Span::Shown(path.as_bytes()),
-            Span::Text(" is not eight lower-case digits and a line feed"),
+            Span::Text(" is not eight lower-case hexadecimal digits and a newline"),
         ],
     )
 }
@@ -130,8 +130,8 @@ fn absent_signature_text(words: &Option<Words>) -> &'static str
     ensures { result.now ≡ absent_signature_text words.now }
 {
     match words {
-        Some(_) => "there is one, expected none",
-        None => "there is none, expected one",
+        Some(_) => "found one, expected none",
+        None => "found none, expected one",
     }
 }
 

@@ -7,8 +7,8 @@ ghost use Rattle.rv_job_text.specs.UnmetLines.{unmet_line, unmet_line_by, unmet_
 
 use crate::console_lines::push_console_lines;
 use crate::difference_text::{push_bytes_difference, push_compared_name, push_console_difference};
+use crate::expected_text::{ExpectedText, expected_by_lines};
 use crate::signature_difference_text::{push_signature_difference, push_signatures_difference};
-use crate::wanted_text::{WantedText, wanted_by_lines};
 use rv_expect::{Comparison, SameDifference, Unmet};
 use rv_jobs::ExpectedEnd;
 use rv_rows::{Row, RowEnd};
@@ -43,8 +43,8 @@ fn push_unmet_line(
     ensures { OnOk result (bytes.new.items
         ≡ bytes.old.items ++ unmet_line address (sides_of comparison.now) unmet) }
 {
-    match wanted_by_lines(comparison, unmet) {
-        Some(WantedText { source, text }) => {
+    match expected_by_lines(comparison, unmet) {
+        Some(ExpectedText { source, text }) => {
             push_console_lines(bytes, source, comparison.row.console.as_slice(), text)
         }
         None => push_expected_line(bytes, comparison, address, unmet),
@@ -61,7 +61,7 @@ fn push_expected_line(
     ensures { OnOk result (bytes.new.items ≡ bytes.old.items
         ++ unmet_line_by address (sides_of comparison.now) unmet None) }
 {
-    push_text(bytes, "     expected ")?;
+    push_text(bytes, "     expected: ")?;
     push_unmet_expectation(bytes, comparison, address, unmet)?;
     push_text(bytes, "\n")
 }
@@ -101,7 +101,7 @@ fn push_unmet_expectation(
             comparison.other,
             difference,
         ),
-        Unmet::Nothing => push_text(bytes, "exit 0, since it expects nothing else"),
+        Unmet::Nothing => push_text(bytes, "exit 0, since no expectation is set"),
     }
 }
 
@@ -128,9 +128,9 @@ pub(crate) fn push_expected_end(
     ensures { OnOk result (bytes.new.items ≡ bytes.old.items ++ expected_end_text expected) }
 {
     match expected {
-        Some(ExpectedEnd::Budget) => push_text(bytes, "the end budget"),
+        Some(ExpectedEnd::Budget) => push_text(bytes, "budget used up"),
         Some(ExpectedEnd::Fault(kind)) => {
-            push_spans(bytes, &[Span::Text("the end "), Span::Text(kind.name())])
+            push_spans(bytes, &[Span::Text("fault "), Span::Text(kind.name())])
         }
         None => push_text(bytes, "another end"),
     }
@@ -149,9 +149,9 @@ fn push_same_difference(
         ++ same_difference_text first row.now (option_map (λ row. row.now) other.entry) difference) }
 {
     let Some(other) = other else {
-        return push_text(bytes, "the same as another job, which was not run");
+        return push_text(bytes, "the same result as another job, which was not run");
     };
-    push_compared_name(bytes, "the same as ", other.name.as_str())?;
+    push_compared_name(bytes, "the same result as ", other.name.as_str())?;
     push_rows_difference(bytes, first, row, other, difference)
 }
 
@@ -169,7 +169,7 @@ fn push_rows_difference(
     match difference {
         SameDifference::Ending => {
             push_row_end(bytes, "it ended with ", other.ending)?;
-            push_row_end(bytes, ", this with ", row.ending)
+            push_row_end(bytes, ", this job with ", row.ending)
         }
         SameDifference::Console(difference) => {
             push_text(bytes, "console: ")?;

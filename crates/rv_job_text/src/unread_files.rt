@@ -3,14 +3,18 @@
 ghost use Rattle.std.specs.Prelude.{◌≡◌, IfOk, option_map};
 ghost use Rattle.rv_job_text.specs.UnreadFiles.{too_long_file_text, unread_note, unread_note_text, unread_file_text};
 
-use rv_files::{Unread, io_error_text};
+use rv_files::{UnreadPath, io_error_text};
 use rv_jobs::limits::MOST_BYTES;
 use rv_text::{Span, text_of_spans};
 use std::alloc::{AllocError, Global};
 
 /// A path, and why its file was unreadable.
 #[tactic(auto, unfolding(crate::specs::UnreadFiles::unread_file_text))]
-pub fn unread_file_text(alloc: Global, unread: &[Unread], path: &str) -> Result<Vec<u8>, AllocError>
+pub fn unread_file_text(
+    alloc: Global,
+    unread: &[UnreadPath],
+    path: &str,
+) -> Result<Vec<u8>, AllocError>
     ensures { IfOk result (λ text. text.items ≡ unread_file_text unread.now path.now) }
 {
     let why = unread_note_text(unread_note(unread, path));
@@ -29,7 +33,7 @@ pub fn too_long_file_text(alloc: Global, path: &str) -> Result<Vec<u8>, AllocErr
         alloc,
         &[
             Span::Text(path),
-            Span::Text(": the file has more than "),
+            Span::Text(": the file is larger than "),
             Span::Number(MOST_BYTES as u64),
             Span::Text(" bytes"),
         ],
@@ -37,17 +41,17 @@ pub fn too_long_file_text(alloc: Global, path: &str) -> Result<Vec<u8>, AllocErr
 }
 
 // The first that was noted of a path.
-fn unread_note<'a>(unread: &'a [Unread], path: &str) -> Option<&'a Unread>
+fn unread_note<'a>(unread: &'a [UnreadPath], path: &str) -> Option<&'a UnreadPath>
     ensures { option_map (λ one. one.now) result ≡ unread_note unread.now path.now }
 {
     unread.iter().find(|one| path == one.path.as_str())
 }
 
-fn unread_note_text(noted: Option<&Unread>) -> &'static str
+fn unread_note_text(noted: Option<&UnreadPath>) -> &'static str
     ensures { result.now ≡ unread_note_text (option_map (λ one. one.now) noted.entry) }
 {
     match noted {
         Some(one) => io_error_text(one.reason),
-        None => "not readable",
+        None => "cannot be read",
     }
 }

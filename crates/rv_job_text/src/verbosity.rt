@@ -2,7 +2,7 @@
 
 ghost use Rattle.std.specs.Prelude.{◌≡◌};
 ghost use Rattle.rv_expect.specs.Judgement.{is_failing, judged_of};
-ghost use Rattle.rv_job_text.specs.Telling.{shows_row};
+ghost use Rattle.rv_job_text.specs.RowReporter.{shows_row};
 
 use rv_expect::Judgement;
 

@@ -5,7 +5,7 @@ ghost use Rattle.rv_hang.specs.BudgetUse.{IsBudgetUseIn};
 ghost use Rattle.rv_jobs.specs.declared_job.Job.{Job as AJob};
 ghost use Rattle.rv_trace.specs.Trace.{job_at};
 ghost use Rattle.rv_job_text.specs.BudgetUseLine.{IsUseOfRow};
-ghost use Rattle.rv_job_text.specs.Telling.{calls_lines, way_to_end_lines};
+ghost use Rattle.rv_job_text.specs.RowReporter.{calls_lines, way_to_end_lines};
 
 use crate::job_file::JobFile;
 use crate::job_row::JobRow;
@@ -18,7 +18,7 @@ use std::alloc::{AllocError, Global};
 
 /// What is told of how a run came to its end.
 #[derive(Clone, Copy)]
-pub struct WayToEnd {
+pub struct TraceOptions {
     /// How many of its last instructions.
     pub last: u32,
     /// What is found of a used-up budget.
@@ -53,8 +53,8 @@ pub fn budget_use_at(
 
 impl<'a> JobRow<'a> {
     /// Appends how the run came to its end, with so many of its last instructions. It is run once more.
-    #[tactic(auto, unfolding(crate::specs::Telling::way_to_end_lines))]
-    pub(crate) fn push_way_to_end(
+    #[tactic(auto, unfolding(crate::specs::RowReporter::way_to_end_lines))]
+    pub(crate) fn push_end_trace(
         &self,
         alloc: Global,
         last: u32,
@@ -80,7 +80,7 @@ impl<'a> JobRow<'a> {
 
     /// Appends the calls that have not returned where the run ended, if there are any. It is run once more, an instruction
     /// at a time.
-    #[tactic(auto, unfolding(crate::specs::Telling::calls_lines))]
+    #[tactic(auto, unfolding(crate::specs::RowReporter::calls_lines))]
     pub(crate) fn push_calls(&self, alloc: Global, text: &mut Vec<u8>) -> Result<(), AllocError>
         ensures { OnOk result ((d : AJob) → text.new.items ≡ text.old.items
             ++ calls_lines self.now.plan.now (job_at self.now.plan.now self.now.place d)) }

@@ -37,12 +37,12 @@ answer_places_of_job false (Some j) a ans f k d ih e = let z : j + 1 ≡ k = cc 
     ∙ ap (λ i. Some (get_or (a ∷ ans) i d).kept) s
 
 -- the answer at the place of the path
-pub kept_at : (ans : List Answer) (p : List ℕ) (k : ℕ) (d : Answer) → place_in (paths_of ans) p ≡ Some k
+pub cached_or_invalidated_at : (ans : List Answer) (p : List ℕ) (k : ℕ) (d : Answer) → place_in (paths_of ans) p ≡ Some k
     → kept_of_path ans p ≡ Some (get_or ans k d).kept
 unfolding place_in
-kept_at [] p k d e = cc
-kept_at (a ∷ ans) p k d e = answer_places_of_job (bytes_eq p a.path) (place_in (paths_of ans) p) a ans
-    (find (λ (x : Answer). bytes_eq p x.path) ans) k d (λ j h. kept_at ans p j d h) e
+cached_or_invalidated_at [] p k d e = cc
+cached_or_invalidated_at (a ∷ ans) p k d e = answer_places_of_job (bytes_eq p a.path) (place_in (paths_of ans) p) a ans
+    (find (λ (x : Answer). bytes_eq p x.path) ans) k d (λ j h. cached_or_invalidated_at ans p j d h) e
 
 absent : (b : Bool) (o : Option ℕ) (a : Answer) (f : Option Answer)
     → (o ≡ None → option_map (λ (x : Answer). x.kept) f ≡ None)
@@ -273,7 +273,7 @@ kept_there : (ps : List (List ℕ)) (ks : List Kept) (q : List ℕ) (k : ℕ) (x
     → place_in ps q ≡ Some k → x ≡ get_or ks k x → kept_of_path (answers_with ps ks) q ≡ Some x
 kept_there ps ks q k x even found is =
     let d : Answer = record { path = q; kept = x } in
-    kept_at (answers_with ps ks) q k d (ap (λ l. place_in l q) (paths-with ps ks even) ∙ found)
+    cached_or_invalidated_at (answers_with ps ks) q k d (ap (λ l. place_in l q) (paths-with ps ks even) ∙ found)
     ∙ ap (λ (y : Kept). Some y) (with-at ps ks k d x even (place_within ps q k (length ks) even found) ∙ sym is)
 
 -- a path that has no place has no answer

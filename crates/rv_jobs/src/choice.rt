@@ -3,13 +3,13 @@
 ghost use Rattle.std.specs.Prelude.{◌≡◌, ◌<◌, IfOk, length};
 ghost use Rattle.std.specs.List.{All};
 ghost use Rattle.std.specs.List.Sorted.{IsStrictlyIncreasing};
-ghost use Rattle.rv_jobs.specs.Choices.{marked_places};
+ghost use Rattle.rv_jobs.specs.Choices.{selected_indices};
 
 use std::alloc::{AllocError, Global};
 
 /// The places of the marks that are set, in order, counted from 0.
-pub fn marked_places(alloc: Global, marks: &[bool]) -> Result<Vec<usize>, AllocError>
-    ensures value { IfOk result (λ places. places.items ≡ marked_places marks.now (length marks.now)) }
+pub fn selected_indices(alloc: Global, marks: &[bool]) -> Result<Vec<usize>, AllocError>
+    ensures value { IfOk result (λ places. places.items ≡ selected_indices marks.now (length marks.now)) }
     ensures within { IfOk result (λ places. All (λ place. place < length marks.now) places.items) }
     ensures rising { IfOk result (λ places. IsStrictlyIncreasing places.items) }
 {

@@ -1,7 +1,7 @@
 //! Plans: what a store answers for the paths of a job list.
 //!
 //! [`gather`] reads the paths of a list from a [`Store`], each different one once, and gives a [`Plan`]:
-//! the jobs, and one answer ([`Kept`]) for each path. [`gather_places`] reads the paths alone that the
+//! the jobs, and one answer ([`Kept`]) for each path. [`gather_jobs`] reads the paths alone that the
 //! rows of some jobs need. The lists are those of `rv_lists`, which callers find here too.
 #![tactic(auto)]
 
@@ -13,10 +13,10 @@ mod path_reading;
 mod plan;
 
 pub use answers::Answer;
-pub use choice::marked_places;
+pub use choice::selected_indices;
 pub use kept::Kept;
 pub use law::used_paths_have_answers;
-pub use plan::{Plan, gather, gather_places};
+pub use plan::{Plan, gather, gather_jobs};
 pub use rv_base::{ReadError, Store};
 pub use rv_lists::{
     Bytes, ExpectedConsole, ExpectedEnd, Job, JobError, JobList, Symbols, Text, What, limits,

@@ -55,13 +55,13 @@ pub fn gather<S: Store>(alloc: Global, jobs: JobList, store: &mut S) -> Result<P
     ensures faults { IfOk result (λ p. S.faulted store.new
         ≡ one_more_times (S.faulted store.old) (unreadable_count p.answers)) }
 {
-    let places = all_places(alloc, &jobs)?;
-    gather_places(alloc, jobs, places, store)
+    let places = all_indices(alloc, &jobs)?;
+    gather_jobs(alloc, jobs, places, store)
 }
 
 /// The same for the rows of the jobs at some places alone: reads each different path of these jobs and of those that
 /// they name by `same_as` once, in order of first use.
-pub fn gather_places<S: Store>(
+pub fn gather_jobs<S: Store>(
     alloc: Global,
     jobs: JobList,
     places: Vec<usize>,
@@ -94,7 +94,7 @@ pub fn gather_places<S: Store>(
 }
 
 /// The places of all jobs.
-fn all_places(alloc: Global, jobs: &JobList) -> Result<Vec<usize>, AllocError>
+fn all_indices(alloc: Global, jobs: &JobList) -> Result<Vec<usize>, AllocError>
     ensures within { IfOk result (λ places. All (λ place. place < length jobs.now) places.items) }
     ensures paths { IfOk result (λ places. paths_used (jobs_needed_for jobs.now places.items)
         ≡ paths_used jobs.now) }

@@ -11,7 +11,7 @@ ghost use Rattle.rv_junit.specs.Junit.{junit_text};
 use crate::junit::{push_suite_begin, push_test_case};
 use crate::suite::Suite;
 use rv_rows::{Row, Sink, WriteError, put_all};
-use rv_stream::{PlacedRows, Telling, put_row_texts};
+use rv_stream::{IndexedRows, RowReporter, put_row_texts};
 use rv_text::push_text;
 use std::alloc::{AllocError, Global};
 
@@ -19,20 +19,20 @@ use std::alloc::{AllocError, Global};
 /// row is a failure, or an error where the job was refused, with the lines that are told of the job at its place. A failure
 /// that is known is skipped, with its reason.
 /// After an error a beginning of the text is out.
-pub fn write_junit<T: Telling, W: Sink>(
+pub fn write_junit<T: RowReporter, W: Sink>(
     alloc: Global,
     suite: &Suite<'_>,
-    telling: &T,
-    rows: &PlacedRows<'_>,
+    reporter: &T,
+    rows: &IndexedRows<'_>,
     out: &mut W,
 ) -> Result<(), WriteError>
     ensures appended { OnOk result (Appends (W.taken out.old) (W.taken out.new)
         (junit_text suite.now.name.now (judging_of suite.now.judge)
-        (row_text_list (T.line telling.now) rows.now.places.now rows.now.rows.now) rows.now.rows.now)) }
+        (row_text_list (T.line reporter.now) rows.now.places.now rows.now.rows.now) rows.now.rows.now)) }
     ensures counted { OnOk result (W.failed out.new ≡ W.failed out.old) }
     ensures part { OnErr result (AppendsBeginning (W.taken out.old) (W.taken out.new)
         (junit_text suite.now.name.now (judging_of suite.now.judge)
-        (row_text_list (T.line telling.now) rows.now.places.now rows.now.rows.now) rows.now.rows.now)) }
+        (row_text_list (T.line reporter.now) rows.now.places.now rows.now.rows.now) rows.now.rows.now)) }
     ensures failed { IfErr result (λ error. error ≡ WriteError.Failed
         → HasRisen (W.failed out.old) (W.failed out.new)) }
 {
@@ -41,7 +41,7 @@ pub fn write_junit<T: Telling, W: Sink>(
     let mut text = begin.into_bytes();
     let cases = Cases {
         suite: *suite,
-        telling,
+        reporter,
     };
     put_row_texts(alloc, &mut text, &cases, rows, out)?;
     push_text(&mut text, "</testsuite>\n</testsuites>\n")?;
@@ -49,19 +49,19 @@ pub fn write_junit<T: Telling, W: Sink>(
     Ok(())
 }
 
-// Tells the case of a row, in which stand the lines that another telling tells of it.
+// Tells the case of a row, in which stand the lines that another reporter tells of it.
 #[derive(Drop)]
-struct Cases<'a, 'b, T: Telling> {
+struct Cases<'a, 'b, T: RowReporter> {
     suite: Suite<'a>,
-    telling: &'b T,
+    reporter: &'b T,
 }
 
-impl<'a, 'b, T: Telling> Telling for Cases<'a, 'b, T> {
+impl<'a, 'b, T: RowReporter> RowReporter for Cases<'a, 'b, T> {
     ghost use Rattle.rv_expect.specs.Judgement.{judging_of};
     ghost use Rattle.rv_junit.specs.Junit.{test_case_text};
 
     ghost line = { λ cases place row. test_case_text cases.suite.name.now (judging_of cases.suite.judge) row
-        (T.line cases.telling.now place row) };
+        (T.line cases.reporter.now place row) };
 
     fn push_row_text(
         &self,
@@ -71,7 +71,7 @@ impl<'a, 'b, T: Telling> Telling for Cases<'a, 'b, T> {
         text: &mut Vec<u8>,
     ) -> Result<(), AllocError> {
         let mut lines = Vec::new(alloc);
-        self.telling.push_row_text(alloc, place, row, &mut lines)?;
+        self.reporter.push_row_text(alloc, place, row, &mut lines)?;
         let mut case = String::new(alloc);
         push_test_case(alloc, &mut case, &self.suite, row, lines.as_slice())?;
         text.extend_from_slice(case.as_bytes())

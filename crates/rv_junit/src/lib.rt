@@ -1,6 +1,6 @@
 //! Rows as JUnit's XML.
 //!
-//! [`write_junit`] writes [`PlacedRows`] as a [`Suite`], with the lines that a caller's [`Telling`](rv_rows::Telling) gives them. What it writes is
+//! [`write_junit`] writes [`IndexedRows`] as a [`Suite`], with the lines that a caller's [`RowReporter`](rv_rows::RowReporter) gives them. What it writes is
 //! exactly the text of its definition in `specs/`, and is characters of XML 1.0 ([`documents_are_xml_characters`]).
 #![tactic(auto)]
 
@@ -12,5 +12,5 @@ mod suite;
 
 pub use junit_writer::write_junit;
 pub use law::{documents_are_xml_characters, each_row_is_counted_once};
-pub use rv_stream::PlacedRows;
+pub use rv_stream::IndexedRows;
 pub use suite::Suite;

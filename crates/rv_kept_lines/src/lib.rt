@@ -1,14 +1,14 @@
 //! The lines of jobs that failed, kept so that they are told once.
 //!
-//! A [`KeepingTelling`] tells of rows, and keeps the lines of those that failed as [`KeptLines`]. A [`RecallingTelling`] tells
+//! A [`RecordingReporter`] tells of rows, and keeps the lines of those that failed as [`RecordedLines`]. A [`ReplayingReporter`] tells
 //! of the same rows again: it takes the lines that are kept, and tells only of the others anew.
 #![tactic(auto)]
 
-mod keeping_telling;
-mod kept_lines;
-mod recalling_telling;
+mod recorded_lines;
+mod recording_reporter;
+mod replaying_reporter;
 mod row_copies;
 
-pub use keeping_telling::KeepingTelling;
-pub use kept_lines::{KeptLines, RowLines};
-pub use recalling_telling::RecallingTelling;
+pub use recorded_lines::{LinesSpec, RecordedLines};
+pub use recording_reporter::RecordingReporter;
+pub use replaying_reporter::ReplayingReporter;

@@ -1,7 +1,7 @@
 -- The kinds of faults, one by one.
 use Rattle.std.proofs.Common.{◌≡◌, ◌+◌, ◌++◌, ℕ, suc, ap, arith, subst}
 use Rattle.rv_list_errors.specs.NearNames.{Adds}
-use Rattle.rv_list_errors.specs.Told.{first_kinds_text, kind_text}
+use Rattle.rv_list_errors.specs.Explanation.{first_kinds_text, kind_text}
 use Rattle.rv_list_errors.specs.declared.message.Message.{Message}
 use Rattle.rv_list_errors.proofs.NamesTold.{adds_more}
 

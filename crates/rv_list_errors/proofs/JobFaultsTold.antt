@@ -4,11 +4,11 @@ use Rattle.toml.specs.Data.{Data, Members, array, as_table, string, integer, flo
 use Rattle.rv_lists.specs.declared.error.What.{What}
 use Rattle.rv_lists.specs.declared.error.What.TheVariants as what
 use Rattle.rv_list_errors.specs.JobFaults.{IsToldOf, TellsExplanation, TellsFaultOfTable, TellsJobFault, TellsNoTable, TellsOwnFault}
-use Rattle.rv_list_errors.specs.declared.explanations.Told.{Told}
+use Rattle.rv_list_errors.specs.declared.explanations.Explanation.{Explanation}
 
 -- ---- of a table
 
-pub own_told : (wrong : What) (ms : Members) (explained : Told) (told : List ℕ) → (wrong ≡ what.UnknownKey → ⊥)
+pub own_told : (wrong : What) (ms : Members) (explained : Explanation) (told : List ℕ) → (wrong ≡ what.UnknownKey → ⊥)
     → (wrong ≡ what.WrongType → ⊥) → (wrong ≡ what.Region → ⊥) → IsToldOf wrong ms explained → TellsExplanation explained ms told → TellsOwnFault wrong ms told
 own_told what.NotToml ms explained told key kind region is so = (explained, is, so)
 own_told what.NoJobs ms explained told key kind region is so = (explained, is, so)

@@ -4,7 +4,7 @@ use Rattle.std.specs.Prelude.{IsOk, OnOk, codes}
 use Rattle.std.specs.Fmt.{decimal}
 use Rattle.rv_list_errors.specs.NearNames.{Adds}
 use Rattle.rv_list_locations.specs.Places.{column_at, line_at}
-use Rattle.rv_list_errors.specs.Told.{AddsSome}
+use Rattle.rv_list_errors.specs.Explanation.{AddsSome}
 use Rattle.rv_list_errors.specs.declared.message.Message.{Message}
 
 both_grown : {E : Type 0} (first second : Result (Unit {0}) E) (A B C : Type 0) → OnOk first A → OnOk second (IsOk first × B)
@@ -91,12 +91,12 @@ five a b c d e =
 -- what stands in front of the reason for which a text is no TOML
 pub not_toml_text : (text reason : List ℕ) (place start line column : ℕ) → start ≡ place → line ≡ line_at start text
     → column ≡ column_at start text
-    → ((codes ":" ++ (decimal line ++ codes ":")) ++ decimal column) ++ (codes ": not TOML: " ++ reason)
+    → ((codes ":" ++ (decimal line ++ codes ":")) ++ decimal column) ++ (codes ": error: invalid TOML: " ++ reason)
     ≡ codes ":" ++ (decimal (line_at place text) ++ (codes ":" ++ (decimal (column_at place text)
-    ++ (codes ": not TOML: " ++ reason))))
+    ++ (codes ": error: invalid TOML: " ++ reason))))
 not_toml_text text reason place start line column e line_is column_is =
     let at_line : line ≡ line_at place text = line_is ∙ ap (λ n. line_at n text) e in
     let at_column : column ≡ column_at place text = column_is ∙ ap (λ n. column_at n text) e in
-    five (codes ":") (decimal line) (codes ":") (decimal column) (codes ": not TOML: " ++ reason)
-    ∙ ap (λ n. codes ":" ++ (decimal n ++ (codes ":" ++ (decimal column ++ (codes ": not TOML: " ++ reason))))) at_line
-    ∙ ap (λ n. codes ":" ++ (decimal (line_at place text) ++ (codes ":" ++ (decimal n ++ (codes ": not TOML: " ++ reason))))) at_column
+    five (codes ":") (decimal line) (codes ":") (decimal column) (codes ": error: invalid TOML: " ++ reason)
+    ∙ ap (λ n. codes ":" ++ (decimal n ++ (codes ":" ++ (decimal column ++ (codes ": error: invalid TOML: " ++ reason))))) at_line
+    ∙ ap (λ n. codes ":" ++ (decimal (line_at place text) ++ (codes ":" ++ (decimal n ++ (codes ": error: invalid TOML: " ++ reason))))) at_column

@@ -6,7 +6,7 @@ use Rattle.std.specs.List.{find}
 use Rattle.std.specs.Map.{keys_of}
 use Rattle.toml.specs.declared.value.Value.{Value}
 use Rattle.toml.specs.View.{members_view}
-use Rattle.rv_list_errors.specs.Told.{first_unknown_key}
+use Rattle.rv_list_errors.specs.Explanation.{first_unknown_key}
 
 unknown_entry : (known : List ℕ → Bool) (es : List (String Global × Value))
     → option_map string_bytes (find (λ k. not (known (string_bytes k))) (keys_of es)) ≡ first_unknown_key known (members_view es)

@@ -9,23 +9,23 @@ use Rattle.toml.specs.Data.{Members, get_member}
 use Rattle.rv_lists.specs.Keys.{text_at_key}
 use Rattle.rv_lists.specs.Limits.{most_console, most_path}
 use Rattle.rv_machine.specs.Faults.{fault_kinds}
-use Rattle.rv_list_errors.specs.Told.{first_kinds_text, letters_words, sets_words}
+use Rattle.rv_list_errors.specs.Explanation.{first_kinds_text, letters_words, sets_words}
 
 -- ---- expectations
 
 abbrev pub path_words : List ℕ
-path_words = codes "a path of 1 to " ++ (decimal most_path ++ codes " bytes is wanted")
+path_words = codes "expected a path of 1 to " ++ (decimal most_path ++ codes " bytes")
 
 abbrev pub is_no_path : List ℕ → Bool
 is_no_path path = (length path == 0) || nat_lt most_path (length path)
 
 abbrev pub exit_told : Option (List ℕ) × List ℕ
-exit_told = (Some (codes "expect_exit"), codes "a whole number from 0 to " ++ (decimal 0xffff_ffff ++ codes " is wanted"))
+exit_told = (Some (codes "expect_exit"), codes "expected an integer from 0 to " ++ (decimal 0xffff_ffff ++ codes ""))
 
 abbrev pub kinds_told : Option (List ℕ) × List ℕ
 kinds_told = (
   Some (codes "expect_end"),
-  codes "\"budget\" or the kind of a fault is wanted: " ++ first_kinds_text (length fault_kinds),
+  codes "expected \"budget\" or a fault kind: " ++ first_kinds_text (length fault_kinds),
 )
 
 -- an exit is expected by a key of its own
@@ -33,15 +33,15 @@ abbrev pub end_told : Option (List ℕ) → Option (List ℕ) × List ℕ
 end_told None = kinds_told
 end_told (Some end) =
     if bytes_eq end (codes "exit")
-    then (None, codes "expect_end = \"exit\": an exit is expected by its code: use expect_exit") else kinds_told
+    then (None, codes "expect_end = \"exit\": to expect an exit, set \"expect_exit\" to its code") else kinds_told
 
 -- by the texts of `expect_console`, `expect_console_file` and `expect_end`
 abbrev pub console_told : Option (List ℕ) → Option (List ℕ) → Option (List ℕ) → Option (List ℕ) × List ℕ
 console_told (Some text) (Some path) end =
-    (None, codes "expect_console and expect_console_file both stand: one of them is taken")
+    (None, codes "\"expect_console\" and \"expect_console_file\" cannot both be set")
 console_told (Some text) None end =
     if nat_lt most_console (length text)
-    then (Some (codes "expect_console"), codes "at most " ++ (decimal most_console ++ codes " bytes are taken")) else end_told end
+    then (Some (codes "expect_console"), codes "expected at most " ++ (decimal most_console ++ codes " bytes")) else end_told end
 console_told None (Some path) end =
     if is_no_path path then (Some (codes "expect_console_file"), path_words) else end_told end
 console_told None None end = end_told end
@@ -53,7 +53,7 @@ reference_told asked (Some path) rest =
     if asked then if is_no_path path then (Some (codes "expect_signature"), path_words) else rest
     else (
       Some (codes "expect_signature"),
-      codes "a signature is expected only where the key signature names its two symbols",
+      codes "cannot be used without \"signature\"",
     )
 
 abbrev pub console_told_of : Members → Option (List ℕ) × List ℕ

@@ -9,8 +9,8 @@ use Rattle.rv_lists.specs.Keys.{array_at_key, text_at_key}
 use Rattle.rv_lists.specs.declared.error.JobError.{JobError}
 use Rattle.rv_text.specs.Printable.{printable_value}
 use Rattle.rv_list_locations.specs.JobPlaces.{job_lines}
-use Rattle.rv_list_errors.specs.declared.fault_text.Look.{Look}
-use Rattle.rv_list_errors.specs.declared.fault_text.Look.TheVariants as look
+use Rattle.rv_list_errors.specs.declared.fault_text.FaultView.{FaultView}
+use Rattle.rv_list_errors.specs.declared.fault_text.FaultView.TheVariants as look
 
 -- ---- the names of jobs
 
@@ -39,12 +39,12 @@ line_text (Some number) = codes ":" ++ decimal number
 
 abbrev pub name_text : Option (List ℕ) → List ℕ
 name_text None = []
-name_text (Some name) = codes " (" ++ (printable_value name ++ codes ")")
+name_text (Some name) = codes " \"" ++ (printable_value name ++ codes "\"")
 
 -- the number of a job, counted from 1, and its name
 abbrev pub job_number_and_name : List (Option (List ℕ)) → ℕ → List ℕ
 job_number_and_name names number =
-    codes ": job " ++ (decimal number ++ (name_text (slice_index_or names (number - 1) None) ++ codes ": "))
+    codes ": error: job " ++ (decimal number ++ (name_text (slice_index_or names (number - 1) None) ++ codes ": "))
 
 -- of the job of a number: the line on which it begins, the number, and its name
 abbrev pub job_heading : List ℕ → List (Option (List ℕ)) → ℕ → List ℕ
@@ -52,7 +52,7 @@ job_heading lines names number = line_text (slice_get lines (number - 1)) ++ job
 
 -- the number 0 stands for the whole list
 abbrev pub fault_place : List ℕ → List (Option (List ℕ)) → ℕ → List ℕ
-fault_place lines names number = if number == 0 then codes ": " else job_heading lines names number
+fault_place lines names number = if number == 0 then codes ": error: " else job_heading lines names number
 
 -- nothing is known of jobs where the text is no document
 abbrev pub place_in_document : List ℕ → Option Members → ℕ → List ℕ
@@ -72,6 +72,6 @@ abbrev pub borrowed_names : List (Option (Bor (List ℕ))) → List (Option (Lis
 borrowed_names names = map borrowed_name names
 
 -- the same of a second look at the text
-abbrev pub look_place : Look → ℕ → List ℕ
+abbrev pub look_place : FaultView → ℕ → List ℕ
 look_place (look.NoToml text error) number = []
 look_place (look.List list) number = fault_place list.lines.items (borrowed_names list.names.items) number

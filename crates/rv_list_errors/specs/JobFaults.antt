@@ -21,18 +21,18 @@ use Rattle.rv_text.specs.Words.{word_digits}
 use Rattle.rv_list_errors.specs.Lines.{BeginsWith}
 use Rattle.rv_list_errors.specs.Expectations.{IsExpectationTold, isa_told}
 use Rattle.rv_list_errors.specs.FaultHeads.{borrowed_names}
-use Rattle.rv_list_errors.specs.Told.{IsKeyAndValue, IsShownValue, key_words, region_number_text, rest_words, told_words}
+use Rattle.rv_list_errors.specs.Explanation.{IsKeyAndValue, IsShownValue, key_words, region_number_text, rest_words, told_words}
 use Rattle.rv_list_errors.specs.UnknownKeys.{TellsUnknownKey}
-use Rattle.rv_list_errors.specs.declared.fault_text.Look.{Look}
-use Rattle.rv_list_errors.specs.declared.fault_text.Look.TheVariants as look
+use Rattle.rv_list_errors.specs.declared.fault_text.FaultView.{FaultView}
+use Rattle.rv_list_errors.specs.declared.fault_text.FaultView.TheVariants as look
 use Rattle.rv_list_errors.specs.declared.list.List as listed
 use Rattle.rv_list_errors.specs.declared.explanations.Bytes.{Bytes}
 use Rattle.rv_list_errors.specs.declared.explanations.Bytes.TheVariants as bytes
 use Rattle.rv_list_errors.specs.declared.explanations.Rest.{Rest}
 use Rattle.rv_list_errors.specs.declared.explanations.Rest.TheVariants as rest
-use Rattle.rv_list_errors.specs.declared.explanations.Wanted.{Wanted}
-use Rattle.rv_list_errors.specs.declared.explanations.Told.{Told}
-use Rattle.rv_list_errors.specs.declared.explanations.Told.TheVariants as told
+use Rattle.rv_list_errors.specs.declared.explanations.Expected.{Expected}
+use Rattle.rv_list_errors.specs.declared.explanations.Explanation.{Explanation}
+use Rattle.rv_list_errors.specs.declared.explanations.Explanation.TheVariants as told
 
 -- ---- names of jobs
 
@@ -95,7 +95,7 @@ AreAllApart regions = (place : ℕ) → IsApartBehind regions place
 
 abbrev pub overlap_text : ℕ → ℕ → ℕ → List ℕ
 overlap_text place later address = region_number_text place ++ (codes " and " ++ (region_number_text later
-    ++ (codes " both have 0x" ++ (word_digits address ++ codes ": regions that share no address are wanted"))))
+    ++ (codes " overlap at 0x" ++ (word_digits address ++ codes ": expected disjoint regions"))))
 
 abbrev pub TellsOverlap : List Region → List ℕ → Type 0
 TellsOverlap regions told = (place later address : ℕ) × IsFirstOverlap regions place later address
@@ -112,15 +112,15 @@ abbrev pub are_digit_pairs : List ℕ → Bool
 are_digit_pairs digits = list_all is_ascii_hexdigit digits && length digits % 2 == 0
 
 abbrev pub most_script_words : List ℕ
-most_script_words = codes "at most " ++ (decimal most_script ++ codes " bytes are taken")
+most_script_words = codes "expected at most " ++ (decimal most_script ++ codes " bytes")
 
 -- of a script that is bad: the key of the value that is told, and the words; by the texts of `input` and of `input_hex`
 abbrev pub script_told : Option (List ℕ) → Option (List ℕ) → Option (List ℕ) × List ℕ
-script_told (Some text) (Some digits) = (None, codes "input and input_hex both stand: one of them is taken")
+script_told (Some text) (Some digits) = (None, codes "\"input\" and \"input_hex\" cannot both be set")
 script_told (Some text) None = (Some (codes "input"), most_script_words)
 script_told None (Some digits) = (
   Some (codes "input_hex"),
-  if are_digit_pairs digits then most_script_words else codes "pairs of hexadecimal digits are wanted",
+  if are_digit_pairs digits then most_script_words else codes "expected pairs of hexadecimal digits",
 )
 script_told None None = (None, codes "input")
 
@@ -130,9 +130,9 @@ script_told_of ms = script_told (text_at_key (codes "input") ms) (text_at_key (c
 -- ---- what is told of one key
 
 -- the key whose value is told, if one is
-abbrev pub told_key : Told → Option (List ℕ)
+abbrev pub told_key : Explanation → Option (List ℕ)
 told_key (told.Text text) = None
-told_key (told.Wanted wanted) = Some wanted.now.key.now
+told_key (told.Expected wanted) = Some wanted.now.key.now
 
 -- how many bytes a text of some length stands for, where they are told
 abbrev pub told_bytes : Bytes → ℕ → ℕ
@@ -149,18 +149,18 @@ abbrev pub text_length : Option (List ℕ) → ℕ
 text_length None = 0
 text_length (Some text) = length text
 
-abbrev pub wanted_words : Wanted → List ℕ
+abbrev pub wanted_words : Expected → List ℕ
 wanted_words wanted = wanted.before.now ++ (rest_words wanted.rest ++ wanted.behind.now)
 
 -- the key, its value, how many bytes that is where it is too many, and what is wanted
-abbrev pub TellsWanted : Wanted → Members → List ℕ → Type 0
+abbrev pub TellsWanted : Expected → Members → List ℕ → Type 0
 TellsWanted wanted ms told = (met : List ℕ) × IsKeyAndValue wanted.key.now (get_member wanted.key.now ms) met
     × (told ≡ met ++ (bytes_text wanted.rest (told_bytes wanted.bytes (text_length (text_at_key wanted.key.now ms)))
     ++ (codes ": " ++ wanted_words wanted)))
 
-abbrev pub TellsExplanation : Told → Members → List ℕ → Type 0
+abbrev pub TellsExplanation : Explanation → Members → List ℕ → Type 0
 TellsExplanation (told.Text text) ms told = told ≡ text.now
-TellsExplanation (told.Wanted wanted) ms told = TellsWanted wanted.now ms told
+TellsExplanation (told.Expected wanted) ms told = TellsWanted wanted.now ms told
 
 -- the key of a value that is bad, by what is wrong
 abbrev pub key_of : What → Option (List ℕ)
@@ -226,7 +226,7 @@ abbrev pub is_known_of_other_kind : Members → Bor (List ℕ) × Kind → Bool
 is_known_of_other_kind ms known = is_of_other_kind ms (key_and_kind known)
 
 abbrev pub TellsWrongKey : Members → Option (List ℕ × Kind) → List ℕ → Type 0
-TellsWrongKey ms None told = told ≡ codes "a value of another kind"
+TellsWrongKey ms None told = told ≡ codes "invalid type"
 TellsWrongKey ms (Some known) told = TellsOtherKind known.0 known.1 ms told
 
 -- of a job, the first key in the order of the format whose value is of another kind
@@ -237,7 +237,7 @@ TellsWrongKind ms told = TellsWrongKey ms (find (is_of_other_kind ms) kinds_of_k
 
 abbrev pub job_of_name_text : Option ℕ → List ℕ
 job_of_name_text None = []
-job_of_name_text (Some number) = codes "job " ++ (decimal number ++ codes " has this name, and ")
+job_of_name_text (Some number) = codes "job " ++ (decimal number ++ codes " has this name: ")
 
 -- the key of a name, its value, which job has that name, if one does, and what is wanted
 abbrev pub TellsName : List (Option (List ℕ)) → List ℕ → List ℕ → Members → List ℕ → Type 0
@@ -245,15 +245,15 @@ TellsName names key wanted ms told = (met : List ℕ) × IsKeyAndValue key (get_
     × (told ≡ met ++ (codes ": " ++ (job_of_name_text (number_of_name names (text_at_key key ms)) ++ wanted)))
 
 abbrev pub free_words : List ℕ
-free_words = codes "a name that no earlier job has is wanted"
+free_words = codes "expected a unique name"
 
 -- the same of the name of an earlier job, and more
 abbrev pub TellsSameAs : List (Option (List ℕ)) → Members → List ℕ → Type 0
 TellsSameAs names ms told = (head : List ℕ)
-    × TellsName names (codes "same_as") (codes "the name of an earlier job is wanted") ms head × BeginsWith head told
+    × TellsName names (codes "same_as") (codes "expected the name of an earlier job") ms head × BeginsWith head told
 
 -- what is told of a key is by what is wrong with its value
-pub record IsToldOf (wrong : What) (ms : Members) (explained : Told) : Type 0 where
+pub record IsToldOf (wrong : What) (ms : Members) (explained : Explanation) : Type 0 where
   pub words : IfSome (key_words wrong) (λ words. told_words explained ≡ words)
   pub key : IfSome (key_of wrong) (λ key. told_key explained ≡ Some key)
   pub script : wrong ≡ what.Input → (told_key explained, told_words explained) ≡ script_told_of ms
@@ -265,7 +265,7 @@ abbrev pub TellsOwnFault : What → Members → List ℕ → Type 0
 TellsOwnFault what.WrongType ms told = TellsWrongKind ms told
 TellsOwnFault what.UnknownKey ms told = TellsUnknownKey ms told
 TellsOwnFault what.Region ms told = TellsRegions told
-TellsOwnFault wrong ms told = (explained : Told) × IsToldOf wrong ms explained × TellsExplanation explained ms told
+TellsOwnFault wrong ms told = (explained : Explanation) × IsToldOf wrong ms explained × TellsExplanation explained ms told
 
 abbrev pub TellsFaultOfTable : List (Option (List ℕ)) → Members → What → List ℕ → Type 0
 TellsFaultOfTable names ms what.Duplicate told = TellsName names (codes "name") free_words ms told
@@ -274,7 +274,7 @@ TellsFaultOfTable names ms wrong told = TellsOwnFault wrong ms told
 
 -- of an element that is no table
 abbrev pub TellsNoTable : Data → List ℕ → Type 0
-TellsNoTable value told = (shown : List ℕ) × IsShownValue value shown × (told ≡ shown ++ codes ": a table is wanted")
+TellsNoTable value told = (shown : List ℕ) × IsShownValue value shown × (told ≡ shown ++ codes ": expected a table")
 
 -- of an element of a list whose jobs have these names
 abbrev pub TellsJobFault : List (Option (List ℕ)) → Option Data → What → List ℕ → Type 0
@@ -293,7 +293,7 @@ abbrev pub TellsFaultOfList : listed.List → JobError → List ℕ → Type 0
 TellsFaultOfList list fault told = 0 < fault.job → TellsJobFault
     (borrowed_names list.names.items) (element_at (items_view list.jobs.now) (fault.job - 1)) fault.what told
 
-abbrev pub TellsFoundFault : Look → JobError → List ℕ → Type 0
+abbrev pub TellsFoundFault : FaultView → JobError → List ℕ → Type 0
 TellsFoundFault (look.NoToml text error) fault told = ⊤
 TellsFoundFault (look.List list) fault told = TellsFaultOfList list fault told
 

@@ -5,7 +5,7 @@ pub mod Lines
 pub mod PlacedFaults
 pub mod NearestJob
 pub mod NearNames
-pub mod Told
+pub mod Explanation
 pub mod UnknownKeys
 pub mod Expectations
 pub mod JobFaults

@@ -23,7 +23,7 @@ IsPlacedMessage path text names number message = (place : ℕ) × BeginsWith (pl
 
 -- of a document: a fault of the whole list, whose number is 0, or one of a job
 abbrev pub IsToldInList : List ℕ → List ℕ → List (Option (List ℕ)) → JobError → List ℕ → Type 0
-IsToldInList path text names fault message = ((fault.job ≡ 0) × BeginsWith (path ++ codes ": ") message)
+IsToldInList path text names fault message = ((fault.job ≡ 0) × BeginsWith (path ++ codes ": error: ") message)
     ⊎ ((0 < fault.job) × IsPlacedMessage path text names fault.job message)
 
 abbrev pub IsToldInDocument : List ℕ → List ℕ → Option Members → JobError → List ℕ → Type 0

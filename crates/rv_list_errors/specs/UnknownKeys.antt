@@ -2,7 +2,7 @@
 use Rattle.std.specs.Prelude.{◌≡◌, ◌⊎◌, ℕ, List, Option, Some, None, codes}
 use Rattle.toml.specs.Data.{Members}
 use Rattle.rv_list_errors.specs.Lines.{BeginsWith}
-use Rattle.rv_list_errors.specs.Told.{first_unknown_key, is_key_of_owner, unknown_key_text}
+use Rattle.rv_list_errors.specs.Explanation.{first_unknown_key, is_key_of_owner, unknown_key_text}
 use Rattle.rv_list_errors.specs.declared.keys.Owner.TheVariants as owner
 
 -- a job has no such key: which of its regions has one

@@ -8,28 +8,29 @@ ghost use Rattle.rv_list_errors.specs.Expectations.{IsExpectationTold, console_t
 ghost use Rattle.rv_list_errors.specs.Expectations.{reference_told, reference_told_of};
 ghost use Rattle.rv_list_errors.specs.FaultHeads.{borrowed_name};
 ghost use Rattle.rv_list_errors.specs.JobFaults.{told_key};
-ghost use Rattle.rv_list_errors.specs.Told.{told_words};
+ghost use Rattle.rv_list_errors.specs.Explanation.{told_words};
 
 use crate::explanations::{
-    EXPECT_CONSOLE, EXPECT_CONSOLE_FILE, EXPECT_END, EXPECT_EXIT, EXPECT_SIGNATURE, Told, UNASKED,
+    EXPECT_CONSOLE, EXPECT_CONSOLE_FILE, EXPECT_END, EXPECT_EXIT, EXPECT_SIGNATURE, Explanation,
+    UNASKED,
 };
 use crate::values::{text_at_key, value_at_key, word_at_key};
 use rv_lists::limits::{MOST_CONSOLE, MOST_PATH};
 use toml::Table;
 
 /// What is told of the expectation of a job that is bad.
-pub(crate) fn expectation_explanation(table: &Table) -> Told
+pub(crate) fn expectation_explanation(table: &Table) -> Explanation
     ensures { IsExpectationTold (table_view table.now) (told_key result, told_words result) }
 {
     if value_at_key(table, "expect_exit").is_some() && word_at_key(table, "expect_exit").is_none() {
-        Told::Wanted(&EXPECT_EXIT)
+        Explanation::Expected(&EXPECT_EXIT)
     } else {
         reference_or_console_explanation(table)
     }
 }
 
 // Of the expectations beside an exit.
-fn reference_or_console_explanation(table: &Table) -> Told
+fn reference_or_console_explanation(table: &Table) -> Explanation
     ensures { (told_key result, told_words result) ≡ reference_told_of (table_view table.now) }
 {
     reference_explanation(
@@ -40,13 +41,13 @@ fn reference_or_console_explanation(table: &Table) -> Told
 }
 
 // Of a reference, where a signature is asked for or not; else what is told of the rest.
-fn reference_explanation(is_asked: bool, path: Option<&str>, rest: Told) -> Told
+fn reference_explanation(is_asked: bool, path: Option<&str>, rest: Explanation) -> Explanation
     ensures { (told_key result, told_words result)
         ≡ reference_told is_asked (borrowed_name path.entry) (told_key rest, told_words rest) }
 {
     match path {
-        Some(_) if !is_asked => Told::Wanted(&UNASKED),
-        Some(path) if is_no_path(path) => Told::Wanted(&EXPECT_SIGNATURE),
+        Some(_) if !is_asked => Explanation::Expected(&UNASKED),
+        Some(path) if is_no_path(path) => Explanation::Expected(&EXPECT_SIGNATURE),
         _ => rest,
     }
 }
@@ -57,7 +58,7 @@ fn is_no_path(path: &str) -> bool
     path.is_empty() || MOST_PATH < path.len()
 }
 
-fn console_or_end_explanation(table: &Table) -> Told
+fn console_or_end_explanation(table: &Table) -> Explanation
     ensures { (told_key result, told_words result) ≡ console_told_of (table_view table.now) }
 {
     console_explanation(
@@ -67,36 +68,36 @@ fn console_or_end_explanation(table: &Table) -> Told
     )
 }
 
-fn console_explanation(text: Option<&str>, path: Option<&str>, end: Option<&str>) -> Told
+fn console_explanation(text: Option<&str>, path: Option<&str>, end: Option<&str>) -> Explanation
     ensures { (told_key result, told_words result)
         ≡ console_told (borrowed_name text.entry) (borrowed_name path.entry) (borrowed_name end.entry) }
 {
     match (text, path) {
-        (Some(_), Some(_)) => Told::Text(BOTH_CONSOLES),
-        (Some(text), None) if MOST_CONSOLE < text.len() => Told::Wanted(&EXPECT_CONSOLE),
-        (None, Some(path)) if is_no_path(path) => Told::Wanted(&EXPECT_CONSOLE_FILE),
+        (Some(_), Some(_)) => Explanation::Text(BOTH_CONSOLES),
+        (Some(text), None) if MOST_CONSOLE < text.len() => Explanation::Expected(&EXPECT_CONSOLE),
+        (None, Some(path)) if is_no_path(path) => Explanation::Expected(&EXPECT_CONSOLE_FILE),
         _ => end_text_explanation(end),
     }
 }
 
 /// What is told of a console that is expected twice.
 pub(crate) const BOTH_CONSOLES: &str =
-    "expect_console and expect_console_file both stand: one of them is taken";
+    "\"expect_console\" and \"expect_console_file\" cannot both be set";
 
 /// Of an end that is none: an exit is expected by a key of its own.
-pub(crate) fn end_explanation(table: &Table) -> Told
+pub(crate) fn end_explanation(table: &Table) -> Explanation
     ensures { (told_key result, told_words result) ≡ end_told (text_at_key (codes "expect_end") (table_view table.now)) }
 {
     end_text_explanation(text_at_key(table, "expect_end"))
 }
 
-fn end_text_explanation(end: Option<&str>) -> Told
+fn end_text_explanation(end: Option<&str>) -> Explanation
     ensures { (told_key result, told_words result) ≡ end_told (borrowed_name end.entry) }
 {
     match end {
-        Some(end) if end == "exit" => Told::Text(EXIT),
-        _ => Told::Wanted(&EXPECT_END),
+        Some(end) if end == "exit" => Explanation::Text(EXIT),
+        _ => Explanation::Expected(&EXPECT_END),
     }
 }
 
-const EXIT: &str = "expect_end = \"exit\": an exit is expected by its code: use expect_exit";
+const EXIT: &str = "expect_end = \"exit\": to expect an exit, set \"expect_exit\" to its code";

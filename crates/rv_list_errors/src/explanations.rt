@@ -7,7 +7,7 @@ ghost use Rattle.rv_machine.specs.Faults.{fault_kinds};
 ghost use Rattle.rv_list_errors.specs.FaultHeads.{borrowed_name};
 ghost use Rattle.rv_list_errors.specs.JobFaults.{TellsExplanation, TellsWanted, bytes_text, text_length, told_bytes, wanted_words};
 ghost use Rattle.rv_list_errors.specs.NearNames.{Adds};
-ghost use Rattle.rv_list_errors.specs.Told.{AddsSome, first_kinds_text, kind_text, rest_words};
+ghost use Rattle.rv_list_errors.specs.Explanation.{AddsSome, first_kinds_text, kind_text, rest_words};
 
 use crate::message::Message;
 use crate::values::{push_key_and_value, text_at_key};
@@ -17,13 +17,13 @@ use toml::Table;
 
 /// What is told of one key, or of two.
 #[derive(Clone, Copy)]
-pub(crate) enum Told {
-    Wanted(&'static Wanted),
+pub(crate) enum Explanation {
+    Expected(&'static Expected),
     Text(&'static str),
 }
 
 /// What is wanted of the value of a key: words, or words around what is told between them.
-pub(crate) struct Wanted {
+pub(crate) struct Expected {
     key: &'static str,
     before: &'static str,
     rest: Rest,
@@ -50,160 +50,160 @@ enum Bytes {
     Pairs,
 }
 
-pub(crate) const NAME: Wanted = Wanted {
+pub(crate) const NAME: Expected = Expected {
     key: "name",
-    before: "1 to ",
+    before: "expected 1 to ",
     rest: Rest::Most(MOST_NAME as u64),
-    behind: " ASCII letters, digits, \".\", \"_\" and \"-\" are wanted",
+    behind: " ASCII letters, digits, \".\", \"_\" or \"-\"",
     bytes: Bytes::Untold,
 };
 
-pub(crate) const IMAGE: Wanted = Wanted {
+pub(crate) const IMAGE: Expected = Expected {
     key: "image",
-    before: "a path of 1 to ",
+    before: "expected a path of 1 to ",
     rest: Rest::Most(MOST_PATH as u64),
-    behind: " bytes is wanted",
+    behind: " bytes",
     bytes: Bytes::Each,
 };
 
-pub(crate) const BUDGET: Wanted = Wanted {
+pub(crate) const BUDGET: Expected = Expected {
     key: "budget",
-    before: "a whole number from 1 to ",
+    before: "expected an integer from 1 to ",
     rest: Rest::Most(MOST_BUDGET as u64),
-    behind: " is wanted",
+    behind: "",
     bytes: Bytes::Untold,
 };
 
-pub(crate) const INPUT: Wanted = Wanted {
+pub(crate) const INPUT: Expected = Expected {
     key: "input",
-    before: "at most ",
+    before: "expected at most ",
     rest: Rest::Most(MOST_SCRIPT as u64),
-    behind: " bytes are taken",
+    behind: " bytes",
     bytes: Bytes::Each,
 };
 
-pub(crate) const INPUT_HEX: Wanted = Wanted {
+pub(crate) const INPUT_HEX: Expected = Expected {
     key: "input_hex",
-    before: "at most ",
+    before: "expected at most ",
     rest: Rest::Most(MOST_SCRIPT as u64),
-    behind: " bytes are taken",
+    behind: " bytes",
     bytes: Bytes::Pairs,
 };
 
-pub(crate) const PAIRS: Wanted = Wanted {
+pub(crate) const PAIRS: Expected = Expected {
     key: "input_hex",
-    before: "pairs of hexadecimal digits are wanted",
+    before: "expected pairs of hexadecimal digits",
     rest: Rest::Nothing,
     behind: "",
     bytes: Bytes::Untold,
 };
 
-pub(crate) const LOAD: Wanted = Wanted {
+pub(crate) const LOAD: Expected = Expected {
     key: "load",
-    before: "\"physical\" or \"virtual\" is wanted",
+    before: "expected \"physical\" or \"virtual\"",
     rest: Rest::Nothing,
     behind: "",
     bytes: Bytes::Untold,
 };
 
-pub(crate) const SIGNATURE: Wanted = Wanted {
+pub(crate) const SIGNATURE: Expected = Expected {
     key: "signature",
-    before: "the names of two symbols are wanted, 1 to ",
+    before: "expected two symbol names of 1 to ",
     rest: Rest::Most(MOST_SYMBOL as u64),
-    behind: " bytes each and no zero byte",
+    behind: " bytes each, without NUL bytes",
     bytes: Bytes::Untold,
 };
 
-pub(crate) const EXPECT_EXIT: Wanted = Wanted {
+pub(crate) const EXPECT_EXIT: Expected = Expected {
     key: "expect_exit",
-    before: "a whole number from 0 to ",
+    before: "expected an integer from 0 to ",
     rest: Rest::Most(u32::MAX as u64),
-    behind: " is wanted",
+    behind: "",
     bytes: Bytes::Untold,
 };
 
-pub(crate) const UNASKED: Wanted = Wanted {
+pub(crate) const UNASKED: Expected = Expected {
     key: "expect_signature",
-    before: "a signature is expected only where the key signature names its two symbols",
+    before: "cannot be used without \"signature\"",
     rest: Rest::Nothing,
     behind: "",
     bytes: Bytes::Untold,
 };
 
-pub(crate) const EXPECT_SIGNATURE: Wanted = Wanted {
+pub(crate) const EXPECT_SIGNATURE: Expected = Expected {
     key: "expect_signature",
-    before: "a path of 1 to ",
+    before: "expected a path of 1 to ",
     rest: Rest::Most(MOST_PATH as u64),
-    behind: " bytes is wanted",
+    behind: " bytes",
     bytes: Bytes::Each,
 };
 
-pub(crate) const EXPECT_CONSOLE: Wanted = Wanted {
+pub(crate) const EXPECT_CONSOLE: Expected = Expected {
     key: "expect_console",
-    before: "at most ",
+    before: "expected at most ",
     rest: Rest::Most(MOST_CONSOLE as u64),
-    behind: " bytes are taken",
+    behind: " bytes",
     bytes: Bytes::Each,
 };
 
-pub(crate) const EXPECT_CONSOLE_FILE: Wanted = Wanted {
+pub(crate) const EXPECT_CONSOLE_FILE: Expected = Expected {
     key: "expect_console_file",
-    before: "a path of 1 to ",
+    before: "expected a path of 1 to ",
     rest: Rest::Most(MOST_PATH as u64),
-    behind: " bytes is wanted",
+    behind: " bytes",
     bytes: Bytes::Each,
 };
 
-pub(crate) const EXPECT_END: Wanted = Wanted {
+pub(crate) const EXPECT_END: Expected = Expected {
     key: "expect_end",
-    before: "\"budget\" or the kind of a fault is wanted: ",
+    before: "expected \"budget\" or a fault kind: ",
     rest: Rest::FaultKinds,
     behind: "",
     bytes: Bytes::Untold,
 };
 
-pub(crate) const ISA: Wanted = Wanted {
+pub(crate) const ISA: Expected = Expected {
     key: "isa",
-    before: "\"rv32i\", \"rv32im\", \"rv32ic\" or \"rv32imc\" is wanted",
+    before: "expected \"rv32i\", \"rv32im\", \"rv32ic\" or \"rv32imc\"",
     rest: Rest::Nothing,
     behind: "",
     bytes: Bytes::Untold,
 };
 
-pub(crate) const ISA_WITH_A: Wanted = Wanted {
+pub(crate) const ISA_WITH_A: Expected = Expected {
     key: "isa",
-    before: "A is not simulated: \"rv32i\", \"rv32im\", \"rv32ic\" or \"rv32imc\" is wanted",
+    before: "A is not simulated: expected \"rv32i\", \"rv32im\", \"rv32ic\" or \"rv32imc\"",
     rest: Rest::Nothing,
     behind: "",
     bytes: Bytes::Untold,
 };
 
-pub(crate) const ISA_WITH_FLOATS: Wanted = Wanted {
+pub(crate) const ISA_WITH_FLOATS: Expected = Expected {
     key: "isa",
-    before: "F and D are not simulated: \"rv32i\", \"rv32im\", \"rv32ic\" or \"rv32imc\" is wanted",
+    before: "F and D are not simulated: expected \"rv32i\", \"rv32im\", \"rv32ic\" or \"rv32imc\"",
     rest: Rest::Nothing,
     behind: "",
     bytes: Bytes::Untold,
 };
 
-pub(crate) const ISA_OF_64_BITS: Wanted = Wanted {
+pub(crate) const ISA_OF_64_BITS: Expected = Expected {
     key: "isa",
-    before: "RV64 is not simulated: \"rv32i\", \"rv32im\", \"rv32ic\" or \"rv32imc\" is wanted",
+    before: "RV64 is not simulated: expected \"rv32i\", \"rv32im\", \"rv32ic\" or \"rv32imc\"",
     rest: Rest::Nothing,
     behind: "",
     bytes: Bytes::Untold,
 };
 
-pub(crate) const MISALIGNED: Wanted = Wanted {
+pub(crate) const MISALIGNED: Expected = Expected {
     key: "misaligned",
-    before: "\"fault\" or \"allow\" is wanted",
+    before: "expected \"fault\" or \"allow\"",
     rest: Rest::Nothing,
     behind: "",
     bytes: Bytes::Untold,
 };
 
 /// What is wanted of the value of a key that takes a few texts alone.
-pub(crate) fn taken_texts(key: &str) -> Option<&'static Wanted>
+pub(crate) fn taken_texts(key: &str) -> Option<&'static Expected>
     ensures { IfSome result (λ wanted. wanted.now.key.now ≡ key.now) }
 {
     match key {
@@ -216,17 +216,17 @@ pub(crate) fn taken_texts(key: &str) -> Option<&'static Wanted>
 }
 
 /// Appends what is told.
-pub(crate) fn push_explanation(message: &mut Message, table: &Table, told: Told)
+pub(crate) fn push_explanation(message: &mut Message, table: &Table, told: Explanation)
     ensures { AddsSome message.old message.new (TellsExplanation told (table_view table.now)) }
 {
     match told {
-        Told::Text(text) => message.push(text),
-        Told::Wanted(wanted) => push_wanted(message, table, wanted),
+        Explanation::Text(text) => message.push(text),
+        Explanation::Expected(wanted) => push_wanted(message, table, wanted),
     }
 }
 
 // Appends a key, its value, and what is wanted of it.
-fn push_wanted(message: &mut Message, table: &Table, wanted: &Wanted)
+fn push_wanted(message: &mut Message, table: &Table, wanted: &Expected)
     ensures { AddsSome message.old message.new (TellsWanted wanted.now (table_view table.now)) }
 {
     push_key_and_value(message, table, wanted.key);
@@ -234,7 +234,7 @@ fn push_wanted(message: &mut Message, table: &Table, wanted: &Wanted)
 }
 
 // Appends what is wanted, behind the bytes that there are where they are too many.
-fn push_wanted_words(message: &mut Message, bytes: u64, wanted: &Wanted)
+fn push_wanted_words(message: &mut Message, bytes: u64, wanted: &Expected)
     ensures { Adds message.old message.new (bytes_text wanted.now.rest bytes ++ (codes ": " ++ wanted_words wanted.now)) }
 {
     push_byte_count(message, bytes, wanted.rest);
@@ -286,7 +286,7 @@ fn push_fault_kind(message: &mut Message, place: usize)
 }
 
 // The bytes of the text at a key, where they are told.
-fn reported_byte_count(table: &Table, wanted: &Wanted) -> u64
+fn reported_byte_count(table: &Table, wanted: &Expected) -> u64
     ensures { result ≡ told_bytes wanted.now.bytes (text_length (text_at_key wanted.now.key.now (table_view table.now))) }
 {
     told_byte_count(wanted.bytes, text_at_key(table, wanted.key))

@@ -18,7 +18,7 @@ use toml::de::Error;
 
 /// What a second look at a list's text finds.
 #[derive(Drop)]
-pub(crate) enum Look<'a> {
+pub(crate) enum FaultView<'a> {
     /// It is a document.
     List(List<'a>),
     /// It is no TOML document, for this reason.
@@ -30,7 +30,7 @@ pub(crate) enum Look<'a> {
 pub(crate) fn message_of_fault(
     alloc: Global,
     file: &str,
-    look: &Look<'_>,
+    look: &FaultView<'_>,
     fault: JobError,
     suggestion: Suggestion,
 ) -> Result<Vec<u8>, AllocError>
@@ -53,10 +53,10 @@ pub(crate) fn list_fault_message(
     list: &List<'_>,
     what: What,
 ) -> Result<Vec<u8>, AllocError>
-    ensures { IfOk result (λ message. BeginsWith (file.now ++ codes ": ") message.items) }
+    ensures { IfOk result (λ message. BeginsWith (file.now ++ codes ": error: ") message.items) }
 {
     let mut message = Vec::new(alloc);
-    push_spans(&mut message, &[Span::Text(file), Span::Text(": ")])?;
+    push_spans(&mut message, &[Span::Text(file), Span::Text(": error: ")])?;
     let mut explanation = Message::new(alloc);
     push_list_fault(&mut explanation, list, what);
     message.extend_from_slice(explanation.finish()?.as_slice())?;
@@ -64,12 +64,12 @@ pub(crate) fn list_fault_message(
 }
 
 // Appends where a fault stands in the list, as far as its jobs are known.
-fn push_fault_place(message: &mut Vec<u8>, look: &Look<'_>, job: u32) -> Result<(), AllocError>
+fn push_fault_place(message: &mut Vec<u8>, look: &FaultView<'_>, job: u32) -> Result<(), AllocError>
     ensures { OnOk result (message.new.items ≡ message.old.items ++ look_place look.now job) }
 {
     match look {
-        Look::NoToml(_, _) => Ok(()),
-        Look::List(list) => push_place_in_list(message, list, job),
+        FaultView::NoToml(_, _) => Ok(()),
+        FaultView::List(list) => push_place_in_list(message, list, job),
     }
 }
 
@@ -78,7 +78,7 @@ fn push_place_in_list(message: &mut Vec<u8>, list: &List<'_>, job: u32) -> Resul
         ++ fault_place list.now.lines.items (borrowed_names list.now.names.items) job) }
 {
     if job == 0 {
-        push_text(message, ": ")
+        push_text(message, ": error: ")
     } else {
         push_job_heading(message, list, job)
     }
@@ -107,9 +107,9 @@ pub(crate) fn push_job_number_and_name(
 {
     push_spans(
         message,
-        &[Span::Text(": job "), Span::Number(u64::from(number))],
+        &[Span::Text(": error: job "), Span::Number(u64::from(number))],
     )?;
-    push_name_in_brackets(message, name_at(&list.names, number as usize - 1))?;
+    push_name_in_quotes(message, name_at(&list.names, number as usize - 1))?;
     push_text(message, ": ")
 }
 
@@ -132,16 +132,16 @@ fn name_at<'a>(names: &[Option<&'a str>], place: usize) -> Option<&'a str>
     }
 }
 
-fn push_name_in_brackets(message: &mut Vec<u8>, name: Option<&str>) -> Result<(), AllocError>
+fn push_name_in_quotes(message: &mut Vec<u8>, name: Option<&str>) -> Result<(), AllocError>
     ensures { OnOk result (message.new.items ≡ message.old.items ++ name_text (borrowed_name name.entry)) }
 {
     match name {
         Some(name) => push_spans(
             message,
             &[
-                Span::Text(" ("),
+                Span::Text(" \""),
                 Span::Value(name.as_bytes()),
-                Span::Text(")"),
+                Span::Text("\""),
             ],
         ),
         None => Ok(()),
@@ -151,15 +151,15 @@ fn push_name_in_brackets(message: &mut Vec<u8>, name: Option<&str>) -> Result<()
 // What is wrong, as it is told behind the place.
 fn fault_explanation(
     alloc: Global,
-    look: &Look<'_>,
+    look: &FaultView<'_>,
     fault: JobError,
     suggestion: Suggestion,
 ) -> Result<Vec<u8>, AllocError>
     ensures { IfOk result (λ told. TellsFoundFault look.now fault told.items) }
 {
     match look {
-        Look::NoToml(text, error) => not_toml_explanation(alloc, text, error),
-        Look::List(list) => explanation_in_list(alloc, list, fault, suggestion),
+        FaultView::NoToml(text, error) => not_toml_explanation(alloc, text, error),
+        FaultView::List(list) => explanation_in_list(alloc, list, fault, suggestion),
     }
 }
 

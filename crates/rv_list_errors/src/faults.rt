@@ -6,7 +6,7 @@ ghost use Rattle.rv_list_errors.specs.FaultsTold.{TellsFaultOfText};
 ghost use Rattle.rv_list_errors.specs.JobFaults.{EndsSo, TellsFoundFault};
 ghost use Rattle.rv_list_errors.specs.Lines.{PutsFaultLines, PutsLineOfEach, PutsLines};
 
-use crate::fault_text::{Look, message_of_fault};
+use crate::fault_text::{FaultView, message_of_fault};
 use crate::list::List;
 use crate::names::Suggestion;
 use rv_lists::JobError;
@@ -36,14 +36,14 @@ pub fn push_faults(
     match toml::table_from_slice(alloc, text) {
         Ok(table) => {
             let list = List::from_table(alloc, text, &table)?;
-            push_fault_lines(alloc, bytes, file, &Look::List(list), faults)
+            push_fault_lines(alloc, bytes, file, &FaultView::List(list), faults)
         }
         Err(error) => {
             if error.is_memory() {
                 // Out of memory: `toml` says so of its own error.
                 return Err(AllocError);
             }
-            push_fault_lines(alloc, bytes, file, &Look::NoToml(text, error), faults)
+            push_fault_lines(alloc, bytes, file, &FaultView::NoToml(text, error), faults)
         }
     }
 }
@@ -52,7 +52,7 @@ fn push_fault_lines(
     alloc: Global,
     bytes: &mut Vec<u8>,
     file: &str,
-    look: &Look<'_>,
+    look: &FaultView<'_>,
     faults: &[JobError],
 ) -> Result<(), AllocError>
     ensures { OnOk result (PutsLineOfEach

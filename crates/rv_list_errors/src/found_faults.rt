@@ -3,7 +3,7 @@
 ghost use Rattle.std.specs.Prelude.{◌<◌, IfOk, length};
 
 use crate::job_fault::push_job_fault;
-use crate::key_faults::{FaultyJob, Met, NEEDED, push_absent_key};
+use crate::key_faults::{FaultyJob, FoundKeys, NEEDED, push_absent_key};
 use crate::list::List;
 use crate::message::Message;
 use crate::names::Suggestion;
@@ -86,7 +86,7 @@ impl<'a> FaultyJob<'a> {
         found: &mut Vec<FoundFault>,
     ) -> Result<(), AllocError> {
         let keys = job_keys(alloc, text)?;
-        let mut met = Met::none(alloc);
+        let mut met = FoundKeys::none(alloc);
         for key in keys.as_slice() {
             let name = key.name.as_str();
             if !met.has(name) {
@@ -108,7 +108,7 @@ impl<'a> FaultyJob<'a> {
         found: &mut Vec<FoundFault>,
     ) -> Result<(), AllocError> {
         let mut message = Message::new(alloc);
-        message.push("too many faults: the keys of this job from here on are not checked");
+        message.push("too many errors: the rest of the keys of this job are not checked");
         let explanation = message.finish()?;
         let place = self.list.place_of_rest(key.text);
         found.push(FoundFault { place, explanation })?;
@@ -119,7 +119,7 @@ impl<'a> FaultyJob<'a> {
         &self,
         alloc: Global,
         key: &JobKey<'_>,
-        met: &Met<'_>,
+        met: &FoundKeys<'_>,
         found: &mut Vec<FoundFault>,
     ) -> Result<(), AllocError> {
         let mut message = Message::new(alloc);

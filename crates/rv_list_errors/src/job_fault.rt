@@ -9,12 +9,12 @@ ghost use Rattle.rv_list_errors.specs.Expectations.{IsExpectationTold, isa_told,
 ghost use Rattle.rv_list_errors.specs.FaultHeads.{borrowed_name, borrowed_names};
 ghost use Rattle.rv_list_errors.specs.JobFaults.{TellsFaultOfTable, TellsJobFault, TellsNoTable, TellsName, TellsOwnFault, element_at, free_words};
 ghost use Rattle.rv_list_errors.specs.JobFaults.{are_digit_pairs, key_of, script_told, script_told_of, told_key};
-ghost use Rattle.rv_list_errors.specs.Told.{AddsSome, is_unsimulated, key_words, letters_words, told_words};
+ghost use Rattle.rv_list_errors.specs.Explanation.{AddsSome, is_unsimulated, key_words, letters_words, told_words};
 
 use crate::expectation_fault::expectation_explanation;
 use crate::explanations::{
-    BUDGET, IMAGE, INPUT, INPUT_HEX, ISA, ISA_OF_64_BITS, ISA_WITH_A, ISA_WITH_FLOATS, LOAD,
-    MISALIGNED, NAME, PAIRS, SIGNATURE, Told, push_explanation,
+    BUDGET, Explanation, IMAGE, INPUT, INPUT_HEX, ISA, ISA_OF_64_BITS, ISA_WITH_A, ISA_WITH_FLOATS,
+    LOAD, MISALIGNED, NAME, PAIRS, SIGNATURE, push_explanation,
 };
 use crate::key_faults::FaultyJob;
 use crate::keys::push_unknown_job_key;
@@ -66,7 +66,7 @@ fn push_no_table(message: &mut Message, element: &Value)
     ensures { AddsSome message.old message.new (TellsNoTable (view element.now)) }
 {
     message.push_value(element);
-    message.push(": a table is wanted");
+    message.push(": expected a table");
 }
 
 // Appends a fault of a job that is a table.
@@ -95,7 +95,7 @@ pub(crate) fn push_taken_name(message: &mut Message, list: &List<'_>, table: &Ta
     push_name_fault(message, list, table, "name", FREE)
 }
 
-const FREE: &str = "a name that no earlier job has is wanted";
+const FREE: &str = "expected a unique name";
 
 // Appends a fault that a job has whatever the other jobs are.
 fn push_fault_within_job(message: &mut Message, table: &Table, what: What)
@@ -110,7 +110,7 @@ fn push_fault_within_job(message: &mut Message, table: &Table, what: What)
 }
 
 // What is told of a fault that one value has.
-fn key_explanation(table: &Table, what: What) -> Told
+fn key_explanation(table: &Table, what: What) -> Explanation
     ensures words { IfSome (key_words what) (λ words. told_words result ≡ words) }
     ensures key { IfSome (key_of what) (λ key. told_key result ≡ Some key) }
     ensures script { what ≡ Input → (told_key result, told_words result) ≡ script_told_of (table_view table.now) }
@@ -118,52 +118,52 @@ fn key_explanation(table: &Table, what: What) -> Told
     ensures isa { what ≡ Isa → (told_key result, told_words result) ≡ isa_told (table_view table.now) }
 {
     match what {
-        What::Name => Told::Wanted(&NAME),
-        What::Image => Told::Wanted(&IMAGE),
-        What::Budget => Told::Wanted(&BUDGET),
+        What::Name => Explanation::Expected(&NAME),
+        What::Image => Explanation::Expected(&IMAGE),
+        What::Budget => Explanation::Expected(&BUDGET),
         What::Input => input_explanation(table),
-        What::Load => Told::Wanted(&LOAD),
-        What::Signature => Told::Wanted(&SIGNATURE),
+        What::Load => Explanation::Expected(&LOAD),
+        What::Signature => Explanation::Expected(&SIGNATURE),
         What::Expect => expectation_explanation(table),
         What::Isa => isa_explanation(table),
-        What::Misaligned => Told::Wanted(&MISALIGNED),
-        _ => Told::Text(what.name()),
+        What::Misaligned => Explanation::Expected(&MISALIGNED),
+        _ => Explanation::Text(what.name()),
     }
 }
 
 /// Of the sets that people ask for most, which part is not simulated.
-pub(crate) fn isa_explanation(table: &Table) -> Told
+pub(crate) fn isa_explanation(table: &Table) -> Explanation
     ensures { (told_key result, told_words result) ≡ isa_told (table_view table.now) }
 {
     match text_at_key(table, "isa") {
         Some(isa) => set_explanation(isa.as_bytes()),
-        None => Told::Wanted(&ISA),
+        None => Explanation::Expected(&ISA),
     }
 }
 
 // Of the name of a set.
-fn set_explanation(isa: &[u8]) -> Told
+fn set_explanation(isa: &[u8]) -> Explanation
     ensures key { told_key result ≡ Some (codes "isa") }
     ensures words { told_words result ≡ set_words isa.now }
 {
     if isa.starts_with(b"rv64") {
-        Told::Wanted(&ISA_OF_64_BITS)
+        Explanation::Expected(&ISA_OF_64_BITS)
     } else if isa.starts_with(b"rv32") {
         letters_explanation(&isa[4..])
     } else {
-        Told::Wanted(&ISA)
+        Explanation::Expected(&ISA)
     }
 }
 
 // Of the letters of a set of 32 bits.
-fn letters_explanation(letters: &[u8]) -> Told
+fn letters_explanation(letters: &[u8]) -> Explanation
     ensures key { told_key result ≡ Some (codes "isa") }
     ensures words { told_words result ≡ letters_words letters.now }
 {
     match unsimulated_letter(letters) {
-        Some(b'a') => Told::Wanted(&ISA_WITH_A),
-        Some(b'f') | Some(b'd') => Told::Wanted(&ISA_WITH_FLOATS),
-        _ => Told::Wanted(&ISA),
+        Some(b'a') => Explanation::Expected(&ISA_WITH_A),
+        Some(b'f') | Some(b'd') => Explanation::Expected(&ISA_WITH_FLOATS),
+        _ => Explanation::Expected(&ISA),
     }
 }
 
@@ -181,35 +181,35 @@ fn is_unsimulated(letter: u8) -> bool
 }
 
 // Of a script, by the texts of both of its keys.
-fn input_explanation(table: &Table) -> Told
+fn input_explanation(table: &Table) -> Explanation
     ensures { (told_key result, told_words result) ≡ script_told_of (table_view table.now) }
 {
     script_explanation(text_at_key(table, "input"), text_at_key(table, "input_hex"))
 }
 
-fn script_explanation(text: Option<&str>, digits: Option<&str>) -> Told
+fn script_explanation(text: Option<&str>, digits: Option<&str>) -> Explanation
     ensures { (told_key result, told_words result) ≡ script_told (borrowed_name text.entry) (borrowed_name digits.entry) }
 {
     match (text, digits) {
-        (Some(_), Some(_)) => Told::Text(BOTH_INPUTS),
-        (Some(_), None) => Told::Wanted(&INPUT),
+        (Some(_), Some(_)) => Explanation::Text(BOTH_INPUTS),
+        (Some(_), None) => Explanation::Expected(&INPUT),
         (None, Some(digits)) => digits_explanation(digits),
-        (None, None) => Told::Text(What::Input.name()),
+        (None, None) => Explanation::Text(What::Input.name()),
     }
 }
 
-fn digits_explanation(digits: &str) -> Told
+fn digits_explanation(digits: &str) -> Explanation
     ensures { (told_key result, told_words result) ≡ script_told None (Some digits.now) }
 {
     if are_hex_digit_pairs(digits) {
-        Told::Wanted(&INPUT_HEX)
+        Explanation::Expected(&INPUT_HEX)
     } else {
-        Told::Wanted(&PAIRS)
+        Explanation::Expected(&PAIRS)
     }
 }
 
 /// What is told of a script that stands twice.
-pub(crate) const BOTH_INPUTS: &str = "input and input_hex both stand: one of them is taken";
+pub(crate) const BOTH_INPUTS: &str = "\"input\" and \"input_hex\" cannot both be set";
 
 /// Whether digits stand for bytes.
 pub(crate) fn are_hex_digit_pairs(digits: &str) -> bool

@@ -4,8 +4,8 @@ ghost use Rattle.std.specs.Prelude.{◌<◌, IfSome};
 
 use crate::expectation_fault::{BOTH_CONSOLES, end_explanation};
 use crate::explanations::{
-    BUDGET, EXPECT_CONSOLE, EXPECT_CONSOLE_FILE, EXPECT_EXIT, EXPECT_SIGNATURE, IMAGE, INPUT,
-    INPUT_HEX, LOAD, MISALIGNED, NAME, PAIRS, SIGNATURE, Told, UNASKED, push_explanation,
+    BUDGET, EXPECT_CONSOLE, EXPECT_CONSOLE_FILE, EXPECT_EXIT, EXPECT_SIGNATURE, Explanation, IMAGE,
+    INPUT, INPUT_HEX, LOAD, MISALIGNED, NAME, PAIRS, SIGNATURE, UNASKED, push_explanation,
 };
 use crate::job_fault::{BOTH_INPUTS, are_hex_digit_pairs, isa_explanation, push_taken_name};
 use crate::keys::{push_unknown_job_key_of, push_unknown_region_key, region_with_unknown_key};
@@ -25,13 +25,13 @@ use toml::{Table, Value};
 
 /// The keys of a job that were met.
 #[derive(Drop)]
-pub(crate) struct Met<'k> {
+pub(crate) struct FoundKeys<'k> {
     names: BTreeMap<&'k str, ()>,
 }
 
-impl<'k> Met<'k> {
-    pub(crate) fn none(alloc: Global) -> Met<'k> {
-        Met {
+impl<'k> FoundKeys<'k> {
+    pub(crate) fn none(alloc: Global) -> FoundKeys<'k> {
+        FoundKeys {
             names: BTreeMap::new(alloc),
         }
     }
@@ -74,7 +74,7 @@ enum KeyFault {
     Unknown,
     UnknownInRegion,
     OtherKind(Kind),
-    Wanted(Told),
+    Expected(Explanation),
     TakenName,
     NoEarlierJob,
     NoMap,
@@ -83,7 +83,12 @@ enum KeyFault {
 impl<'a> FaultyJob<'a> {
     /// Appends what is wrong with the value of a key, if anything is, and gives whether anything is. Of two keys that do not go together
     /// it is told at the one that is met last.
-    pub(crate) fn push_key_fault(&self, message: &mut Message, key: &str, met: &Met<'_>) -> bool {
+    pub(crate) fn push_key_fault(
+        &self,
+        message: &mut Message,
+        key: &str,
+        met: &FoundKeys<'_>,
+    ) -> bool {
         let Some(fault) = self.key_fault(key, met) else {
             return false;
         };
@@ -91,7 +96,7 @@ impl<'a> FaultyJob<'a> {
             KeyFault::Unknown => push_unknown_job_key_of(message, key, self.suggestion),
             KeyFault::UnknownInRegion => push_unknown_region_key(message, self.table),
             KeyFault::OtherKind(kind) => push_value_of_wrong_kind(message, self.table, key, kind),
-            KeyFault::Wanted(told) => push_explanation(message, self.table, told),
+            KeyFault::Expected(told) => push_explanation(message, self.table, told),
             KeyFault::TakenName => push_taken_name(message, self.list, self.table),
             KeyFault::NoEarlierJob => push_unknown_same_as(
                 message,
@@ -105,7 +110,7 @@ impl<'a> FaultyJob<'a> {
         true
     }
 
-    fn key_fault(&self, key: &str, met: &Met<'_>) -> Option<KeyFault> {
+    fn key_fault(&self, key: &str, met: &FoundKeys<'_>) -> Option<KeyFault> {
         let Some(place) = place_of_key(key) else {
             return Some(KeyFault::Unknown);
         };
@@ -121,7 +126,13 @@ impl<'a> FaultyJob<'a> {
     }
 
     // What is wrong with a value of the kind that its key has.
-    fn value_fault(&self, kind: Kind, key: &str, value: &Value, met: &Met<'_>) -> Option<KeyFault> {
+    fn value_fault(
+        &self,
+        kind: Kind,
+        key: &str,
+        value: &Value,
+        met: &FoundKeys<'_>,
+    ) -> Option<KeyFault> {
         match kind {
             Kind::Text => self.text_fault(key, value.as_str().unwrap_or(""), met),
             Kind::Number => wanted(number_fault(key, value.as_integer().unwrap_or(0))),
@@ -132,7 +143,7 @@ impl<'a> FaultyJob<'a> {
         }
     }
 
-    fn text_fault(&self, key: &str, text: &str, met: &Met<'_>) -> Option<KeyFault> {
+    fn text_fault(&self, key: &str, text: &str, met: &FoundKeys<'_>) -> Option<KeyFault> {
         match key {
             "name" => self.name_fault(text),
             "same_as" if self.is_earlier_job(text) => None,
@@ -144,7 +155,7 @@ impl<'a> FaultyJob<'a> {
 
     fn name_fault(&self, name: &str) -> Option<KeyFault> {
         if !is_name(name.as_bytes()) {
-            Some(KeyFault::Wanted(Told::Wanted(&NAME)))
+            Some(KeyFault::Expected(Explanation::Expected(&NAME)))
         } else if self.is_earlier_job(name) {
             Some(KeyFault::TakenName)
         } else {
@@ -160,58 +171,69 @@ impl<'a> FaultyJob<'a> {
         }
     }
 
-    fn input_fault(&self, key: &str, text: &str, met: &Met<'_>) -> Option<Told> {
+    fn input_fault(&self, key: &str, text: &str, met: &FoundKeys<'_>) -> Option<Explanation> {
         if key == "input" {
             if MOST_SCRIPT < text.len() {
-                Some(Told::Wanted(&INPUT))
+                Some(Explanation::Expected(&INPUT))
             } else {
                 self.told_of_two("input_hex", met, BOTH_INPUTS)
             }
         } else if !are_hex_digit_pairs(text) {
-            Some(Told::Wanted(&PAIRS))
+            Some(Explanation::Expected(&PAIRS))
         } else if MOST_SCRIPT < text.len() / 2 {
-            Some(Told::Wanted(&INPUT_HEX))
+            Some(Explanation::Expected(&INPUT_HEX))
         } else {
             self.told_of_two("input", met, BOTH_INPUTS)
         }
     }
 
     // What is told where another key was met that has a text too.
-    fn told_of_two(&self, other: &str, met: &Met, both: &'static str) -> Option<Told> {
+    fn told_of_two(&self, other: &str, met: &FoundKeys, both: &'static str) -> Option<Explanation> {
         if met.has(other) && text_at_key(self.table, other).is_some() {
-            Some(Told::Text(both))
+            Some(Explanation::Text(both))
         } else {
             None
         }
     }
 
-    fn expectation_or_choice_fault(&self, key: &str, text: &str, met: &Met<'_>) -> Option<Told> {
+    fn expectation_or_choice_fault(
+        &self,
+        key: &str,
+        text: &str,
+        met: &FoundKeys<'_>,
+    ) -> Option<Explanation> {
         match key {
             "expect_signature" => self.reference_fault(text),
-            "expect_console" if MOST_CONSOLE < text.len() => Some(Told::Wanted(&EXPECT_CONSOLE)),
+            "expect_console" if MOST_CONSOLE < text.len() => Some(Explanation::Expected(
+                &EXPECT_CONSOLE,
+            )),
             "expect_console" => self.told_of_two("expect_console_file", met, BOTH_CONSOLES),
-            "expect_console_file" if !is_path(text) => Some(Told::Wanted(&EXPECT_CONSOLE_FILE)),
+            "expect_console_file" if !is_path(text) => Some(Explanation::Expected(
+                &EXPECT_CONSOLE_FILE,
+            )),
             "expect_console_file" => self.told_of_two("expect_console", met, BOTH_CONSOLES),
-            "image" if !is_path(text) => Some(Told::Wanted(&IMAGE)),
+            "image" if !is_path(text) => Some(Explanation::Expected(&IMAGE)),
             _ => self.choice_fault(key, text),
         }
     }
 
-    fn reference_fault(&self, path: &str) -> Option<Told> {
+    fn reference_fault(&self, path: &str) -> Option<Explanation> {
         if value_at_key(self.table, "signature").is_none() {
-            Some(Told::Wanted(&UNASKED))
+            Some(Explanation::Expected(&UNASKED))
         } else if !is_path(path) {
-            Some(Told::Wanted(&EXPECT_SIGNATURE))
+            Some(Explanation::Expected(&EXPECT_SIGNATURE))
         } else {
             None
         }
     }
 
     // Of a key that takes a few texts alone.
-    fn choice_fault(&self, key: &str, text: &str) -> Option<Told> {
+    fn choice_fault(&self, key: &str, text: &str) -> Option<Explanation> {
         match key {
-            "load" if text != "physical" && text != "virtual" => Some(Told::Wanted(&LOAD)),
-            "misaligned" if text != "fault" && text != "allow" => Some(Told::Wanted(&MISALIGNED)),
+            "load" if text != "physical" && text != "virtual" => Some(Explanation::Expected(&LOAD)),
+            "misaligned" if text != "fault" && text != "allow" => Some(Explanation::Expected(
+                &MISALIGNED,
+            )),
             "isa" if !is_set(text) => Some(isa_explanation(self.table)),
             "expect_end" if !is_end(text) => Some(end_explanation(self.table)),
             _ => None,
@@ -219,30 +241,30 @@ impl<'a> FaultyJob<'a> {
     }
 }
 
-fn wanted(told: Option<Told>) -> Option<KeyFault> {
+fn wanted(told: Option<Explanation>) -> Option<KeyFault> {
     match told {
-        Some(told) => Some(KeyFault::Wanted(told)),
+        Some(told) => Some(KeyFault::Expected(told)),
         None => None,
     }
 }
 
-fn number_fault(key: &str, number: i64) -> Option<Told> {
+fn number_fault(key: &str, number: i64) -> Option<Explanation> {
     if key == "budget" && (number < 1 || i64::from(MOST_BUDGET) < number) {
-        Some(Told::Wanted(&BUDGET))
+        Some(Explanation::Expected(&BUDGET))
     } else if key == "expect_exit" && (number < 0 || 0xffff_ffff < number) {
-        Some(Told::Wanted(&EXPECT_EXIT))
+        Some(Explanation::Expected(&EXPECT_EXIT))
     } else {
         None
     }
 }
 
 // Of an array of texts.
-fn signature_fault(names: &[Value]) -> Option<Told> {
+fn signature_fault(names: &[Value]) -> Option<Explanation> {
     let is_good = names.len() == 2 && is_symbol(&names[0]) && is_symbol(&names[1]);
     if is_good {
         None
     } else {
-        Some(Told::Wanted(&SIGNATURE))
+        Some(Explanation::Expected(&SIGNATURE))
     }
 }
 
@@ -273,8 +295,8 @@ pub(crate) const NEEDED: [&str; 3] = ["name", "image", "budget"];
 /// Appends that a job lacks a key which every job has.
 pub(crate) fn push_absent_key(message: &mut Message, table: &Table, key: &str) {
     match key {
-        "name" => push_explanation(message, table, Told::Wanted(&NAME)),
-        "image" => push_explanation(message, table, Told::Wanted(&IMAGE)),
-        _ => push_explanation(message, table, Told::Wanted(&BUDGET)),
+        "name" => push_explanation(message, table, Explanation::Expected(&NAME)),
+        "image" => push_explanation(message, table, Explanation::Expected(&IMAGE)),
+        _ => push_explanation(message, table, Explanation::Expected(&BUDGET)),
     }
 }

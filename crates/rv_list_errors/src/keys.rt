@@ -7,7 +7,7 @@ ghost use Rattle.toml.specs.View.{table_view};
 ghost use Rattle.rv_lists.specs.Keys.{is_job_key, is_region_key};
 ghost use Rattle.rv_list_errors.specs.Lines.{BeginsWith};
 ghost use Rattle.rv_list_errors.specs.NearNames.{Adds};
-ghost use Rattle.rv_list_errors.specs.Told.{AddsSome, first_unknown_key, is_key_of_owner, region_number_text, unknown_key_text};
+ghost use Rattle.rv_list_errors.specs.Explanation.{AddsSome, first_unknown_key, is_key_of_owner, region_number_text, unknown_key_text};
 ghost use Rattle.rv_list_errors.specs.UnknownKeys.{TellsUnknownKey, TellsUnknownRegionKey};
 
 use crate::message::Message;
@@ -119,11 +119,11 @@ fn push_nearest_key(message: &mut Message, text: &str)
     }
     match near_name(message, &names, text) {
         Some(key) => {
-            message.push(": the nearest key is ");
+            message.push(": a similar key exists: ");
             message.push_quoted(key);
         }
         None => {
-            message.push(": the keys of a job are ");
+            message.push(": valid keys are ");
             push_names(message, &names);
         }
     }
@@ -154,12 +154,12 @@ fn first_unknown_region_key(regions: &[Value]) -> Option<(usize, &str)>
 
 fn push_unknown_key_of_region(message: &mut Message, at: usize, key: &str)
     ensures { at + 1 < 2 ^ 64 → Adds message.old message.new (region_number_text at ++ (codes ": "
-        ++ (unknown_key_text key.now ++ codes ": the keys of a region are base, size and write"))) }
+        ++ (unknown_key_text key.now ++ codes ": valid keys are \"base\", \"size\" and \"write\""))) }
 {
     push_region_number(message, at);
     message.push(": ");
     push_unknown_key(message, key);
-    message.push(": the keys of a region are base, size and write");
+    message.push(": valid keys are \"base\", \"size\" and \"write\"");
 }
 
 /// Whether a region of a job has a key that no region has.

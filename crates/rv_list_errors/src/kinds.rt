@@ -9,12 +9,12 @@ ghost use Rattle.rv_lists.specs.Keys.{is_text_array, region_keys};
 ghost use Rattle.rv_list_errors.specs.JobFaults.{BeginsWithRegion, BeginsWithValue, TellsOtherKind, TellsWrongKind, is_known_of_other_kind};
 ghost use Rattle.rv_list_errors.specs.JobFaults.{is_of_kind, is_of_other_kind, key_and_kind};
 ghost use Rattle.rv_list_errors.specs.Lines.{BeginsWith};
-ghost use Rattle.rv_list_errors.specs.Told.{AddsSome, region_number_text};
+ghost use Rattle.rv_list_errors.specs.Explanation.{AddsSome, region_number_text};
 
-use crate::explanations::{Told, push_explanation, taken_texts};
+use crate::explanations::{Explanation, push_explanation, taken_texts};
 use crate::message::Message;
 use crate::regions::push_region_number;
-use crate::values::{elements_at_key, push_wanted_value, value_at_key};
+use crate::values::{elements_at_key, push_expected_value, value_at_key};
 use rv_lists::{JOB_KEYS, Kind};
 use toml::{Table, Value};
 
@@ -24,7 +24,7 @@ pub(crate) fn push_wrong_kind(message: &mut Message, table: &Table)
 {
     match wrong_key(table, &JOB_KEYS) {
         Some(known) => push_value_of_wrong_kind(message, table, known.0, known.1),
-        None => message.push("a value of another kind"),
+        None => message.push("invalid type"),
     }
 }
 
@@ -120,7 +120,7 @@ fn region_key_of_wrong_kind(table: &Table) -> Option<(&'static str, &'static str
     } else if is_other_than_number(value_at_key(table, "size")) {
         Some(("size", NUMBER))
     } else if is_other_than_boolean(value_at_key(table, "write")) {
-        Some(("write", "true or false is wanted"))
+        Some(("write", "expected true or false"))
     } else {
         None
     }
@@ -144,7 +144,7 @@ fn is_other_than_boolean(value: Option<&Value>) -> bool
     }
 }
 
-const NUMBER: &str = "a whole number is wanted";
+const NUMBER: &str = "expected an integer";
 
 /// Appends the value of a key, which is of another kind than this.
 pub(crate) fn push_value_of_wrong_kind(message: &mut Message, table: &Table, key: &str, kind: Kind)
@@ -152,8 +152,8 @@ pub(crate) fn push_value_of_wrong_kind(message: &mut Message, table: &Table, key
 {
     match kind {
         Kind::Text => push_text_of_wrong_kind(message, table, key),
-        Kind::Number => push_wanted_value(message, table, key, NUMBER),
-        Kind::Texts => push_wanted_value(message, table, key, "an array of texts is wanted"),
+        Kind::Number => push_expected_value(message, table, key, NUMBER),
+        Kind::Texts => push_expected_value(message, table, key, "expected an array of strings"),
         Kind::Regions => push_regions_of_wrong_kind(message, table, key),
     }
 }
@@ -163,8 +163,8 @@ fn push_text_of_wrong_kind(message: &mut Message, table: &Table, key: &str)
     ensures { AddsSome message.old message.new (BeginsWithValue key.now (table_view table.now)) }
 {
     match taken_texts(key) {
-        Some(wanted) => push_explanation(message, table, Told::Wanted(wanted)),
-        None => push_wanted_value(message, table, key, "a text is wanted"),
+        Some(wanted) => push_explanation(message, table, Explanation::Expected(wanted)),
+        None => push_expected_value(message, table, key, "expected a string"),
     }
 }
 
@@ -174,7 +174,7 @@ fn push_regions_of_wrong_kind(message: &mut Message, table: &Table, key: &str)
     let regions = elements_at_key(table, key);
     match place_of_no_region(regions) {
         Some(place) => push_region_of_wrong_kind(message, place, &regions[place]),
-        None => push_wanted_value(message, table, key, "an array of tables is wanted"),
+        None => push_expected_value(message, table, key, "expected an array of tables"),
     }
 }
 
@@ -196,7 +196,7 @@ fn push_region_of_wrong_kind(message: &mut Message, place: usize, region: &Value
         _ => {
             message.push(" = ");
             message.push_value(region);
-            message.push(": a table is wanted");
+            message.push(": expected a table");
         }
     }
 }
@@ -206,7 +206,7 @@ fn push_region_table_of_wrong_kind(message: &mut Message, table: &Table)
 {
     message.push(": ");
     match region_key_of_wrong_kind(table) {
-        Some((key, wanted)) => push_wanted_value(message, table, key, wanted),
-        None => message.push("a value of another kind"),
+        Some((key, wanted)) => push_expected_value(message, table, key, wanted),
+        None => message.push("invalid type"),
     }
 }

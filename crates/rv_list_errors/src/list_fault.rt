@@ -3,12 +3,12 @@
 ghost use Rattle.std.specs.Prelude.{◌++◌, codes};
 ghost use Rattle.toml.specs.Errors.{IsMemory, span_start};
 ghost use Rattle.rv_list_errors.specs.NearNames.{Adds};
-ghost use Rattle.rv_list_errors.specs.Told.{AddsSome, IsNotToml, too_many_jobs_text};
+ghost use Rattle.rv_list_errors.specs.Explanation.{AddsSome, IsNotToml, too_many_jobs_text};
 
 use crate::keys::{Owner, push_unknown_key, unknown_key};
 use crate::list::List;
 use crate::message::Message;
-use crate::values::push_wanted_value;
+use crate::values::push_expected_value;
 use rv_list_locations::{RepeatedKey, line_and_column, repeated_key};
 use rv_lists::What;
 use rv_lists::limits::MOST_JOBS;
@@ -31,9 +31,9 @@ pub(crate) fn push_not_toml(message: &mut Message, text: &[u8], error: &Error)
 }
 
 fn push_reason(message: &mut Message, reason: &str)
-    ensures { Adds message.old message.new (codes ": not TOML: " ++ reason.now) }
+    ensures { Adds message.old message.new (codes ": error: invalid TOML: " ++ reason.now) }
 {
-    message.push(": not TOML: ");
+    message.push(": error: invalid TOML: ");
     message.push(reason);
 }
 
@@ -62,7 +62,7 @@ pub(crate) fn push_repeated_key(message: &mut Message, text: &[u8], repeated: &R
     message.push("\"");
     if let Some(first) = repeated.first {
         let place = line_and_column(text, text.len().saturating_sub(first.len()));
-        message.push_number_between(": line ", place.line as u64, " has it already");
+        message.push_number_between(": first set on line ", place.line as u64, "");
     }
 }
 
@@ -72,23 +72,23 @@ pub(crate) fn push_list_fault(message: &mut Message, list: &List<'_>, what: What
         What::NoJobs => push_no_jobs(message, list.table),
         What::TooMany => push_too_many_jobs(message, list.jobs.len()),
         What::UnknownKey => push_unknown_list_key(message, list.table),
-        What::WrongType => push_wanted_value(message, list.table, "job", TABLES),
+        What::WrongType => push_expected_value(message, list.table, "job", TABLES),
         _ => message.push(what.name()),
     }
 }
 
-const TABLES: &str = "an array of tables, [[job]], is wanted";
+const TABLES: &str = "expected an array of tables, [[job]]";
 
 // Appends that a list has no jobs. A key beside `job` is told too, since it may be meant.
 fn push_no_jobs(message: &mut Message, table: &Table) {
-    push_wanted_value(
+    push_expected_value(
         message,
         table,
         "job",
-        "at least one table, [[job]], is wanted",
+        "expected at least one table, [[job]]",
     );
     if let Some(key) = unknown_key(table, Owner::List) {
-        message.push(", and there is an ");
+        message.push("; found ");
         push_unknown_key(message, key);
     }
 }
@@ -97,14 +97,14 @@ fn push_too_many_jobs(message: &mut Message, jobs: usize)
     ensures { Adds message.old message.new (too_many_jobs_text jobs) }
 {
     message.push_number(jobs as u64);
-    message.push_number_between(" jobs: at most ", MOST_JOBS as u64, " are taken");
+    message.push_number_between(" jobs: at most ", MOST_JOBS as u64, " are allowed");
 }
 
 fn push_unknown_list_key(message: &mut Message, table: &Table) {
     match unknown_key(table, Owner::List) {
         Some(key) => {
             push_unknown_key(message, key);
-            message.push(": the only key of a list is job");
+            message.push(": the only valid key is \"job\"");
         }
         None => message.push(What::UnknownKey.name()),
     }

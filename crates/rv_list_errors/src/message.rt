@@ -5,7 +5,7 @@ ghost use Rattle.std.specs.Fmt.{decimal};
 ghost use Rattle.toml.specs.Text.{IsValueText};
 ghost use Rattle.toml.specs.View.{view};
 ghost use Rattle.rv_list_errors.specs.NearNames.{Adds, quoted, text_distance};
-ghost use Rattle.rv_list_errors.specs.Told.{AddsSome, IsShownValue};
+ghost use Rattle.rv_list_errors.specs.Explanation.{AddsSome, IsShownValue};
 ghost use Rattle.rv_text.specs.Printable.{printable_value};
 ghost use Rattle.rv_text.specs.Words.{word_digits};
 

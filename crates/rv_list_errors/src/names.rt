@@ -9,7 +9,7 @@ ghost use Rattle.toml.specs.View.{table_view};
 ghost use Rattle.rv_list_errors.specs.JobFaults.{TellsName, TellsSameAs, job_of_name_text};
 ghost use Rattle.rv_list_errors.specs.Lines.{BeginsWith};
 ghost use Rattle.rv_list_errors.specs.NearNames.{quoted, separator};
-ghost use Rattle.rv_list_errors.specs.Told.{AddsSome, IsNearestJob};
+ghost use Rattle.rv_list_errors.specs.Explanation.{AddsSome, IsNearestJob};
 
 use crate::list::List;
 use crate::message::Message;
@@ -40,7 +40,7 @@ fn push_job_of_name(message: &mut Message, number: Option<u64>)
     ensures { Adds message.old message.new (job_of_name_text number) }
 {
     if let Some(number) = number {
-        message.push_number_between("job ", number, " has this name, and ");
+        message.push_number_between("job ", number, " has this name: ");
     }
 }
 
@@ -68,7 +68,7 @@ pub(crate) fn push_unknown_same_as(
         list,
         table,
         "same_as",
-        "the name of an earlier job is wanted",
+        "expected the name of an earlier job",
     );
     match suggestion {
         Suggestion::Nearest => push_nearest_job(
@@ -107,7 +107,7 @@ fn push_nearest_name(message: &mut Message, names: &[Option<&str>], wanted: &str
 {
     match near_name(message, names, wanted) {
         Some(name) => {
-            message.push("; the nearest is ");
+            message.push("; a similar name exists: ");
             message.push_quoted(name);
         }
         None => {

@@ -4,7 +4,7 @@ ghost use Rattle.std.specs.Prelude.{◌≡◌, ◌+◌, ◌^◌, ◌<◌, IfSome
 ghost use Rattle.rv_list_errors.specs.JobFaults.{AreAllApart, AreApart, IsApartBefore, IsApartBehind, IsFirstOverlap, IsFirstShared};
 ghost use Rattle.rv_list_errors.specs.JobFaults.{IsOverlap, TellsOverlap, TellsRegions, overlap_text};
 ghost use Rattle.rv_list_errors.specs.NearNames.{Adds};
-ghost use Rattle.rv_list_errors.specs.Told.{AddsSome};
+ghost use Rattle.rv_list_errors.specs.Explanation.{AddsSome};
 
 use crate::message::Message;
 use crate::regions::push_region_number;
@@ -64,9 +64,9 @@ fn push_overlap(message: &mut Message, overlap: Overlap)
     push_region_number(message, overlap.at);
     message.push(" and ");
     push_region_number(message, overlap.later);
-    message.push(" both have 0x");
+    message.push(" overlap at 0x");
     message.push_hex_word(overlap.address);
-    message.push(": regions that share no address are wanted");
+    message.push(": expected disjoint regions");
 }
 
 // The first two regions of a list that share an address.
@@ -123,7 +123,7 @@ fn push_shared_with_console(message: &mut Message, at: usize, address: u32)
     ensures { at + 1 < 2 ^ 64 → AddsSome message.old message.new TellsRegions }
 {
     push_region_number(message, at);
-    message.push(" has 0x");
+    message.push(" overlaps the console at 0x");
     message.push_hex_word(address);
-    message.push(": 0x10000000 to 0x1000000f are the console's");
+    message.push(": the console occupies 0x10000000 to 0x1000000f");
 }

@@ -3,18 +3,18 @@
 ghost use Rattle.std.specs.Prelude.{◌+◌, ◌^◌, ◌<◌, IfSome, length};
 ghost use Rattle.rv_list_errors.specs.JobFaults.{TellsRegions};
 ghost use Rattle.rv_list_errors.specs.NearNames.{Adds};
-ghost use Rattle.rv_list_errors.specs.Told.{AddsSome, region_number_text};
+ghost use Rattle.rv_list_errors.specs.Explanation.{AddsSome, region_number_text};
 
 use crate::message::Message;
 use crate::overlaps::{push_console_overlap, push_region_overlap, region_end};
-use crate::values::{elements_at_key, push_wanted_value, word_at_key};
+use crate::values::{elements_at_key, push_expected_value, word_at_key};
 use rv_lists::What;
 use rv_memory::{Map, MapError, Region};
 use toml::{Table, Value};
 
-const BASE: &str = "a multiple of 4 from 0 to 0xfffffffc is wanted";
+const BASE: &str = "expected a multiple of 4 from 0 to 0xfffffffc";
 
-const SIZE: &str = "a multiple of 4 from 4 to 16777216 is wanted";
+const SIZE: &str = "expected a multiple of 4 from 4 to 16777216";
 
 /// Appends which region it is, counted from 1.
 pub(crate) fn push_region_number(message: &mut Message, at: usize)
@@ -112,10 +112,10 @@ fn push_bad_base_or_size(message: &mut Message, at: usize, element: &Value)
     message.push(": ");
     match element {
         Value::Table(table) if word_at_key(table, "base").is_some() => {
-            push_wanted_value(message, table, "size", SIZE)
+            push_expected_value(message, table, "size", SIZE)
         }
-        Value::Table(table) => push_wanted_value(message, table, "base", BASE),
-        _ => message.push("a table is wanted"),
+        Value::Table(table) => push_expected_value(message, table, "base", BASE),
+        _ => message.push("expected a table"),
     }
 }
 
@@ -136,7 +136,7 @@ fn push_map_error(message: &mut Message, regions: &[Region])
 fn push_region_count(message: &mut Message, count: usize)
     ensures { AddsSome message.old message.new TellsRegions }
 {
-    message.push_number_between("region has ", count as u64, " tables: 1 to 4 are wanted");
+    message.push_number_between("region has ", count as u64, " tables: expected 1 to 4");
 }
 
 // Appends the first base or size that is no multiple of 4.
@@ -214,7 +214,7 @@ fn push_total_size(message: &mut Message, total: u64)
     message.push_number_between(
         "the sizes of the regions add up to ",
         total,
-        ": at most 16777216 is taken",
+        ": expected at most 16777216",
     );
 }
 
@@ -222,7 +222,7 @@ fn push_region_past_end(message: &mut Message, at: usize, region: &Region)
     ensures { at + 1 < 2 ^ 64 → AddsSome message.old message.new TellsRegions }
 {
     push_region_base(message, at, region.base);
-    let wanted = ": a region that ends at 0xffffffff at most is wanted";
+    let wanted = ": the region extends past 0xffffffff";
     message.push_number_between(", size = ", u64::from(region.size), wanted);
 }
 

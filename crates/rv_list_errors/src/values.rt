@@ -4,7 +4,7 @@ ghost use Rattle.std.specs.Prelude.{◌≡◌, option_map, unwrap_or};
 ghost use Rattle.toml.specs.Data.{get_member, no_items};
 ghost use Rattle.toml.specs.View.{items_view, table_view, view};
 ghost use Rattle.rv_lists.specs.Keys.{array_at_key, text_at_key};
-ghost use Rattle.rv_list_errors.specs.Told.{AddsSome, IsKeyAndValue, IsWantedValue};
+ghost use Rattle.rv_list_errors.specs.Explanation.{AddsSome, IsKeyAndValue, IsWantedValue};
 
 use crate::message::Message;
 use toml::{Table, Value};
@@ -55,12 +55,12 @@ pub(crate) fn push_key_and_value(message: &mut Message, table: &Table, key: &str
             message.push(" = ");
             message.push_value(value);
         }
-        None => message.push(" is absent"),
+        None => message.push(" is missing"),
     }
 }
 
 /// Appends a key, its value, and what is wanted of it.
-pub(crate) fn push_wanted_value(message: &mut Message, table: &Table, key: &str, wanted: &str)
+pub(crate) fn push_expected_value(message: &mut Message, table: &Table, key: &str, wanted: &str)
     ensures { AddsSome message.old message.new
         (IsWantedValue key.now (get_member key.now (table_view table.now)) wanted.now) }
 {

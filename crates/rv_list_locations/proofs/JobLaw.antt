@@ -14,10 +14,10 @@ use Rattle.toml.specs.Parse.{expression, header_key, key_equals, skip_bom}
 use Rattle.rv_list_locations.specs.declared.scan.Next.{Next}
 use Rattle.rv_list_locations.specs.declared.scan.Next.TheVariants.{Element, Table, Top}
 use Rattle.rv_list_locations.specs.JobBegins.{BeginsWithElement, BeginsWithJobHeader, IsInJobArray, IsLineOfJob, behind, opened}
-use Rattle.rv_list_locations.specs.JobPlaces.{Step, array_header, behind_comma, behind_equals, behind_line, behind_value, element}
+use Rattle.rv_list_locations.specs.JobPlaces.{Step, array_header, after_comma, after_equals, after_line, after_value, element}
 use Rattle.rv_list_locations.specs.JobPlaces.{header, is_job, is_top, job_lines, jobs_from, jobs_of_step, keyed_entry}
 use Rattle.rv_list_locations.specs.JobPlaces.{jobs_of_text, line_of_rest, step, table_header}
-use Rattle.rv_list_locations.proofs.Tails.{IsEnd, LeavesEnd, behind_comma-end, behind_equals-end, behind_line-end, behind_value-end}
+use Rattle.rv_list_locations.proofs.Tails.{IsEnd, LeavesEnd, after_comma-end, after_equals-end, after_line-end, after_value-end}
 use Rattle.rv_list_locations.proofs.Tails.{end_drop, end_of_end, key-end, skip_bom-end, skip_from-end, skip_ws-end}
 use Rattle.rv_list_locations.proofs.Tails.{some_either, some_map, some_then}
 
@@ -61,17 +61,17 @@ array_header-is list text one two =
     let near = end_of_end text (drop 2 text) inside (end_drop 2 text) (skip_ws-end (drop 2 text)) in
     some_then (LeavesEnd inside) (StepIs list text) (key inside)
     (λ name. cond (first name.1 == right_bracket && slice_index name.1 1 == right_bracket)
-    (Some (is_job name.0, Table, behind_line (drop 2 name.1))) None)
+    (Some (is_job name.0, Table, after_line (drop 2 name.1))) None)
     (key-end inside)
     (λ name read far.
     let rest = drop 2 name.1 in
     some_either (StepIs list text) (first name.1 == right_bracket && slice_index name.1 1 == right_bracket)
-    (Some (is_job name.0, Table, behind_line rest)) None
+    (Some (is_job name.0, Table, after_line rest)) None
     (λ closed. record {
       job = λ is. inl (header_begins text name one two read closed (job_name name.0 is));
       next = tt;
-      rest = end_of_end text rest (behind_line rest)
-          (end_of_end text name.1 rest (end_of_end text inside name.1 near far) (end_drop 2 name.1)) (behind_line-end rest);
+      rest = end_of_end text rest (after_line rest)
+          (end_of_end text name.1 rest (end_of_end text inside name.1 near far) (end_drop 2 name.1)) (after_line-end rest);
     })
     (λ _. tt))
 
@@ -81,16 +81,16 @@ table_header-is list text =
     let inside = skip_ws (drop 1 text) in
     let near = end_of_end text (drop 1 text) inside (end_drop 1 text) (skip_ws-end (drop 1 text)) in
     some_then (LeavesEnd inside) (StepIs list text) (key inside)
-    (λ name. cond (first name.1 == right_bracket) (Some (false, Table, behind_line (drop 1 name.1))) None)
+    (λ name. cond (first name.1 == right_bracket) (Some (false, Table, after_line (drop 1 name.1))) None)
     (key-end inside)
     (λ name read far.
     let rest = drop 1 name.1 in
-    some_either (StepIs list text) (first name.1 == right_bracket) (Some (false, Table, behind_line rest)) None
+    some_either (StepIs list text) (first name.1 == right_bracket) (Some (false, Table, after_line rest)) None
     (λ closed. record {
       job = λ is. absurd (false≢true is);
       next = tt;
-      rest = end_of_end text rest (behind_line rest)
-          (end_of_end text name.1 rest (end_of_end text inside name.1 near far) (end_drop 1 name.1)) (behind_line-end rest);
+      rest = end_of_end text rest (after_line rest)
+          (end_of_end text name.1 rest (end_of_end text inside name.1 near far) (end_drop 1 name.1)) (after_line-end rest);
     })
     (λ _. tt))
 
@@ -102,9 +102,9 @@ header-is list text one =
 -- ---- entries
 
 equals_read : (text : List ℕ) (name : Key × List ℕ) → key text ≡ Some name → name.0 ≡ ([], codes "job") →
-    (first (behind_equals name.1) == left_bracket) ≡ true →
-    key_equals text ≡ Some (([], codes "job"), behind_equals name.1)
-unfolding key_equals behind_equals
+    (first (after_equals name.1) == left_bracket) ≡ true →
+    key_equals text ≡ Some (([], codes "job"), after_equals name.1)
+unfolding key_equals after_equals
 equals_read text name read is open_now =
     elim (cases_Bool (first name.1 == equals)) [
       | inl sign ↦ rw (read, sign, is) refl
@@ -116,17 +116,17 @@ entry-is : (list text : List ℕ) (next : Next) → ((rest : List ℕ) → Comes
 unfolding keyed_entry
 entry-is list text next comes ends =
     some_then (LeavesEnd text) (StepIs list text) (key text)
-    (λ name. let value = behind_equals name.1 in
+    (λ name. let value = after_equals name.1 in
     cond ((is_job name.0 && is_top next) && first value == left_bracket)
     (Some (false, Element, skip_blank (drop 1 value)))
-    (option_map (λ rest. (false, next, behind_line rest)) (behind_value value)))
+    (option_map (λ rest. (false, next, after_line rest)) (after_value value)))
     (key-end text)
     (λ name read far.
-    let value = behind_equals name.1 in
-    let near = end_of_end text name.1 value far (behind_equals-end name.1) in
+    let value = after_equals name.1 in
+    let near = end_of_end text name.1 value far (after_equals-end name.1) in
     some_either (StepIs list text) ((is_job name.0 && is_top next) && first value == left_bracket)
     (Some (false, Element, skip_blank (drop 1 value)))
-    (option_map (λ rest. (false, next, behind_line rest)) (behind_value value))
+    (option_map (λ rest. (false, next, after_line rest)) (after_value value))
     (λ both.
     let (top, open_now) = and_parts (is_job name.0 && is_top next) (first value == left_bracket) both in
     let job = (and_parts (is_job name.0) (is_top next) top).0 in
@@ -137,12 +137,12 @@ entry-is list text next comes ends =
       rest = end_of_end text (drop 1 value) (skip_blank (drop 1 value)) (end_of_end text value (drop 1 value) near (end_drop 1 value))
           (skip_from-end true false (drop 1 value));
     })
-    (λ _. some_map (IsEnd value) (StepIs list text) (behind_value value) (λ rest. (false, next, behind_line rest))
-    (behind_value-end value)
+    (λ _. some_map (IsEnd value) (StepIs list text) (after_value value) (λ rest. (false, next, after_line rest))
+    (after_value-end value)
     (λ rest is far_rest. record {
       job = λ is. absurd (false≢true is);
-      next = comes (behind_line rest);
-      rest = end_of_end text rest (behind_line rest) (end_of_end text value rest near far_rest) (behind_line-end rest);
+      next = comes (after_line rest);
+      rest = end_of_end text rest (after_line rest) (end_of_end text value rest near far_rest) (after_line-end rest);
     })))
 
 -- ---- elements
@@ -150,19 +150,19 @@ entry-is list text next comes ends =
 element-is : (list text : List ℕ) → IsInJobArray list text → IfSome (element text) (StepIs list text)
 unfolding element
 element-is list text inside =
-    some_either (StepIs list text) (first text == right_bracket) (Some (false, Top, behind_line (drop 1 text)))
-    (option_map (λ rest. (true, Element, behind_comma rest)) (behind_value text))
+    some_either (StepIs list text) (first text == right_bracket) (Some (false, Top, after_line (drop 1 text)))
+    (option_map (λ rest. (true, Element, after_comma rest)) (after_value text))
     (λ _. record {
       job = λ is. absurd (false≢true is);
       next = tt;
-      rest = end_of_end text (drop 1 text) (behind_line (drop 1 text)) (end_drop 1 text) (behind_line-end (drop 1 text));
+      rest = end_of_end text (drop 1 text) (after_line (drop 1 text)) (end_drop 1 text) (after_line-end (drop 1 text));
     })
-    (λ other. some_map (IsEnd text) (StepIs list text) (behind_value text) (λ rest. (true, Element, behind_comma rest))
-    (behind_value-end text)
+    (λ other. some_map (IsEnd text) (StepIs list text) (after_value text) (λ rest. (true, Element, after_comma rest))
+    (after_value-end text)
     (λ rest is far. record {
       job = λ _. inr (inside, eqb-false (first text) right_bracket other);
       next = behind text rest inside is;
-      rest = end_of_end text rest (behind_comma rest) far (behind_comma-end rest);
+      rest = end_of_end text rest (after_comma rest) far (after_comma-end rest);
     }))
 
 -- ---- all steps

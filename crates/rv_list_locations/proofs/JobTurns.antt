@@ -18,61 +18,61 @@ use Rattle.toml_parser.specs.declared.error.ParseError.TheVariants.{OutOfMemory}
 use Rattle.std.proofs.lemmas.List.{map-append}
 use Rattle.rv_list_locations.specs.Steps.{UnlessMemory, now_texts}
 use Rattle.rv_list_locations.specs.declared.scan.Next.{Next}
-use Rattle.rv_list_locations.specs.JobPlaces.{behind_brackets, behind_letters, behind_token, behind_word, depth_behind}
+use Rattle.rv_list_locations.specs.JobPlaces.{after_brackets, after_letters, after_token, after_word, depth_after}
 use Rattle.rv_list_locations.specs.JobPlaces.{is_in_word, jobs_from, step}
 
 -- ---- words
 
 pub letters_more : (text : List ℕ) → is_in_word (first text) (slice_index text 1) ≡ true →
-    behind_letters text ≡ behind_letters (drop 1 text)
+    after_letters text ≡ after_letters (drop 1 text)
 letters_more [] is = absurd (false≢true is)
 letters_more (byte ∷ rest) is = rw is refl
 
-letters_end : (text : List ℕ) → is_in_word (first text) (slice_index text 1) ≡ false → behind_letters text ≡ text
+letters_end : (text : List ℕ) → is_in_word (first text) (slice_index text 1) ≡ false → after_letters text ≡ text
 letters_end [] is = refl
 letters_end (byte ∷ rest) is = rw is refl
 
 -- letters were passed over
-pub word_ends : (text rest : List ℕ) → behind_letters rest ≡ behind_letters text →
+pub word_ends : (text rest : List ℕ) → after_letters rest ≡ after_letters text →
     is_in_word (first rest) (slice_index rest 1) ≡ false → (length rest ≡ length text → ⊥) →
-    behind_word text ≡ Some rest
-unfolding behind_word
+    after_word text ≡ Some rest
+unfolding after_word
 word_ends text rest same ended moved =
-    let is : behind_letters text ≡ rest = sym same ∙ letters_end rest ended in
+    let is : after_letters text ≡ rest = sym same ∙ letters_end rest ended in
     elim (cases_Bool (is_in_word (first text) (slice_index text 1))) [
       | inl some ↦ rw some (ap Some is)
       | inr none ↦ absurd (moved (ap length (sym is ∙ letters_end text none)))
     ]
 
-pub word_is_none : (text : List ℕ) → is_in_word (first text) (slice_index text 1) ≡ false → behind_word text ≡ None
-unfolding behind_word
+pub word_is_none : (text : List ℕ) → is_in_word (first text) (slice_index text 1) ≡ false → after_word text ≡ None
+unfolding after_word
 word_is_none text none = rw none refl
 
 -- ---- brackets
 
-pub brackets_none : (m depth : ℕ) (text : List ℕ) → behind_token text ≡ None → behind_brackets m depth text ≡ None
-unfolding behind_brackets
+pub brackets_none : (m depth : ℕ) (text : List ℕ) → after_token text ≡ None → after_brackets m depth text ≡ None
+unfolding after_brackets
 brackets_none zero depth text none = refl
 brackets_none (suc m) depth text none = rw none refl
 
-pub brackets_end : (m depth : ℕ) (text rest : List ℕ) → 0 < m → behind_token text ≡ Some rest →
-    depth_behind depth (first text) ≡ 0 → behind_brackets m depth text ≡ Some rest
-unfolding behind_brackets
+pub brackets_end : (m depth : ℕ) (text rest : List ℕ) → 0 < m → after_token text ≡ Some rest →
+    depth_after depth (first text) ≡ 0 → after_brackets m depth text ≡ Some rest
+unfolding after_brackets
 brackets_end zero depth text rest some token closed = absurd (omega arith)
 brackets_end (suc m) depth text rest some token closed = rw (token, closed) refl
 
-pub brackets_more : (m depth : ℕ) (text rest : List ℕ) → 0 < m → behind_token text ≡ Some rest →
-    (depth_behind depth (first text) == 0) ≡ false →
-    behind_brackets m depth text ≡ behind_brackets (m - 1) (depth_behind depth (first text)) (skip_blank rest)
-unfolding behind_brackets
+pub brackets_more : (m depth : ℕ) (text rest : List ℕ) → 0 < m → after_token text ≡ Some rest →
+    (depth_after depth (first text) == 0) ≡ false →
+    after_brackets m depth text ≡ after_brackets (m - 1) (depth_after depth (first text)) (skip_blank rest)
+unfolding after_brackets
 brackets_more zero depth text rest some token more = absurd (omega arith)
 brackets_more (suc m) depth text rest some token more =
     let less : suc m - 1 ≡ m = omega arith in
     rw (token, more, less) refl
 
 -- a byte opens one bracket at most
-pub depth_behind-le : (depth byte : ℕ) → depth_behind depth byte ≤ depth + 1
-depth_behind-le depth byte = grind (arith, nat_tests)
+pub depth_after-le : (depth byte : ℕ) → depth_after depth byte ≤ depth + 1
+depth_after-le depth byte = grind (arith, nat_tests)
 
 -- ---- steps
 

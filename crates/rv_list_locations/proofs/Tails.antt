@@ -12,8 +12,8 @@ use Rattle.toml_parser.specs.Strings.{after_piece, at_delims, body, escape, esca
 use Rattle.toml_parser.specs.Strings.{key, key_after, one_line, prepend, quoted, recursion_limit, simple_escape, simple_key}
 use Rattle.toml_parser.specs.Strings.{special, starts_string, trim_newline}
 use Rattle.toml.specs.Parse.{skip_bom}
-use Rattle.rv_list_locations.specs.JobPlaces.{behind_brackets, behind_comma, behind_equals, behind_letters, behind_line}
-use Rattle.rv_list_locations.specs.JobPlaces.{behind_string_or_word, behind_token, behind_value, behind_word, depth_behind}
+use Rattle.rv_list_locations.specs.JobPlaces.{after_brackets, after_comma, after_equals, after_letters, after_line}
+use Rattle.rv_list_locations.specs.JobPlaces.{after_string_or_word, after_token, after_value, after_word, depth_after}
 use Rattle.rv_list_locations.specs.JobPlaces.{is_in_word, is_opening, is_sign}
 
 -- ---- ends of texts
@@ -214,59 +214,59 @@ key-end text = key_after-end recursion_limit [] text
 
 -- ---- values
 
-behind_letters-end : (text : List ℕ) → IsEnd text (behind_letters text)
-behind_letters-end [] = (0, refl)
-behind_letters-end (byte ∷ rest) =
-    let more = behind_letters-end rest in
-    if_either (IsEnd (byte ∷ rest)) (is_in_word byte (first rest)) (behind_letters rest) (byte ∷ rest) (suc more.0, more.1)
+after_letters-end : (text : List ℕ) → IsEnd text (after_letters text)
+after_letters-end [] = (0, refl)
+after_letters-end (byte ∷ rest) =
+    let more = after_letters-end rest in
+    if_either (IsEnd (byte ∷ rest)) (is_in_word byte (first rest)) (after_letters rest) (byte ∷ rest) (suc more.0, more.1)
     (0, refl)
 
-behind_string_or_word-end : (text : List ℕ) → IfSome (behind_string_or_word text) (IsEnd text)
-unfolding behind_string_or_word behind_word
-behind_string_or_word-end text =
+after_string_or_word-end : (text : List ℕ) → IfSome (after_string_or_word text) (IsEnd text)
+unfolding after_string_or_word after_word
+after_string_or_word-end text =
     some_either (IsEnd text) (starts_string text) (option_map (λ read. read.1) (quoted text))
-    (cond (is_in_word (first text) (slice_index text 1)) (Some (behind_letters text)) None)
+    (cond (is_in_word (first text) (slice_index text 1)) (Some (after_letters text)) None)
     (λ _. some_map (LeavesEnd text) (IsEnd text) (quoted text) (λ read. read.1) (quoted-end text) (λ read is rest. rest))
-    (λ _. some_either (IsEnd text) (is_in_word (first text) (slice_index text 1)) (Some (behind_letters text)) None
-    (λ _. behind_letters-end text) (λ _. tt))
+    (λ _. some_either (IsEnd text) (is_in_word (first text) (slice_index text 1)) (Some (after_letters text)) None
+    (λ _. after_letters-end text) (λ _. tt))
 
-behind_token-end : (text : List ℕ) → IfSome (behind_token text) (IsEnd text)
-unfolding behind_token
-behind_token-end text =
-    some_either (IsEnd text) (is_sign (first text)) (Some (drop 1 text)) (behind_string_or_word text) (λ _. end_drop 1 text)
-    (λ _. behind_string_or_word-end text)
+after_token-end : (text : List ℕ) → IfSome (after_token text) (IsEnd text)
+unfolding after_token
+after_token-end text =
+    some_either (IsEnd text) (is_sign (first text)) (Some (drop 1 text)) (after_string_or_word text) (λ _. end_drop 1 text)
+    (λ _. after_string_or_word-end text)
 
-behind_brackets-end : (n depth : ℕ) (text : List ℕ) → IfSome (behind_brackets n depth text) (IsEnd text)
-unfolding behind_brackets
-behind_brackets-end zero depth text = tt
-behind_brackets-end (suc n) depth text =
-    let open_now = depth_behind depth (first text) in
-    some_then (IsEnd text) (IsEnd text) (behind_token text)
-    (λ rest. cond (open_now == 0) (Some rest) (behind_brackets n open_now (skip_blank rest))) (behind_token-end text)
+after_brackets-end : (n depth : ℕ) (text : List ℕ) → IfSome (after_brackets n depth text) (IsEnd text)
+unfolding after_brackets
+after_brackets-end zero depth text = tt
+after_brackets-end (suc n) depth text =
+    let open_now = depth_after depth (first text) in
+    some_then (IsEnd text) (IsEnd text) (after_token text)
+    (λ rest. cond (open_now == 0) (Some rest) (after_brackets n open_now (skip_blank rest))) (after_token-end text)
     (λ rest is near.
-    some_either (IsEnd text) (open_now == 0) (Some rest) (behind_brackets n open_now (skip_blank rest)) (λ _. near)
-    (λ _. some_weaker (IsEnd (skip_blank rest)) (IsEnd text) (behind_brackets n open_now (skip_blank rest))
+    some_either (IsEnd text) (open_now == 0) (Some rest) (after_brackets n open_now (skip_blank rest)) (λ _. near)
+    (λ _. some_weaker (IsEnd (skip_blank rest)) (IsEnd text) (after_brackets n open_now (skip_blank rest))
     (λ last far. end_of_end text (skip_blank rest) last (end_of_end text rest (skip_blank rest) near (skip_from-end true false rest)) far)
-    (behind_brackets-end n open_now (skip_blank rest))))
+    (after_brackets-end n open_now (skip_blank rest))))
 
-pub behind_value-end : (text : List ℕ) → IfSome (behind_value text) (IsEnd text)
-unfolding behind_value
-behind_value-end text =
-    some_either (IsEnd text) (is_opening (first text)) (behind_brackets (suc (length text)) 0 text) (behind_string_or_word text)
-    (λ _. behind_brackets-end (suc (length text)) 0 text) (λ _. behind_string_or_word-end text)
+pub after_value-end : (text : List ℕ) → IfSome (after_value text) (IsEnd text)
+unfolding after_value
+after_value-end text =
+    some_either (IsEnd text) (is_opening (first text)) (after_brackets (suc (length text)) 0 text) (after_string_or_word text)
+    (λ _. after_brackets-end (suc (length text)) 0 text) (λ _. after_string_or_word-end text)
 
 -- ---- lines
 
-pub behind_line-end : (text : List ℕ) → IsEnd text (behind_line text)
-unfolding behind_line
-behind_line-end text =
+pub after_line-end : (text : List ℕ) → IsEnd text (after_line text)
+unfolding after_line
+after_line-end text =
     let rest = skip_ws text in
     if_either (IsEnd text) (first rest == hash || first rest == line_feed || first rest == carriage_return) (skip_blank rest) []
     (end_of_end text rest (skip_blank rest) (skip_ws-end text) (skip_from-end true false rest)) (end_nil text)
 
-pub behind_comma-end : (text : List ℕ) → IsEnd text (behind_comma text)
-unfolding behind_comma
-behind_comma-end text =
+pub after_comma-end : (text : List ℕ) → IsEnd text (after_comma text)
+unfolding after_comma
+after_comma-end text =
     let rest = skip_blank text in
     let near = skip_from-end true false text in
     if_either (IsEnd text) (first rest == comma) (skip_blank (drop 1 rest)) rest
@@ -274,9 +274,9 @@ behind_comma-end text =
     (skip_from-end true false (drop 1 rest)))
     near
 
-pub behind_equals-end : (text : List ℕ) → IsEnd text (behind_equals text)
-unfolding behind_equals
-behind_equals-end text =
+pub after_equals-end : (text : List ℕ) → IsEnd text (after_equals text)
+unfolding after_equals
+after_equals-end text =
     if_either (IsEnd text) (first text == equals) (skip_ws (drop 1 text)) []
     (end_of_end text (drop 1 text) (skip_ws (drop 1 text)) (end_drop 1 text) (skip_ws-end (drop 1 text))) (end_nil text)
 

@@ -3,7 +3,7 @@ use Rattle.std.specs.Prelude.{◌≡◌, ◌≢◌, ◌⊎◌, ℕ, List, [], So
 use Rattle.toml_parser.specs.Lexical.{first, left_bracket, right_bracket, skip_blank}
 use Rattle.toml.specs.Parse.{expression, key_equals}
 use Rattle.toml.specs.Tables.{array_table}
-use Rattle.rv_list_locations.specs.JobPlaces.{behind_comma, behind_value}
+use Rattle.rv_list_locations.specs.JobPlaces.{after_comma, after_value}
 use Rattle.rv_list_locations.specs.Places.{line_at}
 
 -- a header `[[job]]`, however the key is spelt
@@ -14,8 +14,8 @@ BeginsWithJobHeader text = (rest : List ℕ) × (expression text ≡ Some ((([],
 pub data IsInJobArray (list : List ℕ) : List ℕ → Type 0 where
   opened : (place : ℕ) (value : List ℕ) → key_equals (drop place list) ≡ Some (([], codes "job"), value) →
       first value ≡ left_bracket → IsInJobArray list (skip_blank (drop 1 value))
-  behind : (element rest : List ℕ) → IsInJobArray list element → behind_value element ≡ Some rest →
-      IsInJobArray list (behind_comma rest)
+  behind : (element rest : List ℕ) → IsInJobArray list element → after_value element ≡ Some rest →
+      IsInJobArray list (after_comma rest)
 
 abbrev pub BeginsWithElement : List ℕ → List ℕ → Type 0
 BeginsWithElement list text = IsInJobArray list text × (first text ≢ right_bracket)

@@ -24,16 +24,16 @@ o >>= f = option_and_then f o
 abbrev pub is_in_word : ℕ → ℕ → Bool
 is_in_word byte next = is_word byte || (byte == space && is_ascii_digit next)
 
-abbrev pub behind_letters : List ℕ → List ℕ
-behind_letters [] = []
-behind_letters (byte ∷ rest) = if is_in_word byte (first rest) then behind_letters rest else byte ∷ rest
+abbrev pub after_letters : List ℕ → List ℕ
+after_letters [] = []
+after_letters (byte ∷ rest) = if is_in_word byte (first rest) then after_letters rest else byte ∷ rest
 
 -- a key without quotes, or a value that is no text
-unfoldable pub behind_word : List ℕ → Option (List ℕ)
-behind_word text = if is_in_word (first text) (slice_index text 1) then Some (behind_letters text) else None
+unfoldable pub after_word : List ℕ → Option (List ℕ)
+after_word text = if is_in_word (first text) (slice_index text 1) then Some (after_letters text) else None
 
-unfoldable pub behind_string_or_word : List ℕ → Option (List ℕ)
-behind_string_or_word text = if starts_string text then option_map (λ read. read.1) (quoted text) else behind_word text
+unfoldable pub after_string_or_word : List ℕ → Option (List ℕ)
+after_string_or_word text = if starts_string text then option_map (λ read. read.1) (quoted text) else after_word text
 
 abbrev pub is_opening : ℕ → Bool
 is_opening byte = byte == left_bracket || byte == left_brace
@@ -44,38 +44,38 @@ is_closing byte = byte == right_bracket || byte == right_brace
 abbrev pub is_sign : ℕ → Bool
 is_sign byte = is_opening byte || is_closing byte || byte == comma || byte == equals
 
-unfoldable pub behind_token : List ℕ → Option (List ℕ)
-behind_token text = if is_sign (first text) then Some (drop 1 text) else behind_string_or_word text
+unfoldable pub after_token : List ℕ → Option (List ℕ)
+after_token text = if is_sign (first text) then Some (drop 1 text) else after_string_or_word text
 
 -- how many brackets are open behind a byte
-abbrev pub depth_behind : ℕ → ℕ → ℕ
-depth_behind depth byte = if is_opening byte then depth + 1 else if is_closing byte then depth - 1 else depth
+abbrev pub depth_after : ℕ → ℕ → ℕ
+depth_after depth byte = if is_opening byte then depth + 1 else if is_closing byte then depth - 1 else depth
 
 -- the bracket that leaves none open, where so many are and fewer than n tokens are left
-unfoldable pub behind_brackets : ℕ → ℕ → List ℕ → Option (List ℕ)
-behind_brackets zero depth text = None
-behind_brackets (suc n) depth text = behind_token text >>= (λ rest.
-    if depth_behind depth (first text) == 0 then Some rest
-    else behind_brackets n (depth_behind depth (first text)) (skip_blank rest))
+unfoldable pub after_brackets : ℕ → ℕ → List ℕ → Option (List ℕ)
+after_brackets zero depth text = None
+after_brackets (suc n) depth text = after_token text >>= (λ rest.
+    if depth_after depth (first text) == 0 then Some rest
+    else after_brackets n (depth_after depth (first text)) (skip_blank rest))
 
-unfoldable pub behind_value : List ℕ → Option (List ℕ)
-behind_value text =
-    if is_opening (first text) then behind_brackets (suc (length text)) 0 text else behind_string_or_word text
+unfoldable pub after_value : List ℕ → Option (List ℕ)
+after_value text =
+    if is_opening (first text) then after_brackets (suc (length text)) 0 text else after_string_or_word text
 
 -- ---- behind a line
 
 -- the next header or entry; nothing where the line does not end with a comment or nothing more
-unfoldable pub behind_line : List ℕ → List ℕ
-behind_line text = let rest = skip_ws text in
+unfoldable pub after_line : List ℕ → List ℕ
+after_line text = let rest = skip_ws text in
     if first rest == hash || first rest == line_feed || first rest == carriage_return then skip_blank rest else []
 
 -- the next element, or the bracket behind the last one
-unfoldable pub behind_comma : List ℕ → List ℕ
-behind_comma text = let rest = skip_blank text in if first rest == comma then skip_blank (drop 1 rest) else rest
+unfoldable pub after_comma : List ℕ → List ℕ
+after_comma text = let rest = skip_blank text in if first rest == comma then skip_blank (drop 1 rest) else rest
 
 -- the value of an entry; nothing where no sign parts it from the key
-unfoldable pub behind_equals : List ℕ → List ℕ
-behind_equals text = if first text == equals then skip_ws (drop 1 text) else []
+unfoldable pub after_equals : List ℕ → List ℕ
+after_equals text = if first text == equals then skip_ws (drop 1 text) else []
 
 -- ---- a header, an entry or an element
 
@@ -90,11 +90,11 @@ Step = Bool × Next × List ℕ
 unfoldable pub array_header : List ℕ → Option Step
 array_header inside = key (skip_ws inside) >>= (λ name.
     if first name.1 == right_bracket && slice_index name.1 1 == right_bracket
-    then Some (is_job name.0, Table, behind_line (drop 2 name.1)) else None)
+    then Some (is_job name.0, Table, after_line (drop 2 name.1)) else None)
 
 unfoldable pub table_header : List ℕ → Option Step
 table_header inside = key (skip_ws inside) >>= (λ name.
-    if first name.1 == right_bracket then Some (false, Table, behind_line (drop 1 name.1)) else None)
+    if first name.1 == right_bracket then Some (false, Table, after_line (drop 1 name.1)) else None)
 
 abbrev pub header : List ℕ → Option Step
 header text =
@@ -107,16 +107,16 @@ is_top Element = false
 
 -- above the first header an array of `job` is the list: its elements come next
 unfoldable pub keyed_entry : Next → List ℕ → Option Step
-keyed_entry next text = key text >>= (λ name. let value = behind_equals name.1 in
+keyed_entry next text = key text >>= (λ name. let value = after_equals name.1 in
     if (is_job name.0 && is_top next) && first value == left_bracket
     then Some (false, Element, skip_blank (drop 1 value))
-    else option_map (λ rest. (false, next, behind_line rest)) (behind_value value))
+    else option_map (λ rest. (false, next, after_line rest)) (after_value value))
 
 -- an element, or the bracket behind the last one
 unfoldable pub element : List ℕ → Option Step
 element text =
-    if first text == right_bracket then Some (false, Top, behind_line (drop 1 text))
-    else option_map (λ rest. (true, Element, behind_comma rest)) (behind_value text)
+    if first text == right_bracket then Some (false, Top, after_line (drop 1 text))
+    else option_map (λ rest. (true, Element, after_comma rest)) (after_value text)
 
 abbrev pub header_or_entry : Next → List ℕ → Option Step
 header_or_entry next text = if first text == left_bracket then header text else keyed_entry next text

@@ -171,7 +171,7 @@ fn scan_table_name(alloc: Global, header: &str) -> Result<Option<String>, ParseE
     requires { slice_index header.now 0 ≡ left_bracket }
     ensures { IfOk result (λ found. IfSome found (λ name. BeginsWithTable (string_bytes name) header.now)) }
 {
-    let (key, _) = dotted_key(alloc, behind_brackets(header))?;
+    let (key, _) = dotted_key(alloc, after_brackets(header))?;
     match key.path.first() {
         Some(part) if part.as_str() == "job" => {
             let name = String::from_str(alloc, part_or_last(&key, 1))?;
@@ -183,7 +183,7 @@ fn scan_table_name(alloc: Global, header: &str) -> Result<Option<String>, ParseE
 
 /// The key of a header.
 #[tactic(auto, unfolding(crate::specs::JobKeys::header_key))]
-pub(crate) fn behind_brackets(header: &str) -> &str
+pub(crate) fn after_brackets(header: &str) -> &str
     requires { slice_index header.now 0 ≡ left_bracket }
     ensures { result.now ≡ header_key header.now }
 {

@@ -2,7 +2,7 @@
 
 ghost use Rattle.std.specs.Prelude.{◌≤◌, length};
 
-use crate::keys::{Inside, KeyStep, behind_brackets, part_or_last, scan_key_step};
+use crate::keys::{Inside, KeyStep, after_brackets, part_or_last, scan_key_step};
 use crate::scan::{Next, Step, scan_step, skip_byte_order_mark};
 use crate::values::{skip_blank_lines, skip_token};
 use std::alloc::{AllocError, Global};
@@ -70,7 +70,7 @@ fn repeated_in_step<'a>(
         return repeated_in_braces(alloc, step, left);
     }
     if first(step) == b'[' {
-        let (key, _) = dotted_key(alloc, behind_brackets(step))?;
+        let (key, _) = dotted_key(alloc, after_brackets(step))?;
         return Ok(Some(RepeatedKey { key, first: None }));
     }
     let entries = Entries {

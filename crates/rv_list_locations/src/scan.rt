@@ -216,9 +216,9 @@ fn scan_entry(alloc: Global, text: &str, next: Next) -> Result<Step<'_>, ParseEr
 }
 
 /// The value of an entry; nothing where no sign parts it from the key.
-#[tactic(auto, unfolding(crate::specs::JobPlaces::behind_equals))]
+#[tactic(auto, unfolding(crate::specs::JobPlaces::after_equals))]
 pub(crate) fn skip_equals_sign(text: &str) -> &str
-    ensures text { result.now ≡ spec.behind_equals text.now }
+    ensures text { result.now ≡ spec.after_equals text.now }
     ensures within { length result.now ≤ length text.now }
 {
     if first(text) == b'=' {
@@ -229,9 +229,9 @@ pub(crate) fn skip_equals_sign(text: &str) -> &str
 }
 
 /// The next element, or the bracket behind the last one.
-#[tactic(auto, unfolding(crate::specs::JobPlaces::behind_comma))]
+#[tactic(auto, unfolding(crate::specs::JobPlaces::after_comma))]
 pub(crate) fn skip_comma(text: &str) -> &str
-    ensures text { result.now ≡ spec.behind_comma text.now }
+    ensures text { result.now ≡ spec.after_comma text.now }
     ensures within { length result.now ≤ length text.now }
 {
     let rest = skip_blank_lines(text);
@@ -243,9 +243,9 @@ pub(crate) fn skip_comma(text: &str) -> &str
 }
 
 // The next header or entry; nothing where the line does not end with a comment or nothing more.
-#[tactic(auto, unfolding(crate::specs::JobPlaces::behind_line))]
+#[tactic(auto, unfolding(crate::specs::JobPlaces::after_line))]
 fn skip_line_end(text: &str) -> &str
-    ensures text { result.now ≡ spec.behind_line text.now }
+    ensures text { result.now ≡ spec.after_line text.now }
     ensures within { length result.now ≤ length text.now }
 {
     let end = skip_ws(text);

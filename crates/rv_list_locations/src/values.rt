@@ -1,9 +1,9 @@
 //! What stands behind a value.
 
 ghost use Rattle.std.specs.Prelude.{◌≡◌, ◌-◌, ◌^◌, ◌<◌, ◌≤◌, IfOk, length, min, slice_index, suc};
-ghost use Rattle.rv_list_locations.specs.JobPlaces.{behind_brackets, behind_string_or_word, behind_token, behind_value};
+ghost use Rattle.rv_list_locations.specs.JobPlaces.{after_brackets, after_string_or_word, after_token, after_value};
 ghost use Rattle.toml_parser.specs.Lexical.{skip_blank as behind_blank};
-ghost use Rattle.rv_list_locations.specs.JobPlaces.{behind_word, depth_behind, is_in_word};
+ghost use Rattle.rv_list_locations.specs.JobPlaces.{after_word, depth_after, is_in_word};
 ghost use Rattle.rv_list_locations.specs.Steps.{GivesText};
 
 use std::alloc::Global;
@@ -12,9 +12,9 @@ use toml_parser::text::{byte_at, first, skip, skip_blank};
 use toml_parser::{ErrorKind, ParseError, quoted, starts_string};
 
 /// The text behind a value.
-#[tactic(auto, unfolding(crate::specs::JobPlaces::behind_value))]
+#[tactic(auto, unfolding(crate::specs::JobPlaces::after_value))]
 pub(crate) fn skip_value(alloc: Global, text: &str) -> Result<&str, ParseError>
-    ensures value { GivesText result (behind_value text.now) }
+    ensures value { GivesText result (after_value text.now) }
     ensures shorter { IfOk result (λ rest. length rest.now < length text.now) }
 {
     if matches!(first(text), b'[' | b'{') {
@@ -26,7 +26,7 @@ pub(crate) fn skip_value(alloc: Global, text: &str) -> Result<&str, ParseError>
 
 // The text behind an array or an inline table: behind the bracket that leaves none open.
 fn skip_brackets(alloc: Global, text: &str) -> Result<&str, ParseError>
-    ensures value { GivesText result (behind_brackets (suc (length text.now)) 0 text.now) }
+    ensures value { GivesText result (after_brackets (suc (length text.now)) 0 text.now) }
     ensures shorter { IfOk result (λ rest. length rest.now < length text.now) }
 {
     let mut rest = text;
@@ -51,7 +51,7 @@ pub(crate) fn skip_blank_lines(text: &str) -> &str
 
 // How many brackets are open behind a byte.
 fn bracket_depth_after(depth: usize, byte: u8) -> usize
-    ensures { result ≡ min (depth_behind depth byte) (2 ^ 64 - 1) }
+    ensures { result ≡ min (depth_after depth byte) (2 ^ 64 - 1) }
 {
     match byte {
         b'[' | b'{' => depth.saturating_add(1),
@@ -61,9 +61,9 @@ fn bracket_depth_after(depth: usize, byte: u8) -> usize
 }
 
 /// The text behind a sign, a string or a word.
-#[tactic(auto, unfolding(crate::specs::JobPlaces::behind_token))]
+#[tactic(auto, unfolding(crate::specs::JobPlaces::after_token))]
 pub(crate) fn skip_token(alloc: Global, text: &str) -> Result<&str, ParseError>
-    ensures value { GivesText result (behind_token text.now) }
+    ensures value { GivesText result (after_token text.now) }
     ensures shorter { IfOk result (λ rest. length rest.now < length text.now) }
 {
     if matches!(first(text), b'[' | b']' | b'{' | b'}' | b',' | b'=') {
@@ -74,9 +74,9 @@ pub(crate) fn skip_token(alloc: Global, text: &str) -> Result<&str, ParseError>
 }
 
 // The text behind a string or a word.
-#[tactic(auto, unfolding(crate::specs::JobPlaces::behind_string_or_word))]
+#[tactic(auto, unfolding(crate::specs::JobPlaces::after_string_or_word))]
 fn skip_string_or_word(alloc: Global, text: &str) -> Result<&str, ParseError>
-    ensures value { GivesText result (behind_string_or_word text.now) }
+    ensures value { GivesText result (after_string_or_word text.now) }
     ensures shorter { IfOk result (λ rest. length rest.now < length text.now) }
 {
     if starts_string(text) {
@@ -89,7 +89,7 @@ fn skip_string_or_word(alloc: Global, text: &str) -> Result<&str, ParseError>
 
 // The text behind a key without quotes, or a value that is no text.
 fn skip_word(text: &str) -> Result<&str, ParseError>
-    ensures value { GivesText result (behind_word text.now) }
+    ensures value { GivesText result (after_word text.now) }
     ensures shorter { IfOk result (λ rest. length rest.now < length text.now) }
 {
     let mut rest = text;

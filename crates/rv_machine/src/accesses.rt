@@ -3,13 +3,13 @@ ghost use Rattle.std.specs.Prelude.{◌≡◌, ◌<◌, ◌*◌, ◌^◌, MatchR
 ghost use Rattle.rv_isa.specs.Words.{IsWellFormed};
 ghost use Rattle.rv_memory.specs.Bus.{size_of};
 ghost use Rattle.rv_machine.specs.Effect.{address, load as load_of, load_value, store as store_of};
-ghost use Rattle.rv_machine.specs.KeptTable.{with_asleep_over};
+ghost use Rattle.rv_machine.specs.DecodeCache.{with_range_invalidated};
 ghost use Rattle.rv_machine.specs.State.{at_pc};
 
 use crate::alu::add_offset;
 use crate::ending::Ends;
 use crate::hart::{Hart, set_pc};
-use crate::kept::KeptTable;
+use crate::kept::DecodeCache;
 use rv_isa::{Instr, sign_extend};
 use rv_memory::Width;
 
@@ -50,7 +50,7 @@ impl Hart {
     #[inline(always)]
     pub(crate) fn store(
         &mut self,
-        table: &mut KeptTable,
+        table: &mut DecodeCache,
         pc: &mut u32,
         instr: Instr,
         width: Width,
@@ -60,7 +60,7 @@ impl Hart {
         ensures behind { self.new.pc ≡ self.old.pc }
         ensures effect { MatchResult result
             (λ _. (store_of width (at_pc self.old pc.old) instr next ≡ Ok (at_pc self.new pc.new))
-            × (table.new ≡ with_asleep_over table.old (address self.old instr) width))
+            × (table.new ≡ with_range_invalidated table.old (address self.old instr) width))
             (λ _. (is_ok (store_of width (at_pc self.old pc.old) instr next) ≡ false)
             × (self.new ≡ self.old) × (pc.new ≡ pc.old) × (table.new ≡ table.old)) }
     {
@@ -68,7 +68,7 @@ impl Hart {
         let value = self.registers[instr.rs2 as usize];
         match self.bus.store(address, width, value) {
             Ok(()) => {
-                table.sleep_over(address, width);
+                table.invalidate_range(address, width);
                 set_pc(pc, next)
             }
             Err(_) => Err(Ends),

@@ -63,7 +63,11 @@ fn machine_of(alloc: Global, entry: u32, image: &str) -> Result<Machine, Fail> {
     Ok(Machine::new(alloc, bus, entry, Isa::Imc)?)
 }
 
-fn kept_at(alloc: Global, machine: &Machine, addr: u32) -> Result<String, AllocError> {
+fn cached_or_invalidated_at(
+    alloc: Global,
+    machine: &Machine,
+    addr: u32,
+) -> Result<String, AllocError> {
     let Some((instr, length)) = machine.kept(addr) else {
         return String::from_str(alloc, "nothing");
     };
@@ -104,7 +108,11 @@ fn ask(alloc: Global, machine: &mut Machine, line: &str, exchange: &str) -> Resu
             agree(line, &run(alloc, machine, budget)?, wanted)
         }
         "step" => agree(line, step(machine), wanted),
-        "kept" => agree(line, &kept_at(alloc, machine, hex_of(number)?)?, wanted),
+        "kept" => agree(
+            line,
+            &cached_or_invalidated_at(alloc, machine, hex_of(number)?)?,
+            wanted,
+        ),
         "clean" => agree(line, clean(machine, hex_of(number)?), wanted),
         _ => Err("a verb".into()),
     }

@@ -15,7 +15,7 @@ use Rattle.rv_jobs.specs.Names.{is_name}
 use Rattle.rv_jobs.specs.Limits.{most_jobs}
 use Rattle.rv_jobs.specs.Jobs.{single_job}
 use Rattle.rv_jobs.specs.declared.answers.Answer.{Answer}
-use Rattle.rv_jobs.specs.Choices.{marked_places}
+use Rattle.rv_jobs.specs.Choices.{selected_indices}
 use Rattle.rv_jobs.specs.Plans.{Planned, jobs_needed_for}
 use Rattle.rv_report.specs.declared.row.Row.{Row}
 use Rattle.rv_rows.specs.Rows.{row_of, rows_at, rows_of}
@@ -36,7 +36,7 @@ filter_on f g (x ∷ xs) h =
     ∙ ap (λ (ys : List ℕ). cond (g x) (x ∷ ys) ys) (filter_on f g xs h.1)
 
 pub marked_by : (f : ℕ → Bool) (count : ℕ)
-    → marked_places (map f (range_with_len 0 count)) count ≡ filter f (range_with_len 0 count)
+    → selected_indices (map f (range_with_len 0 count)) count ≡ filter f (range_with_len 0 count)
 marked_by f count =
     filter_on (λ place. get_or (map f (range_with_len 0 count)) place false) f (range_with_len 0 count)
     (recursion_from_All (λ x. get_or (map f (range_with_len 0 count)) x false ≡ f x) (range_with_len 0 count) each)

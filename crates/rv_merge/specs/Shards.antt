@@ -19,8 +19,8 @@ abbrev pub is_in_shard : ℕ → ℕ → ℕ → Bool
 is_in_shard shards n place = place % shards == n - 1
 
 -- a mark for each of so many jobs, set for those of the shard
-abbrev pub shard_marks : ℕ → ℕ → ℕ → List Bool
-shard_marks shards n jobs = map (is_in_shard shards n) (range_with_len 0 jobs)
+abbrev pub shard_selection : ℕ → ℕ → ℕ → List Bool
+shard_selection shards n jobs = map (is_in_shard shards n) (range_with_len 0 jobs)
 
 -- the places of its jobs, of so many
 abbrev pub shard_places : ℕ → ℕ → ℕ → List ℕ

@@ -13,7 +13,7 @@ pub enum MergeError {
     #[error("out of memory")]
     OutOfMemory,
     /// There is no text.
-    #[error("there is no part")]
+    #[error("no parts")]
     NoTexts,
     /// What is wrong with the text at a place.
     #[error("part {0}: {1}")]
@@ -27,31 +27,31 @@ pub enum MergeError {
 #[derive(Clone, Copy, Debug, Error)]
 pub enum Flaw {
     /// It is no report: the first line, from 1, that no report has there.
-    #[error("line {0} is not a report's")]
+    #[error("invalid line {0}")]
     Line(usize),
     /// It is the beginning of a report.
-    #[error("it is cut off")]
+    #[error("it is truncated")]
     CutOff,
     /// It is a whole report.
     #[error("it is a whole report")]
     Whole,
     /// It is the report of a choice of jobs.
-    #[error("it is the report of a choice")]
+    #[error("it is a report of selected jobs")]
     Choice,
     /// Its run has another number of shards than the first text's.
-    #[error("another number of shards")]
+    #[error("a different number of shards")]
     OtherShards,
     /// Its list has another number of jobs than the first text's.
-    #[error("another number of jobs")]
+    #[error("a different number of jobs")]
     OtherJobs,
     /// Its run has another stamp than the first text's.
-    #[error("another stamp")]
+    #[error("a different stamp")]
     OtherStamp,
     /// It is another text of the shard of an earlier one, which stands at this place.
-    #[error("another text of the shard of part {0}")]
+    #[error("the same shard as part {0}, but different contents")]
     OtherText(usize),
     /// Its row of the job of this number has the name of a job before it.
-    #[error("job {0} has the name of a job before it")]
+    #[error("job {0} has the name of an earlier job")]
     NameTwice(usize),
 }
 

@@ -1,14 +1,14 @@
 //! The jobs of a shard.
 
 ghost use Rattle.std.specs.Prelude.{◌≡◌, ◌<◌, ◌≤◌, IfOk, length};
-ghost use Rattle.rv_jobs.specs.Choices.{marked_places};
-ghost use Rattle.rv_merge.specs.Shards.{shard_marks, shard_places};
+ghost use Rattle.rv_jobs.specs.Choices.{selected_indices};
+ghost use Rattle.rv_merge.specs.Shards.{shard_selection, shard_places};
 
 use std::alloc::{AllocError, Global};
 
 /// A mark for each of so many jobs, which is set where the job is of the shard of a number: where its place, from 0,
 /// leaves one less when it is divided by how many shards there are.
-pub fn shard_marks(
+pub fn shard_selection(
     alloc: Global,
     jobs: usize,
     number: u32,
@@ -16,10 +16,10 @@ pub fn shard_marks(
 ) -> Result<Vec<bool>, AllocError>
     requires low { 0 < number }
     requires high { number ≤ shards }
-    ensures marks { IfOk result (λ marks. marks.items ≡ shard_marks shards number jobs) }
+    ensures marks { IfOk result (λ marks. marks.items ≡ shard_selection shards number jobs) }
     ensures counted { IfOk result (λ marks. length marks.items ≡ jobs) }
     ensures places { IfOk result
-        (λ marks. marked_places marks.items jobs ≡ shard_places shards number jobs) }
+        (λ marks. selected_indices marks.items jobs ≡ shard_places shards number jobs) }
 {
     let mut marks = Vec::new(alloc);
     for place in 0..jobs {

@@ -7,7 +7,7 @@ use Rattle.rv_text.specs.Words.{word_digits}
 use Rattle.rv_profile.specs.Profile.{Profiled}
 
 unfoldable pub csv_head : List ℕ
-csv_head = codes "image,function,address,self,inclusive,arrivals\n"
+csv_head = codes "image,function,address,self,inclusive,calls\n"
 
 unfoldable pub csv_numbers : Profiled → List ℕ
 csv_numbers p = codes "," ++ word_digits p.function ++ codes "," ++ decimal p.own ++ codes "," ++ decimal p.inclusive

@@ -32,7 +32,7 @@ share_head places word = right_word places word ++ codes "       %"
 
 unfoldable pub columns_head : Columns → List ℕ
 columns_head c = share_head c.own (codes "self") ++ share_head c.inclusive (codes "inclusive")
-    ++ right_word c.arrivals (codes "arrivals") ++ codes "  function\n"
+    ++ right_word c.arrivals (codes "calls") ++ codes "  function\n"
 
 -- ---- shares
 

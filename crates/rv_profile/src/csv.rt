@@ -14,7 +14,7 @@ use std::alloc::AllocError;
 pub(crate) fn push_csv_head(bytes: &mut Vec<u8>) -> Result<(), AllocError>
     ensures { OnOk result (bytes.new.items ≡ bytes.old.items ++ csv_head) }
 {
-    push_text(bytes, "image,function,address,self,inclusive,arrivals\n")
+    push_text(bytes, "image,function,address,self,inclusive,calls\n")
 }
 
 /// Appends the rows of functions of the image at a path.

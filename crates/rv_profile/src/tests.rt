@@ -79,7 +79,7 @@ done 1 1
 
 const TAIL_LINES: &str = "\
 build/tail.elf: 5661 steps
-         self       %  inclusive       %  arrivals  function
+         self       %  inclusive       %     calls  function
          2917  51.53%       2917  51.53%       177  fib
          1219  21.53%       1219  21.53%         1  memset
           385   6.80%       1007  17.79%         1  __d_vfprintf
@@ -124,14 +124,14 @@ done 1 3
 
 const HAND_LINES: &str = "\
 build/hand.elf: 67 steps
-         self       %  inclusive       %  arrivals  function
+         self       %  inclusive       %     calls  function
            36  53.73%         36  53.73%         1  sum
            19  28.36%         67 100.00%         1  _start
 1 more function
 ";
 
 const HAND_ROWS: &str = "\
-image,function,address,self,inclusive,arrivals
+image,function,address,self,inclusive,calls
 build/hand.elf,sum,80000060,36,36,1
 build/hand.elf,_start,80000000,19,67,1
 build/hand.elf,main,800000b0,12,48,1
@@ -152,14 +152,14 @@ done 1 1
 
 const MUTUAL_LINES: &str = "\
 a,b.elf: 8 steps
-         self       %  inclusive       %  arrivals  function
+         self       %  inclusive       %     calls  function
             4  50.00%          5  62.50%         4  g\"
             2  25.00%          8 100.00%         1  ?
             2  25.00%          6  75.00%         5  f
 ";
 
 const MUTUAL_ROWS: &str = "\
-image,function,address,self,inclusive,arrivals
+image,function,address,self,inclusive,calls
 \"a,b.elf\",\"g\"\"\",00000020,4,5,4
 ";
 
@@ -174,7 +174,7 @@ done 1 1
 
 const WIDE_LINES: &str = "\
 a.elf: 200000000000000 steps
-             self       %        inclusive       %              arrivals  function
+             self       %        inclusive       %                 calls  function
   199999999999999 100.00%  199999999999999 100.00%  18446744073709551614  often
                 1   0.00%                1   0.00%                     1  once
 ";
@@ -190,7 +190,7 @@ done 1 1
 
 const HALF_LINES: &str = "\
 a.elf: 20000 steps
-         self       %  inclusive       %  arrivals  function
+         self       %  inclusive       %     calls  function
         19999 100.00%      19999 100.00%         2  often
             1   0.01%          1   0.01%         1  once
 ";
@@ -199,11 +199,11 @@ a.elf: 20000 steps
 const NONE_AND_ONE: [(&str, &str); 3] = [
     (
         "rvcounts 1\nimage e3b0c44298fc1c149afbf4c8996fb92427ae41e4649b934ca495991b7852b855 a.elf\nspot 0 00000000 1 0 ?\ndone 1 1\n",
-        "a.elf: 0 steps\n         self       %  inclusive       %  arrivals  function\n            0   0.00%          0   0.00%         1  ?\n",
+        "a.elf: 0 steps\n         self       %  inclusive       %     calls  function\n            0   0.00%          0   0.00%         1  ?\n",
     ),
     (
         "rvcounts 1\nimage e3b0c44298fc1c149afbf4c8996fb92427ae41e4649b934ca495991b7852b855 a.elf\nspot 0 00000000 1 1 ?\ndone 1 1\n",
-        "a.elf: 1 step\n         self       %  inclusive       %  arrivals  function\n            1 100.00%          1 100.00%         1  ?\n",
+        "a.elf: 1 step\n         self       %  inclusive       %     calls  function\n            1 100.00%          1 100.00%         1  ?\n",
     ),
     ("rvcounts 1\ndone 0 0\n", "a.elf: 0 steps\n"),
 ];

@@ -43,7 +43,7 @@ pub(crate) fn push_columns_head(bytes: &mut Vec<u8>, columns: Columns) -> Result
 {
     push_share_head(bytes, columns.own, "self")?;
     push_share_head(bytes, columns.inclusive, "inclusive")?;
-    push_right_word(bytes, columns.arrivals, "arrivals")?;
+    push_right_word(bytes, columns.arrivals, "calls")?;
     push_text(bytes, "  function\n")
 }
 

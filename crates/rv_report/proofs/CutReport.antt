@@ -27,7 +27,7 @@ use Rattle.rv_report.proofs.Reports.{rows_say, finished_all, gathered_all, says_
 use Rattle.rv_report.proofs.LineLists.{joined, AreLines, first_of_lines, same_line, no_feed, line_is_some}
 use Rattle.rv_report.proofs.Grown.{chosen}
 use Rattle.rv_report.proofs.RowLines.{numbered_lines, saved_lines, joined_numbered, joined_saved, saved_is_lines}
-use Rattle.rv_report.proofs.KeptRows.{Covers, take_past}
+use Rattle.rv_report.proofs.CollectedRows.{Covers, take_past}
 use Rattle.rv_report.proofs.KeptReport.{said_by, kept_cut}
 use Rattle.rv_report.proofs.LeastLine.{said_begins}
 use Rattle.rv_report.proofs.CutWord.{take_none}

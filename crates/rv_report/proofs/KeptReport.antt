@@ -19,9 +19,9 @@ use Rattle.rv_report.proofs.Parts.{last_words, last_is_line, last_says, lacks-la
 use Rattle.rv_report.proofs.Cut.{few_numbers, length-names, length-taken}
 use Rattle.rv_report.proofs.Reports.{rows_say, finished_all, gathered_all, not_not, said_of, says_itself}
 use Rattle.rv_report.proofs.LineLists.{joined}
-use Rattle.rv_report.proofs.KeptRow.{over_lines}
+use Rattle.rv_report.proofs.RecordedRow.{over_lines}
 use Rattle.rv_report.proofs.RowLines.{row_lines, numbered_lines, saved_lines, joined_saved}
-use Rattle.rv_report.proofs.KeptRows.{Covers, rows_covered, take_past}
+use Rattle.rv_report.proofs.CollectedRows.{Covers, rows_covered, take_past}
 
 -- ---- what can stand in a report isn't cut
 

@@ -11,14 +11,14 @@ pub mod Loops
 pub mod Told
 pub mod Compared
 pub mod Public
-pub mod RowTexts
+pub mod RowSender
 pub mod LineLists
 pub mod Grown
-pub mod KeptRow
+pub mod RecordedRow
 pub mod RowLines
 pub mod PartialSignature
 pub mod PartialRow
-pub mod KeptRows
+pub mod CollectedRows
 pub mod KeptReport
 pub mod LeastLine
 pub mod LeastTold

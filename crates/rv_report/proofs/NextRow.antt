@@ -26,11 +26,11 @@ use Rattle.rv_report.proofs.Words.{all_digits}
 use Rattle.rv_report.proofs.Cut.{length-taken}
 use Rattle.rv_report.proofs.Spelled.{says, end_words, signature_says, words_or_nil, same_signature, same_length}
 use Rattle.rv_report.proofs.LineLists.{joined}
-use Rattle.rv_report.proofs.KeptRow.{HasRow, with_less, KnowsWords, words_keep}
+use Rattle.rv_report.proofs.RecordedRow.{HasRow, with_less, KnowsWords, words_keep}
 use Rattle.rv_report.proofs.RowLines.{job_words, steps_words, console_words, count_words, verdict_words, lines_of_signature, row_lines, joined_signature}
 use Rattle.rv_report.proofs.PartialRow.{Agrees, after_console, last_lines, four_lines, agrees_four}
 use Rattle.rv_report.proofs.PartialSignature.{KnowsLines, signed_says, signed_lines, all-taken}
-use Rattle.rv_report.proofs.KeptRows.{take_past}
+use Rattle.rv_report.proofs.CollectedRows.{take_past}
 use Rattle.rv_report.proofs.CutText.{AlikeLine, same_word}
 use Rattle.rv_report.proofs.CutWord.{cut_word_digits, digits_taken}
 

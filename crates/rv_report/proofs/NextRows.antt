@@ -17,10 +17,10 @@ use Rattle.rv_report.proofs.Pieces.{lacks}
 use Rattle.rv_report.proofs.Spelled.{says, end_words}
 use Rattle.rv_report.proofs.Reports.{rising_parts}
 use Rattle.rv_report.proofs.LineLists.{joined}
-use Rattle.rv_report.proofs.KeptRow.{HasRow, with_less}
+use Rattle.rv_report.proofs.RecordedRow.{HasRow, with_less}
 use Rattle.rv_report.proofs.RowLines.{job_words, steps_words, console_words, count_words, verdict_words, lines_of_signature, row_lines, numbered_lines}
 use Rattle.rv_report.proofs.PartialRow.{Agrees, partial_row}
-use Rattle.rv_report.proofs.KeptRows.{Covers, none_covered, one_covered, more_covered, take_past, whole_row_says, between_grown}
+use Rattle.rv_report.proofs.CollectedRows.{Covers, none_covered, one_covered, more_covered, take_past, whole_row_says, between_grown}
 use Rattle.rv_report.proofs.CutText.{AlikeLine}
 use Rattle.rv_report.proofs.NextRow.{NextAgrees, next_one, next_two, next_three, next_four, next_verdict, next_word}
 

@@ -11,8 +11,8 @@ use Rattle.rv_report.proofs.Words.{lacks-decimal}
 use Rattle.rv_report.proofs.Spelled.{says, end_words, job_says, end_says, steps_says, console_says}
 use Rattle.rv_report.proofs.Spelled.{lacks-job, lacks-end, lacks-shown}
 use Rattle.rv_report.proofs.LineLists.{joined, says_first}
-use Rattle.rv_report.proofs.KeptRow.{HasRow, with_less, KnowsName, KnowsEnding, KnowsSteps, KnowsConsole}
-use Rattle.rv_report.proofs.KeptRow.{signature_keep, console_keep, steps_keep, ending_keep}
+use Rattle.rv_report.proofs.RecordedRow.{HasRow, with_less, KnowsName, KnowsEnding, KnowsSteps, KnowsConsole}
+use Rattle.rv_report.proofs.RecordedRow.{signature_keep, console_keep, steps_keep, ending_keep}
 use Rattle.rv_report.proofs.RowLines.{job_words, steps_words, console_words, verdict_words, lines_of_signature, row_lines}
 use Rattle.rv_report.proofs.PartialSignature.{KnowsLines, signature_part}
 

@@ -17,8 +17,8 @@ use Rattle.rv_report.proofs.Pieces.{first_is_other}
 use Rattle.rv_report.proofs.Words.{lacks-decimal, number_of-decimal}
 use Rattle.rv_report.proofs.Spelled.{says, signature_text_says, words_say}
 use Rattle.rv_report.proofs.LineLists.{joined, says_first}
-use Rattle.rv_report.proofs.KeptRow.{with_less, Kept, KnowsWords}
-use Rattle.rv_report.proofs.KeptRow.{words_keep}
+use Rattle.rv_report.proofs.RecordedRow.{with_less, Kept, KnowsWords}
+use Rattle.rv_report.proofs.RecordedRow.{words_keep}
 use Rattle.rv_report.proofs.RowLines.{count_words, lines_of_signature}
 
 pub all-taken : {X : Type 0} (P : X → Type 0) (count : ℕ) (xs : List X) → AllByRecursion P xs → AllByRecursion P (take count xs)

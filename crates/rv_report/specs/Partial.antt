@@ -16,8 +16,8 @@ abbrev pub whole_lines : List ℕ → List ℕ
 whole_lines bytes = first_lines (count_of_line_feeds bytes) bytes
 
 -- the first so many rows of a report, as those of a choice
-abbrev pub first_rows : ℕ → SavedReport → SavedReport
-first_rows count report = record {
+abbrev pub rows_up_to_failure : ℕ → SavedReport → SavedReport
+rows_up_to_failure count report = record {
   extent = extent.Choice most_jobs;
   numbers = take count report.numbers;
   rows = take count report.rows;
@@ -43,4 +43,4 @@ IsNoReport bytes = (report : SavedReport) → IsSaved report → saved_text repo
 abbrev pub IsReadAs : List ℕ → Bool → SavedReport → Type 0
 IsReadAs bytes false read = IsSaved read × (saved_text read ≡ bytes)
 IsReadAs bytes true read = IsNoReport bytes
-    × ((report : SavedReport) × (count : ℕ) × HasWholeRows bytes report count × (read ≡ first_rows count report))
+    × ((report : SavedReport) × (count : ℕ) × HasWholeRows bytes report count × (read ≡ rows_up_to_failure count report))

@@ -24,11 +24,11 @@ pub enum ReadError {
     #[error("out of memory")]
     OutOfMemory,
     /// The first line, from 1, that no report has there.
-    #[error("line {0} is not a report's")]
+    #[error("invalid line {0}")]
     Line(usize),
     /// The text ends before its report does: its whole lines are those of some report, and the first word of a line
     /// behind them can be, as far as it goes.
-    #[error("the report is cut off")]
+    #[error("the report is truncated")]
     CutOff,
 }
 

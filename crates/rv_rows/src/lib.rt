@@ -4,7 +4,7 @@
 //! [`run_one`] is all rows, in list order; [`flat_row`] is the row of a flat image. Each answers exactly what the
 //! definitions of `specs/` make of the run; [`machine_at`] is the machine in which that run begins, and [`row_from`] the row of a job
 //! whose machine has come some way.
-//! [`narrower_sets_only_refuse`] is a law of rows. A [`Telling`] gives a text for each row. The rows and their report are those
+//! [`narrower_sets_only_refuse`] is a law of rows. A [`RowReporter`] gives a text for each row. The rows and their report are those
 //! of `rv_report`, and stand here under their names too.
 #![tactic(auto)]
 
@@ -14,9 +14,9 @@ mod law;
 mod outcome;
 mod plan_rows;
 mod recent_outcomes;
+mod reporter;
 mod rest_of_run;
 mod spare_bus;
-mod telling;
 mod verdict;
 
 pub use flat::flat_row;
@@ -27,13 +27,13 @@ pub use plan_rows::{
     run_one, signature_reference_bytes,
 };
 pub use recent_outcomes::Recent;
+pub use reporter::RowReporter;
 pub use rest_of_run::row_from;
 pub use rv_base::{Sink, SinkFailed, put_all};
 pub use rv_report::{
     LINE, Refusal, Report, Row, RowEnd, Rows, Verdict, Words, WriteError, word_line, write_report,
 };
 pub use spare_bus::Spare;
-pub use telling::Telling;
 pub use verdict::{
     are_alike_endings, are_same_outcomes, are_same_signatures, did_run, expects_anything,
     has_expected_end, has_expected_exit,

@@ -4,7 +4,7 @@ use Rattle.rv_gdb_protocol.specs.declared.request.Move.{Move}
 use Rattle.rv_gdb_protocol.specs.declared.request.Register.{Register}
 use Rattle.rv_gdb_protocol.specs.declared.request.Request.{Request}
 use Rattle.rv_gdb_protocol.specs.declared.request.Request.TheVariants as ask
-use Rattle.rv_gdb_protocol.specs.declared.request.Trap.{Trap}
+use Rattle.rv_gdb_protocol.specs.declared.request.Stoppoint.{Stoppoint}
 use Rattle.rv_session.specs.Answers.{IsAnswered, shown_reply}
 use Rattle.rv_session.specs.declared.reply.Reply.{Reply}
 use Rattle.rv_session.specs.declared.session.Session.{Session}
@@ -12,8 +12,8 @@ use Rattle.rv_session.specs.declared.session.Session.{Session}
 -- a request that changes nothing is none of these
 pub record IsLook (request : Request) : Type 0 where
   pub no_write : (register : Register) (value : ℕ) → request ≡ ask.WriteRegister register value → ⊥
-  pub no_set : (place : Trap) → request ≡ ask.Set place → ⊥
-  pub no_clear : (place : Trap) → request ≡ ask.Clear place → ⊥
+  pub no_set : (place : Stoppoint) → request ≡ ask.Set place → ⊥
+  pub no_clear : (place : Stoppoint) → request ≡ ask.Clear place → ⊥
   pub no_move : (asked : Move) → request ≡ ask.Move asked → ⊥
   pub no_command : (text : List ℕ) → request ≡ ask.Command text → ⊥
   pub no_restart : request ≡ ask.Restart → ⊥

@@ -2,11 +2,11 @@
 use Rattle.std.proofs.Common.{◌≡◌, ◌∙◌, ◌++◌, [], ℕ, Bool, true, false, List, Some, ap, append-nil, append_assoc, refl, subst, sym}
 use Rattle.std.specs.Prelude.{Option, Result, Ok, Err}
 use Rattle.std.specs.Result.{IfOk, OnOk}
-use Rattle.rv_gdb_protocol.specs.Frames.{Frame, frame_behind, heard_at}
+use Rattle.rv_gdb_protocol.specs.Frames.{Frame, frame_after, incoming_at}
 use Rattle.rv_gdb_protocol.specs.Packets.{request_of}
-use Rattle.rv_gdb_protocol.specs.declared.frame.Heard.{Heard}
+use Rattle.rv_gdb_protocol.specs.declared.frame.Incoming.{Incoming}
 use Rattle.rv_session.specs.Answers.{IsAnswered}
-use Rattle.rv_session.specs.Heard.{IsAppended, IsByteFed, IsRespondedTo, IsResponse, IsResponseUnless, IsTaken, acknowledgement, packets_of, with_sent}
+use Rattle.rv_session.specs.Incoming.{IsAppended, IsByteFed, IsRespondedTo, IsResponse, IsResponseUnless, IsTaken, acknowledgement, packets_of, with_sent}
 use Rattle.rv_session.specs.declared.reply.Reply.{Reply}
 use Rattle.rv_session.specs.declared.session.Session.{Session}
 
@@ -42,12 +42,12 @@ both_if P R Q (Err error) first second together = tt
 
 -- ---- answers
 
-pub not_over : (session next : Session) (heard : Heard) (out : List ℕ) → session.is_over ≡ false → IsResponse session heard out next
+pub not_over : (session next : Session) (heard : Incoming) (out : List ℕ) → session.is_over ≡ false → IsResponse session heard out next
     → IsRespondedTo session (Some heard) out next
 not_over session next heard out is response =
     subst (λ (over : Bool). IsResponseUnless over session heard out next) (sym is) response
 
-pub over : (session : Session) (heard : Heard) → session.is_over ≡ true → IsRespondedTo session (Some heard) [] session
+pub over : (session : Session) (heard : Incoming) → session.is_over ≡ true → IsRespondedTo session (Some heard) [] session
 over session heard is = subst (λ (over : Bool). IsResponseUnless over session heard [] session) (sym is) (refl, refl)
 
 pub taken : (session behind next : Session) (body old middle last : List ℕ) (reply : Reply)
@@ -64,9 +64,9 @@ taken session behind next body old middle last reply acknowledged answered sent 
 -- ---- bytes
 
 -- a byte is heard by the reader first
-pub byte_heard : (session next : Session) (reader : Frame) (heard : Option Heard) (byte : ℕ) (out : List ℕ)
-    → reader ≡ frame_behind session.reader byte → heard ≡ heard_at session.reader byte
+pub byte_heard : (session next : Session) (reader : Frame) (heard : Option Incoming) (byte : ℕ) (out : List ℕ)
+    → reader ≡ frame_after session.reader byte → heard ≡ incoming_at session.reader byte
     → IsRespondedTo (record session { reader = reader }) heard out next → IsByteFed session byte out next
 byte_heard session next reader heard byte out is same response =
-    subst (λ (f : Frame). IsRespondedTo (record session { reader = f }) (heard_at session.reader byte) out next) is
-    (subst (λ (h : Option Heard). IsRespondedTo (record session { reader = reader }) h out next) same response)
+    subst (λ (f : Frame). IsRespondedTo (record session { reader = f }) (incoming_at session.reader byte) out next) is
+    (subst (λ (h : Option Incoming). IsRespondedTo (record session { reader = reader }) h out next) same response)

@@ -3,10 +3,10 @@ use Rattle.std.proofs.Common.{◌≡◌, ◌∙◌, ◌&&◌, ℕ, List, Bool, t
 use Rattle.std.specs.Prelude.{Option, Result, Ok, Err, if◌then◌else◌, nat_le}
 use Rattle.rv_history.specs.Places.{last_place}
 use Rattle.rv_history.specs.declared.stops.Stops.{Stops}
-use Rattle.rv_gdb_protocol.specs.Frames.{frame_behind, heard_at}
+use Rattle.rv_gdb_protocol.specs.Frames.{frame_after, incoming_at}
 use Rattle.rv_gdb_protocol.specs.Packets.{request_of}
-use Rattle.rv_gdb_protocol.specs.declared.frame.Heard.{Heard}
-use Rattle.rv_gdb_protocol.specs.declared.frame.Heard.TheVariants as heard
+use Rattle.rv_gdb_protocol.specs.declared.frame.Incoming.{Incoming}
+use Rattle.rv_gdb_protocol.specs.declared.frame.Incoming.TheVariants as heard
 use Rattle.rv_gdb_protocol.specs.declared.request.Refusal.{Refusal}
 use Rattle.rv_gdb_protocol.specs.declared.request.Refusal.TheVariants as refusal
 use Rattle.rv_gdb_protocol.specs.declared.request.Register.{Register}
@@ -14,7 +14,7 @@ use Rattle.rv_gdb_protocol.specs.declared.request.Register.TheVariants as reg
 use Rattle.rv_gdb_protocol.specs.declared.request.Request.{Request}
 use Rattle.rv_gdb_protocol.specs.declared.request.Request.TheVariants as ask
 use Rattle.rv_session.specs.Answers.{IsAnswered, IsSet, IsWritten, is_reset}
-use Rattle.rv_session.specs.Heard.{IsByteFed, IsJudged, IsRespondedTo, IsResponse, IsResponseUnless, IsTaken, is_wrong, with_sent}
+use Rattle.rv_session.specs.Incoming.{IsByteFed, IsJudged, IsRespondedTo, IsResponse, IsResponseUnless, IsTaken, is_wrong, with_sent}
 use Rattle.rv_session.specs.Replies.{refused}
 use Rattle.rv_session.specs.Sessions.{MayAsk, at_place}
 use Rattle.rv_session.specs.declared.reply.Reply.{Reply}
@@ -68,7 +68,7 @@ judged_may : (session next : Session) (again : Bool) (body out : List ℕ) → s
 judged_may session next true body out going none judged = inl (unasked next session judged.1 none)
 judged_may session next false body out going none judged = taken_may session next body out going none judged
 
-response_may : (session next : Session) (heard : Heard) (out : List ℕ) → session.is_over ≡ false → session.asked ≡ None
+response_may : (session next : Session) (heard : Incoming) (out : List ℕ) → session.is_over ≡ false → session.asked ≡ None
     → IsResponse session heard out next → MayAsk next
 response_may session next heard.Interrupt out going none response = inl (unasked next session response.1 none)
 response_may session next heard.Arrived out going none response = inl (unasked next session response.1 none)
@@ -78,12 +78,12 @@ response_may session next heard.TooLong out going none response =
 response_may session next (heard.Packet body sum) out going none response =
     judged_may session next (session.acknowledges && is_wrong sum) body out going none response
 
-unless_may : (session next : Session) (over : Bool) (heard : Heard) (out : List ℕ) → session.is_over ≡ over → session.asked ≡ None
+unless_may : (session next : Session) (over : Bool) (heard : Incoming) (out : List ℕ) → session.is_over ≡ over → session.asked ≡ None
     → IsResponseUnless over session heard out next → MayAsk next
 unless_may session next true heard out is none response = inl (unasked next session response.1 none)
 unless_may session next false heard out is none response = response_may session next heard out is none response
 
-responded_may : (session next : Session) (heard : Option Heard) (out : List ℕ) → session.asked ≡ None
+responded_may : (session next : Session) (heard : Option Incoming) (out : List ℕ) → session.asked ≡ None
     → IsRespondedTo session heard out next → MayAsk next
 responded_may session next None out none response = inl (unasked next session response.1 none)
 responded_may session next (Some heard) out none response =
@@ -92,4 +92,4 @@ responded_may session next (Some heard) out none response =
 pub byte_may : (session next : Session) (byte : ℕ) (out : List ℕ) → session.asked ≡ None → IsByteFed session byte out next
     → MayAsk next
 byte_may session next byte out none fed =
-    responded_may (record session { reader = frame_behind session.reader byte }) next (heard_at session.reader byte) out none fed
+    responded_may (record session { reader = frame_after session.reader byte }) next (incoming_at session.reader byte) out none fed

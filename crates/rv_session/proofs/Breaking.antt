@@ -1,7 +1,7 @@
 -- Moves that may be broken off for more than one reason.
 use Rattle.std.proofs.Common.{◌≡◌, ◌∙◌, ℕ, List, Bool, true, None, ap}
 use Rattle.rv_gdb_protocol.specs.declared.request.Move.{Move}
-use Rattle.rv_session.specs.Heard.{IsWorked}
+use Rattle.rv_session.specs.Incoming.{IsWorked}
 use Rattle.rv_session.specs.Moved.{IsMoved}
 use Rattle.rv_session.specs.declared.reply.Reply.{Reply}
 use Rattle.rv_session.specs.declared.session.Session.{Session}

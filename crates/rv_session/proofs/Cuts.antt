@@ -1,7 +1,7 @@
 -- Bytes that come in two reads.
 use Rattle.std.proofs.Common.{◌≡◌, ◌++◌, ◌∷◌, [], ℕ, Bool, List, None, append-nil, append_assoc, refl, subst, sym}
 use Rattle.std.specs.Prelude.{◌==◌}
-use Rattle.rv_session.specs.Heard.{IsByteFed, IsFed, IsWorked, byte_first, is_interrupted, move_first, no_bytes}
+use Rattle.rv_session.specs.Incoming.{IsByteFed, IsFed, IsWorked, byte_first, is_interrupted, move_first, no_bytes}
 use Rattle.rv_session.specs.declared.session.Session.{Session}
 
 -- what comes next of bytes, and of those behind them

@@ -13,11 +13,11 @@ use Rattle.rv_history.specs.declared.stops.Watch.{Watch}
 use Rattle.rv_history.proofs.Public.{one_first_with, one_next_step, one_next_stop, one_step_before, one_stop_before}
 use Rattle.rv_machine.specs.State.{State}
 use Rattle.rv_memory.specs.Bus.{Contents}
-use Rattle.rv_gdb_protocol.specs.Frames.{frame_behind, heard_at}
+use Rattle.rv_gdb_protocol.specs.Frames.{frame_after, incoming_at}
 use Rattle.rv_gdb_protocol.specs.Packets.{request_of}
 use Rattle.rv_gdb_protocol.specs.Stops.{stop_text}
-use Rattle.rv_gdb_protocol.specs.declared.frame.Heard.{Heard}
-use Rattle.rv_gdb_protocol.specs.declared.frame.Heard.TheVariants as heard
+use Rattle.rv_gdb_protocol.specs.declared.frame.Incoming.{Incoming}
+use Rattle.rv_gdb_protocol.specs.declared.frame.Incoming.TheVariants as heard
 use Rattle.rv_gdb_protocol.specs.declared.request.Move.{Move}
 use Rattle.rv_gdb_protocol.specs.declared.request.Move.TheVariants as move
 use Rattle.rv_gdb_protocol.specs.declared.request.Range.{Range}
@@ -27,10 +27,10 @@ use Rattle.rv_gdb_protocol.specs.declared.request.Register.{Register}
 use Rattle.rv_gdb_protocol.specs.declared.request.Register.TheVariants as reg
 use Rattle.rv_gdb_protocol.specs.declared.request.Request.{Request}
 use Rattle.rv_gdb_protocol.specs.declared.request.Request.TheVariants as ask
-use Rattle.rv_gdb_protocol.specs.declared.request.Trap.{Trap}
-use Rattle.rv_gdb_protocol.specs.declared.request.Trap.TheVariants as trap
+use Rattle.rv_gdb_protocol.specs.declared.request.Stoppoint.{Stoppoint}
+use Rattle.rv_gdb_protocol.specs.declared.request.Stoppoint.TheVariants as trap
 use Rattle.rv_session.specs.Answers.{IsAnswered, IsSet, IsSought, IsSoughtAs, IsTrapAsked, IsWritten}
-use Rattle.rv_session.specs.Heard.{HasNoInterrupt, IsByteFed, IsFed, IsJudged, IsRespondedTo, IsResponse, IsResponseUnless, IsTaken, IsWorked, acknowledgement, byte_first, is_interrupted, is_wrong, move_first, no_bytes, packets_of, with_sent}
+use Rattle.rv_session.specs.Incoming.{HasNoInterrupt, IsByteFed, IsFed, IsJudged, IsRespondedTo, IsResponse, IsResponseUnless, IsTaken, IsWorked, acknowledgement, byte_first, is_interrupted, is_wrong, move_first, no_bytes, packets_of, with_sent}
 use Rattle.rv_session.specs.Moved.{IsGone, IsMoved, end_text_at, printed_on, shown_on, stop_of}
 use Rattle.rv_session.specs.Replies.{granted_if, stopping}
 use Rattle.rv_session.specs.Sessions.{at_place, state_at}
@@ -138,7 +138,7 @@ watch_one range one other first second =
     (eqb-true one.address range.address here.0 ∙ sym (eqb-true other.address range.address there.0))
     (eqb-true one.count range.count here.1 ∙ sym (eqb-true other.count range.count there.1))
 
-added_one : (stops one other : Stops) (place : Trap) → IsAdded stops place one → IsAdded stops place other → one ≡ other
+added_one : (stops one other : Stops) (place : Stoppoint) → IsAdded stops place one → IsAdded stops place other → one ≡ other
 added_one stops one other (trap.Break address) first second = first ∙ sym second
 added_one stops one other (trap.Watch kind range) first second =
     let same : first.watches ≡ second.watches = first.added.next_is
@@ -147,12 +147,12 @@ added_one stops one other (trap.Watch kind range) first second =
     ∙ sym second.added.next_is in
     first.next_is ∙ ap (with_watches stops kind) same ∙ sym second.next_is
 
-added_unless_one : (stops one other : Stops) (place : Trap) (is : Bool) → IsAddedUnless is stops place one
+added_unless_one : (stops one other : Stops) (place : Stoppoint) (is : Bool) → IsAddedUnless is stops place one
     → IsAddedUnless is stops place other → one ≡ other
 added_unless_one stops one other place true first second = first ∙ sym second
 added_unless_one stops one other place false first second = added_one stops one other place first second
 
-trapped_one : (stops : Stops) (bus : Contents) (place : Trap) (one other : Result Stops Refusal) → IsTrapped stops bus place one
+trapped_one : (stops : Stops) (bus : Contents) (place : Stoppoint) (one other : Result Stops Refusal) → IsTrapped stops bus place one
     → IsTrapped stops bus place other → one ≡ other
 trapped_one stops bus place (Ok one) (Ok other) first second =
     ap (λ (s : Stops). Ok s) (added_unless_one stops one other place (is_set stops place) first.1 second.1)
@@ -167,7 +167,7 @@ set_one : (session one other : Session) (outcome : Result Stops Refusal) (reply 
 set_one session one other (Ok stops) reply again first second = (first.0 ∙ sym second.0, first.1 ∙ sym second.1)
 set_one session one other (Err refusal) reply again first second = (first.0 ∙ sym second.0, first.1 ∙ sym second.1)
 
-trap_one : (session one other : Session) (place : Trap) (reply again : Reply) → IsTrapAsked session place reply one
+trap_one : (session one other : Session) (place : Stoppoint) (reply again : Reply) → IsTrapAsked session place reply one
     → IsTrapAsked session place again other → (reply ≡ again) × (one ≡ other)
 trap_one session one other place reply again first second =
     let same = trapped_one session.stops (state_at session session.history.place).bus place first.outcome second.outcome
@@ -200,7 +200,7 @@ judged_one : (session one other : Session) (again : Bool) (body out more : List 
 judged_one session one other true body out more first second = (first.0 ∙ sym second.0, first.1 ∙ sym second.1)
 judged_one session one other false body out more first second = taken_one session one other body out more first second
 
-response_one : (session one other : Session) (heard : Heard) (out more : List ℕ) → IsResponse session heard out one
+response_one : (session one other : Session) (heard : Incoming) (out more : List ℕ) → IsResponse session heard out one
     → IsResponse session heard more other → (out ≡ more) × (one ≡ other)
 response_one session one other (heard.Packet body sum) out more first second =
     judged_one session one other (session.acknowledges && is_wrong sum) body out more first second
@@ -209,12 +209,12 @@ response_one session one other heard.Arrived out more first second = (first.0 �
 response_one session one other heard.Again out more first second = (first.0 ∙ sym second.0, first.1 ∙ sym second.1)
 response_one session one other heard.TooLong out more first second = (first.0 ∙ sym second.0, first.1 ∙ sym second.1)
 
-unless_one : (session one other : Session) (over : Bool) (heard : Heard) (out more : List ℕ)
+unless_one : (session one other : Session) (over : Bool) (heard : Incoming) (out more : List ℕ)
     → IsResponseUnless over session heard out one → IsResponseUnless over session heard more other → (out ≡ more) × (one ≡ other)
 unless_one session one other true heard out more first second = (first.0 ∙ sym second.0, first.1 ∙ sym second.1)
 unless_one session one other false heard out more first second = response_one session one other heard out more first second
 
-responded_one : (session one other : Session) (heard : Option Heard) (out more : List ℕ) → IsRespondedTo session heard out one
+responded_one : (session one other : Session) (heard : Option Incoming) (out more : List ℕ) → IsRespondedTo session heard out one
     → IsRespondedTo session heard more other → (out ≡ more) × (one ≡ other)
 responded_one session one other None out more first second = (first.0 ∙ sym second.0, first.1 ∙ sym second.1)
 responded_one session one other (Some heard) out more first second =
@@ -223,7 +223,7 @@ responded_one session one other (Some heard) out more first second =
 byte_one : (session one other : Session) (byte : ℕ) (out more : List ℕ) → IsByteFed session byte out one
     → IsByteFed session byte more other → (out ≡ more) × (one ≡ other)
 byte_one session one other byte out more first second =
-    responded_one (record session { reader = frame_behind session.reader byte }) one other (heard_at session.reader byte) out more
+    responded_one (record session { reader = frame_after session.reader byte }) one other (incoming_at session.reader byte) out more
     first second
 
 -- ---- bytes and moves

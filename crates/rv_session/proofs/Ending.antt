@@ -3,8 +3,8 @@ use Rattle.std.proofs.Common.{◌≡◌, ◌∙◌, ◌+◌, ◌-◌, ℕ, Bool,
 use Rattle.std.specs.Prelude.{if◌then◌else◌}
 use Rattle.rv_history.specs.declared.found.Found.{Found}
 use Rattle.rv_history.specs.declared.found.Found.TheVariants as found
-use Rattle.rv_history.specs.declared.stops.SetOff.{SetOff}
-use Rattle.rv_history.specs.declared.stops.SetOff.TheVariants as set_off
+use Rattle.rv_history.specs.declared.stops.WatchHit.{WatchHit}
+use Rattle.rv_history.specs.declared.stops.WatchHit.TheVariants as set_off
 use Rattle.rv_machine.specs.declared.ending.Ending.{Ending}
 use Rattle.rv_machine.specs.declared.ending.Ending.TheVariants as ending
 use Rattle.rv_machine.specs.declared.ending.FaultKind.{FaultKind}
@@ -16,7 +16,7 @@ use Rattle.rv_session.specs.Moved.{IsMoved, end_stop, end_text_at, is_forward, s
 use Rattle.rv_session.specs.declared.reply.Reply.{Reply}
 use Rattle.rv_session.specs.declared.session.Session.{Session}
 
-watch_is_none : (found : Option SetOff) → told_by (watch_told found) ≡ NoEnding
+watch_is_none : (found : Option WatchHit) → told_by (watch_told found) ≡ NoEnding
 watch_is_none (Some (set_off.Change address)) = refl
 watch_is_none (Some (set_off.Read address)) = refl
 watch_is_none (Some (set_off.Access address)) = refl

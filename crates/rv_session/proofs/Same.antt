@@ -2,10 +2,10 @@
 use Rattle.std.proofs.Common.{◌≡◌, ◌∙◌, ◌&&◌, ℕ, List, Bool, true, false, Some, None, ap, refl}
 use Rattle.std.specs.Prelude.{Result, Ok, Err, Option, if◌then◌else◌, nat_le}
 use Rattle.rv_history.specs.Places.{last_place}
-use Rattle.rv_gdb_protocol.specs.Frames.{frame_behind, heard_at}
+use Rattle.rv_gdb_protocol.specs.Frames.{frame_after, incoming_at}
 use Rattle.rv_gdb_protocol.specs.Packets.{request_of}
-use Rattle.rv_gdb_protocol.specs.declared.frame.Heard.{Heard}
-use Rattle.rv_gdb_protocol.specs.declared.frame.Heard.TheVariants as heard
+use Rattle.rv_gdb_protocol.specs.declared.frame.Incoming.{Incoming}
+use Rattle.rv_gdb_protocol.specs.declared.frame.Incoming.TheVariants as heard
 use Rattle.rv_gdb_protocol.specs.declared.request.Refusal.{Refusal}
 use Rattle.rv_gdb_protocol.specs.declared.request.Register.{Register}
 use Rattle.rv_gdb_protocol.specs.declared.request.Register.TheVariants as reg
@@ -14,7 +14,7 @@ use Rattle.rv_gdb_protocol.specs.declared.request.Request.TheVariants as ask
 use Rattle.rv_history.specs.declared.stops.Stops.{Stops}
 use Rattle.rv_gdb_protocol.specs.declared.request.Refusal.TheVariants as refusal
 use Rattle.rv_session.specs.Answers.{IsAnswered, IsSet, IsWritten, is_reset}
-use Rattle.rv_session.specs.Heard.{IsByteFed, IsFed, IsJudged, IsRespondedTo, IsResponse, IsResponseUnless, IsTaken, IsWorked, byte_first, is_interrupted, is_wrong, move_first, no_bytes, with_sent}
+use Rattle.rv_session.specs.Incoming.{IsByteFed, IsFed, IsJudged, IsRespondedTo, IsResponse, IsResponseUnless, IsTaken, IsWorked, byte_first, is_interrupted, is_wrong, move_first, no_bytes, with_sent}
 use Rattle.rv_session.specs.Replies.{refused}
 use Rattle.rv_session.specs.Sessions.{IsSameRun, at_place}
 use Rattle.rv_session.specs.declared.reply.Reply.{Reply}
@@ -120,7 +120,7 @@ judged_quiet : (session next : Session) (again : Bool) (body out : List ℕ) →
 judged_quiet session next true body out judged = stays session next judged.1
 judged_quiet session next false body out judged = taken_quiet session next body out judged
 
-response_quiet : (session next : Session) (heard : Heard) (out : List ℕ) → IsResponse session heard out next
+response_quiet : (session next : Session) (heard : Incoming) (out : List ℕ) → IsResponse session heard out next
     → IsQuiet session next
 response_quiet session next heard.Interrupt out response = stays session next response.1
 response_quiet session next heard.Arrived out response = stays session next response.1
@@ -129,20 +129,20 @@ response_quiet session next heard.TooLong out response = sent_quiet session next
 response_quiet session next (heard.Packet body sum) out response =
     judged_quiet session next (session.acknowledges && is_wrong sum) body out response
 
-unless_quiet : (session next : Session) (over : Bool) (heard : Heard) (out : List ℕ)
+unless_quiet : (session next : Session) (over : Bool) (heard : Incoming) (out : List ℕ)
     → IsResponseUnless over session heard out next → IsQuiet session next
 unless_quiet session next true heard out response = stays session next response.1
 unless_quiet session next false heard out response = response_quiet session next heard out response
 
-responded_quiet : (session next : Session) (heard : Option Heard) (out : List ℕ) → IsRespondedTo session heard out next
+responded_quiet : (session next : Session) (heard : Option Incoming) (out : List ℕ) → IsRespondedTo session heard out next
     → IsQuiet session next
 responded_quiet session next None out response = stays session next response.1
 responded_quiet session next (Some heard) out response = unless_quiet session next session.is_over heard out response
 
 byte_quiet : (session next : Session) (byte : ℕ) (out : List ℕ) → IsByteFed session byte out next → IsQuiet session next
 byte_quiet session next byte out fed =
-    let listening : Session = record session { reader = frame_behind session.reader byte } in
-    let heard = responded_quiet listening next (heard_at session.reader byte) out fed in record {
+    let listening : Session = record session { reader = frame_after session.reader byte } in
+    let heard = responded_quiet listening next (incoming_at session.reader byte) out fed in record {
       run = record {
         start_is = heard.run.start_is;
         budget_is = heard.run.budget_is;

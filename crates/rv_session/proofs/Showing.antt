@@ -13,7 +13,7 @@ use Rattle.rv_machine.specs.State.{State}
 use Rattle.rv_gdb_protocol.specs.declared.request.Move.{Move}
 use Rattle.rv_gdb_protocol.specs.declared.request.Move.TheVariants as move
 use Rattle.rv_session.specs.Console.{HasShown, printed_by}
-use Rattle.rv_session.specs.Heard.{IsByteFed}
+use Rattle.rv_session.specs.Incoming.{IsByteFed}
 use Rattle.rv_session.specs.Moved.{IsGone, IsMoved, is_forward, printed_on, shown_on}
 use Rattle.rv_session.specs.Sessions.{state_at}
 use Rattle.rv_trace.specs.Trace.{state_after}

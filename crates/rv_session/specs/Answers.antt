@@ -21,7 +21,7 @@ use Rattle.rv_gdb_protocol.specs.declared.request.Register.{Register}
 use Rattle.rv_gdb_protocol.specs.declared.request.Register.TheVariants as reg
 use Rattle.rv_gdb_protocol.specs.declared.request.Request.{Request}
 use Rattle.rv_gdb_protocol.specs.declared.request.Request.TheVariants as ask
-use Rattle.rv_gdb_protocol.specs.declared.request.Trap.{Trap}
+use Rattle.rv_gdb_protocol.specs.declared.request.Stoppoint.{Stoppoint}
 use Rattle.rv_gdb_protocol.specs.declared.stop.Stop.TheVariants as stop
 use Rattle.rv_gdb_protocol.specs.declared.target.TheConstants.{TARGET}
 use Rattle.rv_session.specs.Memory.{bytes_from, stand_at}
@@ -111,10 +111,10 @@ is_reset text = bytes_eq text (codes "reset") || bytes_eq text (codes "reset hal
 -- what the other commands print
 abbrev pub command_text : Session → List ℕ → List ℕ
 command_text session text =
-    if bytes_eq text (codes "when") then decimal session.history.place ++ codes " steps are done\n"
+    if bytes_eq text (codes "when") then decimal session.history.place ++ codes " steps executed\n"
     else if bytes_eq text (codes "console") then (here session).bus.output
     else if bytes_eq text (codes "input") then
-    decimal (taken_here session) ++ codes " of " ++ decimal session.script ++ codes " bytes are taken\n"
+    decimal (taken_here session) ++ codes " of " ++ decimal session.script ++ codes " bytes read\n"
     else HELP.now
 
 -- ---- what changes the session
@@ -153,7 +153,7 @@ IsSet session (Ok stops) reply next = (reply ≡ granted) × (next ≡ record se
 IsSet session (Err refusal) reply next = (reply ≡ refused refusal) × (next ≡ session)
 
 -- what trapping gives, and the session behind it
-pub record IsTrapAsked (session : Session) (place : Trap) (reply : Reply) (next : Session) : Type 0 where
+pub record IsTrapAsked (session : Session) (place : Stoppoint) (reply : Reply) (next : Session) : Type 0 where
   pub outcome : Result Stops Refusal
   pub trapped : IsTrapped session.stops (here session).bus place outcome
   pub set : IsSet session outcome reply next

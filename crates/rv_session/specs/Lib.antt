@@ -4,6 +4,6 @@ pub mod Sessions
 pub mod Traps
 pub mod Moved
 pub mod Answers
-pub mod Heard
+pub mod Incoming
 pub mod Console
 pub mod Endings

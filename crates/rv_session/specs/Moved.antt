@@ -6,8 +6,8 @@ use Rattle.rv_history.specs.Stops.{first_set_off}
 use Rattle.rv_history.specs.declared.bounds.Bounds.TheVariants as bounds
 use Rattle.rv_history.specs.declared.found.Found.{Found}
 use Rattle.rv_history.specs.declared.found.Found.TheVariants as found
-use Rattle.rv_history.specs.declared.stops.SetOff.{SetOff}
-use Rattle.rv_history.specs.declared.stops.SetOff.TheVariants as set_off
+use Rattle.rv_history.specs.declared.stops.WatchHit.{WatchHit}
+use Rattle.rv_history.specs.declared.stops.WatchHit.TheVariants as set_off
 use Rattle.rv_history.specs.declared.stops.Stops.{Stops}
 use Rattle.rv_machine.specs.State.{State}
 use Rattle.rv_machine.specs.declared.ending.Ending.{Ending}
@@ -46,14 +46,14 @@ end_stop (ending.Fault kind pc value) = stop.Fault kind
 end_stop ending.Budget = stop.Budget
 
 -- the watch that is told
-abbrev pub watch_told : Option SetOff → Stop
+abbrev pub watch_told : Option WatchHit → Stop
 watch_told (Some (set_off.Change address)) = stop.Watch watch.Writes address
 watch_told (Some (set_off.Read address)) = stop.Watch watch.Reads address
 watch_told (Some (set_off.Access address)) = stop.Watch watch.Accesses address
 watch_told None = stop.Here
 
 -- the first watch that the step from a place to another sets off
-abbrev pub watch_between : Session → ℕ → ℕ → Option SetOff
+abbrev pub watch_between : Session → ℕ → ℕ → Option WatchHit
 watch_between session one other = first_set_off session.stops (state_at session one) (state_at session other)
 
 -- the first watch that a step sets off: the step in front, or on the way back the step behind

@@ -8,8 +8,8 @@ use Rattle.rv_memory.specs.Bus.{Contents}
 use Rattle.rv_gdb_protocol.specs.declared.request.Range.{Range}
 use Rattle.rv_gdb_protocol.specs.declared.request.Refusal.{Refusal}
 use Rattle.rv_gdb_protocol.specs.declared.request.Refusal.TheVariants as refusal
-use Rattle.rv_gdb_protocol.specs.declared.request.Trap.{Trap}
-use Rattle.rv_gdb_protocol.specs.declared.request.Trap.TheVariants as trap
+use Rattle.rv_gdb_protocol.specs.declared.request.Stoppoint.{Stoppoint}
+use Rattle.rv_gdb_protocol.specs.declared.request.Stoppoint.TheVariants as trap
 use Rattle.rv_gdb_protocol.specs.declared.request.Watched.{Watched}
 use Rattle.rv_gdb_protocol.specs.declared.request.Watched.TheVariants as watch
 
@@ -32,7 +32,7 @@ with_watches stops watch.Reads watches = record stops { reads = watches }
 with_watches stops watch.Accesses watches = record stops { accesses = watches }
 
 -- the trap is set already
-abbrev pub is_set : Stops → Trap → Bool
+abbrev pub is_set : Stops → Stoppoint → Bool
 is_set stops (trap.Break address) = list_any (λ other. other == address) stops.breaks
 is_set stops (trap.Watch kind range) = list_any (is_on range) (watches_of stops kind)
 
@@ -41,7 +41,7 @@ abbrev pub has_byte : Contents → Range → Bool
 has_byte bus range = list_any (λ address. is_some (fin.get bus.memory address)) (range_with_len range.address range.count)
 
 -- it can be watched
-abbrev pub can_be_set : Contents → Trap → Bool
+abbrev pub can_be_set : Contents → Stoppoint → Bool
 can_be_set bus (trap.Break address) = true
 can_be_set bus (trap.Watch kind range) = nat_le (range.address + range.count) 4294967296 && has_byte bus range
 
@@ -49,13 +49,13 @@ abbrev pub is_full : Stops → Bool
 is_full stops = nat_le most_traps ((length stops.breaks + length stops.watches) + (length stops.reads + length stops.accesses))
 
 -- why it is not set, if it is not
-abbrev pub trap_refusal : Stops → Contents → Trap → Option Refusal
+abbrev pub trap_refusal : Stops → Contents → Stoppoint → Option Refusal
 trap_refusal stops bus place =
     if not (can_be_set bus place) then Some refusal.Malformed
     else if is_set stops place then None
     else if is_full stops then Some refusal.TooManyTraps else None
 
-abbrev pub without_trap : Stops → Trap → Stops
+abbrev pub without_trap : Stops → Stoppoint → Stops
 without_trap stops (trap.Break address) =
     record stops { breaks = filter (λ other. not (other == address)) stops.breaks }
 without_trap stops (trap.Watch kind range) =
@@ -74,17 +74,17 @@ pub record IsKindAdded (stops : Stops) (kind : Watched) (range : Range) (next : 
   pub next_is : next ≡ with_watches stops kind watches
 
 -- one more trap, at the end of its kind
-abbrev pub IsAdded : Stops → Trap → Stops → Type 0
+abbrev pub IsAdded : Stops → Stoppoint → Stops → Type 0
 IsAdded stops (trap.Break address) next = next ≡ record stops { breaks = stops.breaks ++ address ∷ [] }
 IsAdded stops (trap.Watch kind range) next = IsKindAdded stops kind range next
 
 -- a trap that is set already adds nothing
-abbrev pub IsAddedUnless : Bool → Stops → Trap → Stops → Type 0
+abbrev pub IsAddedUnless : Bool → Stops → Stoppoint → Stops → Type 0
 IsAddedUnless true stops place next = next ≡ stops
 IsAddedUnless false stops place next = IsAdded stops place next
 
 -- the stops with a trap, or why it is not set
-abbrev pub IsTrapped : Stops → Contents → Trap → Result Stops Refusal → Type 0
+abbrev pub IsTrapped : Stops → Contents → Stoppoint → Result Stops Refusal → Type 0
 IsTrapped stops bus place (Ok next) = (trap_refusal stops bus place ≡ None)
     × IsAddedUnless (is_set stops place) stops place next
 IsTrapped stops bus place (Err refusal) = trap_refusal stops bus place ≡ Some refusal

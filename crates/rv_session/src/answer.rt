@@ -12,7 +12,9 @@ ghost use Rattle.rv_session.specs.Traps.{without_trap};
 use crate::reply::Reply;
 use crate::session::Session;
 use crate::traps::{with_trap, without_trap};
-use rv_gdb_protocol::{Move, Part, Request, Stop, TARGET, Trap, fixed_reply, push_part, push_stop};
+use rv_gdb_protocol::{
+    Move, Part, Request, Stop, Stoppoint, TARGET, fixed_reply, push_part, push_stop,
+};
 use std::alloc::{AllocError, Global};
 
 impl Session {
@@ -68,7 +70,7 @@ impl Session {
     }
 
     // `Z`
-    fn set(&mut self, alloc: Global, trap: Trap) -> Result<Reply, AllocError>
+    fn set(&mut self, alloc: Global, trap: Stoppoint) -> Result<Reply, AllocError>
         ensures { IfOk result (λ reply. IsTrapAsked self.old trap reply self.new) }
     {
         match with_trap(alloc, &self.stops, self.history.machine().bus(), trap)? {
@@ -82,7 +84,7 @@ impl Session {
     }
 
     // `z`
-    fn clear(&mut self, alloc: Global, trap: Trap) -> Result<Reply, AllocError>
+    fn clear(&mut self, alloc: Global, trap: Stoppoint) -> Result<Reply, AllocError>
         ensures { IfOk result (λ reply. (reply ≡ granted)
             × (self.new ≡ record self.old { stops = without_trap self.old.stops trap })) }
     {
@@ -142,7 +144,7 @@ impl Session {
 fn fixed(alloc: Global, request: &Request) -> Result<Reply, AllocError>
     ensures { IfOk result (λ reply. reply ≡ fixed_answer request.now) }
 {
-    Reply::telling(alloc, fixed_reply(request).unwrap_or(""))
+    Reply::reporter(alloc, fixed_reply(request).unwrap_or(""))
 }
 
 fn part_of(alloc: Global, text: &[u8], part: Part) -> Result<Reply, AllocError>

@@ -30,7 +30,7 @@ impl Session {
             ≡ (if bytes_eq self.now.program.path path.now then saying (codes "F5") else refused refusal.OtherFile)) }
     {
         if are_same(self.program.path.as_slice(), path) {
-            Reply::telling(alloc, "F5")
+            Reply::reporter(alloc, "F5")
         } else {
             Reply::refusing(alloc, Refusal::OtherFile)
         }

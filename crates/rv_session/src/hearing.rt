@@ -2,7 +2,7 @@
 
 ghost use Rattle.std.specs.Prelude.{◌≡◌, ◌++◌, ◌∷◌, ◌&&◌, [], IfOk, None, OnOk, Some};
 ghost use Rattle.rv_gdb_protocol.specs.Sums.{framed};
-ghost use Rattle.rv_session.specs.Heard.{IsAppended, IsByteFed, IsRespondedTo, IsTaken, acknowledgement, is_wrong, packets_of, printed_packet, printed_packets, printed_part, sent_again, with_sent};
+ghost use Rattle.rv_session.specs.Incoming.{IsAppended, IsByteFed, IsRespondedTo, IsTaken, acknowledgement, is_wrong, packets_of, printed_packet, printed_packets, printed_part, sent_again, with_sent};
 ghost use Rattle.rv_session.specs.Replies.{refused};
 ghost use Rattle.rv_session.specs.Sessions.{IsSameRun, MayAsk};
 ghost use Rattle.rv_gdb_protocol.specs.declared.request.Refusal.TheVariants as refusal;
@@ -10,7 +10,7 @@ ghost use Rattle.rv_gdb_protocol.specs.declared.request.Refusal.TheVariants as r
 use crate::reply::Reply;
 use crate::session::Session;
 use rv_base::Bytes;
-use rv_gdb_protocol::{Heard, Refusal, Sum, parse_request, push_frame, push_printed};
+use rv_gdb_protocol::{Incoming, Refusal, Sum, parse_request, push_frame, push_printed};
 use std::alloc::{AllocError, Global};
 
 /// The most printed bytes of a packet, two digits each.
@@ -19,7 +19,7 @@ const MOST_PRINTED: usize = 8184;
 impl Session {
     /// Hears a byte of gdb, and gives the bytes that go out. Where a move is asked for then, [`Session::work`] makes it before another
     /// byte is heard. After an error the session is to be given up.
-    pub fn hear(&mut self, alloc: Global, byte: u8) -> Result<Vec<u8>, AllocError>
+    pub fn receive(&mut self, alloc: Global, byte: u8) -> Result<Vec<u8>, AllocError>
         requires { self.old.asked ≡ None }
         ensures heard { IfOk result (λ out. IsByteFed self.old byte out.items self.new) }
         ensures not_over { OnOk result (MayAsk self.new) }
@@ -42,7 +42,12 @@ impl Session {
     }
 
     // Appends what goes out for what is heard. Ctrl-C finds no move under way.
-    fn respond(&mut self, alloc: Global, out: &mut Vec<u8>, heard: &Heard) -> Result<(), AllocError>
+    fn respond(
+        &mut self,
+        alloc: Global,
+        out: &mut Vec<u8>,
+        heard: &Incoming,
+    ) -> Result<(), AllocError>
         ensures { OnOk result (IsAppended out.old.items out.new.items
             (λ told. IsRespondedTo self.old (Some heard.now) told self.new)) }
     {
@@ -50,11 +55,11 @@ impl Session {
             return Ok(());
         }
         match heard {
-            Heard::Interrupt => Ok(()),
-            Heard::Arrived => Ok(()),
-            Heard::Again => self.send_again(out),
-            Heard::TooLong => self.refuse_long(alloc, out),
-            Heard::Packet(body, sum) => {
+            Incoming::Interrupt => Ok(()),
+            Incoming::Arrived => Ok(()),
+            Incoming::Again => self.send_again(out),
+            Incoming::TooLong => self.refuse_long(alloc, out),
+            Incoming::Packet(body, sum) => {
                 if self.is_refused(*sum) {
                     return ask_again(out);
                 }
@@ -158,7 +163,7 @@ fn is_wrong(sum: Sum) -> bool
     }
 }
 
-#[tactic(auto, unfolding(crate::specs::Heard::printed_packets))]
+#[tactic(auto, unfolding(crate::specs::Incoming::printed_packets))]
 fn push_printed_packets(alloc: Global, out: &mut Vec<u8>, printed: &[u8]) -> Result<(), AllocError>
     ensures { OnOk result (out.new.items ≡ out.old.items ++ printed_packets printed.now) }
 {

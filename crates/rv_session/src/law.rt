@@ -5,7 +5,7 @@ ghost use Rattle.rv_gdb_protocol.specs.Stops.{told_by};
 ghost use Rattle.rv_gdb_protocol.specs.declared.request.Move.{Move};
 ghost use Rattle.rv_session.specs.Console.{HasShown};
 ghost use Rattle.rv_session.specs.Endings.{text_with, told_by_found};
-ghost use Rattle.rv_session.specs.Heard.{HasNoInterrupt, IsByteFed, IsFed, is_interrupted};
+ghost use Rattle.rv_session.specs.Incoming.{HasNoInterrupt, IsByteFed, IsFed, is_interrupted};
 ghost use Rattle.rv_session.specs.Moved.{IsMoved};
 ghost use Rattle.rv_session.specs.declared.reply.Reply.{Reply};
 ghost use Rattle.rv_session.specs.declared.session.Session.{Session};

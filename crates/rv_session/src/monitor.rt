@@ -11,7 +11,7 @@ use std::alloc::{AllocError, Global};
 
 /// What `monitor help`, and every command that is not known, prints.
 const HELP: &str =
-    "when: the steps that are done\nconsole: what is printed up to here\ninput: how much of the script is taken\nreset, reset halt: to the start of the run\n";
+    "when: how many steps were executed\nconsole: the output up to here\ninput: how much of the script was read\nreset, reset halt: go back to the start of the run\n";
 
 impl Session {
     // `qRcmd,`
@@ -42,18 +42,18 @@ impl Session {
     }
 
     fn steps_text(&self, alloc: Global) -> Result<Vec<u8>, AllocError>
-        ensures { IfOk result (λ text. text.items ≡ decimal self.now.history.place ++ codes " steps are done\n") }
+        ensures { IfOk result (λ text. text.items ≡ decimal self.now.history.place ++ codes " steps executed\n") }
     {
-        let text = format!(in alloc; "{} steps are done\n", self.history.place())?;
+        let text = format!(in alloc; "{} steps executed\n", self.history.place())?;
         Ok(text.into_bytes())
     }
 
     fn input_text(&self, alloc: Global) -> Result<Vec<u8>, AllocError>
         ensures { IfOk result (λ text. text.items
-            ≡ decimal (taken_here self.now) ++ codes " of " ++ decimal self.now.script ++ codes " bytes are taken\n") }
+            ≡ decimal (taken_here self.now) ++ codes " of " ++ decimal self.now.script ++ codes " bytes read\n") }
     {
         let taken = self.taken();
-        let text = format!(in alloc; "{taken} of {} bytes are taken\n", self.script)?;
+        let text = format!(in alloc; "{taken} of {} bytes read\n", self.script)?;
         Ok(text.into_bytes())
     }
 }

@@ -5,7 +5,7 @@ ghost use Rattle.rv_history.specs.Moves.{IsBroken};
 ghost use Rattle.rv_history.specs.declared.found.Found.TheVariants as found;
 ghost use Rattle.rv_gdb_protocol.specs.Stops.{stop_text};
 ghost use Rattle.rv_session.specs.Moved.{CanTell, IsGone, IsMoved, end_stop, end_text_at, is_forward, printed_on, shown_on, stop_of, watch_stop, watch_told};
-ghost use Rattle.rv_session.specs.Heard.{IsWorked};
+ghost use Rattle.rv_session.specs.Incoming.{IsWorked};
 ghost use Rattle.rv_session.specs.Replies.{stopping};
 ghost use Rattle.rv_session.specs.Sessions.{IsSameRun, at_place, here};
 
@@ -14,7 +14,7 @@ use crate::reply::Reply;
 use crate::session::Session;
 use rv_base::Bytes;
 use rv_gdb_protocol::{Move, Stop, Watched, push_stop};
-use rv_history::{Bounds, Found, Interrupt, SetOff};
+use rv_history::{Bounds, Found, Interrupt, WatchHit};
 use rv_machine::Ending;
 use std::alloc::{AllocError, Global};
 
@@ -109,7 +109,7 @@ impl Session {
             let ahead = self.history.watch_ahead(alloc, &self.stops)?;
             Ok(watch_told(ahead))
         } else {
-            let behind = self.history.watch_behind(alloc, &self.stops)?;
+            let behind = self.history.watch_hit_by_last_step(alloc, &self.stops)?;
             Ok(watch_told(behind))
         }
     }
@@ -182,13 +182,13 @@ fn is_forward(asked: Move) -> bool
     }
 }
 
-fn watch_told(set_off: Option<SetOff>) -> Stop
+fn watch_told(set_off: Option<WatchHit>) -> Stop
     ensures { result ≡ watch_told set_off }
 {
     match set_off {
-        Some(SetOff::Change(address)) => Stop::Watch(Watched::Writes, address),
-        Some(SetOff::Read(address)) => Stop::Watch(Watched::Reads, address),
-        Some(SetOff::Access(address)) => Stop::Watch(Watched::Accesses, address),
+        Some(WatchHit::Change(address)) => Stop::Watch(Watched::Writes, address),
+        Some(WatchHit::Read(address)) => Stop::Watch(Watched::Reads, address),
+        Some(WatchHit::Access(address)) => Stop::Watch(Watched::Accesses, address),
         None => Stop::Here,
     }
 }

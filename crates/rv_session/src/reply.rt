@@ -55,7 +55,7 @@ impl Reply {
     }
 
     /// A text alone.
-    pub(crate) fn telling(alloc: Global, text: &str) -> Result<Reply, AllocError>
+    pub(crate) fn reporter(alloc: Global, text: &str) -> Result<Reply, AllocError>
         ensures { IfOk result (λ reply. reply ≡ saying text.now) }
     {
         Ok(Reply::saying(alloc, Vec::from_slice(alloc, text.as_bytes())?))
@@ -65,13 +65,13 @@ impl Reply {
     pub(crate) fn granted(alloc: Global) -> Result<Reply, AllocError>
         ensures { IfOk result (λ reply. reply ≡ granted) }
     {
-        Reply::telling(alloc, "OK")
+        Reply::reporter(alloc, "OK")
     }
 
     pub(crate) fn refusing(alloc: Global, refusal: Refusal) -> Result<Reply, AllocError>
         ensures { IfOk result (λ reply. reply ≡ refused refusal) }
     {
-        Reply::telling(alloc, refusal_text(refusal))
+        Reply::reporter(alloc, refusal_text(refusal))
     }
 
     /// `OK` or a refusal.

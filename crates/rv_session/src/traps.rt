@@ -3,10 +3,10 @@
 ghost use Rattle.std.specs.Prelude.{◌≡◌, ◌≤◌, ◌+◌, ◌^◌, IfOk};
 ghost use Rattle.rv_session.specs.Traps.{IsTrapped, has_byte, is_full, is_on, is_set, watches_of, with_watches, without_trap};
 ghost use Rattle.rv_memory.specs.Bus.{Contents};
-ghost use Rattle.rv_gdb_protocol.specs.declared.request.Trap.TheVariants as trap;
+ghost use Rattle.rv_gdb_protocol.specs.declared.request.Stoppoint.TheVariants as trap;
 
 use rv_base::Sequence;
-use rv_gdb_protocol::{Range, Refusal, Trap, Watched};
+use rv_gdb_protocol::{Range, Refusal, Stoppoint, Watched};
 use rv_history::{Stops, Watch};
 use rv_memory::Bus;
 use std::alloc::{AllocError, Global};
@@ -19,23 +19,27 @@ pub(crate) fn with_trap(
     alloc: Global,
     stops: &Stops,
     bus: &Bus,
-    trap: Trap,
+    trap: Stoppoint,
 ) -> Result<Result<Stops, Refusal>, AllocError>
     ensures { IfOk result (IsTrapped stops.now bus.now trap) }
 {
     match trap {
-        Trap::Break(address) => with_break(alloc, stops, address),
-        Trap::Watch(kind, range) => with_watch(alloc, stops, bus, kind, range),
+        Stoppoint::Break(address) => with_break(alloc, stops, address),
+        Stoppoint::Watch(kind, range) => with_watch(alloc, stops, bus, kind, range),
     }
 }
 
 /// The stops without one, which need not stand there.
-pub(crate) fn without_trap(alloc: Global, stops: &Stops, trap: Trap) -> Result<Stops, AllocError>
+pub(crate) fn without_trap(
+    alloc: Global,
+    stops: &Stops,
+    trap: Stoppoint,
+) -> Result<Stops, AllocError>
     ensures { IfOk result (λ next. next ≡ without_trap stops.now trap) }
 {
     match trap {
-        Trap::Break(address) => without_break(alloc, stops, address),
-        Trap::Watch(kind, range) => without_watch(alloc, stops, kind, range),
+        Stoppoint::Break(address) => without_break(alloc, stops, address),
+        Stoppoint::Watch(kind, range) => without_watch(alloc, stops, kind, range),
     }
 }
 

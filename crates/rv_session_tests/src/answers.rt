@@ -48,16 +48,16 @@ the console is no memory | 100002b7 0042a383 0002a383 X | 100 | Z3,10000004,4 > 
 a range | LOOP | 100 | vCont;r80000000,8000000c:1;c > T05 / p21 > 03000000 / vCont;r8000000c,80000018 > T05 / p21 > 0c000000 / p20 > 18000080
 a range with a break | LOOP | 100 | Z0,80000008,4 > OK / vCont;r80000000,8000000c > T05 / p21 > 02000000
 the budget | LOOP | 5 | vCont;c > O656e640a & T18 / p21 > 05000000 / s > O656e640a & T18 / bs > T05 / p21 > 04000000
-seeks | LOOP | 100 | P21=03000000 > OK / p20 > 0c000080 / P21=0e000000 > E.the run does not come there / p21 > 03000000 / P22=00000000 > OK / p21 > 00000000 / P23=01000000 > E.the run does not come there
-writes | LOOP | 100 | P0=00000000 > OK / P0=01000000 > E.the run is what it is: the debugger does not change it / M80000000,2:9702 > OK / M80000000,2:9703 > E.the run is what it is: the debugger does not change it / M0,1:00 > E.the run is what it is: the debugger does not change it / X80000000,0: > OK / c80000000 > E.the run is what it is: the debugger does not change it
+seeks | LOOP | 100 | P21=03000000 > OK / p20 > 0c000080 / P21=0e000000 > E.the run does not reach that point / p21 > 03000000 / P22=00000000 > OK / p21 > 00000000 / P23=01000000 > E.the run does not reach that point
+writes | LOOP | 100 | P0=00000000 > OK / P0=01000000 > E.the run is read-only: the debugger cannot change it / M80000000,2:9702 > OK / M80000000,2:9703 > E.the run is read-only: the debugger cannot change it / M0,1:00 > E.the run is read-only: the debugger cannot change it / X80000000,0: > OK / c80000000 > E.the run is read-only: the debugger cannot change it
 bad input | LOOP | 100 | P0 > E.malformed / P63=00000000 > E.malformed / M80000000,2:97 > E.malformed / Z0 > E.malformed / Z2,80000100,0 > E.malformed / Z2,0,4 > E.malformed / vCont; > E.malformed / qRcmd,7 > E01 / qXfer:features:read:other.xml:0,4 > E00 / qXfer:features:read:target.xml:0 > E01 / qXfer:features:read:target.xml:ffff,4 > l
 the image | LOOP | 100 | qXfer:exec-file:read:1:0,100 > la.elf / vFile:setfs:0 > F0 / vFile:open:612e656c66,0,0 > F5 / vFile:open:612e656c,0,0 > F-1,2 / vFile:pread:5,2,1 > F00000002;LF / vFile:pread:5,9,3 > F00000001;! / vFile:close:5 > F0 / vFile:close:6 > F-1,2
 from the start | LOOP | 100 | s > T05 / vRun > T05 / p21 > 00000000
 monitor reset | LOOP | 100 | s > T05 / qRcmd,72657365742068616c74 > OK / p21 > 00000000
 the end | LOOP | 100 | D > OK / g > nothing / ? > nothing
 printed bytes go out once | 100002b7 04100313 0062a023 0062a023 X | 100 | s > T05 / s > T05 / s > O41 & T05 / bs > T05 / s > T05 / c > O41 & O656e640a & T05replaylog:end; / p22 > 02000000 / bc > T05replaylog:begin; / p22 > 00000000 / c > O656e640a & T05replaylog:end;
-to a printed byte | 100002b7 04100313 0062a023 0062a023 X | 100 | P22=01000000 > OK / p21 > 03000000 / bs > T05 / p22 > 00000000 / p20 > 08000080 / P22=02000000 > OK / p21 > 04000000 / P22=03000000 > E.the run does not come there / qRcmd,636f6e736f6c65 > O4141 & OK / qRcmd,7768656e > O342073746570732061726520646f6e650a & OK
-to a byte of the script | 100002b7 0002a383 0002a383 X | 100 | P23=01000000 > OK / p21 > 02000000 / p7 > 68000000 / qRcmd,696e707574 > O31206f662032206279746573206172652074616b656e0a & OK / P23=02000000 > OK / p7 > 69000000 / P23=03000000 > E.the run does not come there
+to a printed byte | 100002b7 04100313 0062a023 0062a023 X | 100 | P22=01000000 > OK / p21 > 03000000 / bs > T05 / p22 > 00000000 / p20 > 08000080 / P22=02000000 > OK / p21 > 04000000 / P22=03000000 > E.the run does not reach that point / qRcmd,636f6e736f6c65 > O4141 & OK / qRcmd,7768656e > O342073746570732065786563757465640a & OK
+to a byte of the script | 100002b7 0002a383 0002a383 X | 100 | P23=01000000 > OK / p21 > 02000000 / p7 > 68000000 / qRcmd,696e707574 > O31206f66203220627974657320726561640a & OK / P23=02000000 > OK / p7 > 69000000 / P23=03000000 > E.the run does not reach that point
 a breakpoint of the program | 00100073 | 100 | c > O656e640a & T06 / p21 > 00000000 / s > O656e640a & T06
 no instruction | 00000297 00000000 | 100 | c > O656e640a & T04 / p21 > 01000000 / bc > T05replaylog:begin;
 a misaligned load | 00000297 0012a383 | 100 | c > O656e640a & T0a / p20 > 04000080
@@ -149,7 +149,7 @@ fn answer_byte(
     requires { IsReady (start_of end.now.start) session.old }
     ensures { OnOk result (IsReady (start_of end.now.start) session.new) }
 {
-    let told = session.hear(alloc, byte)?;
+    let told = session.receive(alloc, byte)?;
     sent.extend_from_slice(told.as_slice())?;
     if !session.is_asked() {
         return Ok(());

@@ -12,7 +12,7 @@ use Rattle.rv_counting.specs.JobTables.{jobs_at}
 use Rattle.rv_counting.specs.TableSums.{sum_of_run, Added, AreAdded}
 use Rattle.rv_engine.specs.declared.engine.RunError.{RunError}
 use Rattle.rv_engine.specs.declared.listener.Flow.{Flow}
-use Rattle.rv_engine.specs.Results.{HeardRun}
+use Rattle.rv_engine.specs.Results.{IsRunDelivered}
 use Rattle.rv_jobs.specs.Plans.{Planned}
 use Rattle.rv_stacks.specs.StackTables.{HasNextNoSum, HaveNoTableWithStacks, IsTableWithStacks}
 use Rattle.rv_stacks.proofs.Apart.{counts_and_stacks}
@@ -31,11 +31,11 @@ module _ (plan : Planned) where
       (of_places plan (p ∷ []) u one) sums))
 
   module _ (places : List ℕ) (added : Added) (ran : Result Flow RunError)
-      (heard : HeardRun (λ n u. IsTableWithStacks plan (get_or places n 0 ∷ []) u) (length places)
+      (received : IsRunDelivered (λ n u. IsTableWithStacks plan (get_or places n 0 ∷ []) u) (length places)
       (λ ts. AreAdded added.sum added.failed (map (λ (u : CountTable). u) ts)) (is_some added.failed ≡ true) ran) where
     pub all_added : IfOk (sum_of_run added ran) (IsTableWithStacks plan places)
     all_added =
-        run_added (IsTableWithStacks plan) (λ p u. IsTableWithStacks plan (p ∷ []) u) of_no_place one_more places added ran heard
+        run_added (IsTableWithStacks plan) (λ p u. IsTableWithStacks plan (p ∷ []) u) of_no_place one_more places added ran received
 
     refused_here : (error : SumError)
         → NextRefused (IsTableWithStacks plan) (λ p u. IsTableWithStacks plan (p ∷ []) u) places error
@@ -56,4 +56,4 @@ module _ (plan : Planned) where
         (λ error. (error ≡ OutOfMemory)
         ⊎ NextRefused (IsTableWithStacks plan) (λ p u. IsTableWithStacks plan (p ∷ []) u) places error)
         (HaveNoTableWithStacks plan places) (λ error. ⊎_elim inl (λ h. inr (refused_here error h)))
-        (run_ended (IsTableWithStacks plan) (λ p u. IsTableWithStacks plan (p ∷ []) u) of_no_place one_more places added ran heard)
+        (run_ended (IsTableWithStacks plan) (λ p u. IsTableWithStacks plan (p ∷ []) u) of_no_place one_more places added ran received)

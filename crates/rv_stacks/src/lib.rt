@@ -2,7 +2,7 @@
 //! often a run came to each list.
 //!
 //! [`count_with_stacks`] runs a machine within a budget, and answers its counts and its spots. [`count_job_with_stacks`] does so of
-//! a job of a plan, and [`count_places_with_stacks`] answers the table of counts of the jobs of a batch, with their stacks. The
+//! a job of a plan, and [`count_batch_with_stacks`] answers the table of counts of the jobs of a batch, with their stacks. The
 //! calls that have not returned are those of `rv_calls`: a spot is the functions in which they were made, and that of the pc.
 #![tactic(auto)]
 
@@ -32,7 +32,7 @@ pub use law::{
     tables_with_stacks_of_shards_sum_to_that_of_all,
 };
 pub use node::Node;
-pub use places::count_places_with_stacks;
+pub use places::count_batch_with_stacks;
 pub use run::count_with_stacks;
 pub use stacks::Stacks;
 pub use walk::Walk;

@@ -14,7 +14,7 @@ use std::thread::Threads;
 /// The table of the counts of the jobs of a batch, and of their stacks, the same for every crew. There is none where two files of
 /// one digest name a function in two ways; no number of so few jobs reaches 2^64. Each job is run once more, by the threads of the
 /// crew; it takes memory for the tables that wait to be added, and for two sums.
-pub fn count_places_with_stacks<R: Threads + Wait + Sync>(
+pub fn count_batch_with_stacks<R: Threads + Wait + Sync>(
     crew: &Crew<'_, R>,
     batch: &Batch<'_>,
 ) -> Result<CountTable, SumError>

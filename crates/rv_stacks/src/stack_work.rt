@@ -2,7 +2,7 @@
 
 use crate::table::count_place_with_stacks;
 use rv_counting::JobTable;
-use rv_engine::{Work, Workbench};
+use rv_engine::{Work, WorkerState};
 use rv_fleet::Batch;
 use std::alloc::{AllocError, Global};
 
@@ -21,21 +21,21 @@ impl Work<JobTable> for StackWork<'_> {
     ghost is_made = { λ s number table. IsTableWithStacks s.batch.now.plan.now
         (slice_index_or s.batch.now.places.now number 0 ∷ []) table };
 
-    ghost is_bench = { λ _ _. Unit {0} };
+    ghost is_worker_state = { λ _ _. Unit {0} };
 
     fn jobs(&self) -> usize {
         self.batch.places.len()
     }
 
-    fn new_bench(&self, alloc: Global) -> Workbench {
-        Workbench::new(alloc)
+    fn new_worker_state(&self, alloc: Global) -> WorkerState {
+        WorkerState::new(alloc)
     }
 
     fn make(
         &self,
         alloc: Global,
         number: usize,
-        _bench: &mut Workbench,
+        _bench: &mut WorkerState,
     ) -> Result<JobTable, AllocError> {
         let table = count_place_with_stacks(alloc, self.batch.plan, self.batch.places[number])?;
         Ok(JobTable::new(table))

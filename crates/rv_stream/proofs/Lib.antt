@@ -1,4 +1,4 @@
 mod Tellings
 mod Sending
 mod Limits
-mod Heard
+mod Received

@@ -4,7 +4,7 @@ use Rattle.std.specs.Prelude.{if◌then◌else◌, option_map}
 use Rattle.rv_expect.specs.Judgement.{Judging, fails}
 use Rattle.rv_rows.specs.declared_row.Row.{Row}
 use Rattle.rv_stream.specs.Limits.{failures_behind, rows_until, rows_up_to}
-use Rattle.rv_stream.specs.Told.{AreFirstRows}
+use Rattle.rv_stream.specs.Told.{AreRowsUpToFailure}
 
 module _ (fails : Row → Bool) where
   -- of rows in two pieces
@@ -127,7 +127,7 @@ module _ (fails : Row → Bool) where
       ∙ append-nil rows
 
 -- nothing is heard yet
-pub no_rows_yet : (most : Option ℕ) (judging : Judging) → AreFirstRows most judging most false [] []
+pub no_rows_yet : (most : Option ℕ) (judging : Judging) → AreRowsUpToFailure most judging most false [] []
 no_rows_yet most judging = record {
   kept_all = λ kept. refl;
   left_is = first_left (fails judging) most;
@@ -136,10 +136,10 @@ no_rows_yet most judging = record {
 
 -- one row more
 pub one_row_more : (most : Option ℕ) (judging : Judging) (left now : Option ℕ) (refused gone : Bool) (kept after rows : List Row) (row : Row)
-    → AreFirstRows most judging left refused kept rows → (left ≡ Some 0 → ⊥) → refused ≡ false
+    → AreRowsUpToFailure most judging left refused kept rows → (left ≡ Some 0 → ⊥) → refused ≡ false
     → now ≡ (if fails judging row then option_map (λ (m : ℕ). m - 1) left else left)
     → (gone ≡ false → after ≡ kept ++ row ∷ [])
-    → AreFirstRows most judging now gone after (rows ++ row ∷ [])
+    → AreRowsUpToFailure most judging now gone after (rows ++ row ∷ [])
 one_row_more most judging left now refused gone kept after rows row first goes none less pushed = record {
   kept_all = λ there. pushed there ∙ ap (λ (l : List Row). l ++ row ∷ []) (first.kept_all none);
   left_is = less ∙ more_left (fails judging) most left rows row first.left_is goes;

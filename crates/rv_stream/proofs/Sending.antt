@@ -10,19 +10,19 @@ use Rattle.rv_base.specs.Counts.{one_more}
 use Rattle.rv_rows.specs.Sinks.{AppendsBeginning}
 use Rattle.rv_rows.specs.declared_report.WriteError.{WriteError}
 use Rattle.rv_rows.specs.declared_report.WriteError.TheVariants.{Failed, OutOfMemory}
-use Rattle.rv_stream.specs.declared.told_row.ToldRow.{ToldRow}
+use Rattle.rv_stream.specs.declared.reported_row.ReportedRow.{ReportedRow}
 use Rattle.rv_stream.specs.Texts.{IsSent, IsUnderWay}
-use Rattle.rv_stream.specs.Told.{texts_of_told}
+use Rattle.rv_stream.specs.Told.{texts_of_reported}
 
 -- nothing is told yet
 pub nothing_sent : (before : Option (List ℕ)) (failures : ℕ) → IsSent before before failures failures None [] []
 nothing_sent before failures = record { sent = []; whole = refl; appended = Appends-nil before; counted = refl }
 
 -- the texts of one row more
-pub texts_more : (results : List ToldRow) (made : ToldRow)
-    → concat (texts_of_told results) ++ made.text.items ≡ concat (texts_of_told (results ++ made ∷ []))
+pub texts_more : (results : List ReportedRow) (made : ReportedRow)
+    → concat (texts_of_reported results) ++ made.text.items ≡ concat (texts_of_reported (results ++ made ∷ []))
 texts_more results made =
-    let text : ToldRow → List ℕ = λ t. t.text.items in
+    let text : ReportedRow → List ℕ = λ t. t.text.items in
     ap (λ (l : List ℕ). concat (map text results) ++ l) (sym (append-nil made.text.items))
     ∙ sym (ap concat (map-append text results (made ∷ [])) ∙ concat-append (map text results) (map text (made ∷ [])))
 

@@ -3,27 +3,27 @@ use Rattle.std.specs.Prelude.{◌≡◌, ℕ, Bool, false, List, Option, map, op
 use Rattle.rv_fleet.specs.declared.batch.Batch.{Batch}
 use Rattle.rv_fleet.specs.Batches.{place_of_number, row_of_number}
 use Rattle.rv_rows.specs.declared_row.Row.{Row}
-use Rattle.rv_stream.specs.declared.told_row.ToldRow.{ToldRow}
+use Rattle.rv_stream.specs.declared.reported_row.ReportedRow.{ReportedRow}
 use Rattle.rv_stream.specs.Limits.{failures_behind, rows_up_to}
 use Rattle.rv_expect.specs.Judgement.{Judging, fails}
 
 -- the row of the job of a number, and what is told of it
-pub record IsToldRow (line : ℕ → Row → List ℕ) (batch : Batch) (number : ℕ) (told : ToldRow) : Type 0 where
+pub record IsToldRow (line : ℕ → Row → List ℕ) (batch : Batch) (number : ℕ) (told : ReportedRow) : Type 0 where
   pub row : told.row ≡ row_of_number batch number
   pub text : told.text.items ≡ line (place_of_number batch number) told.row
 
-abbrev pub rows_of_told : List ToldRow → List Row
-rows_of_told told = map (λ (t : ToldRow). t.row) told
+abbrev pub rows_of_reported : List ReportedRow → List Row
+rows_of_reported told = map (λ (t : ReportedRow). t.row) told
 
-abbrev pub texts_of_told : List ToldRow → List (List ℕ)
-texts_of_told told = map (λ (t : ToldRow). t.text.items) told
+abbrev pub texts_of_reported : List ReportedRow → List (List ℕ)
+texts_of_reported told = map (λ (t : ReportedRow). t.text.items) told
 
 -- how many failures are left before a run ends, where failures end it
 abbrev pub failures_left : Option ℕ → Judging → List Row → Option ℕ
 failures_left most judging rows = option_map (λ number. failures_behind (fails judging) number rows) most
 
 -- rows up to a failure that ends a run; they are kept, unless a growth was refused
-pub record AreFirstRows (most : Option ℕ) (judging : Judging) (left : Option ℕ) (refused : Bool) (kept rows : List Row) : Type 0 where
+pub record AreRowsUpToFailure (most : Option ℕ) (judging : Judging) (left : Option ℕ) (refused : Bool) (kept rows : List Row) : Type 0 where
   pub kept_all : refused ≡ false → kept ≡ rows
   pub left_is : left ≡ failures_left most judging rows
   pub within : rows_up_to most (fails judging) rows ≡ rows

@@ -6,7 +6,7 @@ ghost use Rattle.rv_engine.specs.declared.listener.Flow.TheVariants.{GoOn, Stop}
 ghost use Rattle.rv_rows.specs.Sinks.{AppendsBeginning};
 ghost use Rattle.rv_stream.specs.Texts.{IsSent};
 
-use crate::streamed::Streamed;
+use crate::streamed::StreamSpec;
 use rv_engine::Flow;
 use rv_fleet::{Sink, put_all};
 use rv_rows::WriteError;
@@ -15,7 +15,7 @@ use std::marker::PhantomData;
 
 /// A sink, and the text that waits to go out to it.
 #[derive(Drop)]
-pub(crate) struct Outbox<J: Streamed, W: Sink + Drop> {
+pub(crate) struct Outbox<J: StreamSpec, W: Sink + Drop> {
     pub(crate) out: W,
     /// What waits.
     pub(crate) unsent: Vec<u8>,
@@ -24,7 +24,7 @@ pub(crate) struct Outbox<J: Streamed, W: Sink + Drop> {
     of: PhantomData<J>,
 }
 
-impl<J: Streamed, W: Sink + Drop> Outbox<J, W> {
+impl<J: StreamSpec, W: Sink + Drop> Outbox<J, W> {
     /// Nothing waits.
     pub(crate) fn new(alloc: Global, out: W) -> Outbox<J, W>
         requires before { J.before ≡ W.taken out }

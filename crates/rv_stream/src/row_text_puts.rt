@@ -5,9 +5,9 @@ ghost use Rattle.rv_rows.specs.Counts.{one_more};
 ghost use Rattle.rv_rows.specs.Sinks.{AppendsBeginning, IsPartlySent};
 ghost use Rattle.rv_stream.specs.Streams.{joined_row_texts};
 
-use crate::placed_rows::PlacedRows;
+use crate::indexed_rows::IndexedRows;
 use rv_fleet::{Sink, put_all};
-use rv_rows::{Telling, WriteError};
+use rv_rows::{RowReporter, WriteError};
 use std::alloc::Global;
 
 // Gathered text is put once it has this many bytes.
@@ -15,20 +15,20 @@ const ENOUGH: usize = 32_768;
 
 /// Sends what is told of rows behind the text that is gathered: the first part of all goes out
 /// in few large puts, the rest stands in `text`. After an error a beginning of all is out.
-pub fn put_row_texts<T: Telling, W: Sink>(
+pub fn put_row_texts<T: RowReporter, W: Sink>(
     alloc: Global,
     text: &mut Vec<u8>,
-    telling: &T,
-    placed: &PlacedRows<'_>,
+    reporter: &T,
+    placed: &IndexedRows<'_>,
     out: &mut W,
 ) -> Result<(), WriteError>
     ensures under_way { OnOk result (IsPartlySent (W.taken out.old) (W.taken out.new) text.new.items
         (text.old.items
-        ++ joined_row_texts (T.line telling.now) placed.now.places.now placed.now.rows.now)) }
+        ++ joined_row_texts (T.line reporter.now) placed.now.places.now placed.now.rows.now)) }
     ensures counted { OnOk result (W.failed out.new ≡ W.failed out.old) }
     ensures part { OnErr result (AppendsBeginning (W.taken out.old) (W.taken out.new)
         (text.old.items
-        ++ joined_row_texts (T.line telling.now) placed.now.places.now placed.now.rows.now)) }
+        ++ joined_row_texts (T.line reporter.now) placed.now.places.now placed.now.rows.now)) }
     ensures failed { IfErr result (λ error. error ≡ WriteError.Failed
         → W.failed out.new ≡ one_more (W.failed out.old)) }
     // Where memory was wanting no put failed.
@@ -37,7 +37,7 @@ pub fn put_row_texts<T: Telling, W: Sink>(
 {
     let (places, rows) = (placed.places, placed.rows);
     for i in 0..rows.len() {
-        telling.push_row_text(alloc, places[i], &rows[i], text)?;
+        reporter.push_row_text(alloc, places[i], &rows[i], text)?;
         put_bytes_if_enough(text, out)?;
     }
     Ok(())

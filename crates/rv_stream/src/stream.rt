@@ -10,64 +10,64 @@ ghost use Rattle.rv_stream.specs.Streams.{joined_row_texts};
 
 use crate::error::{BothError, StreamError};
 use crate::failure_limit::FailureLimit;
-use crate::first_rows::FirstRows;
-use crate::made_texts::MadeTexts;
-use crate::row_texts::RowTexts;
-use crate::streamed::Streamed;
-use crate::told_row::ToldRows;
+use crate::reported_row::ReportedRowWork;
+use crate::row_sender::RowSender;
+use crate::rows_up_to_failure::RowsUpToFailure;
+use crate::streamed::StreamSpec;
+use crate::text_sender::TextSender;
 use rv_engine::{Both, Crew, Flow, RunError, run_jobs};
 use rv_fleet::{Batch, Rows, Sink};
-use rv_rows::Telling;
+use rv_rows::RowReporter;
 use std::marker::Brand;
 use std::sync::Wait;
 use std::thread::Threads;
 
-/// A telling of rows, and the sink that takes what it tells.
+/// A reporter of rows, and the sink that takes what it tells.
 #[derive(Drop)]
-pub struct ToldTo<'t, T: Telling, W: Sink + Drop> {
-    pub telling: &'t T,
+pub struct ReporterOutput<'t, T: RowReporter, W: Sink + Drop> {
+    pub reporter: &'t T,
     pub out: W,
 }
 
 /// Runs a batch up to the failure that ends it, if one does, and sends what is told of each of these jobs in list order, as soon as that of
 /// all jobs before it is out. The sink comes back: with the rows it took what is told of them, and no put failed; with an error it took a
 /// beginning of that.
-pub fn stream_rows<R: Threads + Wait + Sync, T: Telling + Sync, W: Sink + Drop + Send>(
+pub fn stream_rows<R: Threads + Wait + Sync, T: RowReporter + Sync, W: Sink + Drop + Send>(
     crew: &Crew<'_, R>,
     batch: &Batch<'_>,
     limit: &FailureLimit<'_>,
-    telling: &T,
+    reporter: &T,
     out: W,
 ) -> (W, Result<Rows, StreamError>)
     ensures rows { IfOk result.1 (λ rows. rows ≡ rows_within limit.now (batch_rows batch.now)) }
     ensures few { IfOk result.1 (λ rows. length rows ≤ length batch.now.places.now) }
-    ensures all { OnOk result.1 (Appends (W.taken out) (W.taken result.0) (joined_row_texts (T.line telling.now)
+    ensures all { OnOk result.1 (Appends (W.taken out) (W.taken result.0) (joined_row_texts (T.line reporter.now)
         batch.now.places.now (rows_within limit.now (batch_rows batch.now)))) }
     ensures counted { OnOk result.1 (W.failed result.0 ≡ W.failed out) }
-    ensures part { OnErr result.1 (AppendsBeginning (W.taken out) (W.taken result.0) (joined_row_texts (T.line telling.now)
+    ensures part { OnErr result.1 (AppendsBeginning (W.taken out) (W.taken result.0) (joined_row_texts (T.line reporter.now)
         batch.now.places.now (rows_within limit.now (batch_rows batch.now)))) }
 {
     if let Some(0) = limit.failures {
         return (out, Ok(Rows::new(Vec::new(crew.alloc))));
     }
-    stream_first_rows::<Brand, R, T, W>(crew, batch, limit, ToldTo { telling, out })
+    stream_first_rows::<Brand, R, T, W>(crew, batch, limit, ReporterOutput { reporter, out })
 }
 
 // The same where a failure, if any, ends the run, and a stream of its own says what is told.
 fn stream_first_rows<
-    J: Streamed + Send,
+    J: StreamSpec + Send,
     R: Threads + Wait + Sync,
-    T: Telling + Sync,
+    T: RowReporter + Sync,
     W: Sink + Drop + Send,
 >(
     crew: &Crew<'_, R>,
     batch: &Batch<'_>,
     limit: &FailureLimit<'_>,
-    to: ToldTo<'_, T, W>,
+    to: ReporterOutput<'_, T, W>,
 ) -> (W, Result<Rows, StreamError>)
     requires goes { limit.now.failures ≡ Some 0 → ⊥ }
     requires before { (J.before ≡ W.taken to.out) × (J.failures ≡ W.failed to.out) }
-    requires told { (J.line ≡ T.line to.telling.now) × (J.places ≡ batch.now.places.now) }
+    requires told { (J.line ≡ T.line to.reporter.now) × (J.places ≡ batch.now.places.now) }
     requires ends { (J.most ≡ limit.now.failures) × (J.judging ≡ judging_of limit.now.judge) }
     ensures rows { IfOk result.1 (λ rows. rows ≡ rows_up_to J.most (fails J.judging) (batch_rows batch.now)) }
     ensures few { IfOk result.1 (λ rows. length rows ≤ length J.places) }
@@ -77,51 +77,51 @@ fn stream_first_rows<
     ensures part { OnErr result.1 (AppendsBeginning J.before (W.taken result.0)
         (joined_row_texts J.line J.places (rows_up_to J.most (fails J.judging) (batch_rows batch.now)))) }
 {
-    let work = ToldRows {
+    let work = ReportedRowWork {
         batch,
-        telling: to.telling,
+        reporter: to.reporter,
     };
     let listener = Both {
-        first: MadeTexts::<J, W>::new(crew.alloc, to.out),
-        second: FirstRows::<J>::new(crew.alloc, limit),
+        first: TextSender::<J, W>::new(crew.alloc, to.out),
+        second: RowsUpToFailure::<J>::new(crew.alloc, limit),
     };
-    let (heard, ran) = run_jobs(crew, &work, listener);
-    let (out, sent) = heard.first.outbox.finish();
+    let (received, ran) = run_jobs(crew, &work, listener);
+    let (out, sent) = received.first.outbox.finish();
     if let Err(error) = sent {
         return (out, Err(StreamError::from(error)));
     }
-    (out, rows_of_run::<J>(ran, heard.second))
+    (out, rows_of_run::<J>(ran, received.second))
 }
 
 /// The same for two sinks: what the second takes is told of the rows alone.
 pub fn stream_rows_to_both<
     R: Threads + Wait + Sync,
-    T: Telling + Sync,
-    U: Telling + Sync,
+    T: RowReporter + Sync,
+    U: RowReporter + Sync,
     W: Sink + Drop + Send,
     V: Sink + Drop + Send,
 >(
     crew: &Crew<'_, R>,
     batch: &Batch<'_>,
     limit: &FailureLimit<'_>,
-    first: ToldTo<'_, T, W>,
-    second: ToldTo<'_, U, V>,
+    first: ReporterOutput<'_, T, W>,
+    second: ReporterOutput<'_, U, V>,
 ) -> (W, V, Result<Rows, BothError>)
     ensures rows { IfOk result.2 (λ rows. rows ≡ rows_within limit.now (batch_rows batch.now)) }
     ensures few { IfOk result.2 (λ rows. length rows ≤ length batch.now.places.now) }
     ensures first { OnOk result.2 (Appends (W.taken first.entry.out) (W.taken result.0)
-        (joined_row_texts (T.line first.entry.telling.now) batch.now.places.now
+        (joined_row_texts (T.line first.entry.reporter.now) batch.now.places.now
         (rows_within limit.now (batch_rows batch.now)))) }
     ensures second { OnOk result.2 (Appends (V.taken second.entry.out) (V.taken result.1)
-        (joined_row_texts (U.line second.entry.telling.now) batch.now.places.now
+        (joined_row_texts (U.line second.entry.reporter.now) batch.now.places.now
         (rows_within limit.now (batch_rows batch.now)))) }
     ensures counted { OnOk result.2
         ((W.failed result.0 ≡ W.failed first.entry.out) × (V.failed result.1 ≡ V.failed second.entry.out)) }
     ensures first_part { OnErr result.2 (AppendsBeginning (W.taken first.entry.out) (W.taken result.0)
-        (joined_row_texts (T.line first.entry.telling.now) batch.now.places.now
+        (joined_row_texts (T.line first.entry.reporter.now) batch.now.places.now
         (rows_within limit.now (batch_rows batch.now)))) }
     ensures second_part { OnErr result.2 (AppendsBeginning (V.taken second.entry.out) (V.taken result.1)
-        (joined_row_texts (U.line second.entry.telling.now) batch.now.places.now
+        (joined_row_texts (U.line second.entry.reporter.now) batch.now.places.now
         (rows_within limit.now (batch_rows batch.now)))) }
 {
     if let Some(0) = limit.failures {
@@ -132,25 +132,25 @@ pub fn stream_rows_to_both<
 
 // The same where a failure, if any, ends the run, and two streams of their own say what is told.
 fn stream_first_rows_to_both<
-    J: Streamed + Send,
-    K: Streamed + Send,
+    J: StreamSpec + Send,
+    K: StreamSpec + Send,
     R: Threads + Wait + Sync,
-    T: Telling + Sync,
-    U: Telling + Sync,
+    T: RowReporter + Sync,
+    U: RowReporter + Sync,
     W: Sink + Drop + Send,
     V: Sink + Drop + Send,
 >(
     crew: &Crew<'_, R>,
     batch: &Batch<'_>,
     limit: &FailureLimit<'_>,
-    first: ToldTo<'_, T, W>,
-    second: ToldTo<'_, U, V>,
+    first: ReporterOutput<'_, T, W>,
+    second: ReporterOutput<'_, U, V>,
 ) -> (W, V, Result<Rows, BothError>)
     requires goes { limit.now.failures ≡ Some 0 → ⊥ }
     requires first_before { (J.before ≡ W.taken first.out) × (J.failures ≡ W.failed first.out) }
     requires second_before { (K.before ≡ V.taken second.out) × (K.failures ≡ V.failed second.out) }
-    requires first_told { (J.line ≡ T.line first.telling.now) × (J.places ≡ batch.now.places.now) }
-    requires second_told { (K.line ≡ U.line second.telling.now) × (K.places ≡ batch.now.places.now) }
+    requires first_told { (J.line ≡ T.line first.reporter.now) × (J.places ≡ batch.now.places.now) }
+    requires second_told { (K.line ≡ U.line second.reporter.now) × (K.places ≡ batch.now.places.now) }
     requires ends { (J.most ≡ limit.now.failures) × (J.judging ≡ judging_of limit.now.judge) }
     ensures rows { IfOk result.2 (λ rows. rows ≡ rows_up_to J.most (fails J.judging) (batch_rows batch.now)) }
     ensures few { IfOk result.2 (λ rows. length rows ≤ length J.places) }
@@ -164,28 +164,28 @@ fn stream_first_rows_to_both<
     ensures second_part { OnErr result.2 (AppendsBeginning K.before (V.taken result.1)
         (joined_row_texts K.line K.places (rows_up_to J.most (fails J.judging) (batch_rows batch.now)))) }
 {
-    let work = ToldRows {
+    let work = ReportedRowWork {
         batch: &*batch,
-        telling: first.telling,
+        reporter: first.reporter,
     };
     let listener = Both {
-        first: MadeTexts::<J, W>::new(crew.alloc, first.out),
+        first: TextSender::<J, W>::new(crew.alloc, first.out),
         second: Both {
-            first: RowTexts::<K, U, V>::new(crew.alloc, second.telling, batch.places, second.out),
-            second: FirstRows::<J>::new(crew.alloc, limit),
+            first: RowSender::<K, U, V>::new(crew.alloc, second.reporter, batch.places, second.out),
+            second: RowsUpToFailure::<J>::new(crew.alloc, limit),
         },
     };
-    let (heard, ran) = run_jobs(crew, &work, listener);
+    let (received, ran) = run_jobs(crew, &work, listener);
     let Both {
         first: texts,
         second: rest,
-    } = heard;
+    } = received;
     let Both {
-        first: row_texts,
+        first: row_sender,
         second: rows,
     } = rest;
     let (out, sent) = texts.outbox.finish();
-    let (other, sent_other) = row_texts.outbox.finish();
+    let (other, sent_other) = row_sender.outbox.finish();
     if let Err(error) = sent {
         return (out, other, Err(BothError::First(StreamError::from(error))));
     }
@@ -199,9 +199,9 @@ fn stream_first_rows_to_both<
 }
 
 // The rows of a run, if it came to its end and they were kept.
-fn rows_of_run<J: Streamed>(
+fn rows_of_run<J: StreamSpec>(
     ran: Result<Flow, RunError>,
-    first: FirstRows<'_, J>,
+    first: RowsUpToFailure<'_, J>,
 ) -> Result<Rows, StreamError>
     ensures rows { IfOk result (λ rows. rows ≡ first.entry.rows.items) }
     ensures kept { IfOk result (λ _. first.entry.refused ≡ false) }

@@ -3,7 +3,7 @@
 use std::marker::Brand;
 
 /// What a stream is about, which is known before it begins: ghost members alone, picked by each stream.
-pub trait Streamed {
+pub trait StreamSpec {
     ghost use Rattle.std.specs.Prelude.{ℕ, List, Option};
     ghost use Rattle.rv_expect.specs.Judgement.{Judging};
     ghost use Rattle.rv_rows.specs.declared_row.Row.{Row};
@@ -24,7 +24,7 @@ pub trait Streamed {
     ghost judging: { Judging };
 }
 
-impl Streamed for Brand {
+impl StreamSpec for Brand {
     ghost use Rattle.std.specs.Prelude.{[], None};
     ghost use Rattle.rv_expect.specs.Judgement.{judging_by_rule};
     ghost use Rattle.rv_expect.specs.declared.passing.Rule.TheVariants.{Strict};

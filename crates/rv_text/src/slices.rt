@@ -37,7 +37,7 @@ pub(crate) fn char_len(first: u8) -> usize
 }
 
 /// What was met and what is expected, from a place on.
-pub fn met_and_expected_from<'a>(
+pub fn actual_and_expected_from<'a>(
     place: usize,
     met: &'a [u8],
     expected: &'a [u8],

@@ -1,3 +1,3 @@
 pub mod Answering
 pub mod Failing
-pub mod Telling
+pub mod RowReporter

@@ -101,7 +101,7 @@ struct ImageAsked<'a> {
 
 /// A job list that words ask for.
 #[derive(Clone, Copy)]
-struct ListAsked<'a> {
+struct ListArgs<'a> {
     path: &'a str,
     workers: u32,
     group: u32,
@@ -149,7 +149,7 @@ impl<'a, R: Threads + Wait, G: Gate> Host<'a, R, G> {
                 workers,
                 group,
             } => {
-                let asked = ListAsked {
+                let asked = ListArgs {
                     path: jobs,
                     workers,
                     group,
@@ -162,7 +162,7 @@ impl<'a, R: Threads + Wait, G: Gate> Host<'a, R, G> {
     // The list is read, and refused if it has a fault, before the files of its jobs are.
     fn answer_list<S: Store, O: Sink, E: Sink>(
         &self,
-        asked: &ListAsked<'_>,
+        asked: &ListArgs<'_>,
         store: &mut S,
         out: &mut O,
         errors: &mut E,

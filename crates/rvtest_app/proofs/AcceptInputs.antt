@@ -2,9 +2,9 @@
 use Rattle.std.proofs.Common.{◌≡◌, ◌∙◌, ◌||◌, ◌∷◌, [], ℕ, List, Option, Some, None, IfSome, Result, Ok, Err, OnOk, Bool, false, ap, refl, sym}
 use Rattle.std.specs.List.{list_any}
 use Rattle.rv_command.specs.Texts.{optional_text}
-use Rattle.rv_files.specs.Placed.{PlacedFile}
+use Rattle.rv_files.specs.Placed.{CommittedFile}
 use Rattle.rv_lists.specs.declared.job.Job.{Job}
-use Rattle.rvtest_cli.specs.declared.accept.AcceptAsked.{AcceptAsked}
+use Rattle.rvtest_cli.specs.declared.accept.AcceptArgs.{AcceptArgs}
 use Rattle.rvtest_app.specs.Overwrites.{AreAcceptFilesApart, IsUnread, golden_paths_of_marked, inputs_of_accept, is_golden_read, is_read, read_paths}
 use Rattle.rvtest_app.specs.declared.read_files.ReadPath.{ReadPath}
 
@@ -14,7 +14,7 @@ any_of_paths : (read : List (List ℕ)) (files : List ReadPath)
 any_of_paths read [] = refl
 any_of_paths read (file ∷ files) = ap (λ rest. is_golden_read read file || rest) (any_of_paths read files)
 
-pub accept_apart : (placed : Option (List PlacedFile)) (words : AcceptAsked) (jobs : List Job) (marks : List Bool)
+pub accept_apart : (placed : Option (List CommittedFile)) (words : AcceptArgs) (jobs : List Job) (marks : List Bool)
     (list inputs : List (List ℕ)) (files : List ReadPath)
     → read_paths files ≡ golden_paths_of_marked (optional_text words.run.root) jobs marks
     → IfSome placed (λ _. list ≡ words.run.list.now ∷ [])

@@ -4,14 +4,14 @@ use Rattle.std.specs.List.{All, Any}
 use Rattle.std.proofs.lemmas.List.{get_or_default}
 use Rattle.std.proofs.lemmas.List.Elements.{All-cons, All-head, All-nil, All-tail}
 use Rattle.rv_accept.proofs.Public.{targets_are_of_jobs}
-use Rattle.rv_accept.specs.Claims.{claims_of_runs}
+use Rattle.rv_accept.specs.Claims.{golden_texts_of_runs}
 use Rattle.rv_accept.specs.Targets.{with_target}
-use Rattle.rv_accept.specs.declared.claims.Claim.{Claim}
+use Rattle.rv_accept.specs.declared.claims.GoldenText.{GoldenText}
 use Rattle.rv_accept.specs.declared.runs.JobRun.{JobRun}
 use Rattle.rv_accept.specs.declared.targets.Target.{Target}
 use Rattle.rv_accept_text.specs.declared.golden_file.GoldenFile.{GoldenFile}
 use Rattle.rv_base.specs.Files.{FileContents}
-use Rattle.rvtest_cli.specs.declared.accept.AcceptAsked.{AcceptAsked}
+use Rattle.rvtest_cli.specs.declared.accept.AcceptArgs.{AcceptArgs}
 use Rattle.rv_command.specs.Texts.{optional_text}
 use Rattle.rv_command.specs.declared.stop.Stop.{Stop}
 use Rattle.rv_files.specs.UnreadPaths.{resolved_path}
@@ -47,7 +47,7 @@ places_of_targets known root jobs [] (file ∷ files) are each = elim are [ ]
 places_of_targets known root jobs (target ∷ targets) [] are each = elim are [ ]
 
 -- the file of a target that was not read is one of the list
-pub golden_of_targets : (known : Option FileContents) (words : AcceptAsked) (jobs : List Job) (targets : List Target)
+pub golden_of_targets : (known : Option FileContents) (words : AcceptArgs) (jobs : List Job) (targets : List Target)
     (why : Stop) → All (λ (target : Target). IsGoldenPath jobs target.path) targets
     → AreTargetsUnread known (optional_text words.run.root) targets why → IsGoldenUnreadStop known words jobs why
 golden_of_targets known words jobs targets why each = ⊎_elim inl
@@ -57,13 +57,13 @@ golden_of_targets known words jobs targets why each = ⊎_elim inl
     ))
 
 -- a golden file that was not read stops the command
-pub stop_of_unread : (known : Option FileContents) (words : AcceptAsked) (jobs : List Job) (why : Stop)
+pub stop_of_unread : (known : Option FileContents) (words : AcceptArgs) (jobs : List Job) (why : Stop)
     → IsGoldenUnreadStop known words jobs why → IsAcceptingStop known words jobs why
 stop_of_unread known words jobs why =
     ⊎_elim inl (λ is. inr (inr (inr (is.0, (is.1.0, inl is.1.1)))))
 
 -- the list, or a golden file, was not written
-stop_of_files : (known : Option FileContents) (words : AcceptAsked) (jobs : List Job) (list : List ℕ)
+stop_of_files : (known : Option FileContents) (words : AcceptArgs) (jobs : List Job) (list : List ℕ)
     (files : List GoldenFile) (why : Stop) → list ≡ words.run.list.now
     → All (λ (file : GoldenFile). IsGoldenPlace (optional_text words.run.root) jobs file.place) files
     → IsStopOfFiles (IsUnputStop known) list files why
@@ -71,7 +71,7 @@ stop_of_files : (known : Option FileContents) (words : AcceptAsked) (jobs : List
 stop_of_files known words jobs list files why same each = ⊎_elim (λ own. (list, (inl same, own)))
     (λ some. (some.1.place, (inr (rw some.3 at (each some.0 some.1 some.2)), some.4)))
 
-pub stop_of_put : (known : Option FileContents) (words : AcceptAsked) (jobs : List Job) (list : List ℕ)
+pub stop_of_put : (known : Option FileContents) (words : AcceptArgs) (jobs : List Job) (list : List ℕ)
     (files : List GoldenFile) (why : Stop) → list ≡ words.run.list.now
     → All (λ (file : GoldenFile). IsGoldenPlace (optional_text words.run.root) jobs file.place) files
     → IsPutAcceptedStop known words.check list files why → IsAcceptingStop known words jobs why
@@ -82,21 +82,21 @@ stop_of_put known words jobs list files why same each = ⊎_elim inl (⊎_elim (
 -- ---- by the claims of runs
 
 -- the targets of these claims are golden files of the list
-golden_paths : (jobs : List Job) (runs : List (Option JobRun)) (claims : List Claim) (targets : List Target)
-    → targets ≡ fold (with_target runs claims) [] claims → claims ≡ claims_of_runs 0 jobs runs
+golden_paths : (jobs : List Job) (runs : List (Option JobRun)) (claims : List GoldenText) (targets : List Target)
+    → targets ≡ fold (with_target runs claims) [] claims → claims ≡ golden_texts_of_runs 0 jobs runs
     → All (λ (target : Target). IsGoldenPath jobs target.path) targets
 golden_paths jobs runs claims targets found are = rw (found, are) (targets_are_of_jobs jobs runs)
 
-pub targets_unread : (known : Option FileContents) (words : AcceptAsked) (jobs : List Job) (runs : List (Option JobRun))
-    (claims : List Claim) (targets : List Target) (why : Stop)
-    → targets ≡ fold (with_target runs claims) [] claims → claims ≡ claims_of_runs 0 jobs runs
+pub targets_unread : (known : Option FileContents) (words : AcceptArgs) (jobs : List Job) (runs : List (Option JobRun))
+    (claims : List GoldenText) (targets : List Target) (why : Stop)
+    → targets ≡ fold (with_target runs claims) [] claims → claims ≡ golden_texts_of_runs 0 jobs runs
     → AreTargetsUnread known (optional_text words.run.root) targets why → IsGoldenUnreadStop known words jobs why
 targets_unread known words jobs runs claims targets why found are =
     golden_of_targets known words jobs targets why (golden_paths jobs runs claims targets found are)
 
-pub files_unput : (known : Option FileContents) (words : AcceptAsked) (jobs : List Job) (list : List ℕ)
-    (runs : List (Option JobRun)) (claims : List Claim) (files : List GoldenFile) (why : Stop)
-    → list ≡ words.run.list.now → claims ≡ claims_of_runs 0 jobs runs
+pub files_unput : (known : Option FileContents) (words : AcceptArgs) (jobs : List Job) (list : List ℕ)
+    (runs : List (Option JobRun)) (claims : List GoldenText) (files : List GoldenFile) (why : Stop)
+    → list ≡ words.run.list.now → claims ≡ golden_texts_of_runs 0 jobs runs
     → AreGoldenFiles known (optional_text words.run.root) (fold (with_target runs claims) [] claims) files
     → IsPutAcceptedStop known words.check list files why → IsAcceptingStop known words jobs why
 files_unput known words jobs list runs claims files why same are golden =

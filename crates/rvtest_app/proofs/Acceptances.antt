@@ -2,21 +2,21 @@
 use Rattle.std.proofs.Common.{None, ◌≡◌, ◌∙◌, [], Bool, List, Option, IfSome, Result, Ok, ap, fold, length, map, refl}
 use Rattle.std.proofs.lemmas.List.{length-map}
 use Rattle.rv_accept.proofs.Public.{marks_count}
-use Rattle.rv_accept.specs.Claims.{claims_of_runs}
+use Rattle.rv_accept.specs.Claims.{golden_texts_of_runs}
 use Rattle.rv_accept.specs.Edits.{edited_from}
-use Rattle.rv_accept.specs.Meant.{meant_jobs}
-use Rattle.rv_accept.specs.Sharing.{marks_to_run}
+use Rattle.rv_accept.specs.Meant.{intended_jobs}
+use Rattle.rv_accept.specs.Sharing.{jobs_to_run}
 use Rattle.rv_accept.specs.Targets.{with_target}
-use Rattle.rv_accept.specs.declared.claims.Claim.{Claim}
+use Rattle.rv_accept.specs.declared.claims.GoldenText.{GoldenText}
 use Rattle.rv_accept.specs.declared.edits.Edit.{Edit}
 use Rattle.rv_accept.specs.declared.runs.JobRun.{JobRun}
 use Rattle.rv_accept_text.specs.NewLists.{AreLeftFrom}
-use Rattle.rv_accept_text.specs.declared.accepting.Accepting.{Accepting}
+use Rattle.rv_accept_text.specs.declared.accepting.AcceptSummary.{AcceptSummary}
 use Rattle.rv_accept_text.specs.declared.golden_file.GoldenFile.{GoldenFile}
 use Rattle.rv_accept_text.specs.declared.golden_file.ListFile.{ListFile}
 use Rattle.rv_accept_text.specs.declared.new_list.NewList.{NewList}
 use Rattle.rv_base.specs.Files.{FileContents}
-use Rattle.rvtest_cli.specs.declared.accept.AcceptAsked.{AcceptAsked}
+use Rattle.rvtest_cli.specs.declared.accept.AcceptArgs.{AcceptArgs}
 use Rattle.rv_command.specs.Texts.{optional_text}
 use Rattle.rv_lists.specs.JobList.{job_list_of}
 use Rattle.rv_lists.specs.Jobs.{without_expectations}
@@ -24,14 +24,14 @@ use Rattle.rv_lists.specs.declared.job.Job.{Job}
 use Rattle.rvtest_app.specs.Accepts.{AreGoldenFiles, IsOutcome, accepting_of}
 
 -- of the file of the list, its text and its jobs
-pub outcome_told : (known : Option FileContents) (words : AcceptAsked) (list : ListFile) (judged : List (Option JobRun))
-    (claims : List Claim) (files : List GoldenFile) (new : NewList) (told : Accepting)
+pub outcome_told : (known : Option FileContents) (words : AcceptArgs) (list : ListFile) (judged : List (Option JobRun))
+    (claims : List GoldenText) (files : List GoldenFile) (new : NewList) (told : AcceptSummary)
     → list.path.now ≡ words.run.list.now → AreLeftFrom judged new.runs.items
-    → claims ≡ claims_of_runs 0 list.jobs.now new.runs.items
+    → claims ≡ golden_texts_of_runs 0 list.jobs.now new.runs.items
     → AreGoldenFiles known (optional_text words.run.root) (fold (with_target new.runs.items claims) [] claims) files
     → IfSome new.text (λ text. (edits : List Edit) × (text.items ≡ edited_from 0 list.text.now edits))
-    → IfSome new.text (λ text. job_list_of text.items ≡ Ok (meant_jobs list.jobs.now new.runs.items))
-    → (new.text ≡ None → meant_jobs list.jobs.now new.runs.items ≡ list.jobs.now)
+    → IfSome new.text (λ text. job_list_of text.items ≡ Ok (intended_jobs list.jobs.now new.runs.items))
+    → (new.text ≡ None → intended_jobs list.jobs.now new.runs.items ≡ list.jobs.now)
     → accepting_of list new.runs.items claims files new told
     → IsOutcome known words list.text.now list.jobs.now judged told
 outcome_told known words list judged claims files new told path left are golden edited meant unchanged of = record {
@@ -49,7 +49,7 @@ outcome_told known words list judged claims files new told path left are golden 
 -- a list that is read twice gives the same jobs, so there is a mark for each that expects nothing
 pub bare_count : {E : Type 0} (read : Result (List Job) E) (jobs again bare : List Job) (chosen marks : List Bool)
     → read ≡ Ok jobs → read ≡ Ok again → bare ≡ map without_expectations again → length chosen ≡ length jobs
-    → marks ≡ marks_to_run jobs chosen → length marks ≡ length bare
+    → marks ≡ jobs_to_run jobs chosen → length marks ≡ length bare
 bare_count read jobs again bare chosen marks listed more are counted marked =
     let same : jobs ≡ again = cc (listed, more) in
     ap length marked ∙ marks_count jobs chosen counted

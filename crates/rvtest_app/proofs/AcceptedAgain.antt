@@ -10,24 +10,24 @@ use Rattle.std.proofs.lemmas.Option.{get_or_from_slice_get, slice_get-map}
 use Rattle.std.proofs.lemmas.Slice.Eq.{bytes_eq-Decides}
 use Rattle.rv_accept.proofs.Public.{IsAccepted, accepted_at, agreed, console_claim_among, console_is_target, image_that_ran, meant_at, passes_over_files, ran_over, outcome_of_its_row, console_path_stays, row_at_place, signature_claim_among, signature_is_target, targets_have_fates, unclaimed}
 use Rattle.rv_accept.specs.Accepted.{accepted_job}
-use Rattle.rv_accept.specs.Claims.{claims_of_runs}
-use Rattle.rv_accept.specs.Fates.{fate_of_file, names_file}
-use Rattle.rv_accept.specs.Meant.{meant_job, meant_jobs}
+use Rattle.rv_accept.specs.Claims.{golden_texts_of_runs}
+use Rattle.rv_accept.specs.Fates.{outcome_of_golden_file, names_file}
+use Rattle.rv_accept.specs.Meant.{meant_job, intended_jobs}
 use Rattle.rv_accept.specs.Passing.{FindsItsFiles, is_pass_or_unasked, outcome_of_row}
 use Rattle.rv_accept.specs.Runs.{accepted_row, is_accepted_run}
-use Rattle.rv_accept.specs.Sharing.{is_path, marks_to_run, names_golden_file}
+use Rattle.rv_accept.specs.Sharing.{is_path, jobs_to_run, names_golden_file}
 use Rattle.rv_accept.specs.Targets.{is_of_accepted, is_target, with_target}
-use Rattle.rv_accept.specs.declared.claims.Claim.{Claim}
-use Rattle.rv_accept.specs.declared.fates.Fate.{Fate}
-use Rattle.rv_accept.specs.declared.fates.Fate.TheVariants as fate
+use Rattle.rv_accept.specs.declared.claims.GoldenText.{GoldenText}
+use Rattle.rv_accept.specs.declared.fates.GoldenFileOutcome.{GoldenFileOutcome}
+use Rattle.rv_accept.specs.declared.fates.GoldenFileOutcome.TheVariants as fate
 use Rattle.rv_accept.specs.declared.runs.JobRun.{JobRun}
 use Rattle.rv_accept.specs.declared.targets.Target.{Target}
 use Rattle.rv_accept_text.proofs.Public.{accepted_from_the_first, list_is_no_image}
 use Rattle.rv_accept_text.specs.GoldenFiles.{elf_magic, is_kept, is_left, is_left_of}
-use Rattle.rv_accept_text.specs.declared.accepting.Accepting.{Accepting}
+use Rattle.rv_accept_text.specs.declared.accepting.AcceptSummary.{AcceptSummary}
 use Rattle.rv_accept_text.specs.declared.golden_file.GoldenFile.{GoldenFile}
 use Rattle.rv_base.specs.Files.{FileContents}
-use Rattle.rvtest_cli.specs.declared.accept.AcceptAsked.{AcceptAsked}
+use Rattle.rvtest_cli.specs.declared.accept.AcceptArgs.{AcceptArgs}
 use Rattle.rv_command.specs.Texts.{IsTextAt, optional_text}
 use Rattle.rv_files.specs.UnreadPaths.{contents_below, resolved_path}
 use Rattle.rv_jobs.specs.Jobs.{console_path, single_job, without_expectations}
@@ -46,7 +46,7 @@ use Rattle.rvtest_app.proofs.Standings.{ended_well, stands_at}
 use Rattle.rvtest_app.proofs.StoreAfter.{any_elim, golden_files_there, image_stays, list_is_there, list_stays, stood}
 use Rattle.rvtest_app.specs.AcceptLaw.{AreFilesRead, HaveOneTextEach, IsRowIn, IsStoreAfter, IsWhollyAccepted, is_read}
 use Rattle.rvtest_app.specs.Accepts.{AreGoldenFiles, IsAcceptedOfMarks, IsOutcome, acceptance_of, written_files}
-use Rattle.rvtest_app.specs.Said.{Said}
+use Rattle.rvtest_app.specs.CommandOutputs.{CommandOutputs}
 
 -- ---- what was read
 
@@ -104,13 +104,13 @@ content_of store root answers path bytes are read holds =
 -- ---- golden files
 
 -- a file of those that are told is that of its target
-abbrev IsOf : Option (List ℕ) → List Claim → GoldenFile → Type 0
+abbrev IsOf : Option (List ℕ) → List GoldenText → GoldenFile → Type 0
 IsOf root claims file = (file.place ≡ resolved_path root file.target.path)
-    × (file.target.fate ≡ fate_of_file file.target.path claims)
+    × (file.target.fate ≡ outcome_of_golden_file file.target.path claims)
 
-are_of : (before : FileContents) (root : Option (List ℕ)) (claims : List Claim) (targets : List Target)
+are_of : (before : FileContents) (root : Option (List ℕ)) (claims : List GoldenText) (targets : List Target)
     (files : List GoldenFile) → AreGoldenFiles (Some before) root targets files
-    → All (λ (target : Target). target.fate ≡ fate_of_file target.path claims) targets → All (IsOf root claims) files
+    → All (λ (target : Target). target.fate ≡ outcome_of_golden_file target.path claims) targets → All (IsOf root claims) files
 are_of before root claims [] [] are fates = All-nil (IsOf root claims)
 are_of before root claims [] (file ∷ files) are fates = absurd are
 are_of before root claims (target ∷ targets) [] are fates = absurd are
@@ -118,11 +118,11 @@ are_of before root claims (target ∷ targets) (file ∷ files) are fates =
     let of = are.0.of in
     All-cons (IsOf root claims) file files (
       rw of are.0.leads,
-      rw of (All-head (λ (target : Target). target.fate ≡ fate_of_file target.path claims) target targets
+      rw of (All-head (λ (target : Target). target.fate ≡ outcome_of_golden_file target.path claims) target targets
           fates),
     )
     (are_of before root claims targets files are.1
-    (All-tail (λ (target : Target). target.fate ≡ fate_of_file target.path claims) target targets fates))
+    (All-tail (λ (target : Target). target.fate ≡ outcome_of_golden_file target.path claims) target targets fates))
 
 -- where a file is a target, it is told
 is_told : (before : FileContents) (root : Option (List ℕ)) (path : List ℕ) (targets : List Target)
@@ -140,7 +140,7 @@ is_told before root path (target ∷ targets) (file ∷ files) are is =
     go false is behind = behind is
 
 -- the fate of a file that is not left, and that a job names
-agreed_fate : (text : List ℕ) (what : Fate) (kept : Bool) → is_left_of kept what ≡ false
+agreed_fate : (text : List ℕ) (what : GoldenFileOutcome) (kept : Bool) → is_left_of kept what ≡ false
     → (what ≡ fate.Unclaimed → what ≡ fate.Agreed text)
     → ((other : List ℕ) → what ≡ fate.Agreed other → other ≡ text) → what ≡ fate.Agreed text
 agreed_fate text fate.Unclaimed kept left none same = none refl
@@ -184,15 +184,15 @@ accepted_row_of run accepted = rw accepted refl
 
 -- ---- over what `accept` came to
 
-module _ (words : AcceptAsked) (before after : FileContents) (bytes : List ℕ) (jobs : List Job)
-    (judged : List (Option JobRun)) (told : Accepting) (outcome : IsOutcome (Some before) words bytes jobs judged told)
+module _ (words : AcceptArgs) (before after : FileContents) (bytes : List ℕ) (jobs : List Job)
+    (judged : List (Option JobRun)) (told : AcceptSummary) (outcome : IsOutcome (Some before) words bytes jobs judged told)
     (read : IsTextAt (Some before) words.run.list.now bytes) (listed : job_list_of bytes ≡ Ok jobs)
     (store : IsStoreAfter (written_files told) before after) (alike : HaveOneTextEach store.leads told.files.now) where
   abbrev root : Option (List ℕ)
   root = optional_text words.run.root
 
-  abbrev claims : List Claim
-  claims = claims_of_runs 0 jobs told.runs.now
+  abbrev claims : List GoldenText
+  claims = golden_texts_of_runs 0 jobs told.runs.now
 
   abbrev targets : List Target
   targets = fold (with_target told.runs.now claims) [] claims
@@ -211,13 +211,13 @@ module _ (words : AcceptAsked) (before after : FileContents) (bytes : List ℕ) 
 
   -- the list reads as the jobs that are meant
   list_reads : (text : List ℕ) (others : List Job) → after words.run.list.now ≡ Some text → job_list_of text ≡ Ok others
-      → others ≡ meant_jobs jobs told.runs.now
+      → others ≡ intended_jobs jobs told.runs.now
   list_reads text others stands reads = go told.new.now.text refl
     where
       there : after told.list.path.now ≡ Some text
       there = rw outcome.path stands
 
-      go : (new : Option (Vec ℕ Global)) → told.new.now.text ≡ new → others ≡ meant_jobs jobs told.runs.now
+      go : (new : Option (Vec ℕ Global)) → told.new.now.text ≡ new → others ≡ intended_jobs jobs told.runs.now
       go None is =
           let held = list_stays told before after store files_stood list_stood (rw is refl) in
           let same : text ≡ bytes = some_same text bytes (sym there ∙ held ∙ ap Some outcome.text) in
@@ -227,13 +227,13 @@ module _ (words : AcceptAsked) (before after : FileContents) (bytes : List ℕ) 
       go (Some new) is =
           let held = list_is_there told after new.items store.there (rw is refl) in
           let same : text ≡ new.items = some_same text new.items (sym there ∙ held) in
-          ok_same others (meant_jobs jobs told.runs.now) (job_list_of text) reads
+          ok_same others (intended_jobs jobs told.runs.now) (job_list_of text) reads
           (ap job_list_of same ∙ (rw is at outcome.meant))
 
   -- a golden file that an accepted job names, and that is not left, holds what the job gives it
   golden_text : (job : Job) (path text : List ℕ) → names_golden_file path job ≡ true → is_target path targets ≡ true
-      → (fate_of_file path claims ≡ fate.Unclaimed → fate_of_file path claims ≡ fate.Agreed text)
-      → ((other : List ℕ) → fate_of_file path claims ≡ fate.Agreed other → other ≡ text)
+      → (outcome_of_golden_file path claims ≡ fate.Unclaimed → outcome_of_golden_file path claims ≡ fate.Agreed text)
+      → ((other : List ℕ) → outcome_of_golden_file path claims ≡ fate.Agreed other → other ≡ text)
       → All (λ (file : GoldenFile). names_golden_file file.target.path job ≡ true → is_left told.list file ≡ false)
       told.files.now → after (resolved_path root path) ≡ Some text
   golden_text job path text names target unclaimed_is agreed_is left =
@@ -248,11 +248,11 @@ module _ (words : AcceptAsked) (before after : FileContents) (bytes : List ℕ) 
           let same : path ≡ file.target.path = (bytes_eq-Decides path file.target.path).0 is in
           let of = are_of before root claims targets told.files.now files_are
           (targets_have_fates told.runs.now claims claims []
-          (All-nil (λ (target : Target). target.fate ≡ fate_of_file target.path claims))) k d below in
+          (All-nil (λ (target : Target). target.fate ≡ outcome_of_golden_file target.path claims))) k d below in
           let kept = left k d below (rw same at names) in
-          let fate_is : fate_of_file path claims ≡ file.target.fate =
-          ap (λ path. fate_of_file path claims) same ∙ sym of.1 in
-          let agrees : file.target.fate ≡ fate.Agreed text = sym fate_is ∙ agreed_fate text (fate_of_file path claims)
+          let fate_is : outcome_of_golden_file path claims ≡ file.target.fate =
+          ap (λ path. outcome_of_golden_file path claims) same ∙ sym of.1 in
+          let agrees : file.target.fate ≡ fate.Agreed text = sym fate_is ∙ agreed_fate text (outcome_of_golden_file path claims)
           (is_kept told.list file) (rw fate_is kept) unclaimed_is agreed_is in
           let there = golden_files_there told before after store list_stood files_stood alike k d below text agrees kept in
           rw same (subst (λ place. after place ≡ Some text) of.0 there)
@@ -267,10 +267,10 @@ module _ (words : AcceptAsked) (before after : FileContents) (bytes : List ℕ) 
         (or_left (is_path path (console_path job.expect_console)) _ (rw named (same_bytes path)))
         (console_is_target place jobs told.runs.now job run path at ran accepted named)
         (λ none. true_or_false (bytes_eq path path) (same_bytes path)
-        (console_claim_among (λ (claim : Claim). names_file path claim ≡ false) place jobs told.runs.now job run path
+        (console_claim_among (λ (claim : GoldenText). names_file path claim ≡ false) place jobs told.runs.now job run path
         (unclaimed path claims none) at ran accepted named))
         (λ other is. some_same other run.row.console (sym
-        (console_claim_among (λ (claim : Claim). names_file path claim ≡ true → claim.text ≡ Some other) place jobs told.runs.now
+        (console_claim_among (λ (claim : GoldenText). names_file path claim ≡ true → claim.text ≡ Some other) place jobs told.runs.now
         job run path (agreed path other claims is) at ran accepted named (same_bytes path))))
         left
 
@@ -280,10 +280,10 @@ module _ (words : AcceptAsked) (before after : FileContents) (bytes : List ℕ) 
         (or_right (is_path path (console_path job.expect_console)) _ (rw named (same_bytes path)))
         (signature_is_target place jobs told.runs.now job run path at ran accepted named)
         (λ none. true_or_false (bytes_eq path path) (same_bytes path)
-        (signature_claim_among (λ (claim : Claim). names_file path claim ≡ false) place jobs told.runs.now job run path
+        (signature_claim_among (λ (claim : GoldenText). names_file path claim ≡ false) place jobs told.runs.now job run path
         (unclaimed path claims none) at ran accepted named))
         (λ other is. some_same other (lines_of_signature run.row.signature) (sym
-        (signature_claim_among (λ (claim : Claim). names_file path claim ≡ true → claim.text ≡ Some other) place jobs
+        (signature_claim_among (λ (claim : GoldenText). names_file path claim ≡ true → claim.text ≡ Some other) place jobs
         told.runs.now job run path (agreed path other claims is) at ran accepted named (same_bytes path))))
         left
 
@@ -320,7 +320,7 @@ module _ (words : AcceptAsked) (before after : FileContents) (bytes : List ℕ) 
 
 -- the job that the new list has at the place
 new_job : (jobs others : List Job) (runs : List (Option JobRun)) (place : ℕ) (job other : Job) (run : JobRun)
-    → others ≡ meant_jobs jobs runs → slice_get jobs place ≡ Some job → slice_get runs place ≡ Some (Some run)
+    → others ≡ intended_jobs jobs runs → slice_get jobs place ≡ Some job → slice_get runs place ≡ Some (Some run)
     → is_accepted_run run ≡ true → slice_get others place ≡ Some other
     → other ≡ accepted_job job run.row.ending run.row.console
 new_job jobs others runs place job other run are at ran accepted stands =
@@ -339,8 +339,8 @@ read_of_job answers job row files = record {
       (console_path_stays job.expect_console row.console) files.console;
 }
 
-pub passes_after : (words : AcceptAsked) (before after : FileContents) (bytes : List ℕ) (jobs : List Job)
-    (chosen : List Bool) (status : ℕ) (from to : Said) (place : ℕ) (job : Job) (row : Row)
+pub passes_after : (words : AcceptArgs) (before after : FileContents) (bytes : List ℕ) (jobs : List Job)
+    (chosen : List Bool) (status : ℕ) (from to : CommandOutputs) (place : ℕ) (job : Job) (row : Row)
     → IsTextAt (Some before) words.run.list.now bytes → job_list_of bytes ≡ Ok jobs
     → (accepted : IsAcceptedOfMarks (Some before) words bytes jobs chosen status from to)
     → (store : IsStoreAfter (written_files accepted.told) before after)
@@ -364,7 +364,7 @@ passes_after words before after bytes jobs chosen status from to place job row r
     ∙ get_or_from_slice_get (map without_expectations jobs) place (without_expectations job) (single_job [] 0 [])
     (slice_get-map without_expectations jobs place ∙ ap (option_map without_expectations) at) in
     let row_is : run.of.row ≡ row_of earlier (without_expectations job) =
-    row_at_place earlier (marks_to_run jobs chosen) place run.of.row (rw accepted.ran.are.are at of.row)
+    row_at_place earlier (jobs_to_run jobs chosen) place run.of.row (rw accepted.ran.are.are at of.row)
     ∙ ap (row_of earlier) bare in
     let jobs_are = list_reads words before after bytes jobs judged told outcome read listed store alike later.bytes later.jobs
     later.read later.listed in

@@ -9,9 +9,9 @@ use Rattle.rv_base.specs.Files.{FileContents}
 use Rattle.rv_command.specs.Stops.{IsListUnreadStop}
 use Rattle.rv_command.specs.declared.stop.Stop.{Stop}
 use Rattle.rv_files.specs.UnreadPaths.{resolved_path}
-use Rattle.rv_files.specs.Placed.{PlacedFile}
+use Rattle.rv_files.specs.Placed.{CommittedFile}
 use Rattle.rvtest_app.specs.Accepts.{AreGoldenFiles, IsGoldenFile}
-use Rattle.rvtest_app.specs.Outlets.{AreFilesPlaced}
+use Rattle.rvtest_app.specs.Outlets.{AreFilesCommitted}
 
 -- files of the last targets, behind these, are the files of all
 abbrev pub GoesOn : Option FileContents → Option (List ℕ) → List Target → List Target → List GoldenFile → Type 0
@@ -56,29 +56,29 @@ none_left (target ∷ rest) count counted none = absurd (omega (arith, counted, 
 
 -- ---- files that are put in their places
 
-pub nothing_placed : (before : Option (List PlacedFile)) → AreFilesPlaced before before (Some [])
+pub nothing_placed : (before : Option (List CommittedFile)) → AreFilesCommitted before before (Some [])
 nothing_placed None = tt
 nothing_placed (Some earlier) = sym (ap Some (append-nil earlier))
 
-pub placed_behind : (before middle after : Option (List PlacedFile)) (first second : List PlacedFile)
-    → AreFilesPlaced before middle (Some first) → AreFilesPlaced middle after (Some second)
-    → AreFilesPlaced before after (Some (first ++ second))
+pub placed_behind : (before middle after : Option (List CommittedFile)) (first second : List CommittedFile)
+    → AreFilesCommitted before middle (Some first) → AreFilesCommitted middle after (Some second)
+    → AreFilesCommitted before after (Some (first ++ second))
 placed_behind None middle after first second placed more = tt
 placed_behind (Some earlier) middle after first second placed more =
     (rw placed at more) ∙ ap Some (append_assoc earlier first second)
 
 -- of files in their order, those that the first so many make, and the next one
-pub one_more_made : {X : Type 0} (made : X → List PlacedFile) (files : List X) (place : ℕ) (file : X)
+pub one_more_made : {X : Type 0} (made : X → List CommittedFile) (files : List X) (place : ℕ) (file : X)
     → place < length files → get_or files place file ≡ file
     → flat_map made (take (place + 1) files) ≡ flat_map made (take place files) ++ made file
 one_more_made made files place file within is =
     rw (add-one place, take-suc files place file within, is, flat_map-append made (take place files) (file ∷ []))
     (ap (λ last. flat_map made (take place files) ++ last) (append-nil (made file)))
 
-pub placed_one_more : {X : Type 0} (made : X → List PlacedFile) (files : List X) (place : ℕ) (file : X)
-    (before middle after : Option (List PlacedFile)) → place < length files → get_or files place file ≡ file
-    → AreFilesPlaced before middle (Some (flat_map made (take place files))) → AreFilesPlaced middle after (Some (made file))
-    → AreFilesPlaced before after (Some (flat_map made (take (place + 1) files)))
+pub placed_one_more : {X : Type 0} (made : X → List CommittedFile) (files : List X) (place : ℕ) (file : X)
+    (before middle after : Option (List CommittedFile)) → place < length files → get_or files place file ≡ file
+    → AreFilesCommitted before middle (Some (flat_map made (take place files))) → AreFilesCommitted middle after (Some (made file))
+    → AreFilesCommitted before after (Some (flat_map made (take (place + 1) files)))
 placed_one_more made files place file before middle after within is placed more =
-    subst (λ all. AreFilesPlaced before after (Some all)) (sym (one_more_made made files place file within is))
+    subst (λ all. AreFilesCommitted before after (Some all)) (sym (one_more_made made files place file within is))
     (placed_behind before middle after (flat_map made (take place files)) (made file) placed more)

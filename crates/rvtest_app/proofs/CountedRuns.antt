@@ -2,21 +2,21 @@
 use Rattle.std.proofs.Common.{◌≡◌, ◌⊎◌, ◌++◌, ℕ, Bool, true, false, List, [], Option, Some, None, inl, inr, refl, ⊎_elim}
 use Rattle.std.specs.Borrow.{Bor}
 use Rattle.std.specs.Prelude.{is_some, IsSomeAnd}
-use Rattle.rvtest_cli.specs.declared.run.RunAsked.{RunAsked}
+use Rattle.rvtest_cli.specs.declared.run.RunArgs.{RunArgs}
 use Rattle.rv_command.specs.Texts.{optional_text}
 use Rattle.rv_command.specs.declared.stop.Stop.{Stop}
-use Rattle.rv_files.specs.Placed.{PlacedFile}
-use Rattle.rv_job_text.specs.Telling.{Telling}
+use Rattle.rv_files.specs.Placed.{CommittedFile}
+use Rattle.rv_job_text.specs.RowReporter.{RowReporter}
 use Rattle.rv_jobs.specs.Plans.{Planned}
 use Rattle.rv_report.specs.declared.row.Row.{Row}
 use Rattle.rv_report.specs.declared.saved.Shard.{Shard}
 use Rattle.rvtest_app.proofs.PutStops.{unopened}
-use Rattle.rvtest_app.specs.Outlets.{AreFilesPlaced, AreFilesPlacedInPart, HasTaken, file_path_at}
+use Rattle.rvtest_app.specs.Outlets.{AreFilesCommitted, AreFilesPartlyCommitted, HasTaken, file_path_at}
 use Rattle.rvtest_app.specs.PutStops.{IsUnopenedStop}
 use Rattle.rvtest_app.specs.Puts.{IsShown}
 use Rattle.rvtest_app.specs.RunStops.{IsRunPutStop}
 use Rattle.rvtest_app.specs.Runs.{AreCountsPut, AreRunFilesPlacedInPart, IsCountsText, IsRunPut, junit_file, report_file}
-use Rattle.rvtest_app.specs.Said.{Said, placed_behind, where_told}
+use Rattle.rvtest_app.specs.CommandOutputs.{CommandOutputs, placed_behind, where_told}
 use Rattle.rvtest_app.specs.StackStops.{IsCountsPutStop}
 use Rattle.rvtest_app.specs.WrittenTexts.{IsWrittenAt}
 use Rattle.rvtest_app.specs.declared.outlets.Outlet.{Outlet}
@@ -24,17 +24,17 @@ use Rattle.rvtest_app.specs.declared.outlets.Outlet.TheVariants as outlet
 
 -- ---- an outlet
 
-module _ {P W : Type 0} (place_path : P → List ℕ) (taken : W → Option (List ℕ)) (failed : W → ℕ) where
+module _ {P W : Type 0} (pending_path : P → List ℕ) (taken : W → Option (List ℕ)) (failed : W → ℕ) where
   -- one that is somewhere is for a path
-  pub path_given : (placed : Option (List PlacedFile)) (path : Option (List ℕ)) (o : Outlet P W) (text : List ℕ)
-      → HasTaken place_path taken failed placed path text o → (o ≡ outlet.Nowhere → ⊥) → is_some path ≡ true
+  pub path_given : (placed : Option (List CommittedFile)) (path : Option (List ℕ)) (o : Outlet P W) (text : List ℕ)
+      → HasTaken pending_path taken failed placed path text o → (o ≡ outlet.Nowhere → ⊥) → is_some path ≡ true
   path_given placed path outlet.Nowhere text has somewhere = absurd (somewhere refl)
   path_given placed path outlet.Out text has somewhere = rw has refl
   path_given placed path (outlet.File file) text has somewhere = rw has.0 refl
 
   -- what is said of it where nothing is told of files
-  pub untold : (placed : Option (List PlacedFile)) (path : Option (List ℕ)) (o : Outlet P W) (text : List ℕ)
-      → HasTaken place_path taken failed placed path text o → HasTaken place_path taken failed None path text o
+  pub untold : (placed : Option (List CommittedFile)) (path : Option (List ℕ)) (o : Outlet P W) (text : List ℕ)
+      → HasTaken pending_path taken failed placed path text o → HasTaken pending_path taken failed None path text o
   untold placed path outlet.Nowhere text has = has
   untold placed path outlet.Out text has = has
   untold placed path (outlet.File file) text has = (has.0, (has.1.0, (tt, has.1.1.1, has.1.1.2)))
@@ -42,59 +42,59 @@ module _ {P W : Type 0} (place_path : P → List ℕ) (taken : W → Option (Lis
 -- ---- counts
 
 -- a table went to the path that was given
-pub counts_put : (stacks : Bool) (path : Option (List ℕ)) (plan : Planned) (places text : List ℕ) (before after : Said)
+pub counts_put : (stacks : Bool) (path : Option (List ℕ)) (plan : Planned) (places text : List ℕ) (before after : CommandOutputs)
     → is_some path ≡ true → IsCountsText stacks plan places text → IsWrittenAt path text before after
     → AreCountsPut stacks path plan places before after
 counts_put stacks None plan places text before after given is written = absurd cc
 counts_put stacks (Some path) plan places text before after given is written = (text, (is, written))
 
 -- none went anywhere where no path was given
-pub no_counts_put : (stacks : Bool) (path : Option (List ℕ)) (plan : Planned) (places : List ℕ) (before after : Said)
+pub no_counts_put : (stacks : Bool) (path : Option (List ℕ)) (plan : Planned) (places : List ℕ) (before after : CommandOutputs)
     → path ≡ None → IsWrittenAt None [] before after → AreCountsPut stacks path plan places before after
 no_counts_put stacks path plan places before after none written = rw none written
 
 -- ---- the rows that were put before the counts
 
-placed_of_shown : (is_beside : Bool) (text : List ℕ) (before after : Said) → IsShown is_beside text before after
+placed_of_shown : (is_beside : Bool) (text : List ℕ) (before after : CommandOutputs) → IsShown is_beside text before after
     → after.placed ≡ before.placed
 placed_of_shown true text before after is = is.2
 placed_of_shown false text before after is = is.3
 
-placed_behind_same : (earlier before after files : Option (List PlacedFile)) → before ≡ earlier
-    → AreFilesPlaced before after files → AreFilesPlaced before (placed_behind earlier after) files
+placed_behind_same : (earlier before after files : Option (List CommittedFile)) → before ≡ earlier
+    → AreFilesCommitted before after files → AreFilesCommitted before (placed_behind earlier after) files
 placed_behind_same None before after files same are = rw same tt
 placed_behind_same (Some placed) before after files same are = are
 
-pub run_put_where_told : (words : RunAsked) (telling : Telling) (places : List ℕ) (shard : Option Shard)
-    (old : Option (List Row)) (rows : List Row) (before after : Said) → IsRunPut words telling places shard old rows before after
-    → IsRunPut words telling places shard old rows before (where_told before.placed after)
-run_put_where_told words telling places shard old rows before after put = record {
+pub run_put_where_told : (words : RunArgs) (reporter : RowReporter) (places : List ℕ) (shard : Option Shard)
+    (old : Option (List Row)) (rows : List Row) (before after : CommandOutputs) → IsRunPut words reporter places shard old rows before after
+    → IsRunPut words reporter places shard old rows before (where_told before.placed after)
+run_put_where_told words reporter places shard old rows before after put = record {
   middle = put.middle;
   seen = put.seen;
   out = put.out;
   quiet = put.quiet;
   placed = placed_behind_same before.placed put.middle.placed after.placed
-      (Some (junit_file words telling places rows ++ report_file words telling places shard old rows))
+      (Some (junit_file words reporter places rows ++ report_file words reporter places shard old rows))
       (placed_of_shown _ _ before put.middle put.seen) put.placed;
 }
 
-pub run_files_placed : (words : RunAsked) (telling : Telling) (places : List ℕ) (shard : Option Shard)
-    (old : Option (List Row)) (rows : List Row) (before after : Said) → IsRunPut words telling places shard old rows before after
-    → AreFilesPlaced before.placed after.placed
-    (Some (junit_file words telling places rows ++ report_file words telling places shard old rows))
-run_files_placed words telling places shard old rows before after put =
+pub run_files_placed : (words : RunArgs) (reporter : RowReporter) (places : List ℕ) (shard : Option Shard)
+    (old : Option (List Row)) (rows : List Row) (before after : CommandOutputs) → IsRunPut words reporter places shard old rows before after
+    → AreFilesCommitted before.placed after.placed
+    (Some (junit_file words reporter places rows ++ report_file words reporter places shard old rows))
+run_files_placed words reporter places shard old rows before after put =
     rw (placed_of_shown _ _ before put.middle put.seen) at put.placed
 
 -- ---- what is left
 
 -- where the rows' files did not all go out
-pub part_of_rows : (words : RunAsked) (telling : Telling) (places : List ℕ) (shard : Option Shard)
-    (old : Option (List Row)) (rows : List Row) (before after : Option (List PlacedFile))
-    → AreFilesPlacedInPart before after (Some (junit_file words telling places rows))
-    → (after ≡ before) ⊎ AreRunFilesPlacedInPart words telling places shard old rows before after
-part_of_rows words telling places shard old rows before after = ⊎_elim inl (λ placed. inr (inl placed))
+pub part_of_rows : (words : RunArgs) (reporter : RowReporter) (places : List ℕ) (shard : Option Shard)
+    (old : Option (List Row)) (rows : List Row) (before after : Option (List CommittedFile))
+    → AreFilesPartlyCommitted before after (Some (junit_file words reporter places rows))
+    → (after ≡ before) ⊎ AreRunFilesPlacedInPart words reporter places shard old rows before after
+part_of_rows words reporter places shard old rows before after = ⊎_elim inl (λ placed. inr (inl placed))
 
-given_text : (words : RunAsked) → is_some (optional_text words.counts) ≡ true → is_some words.counts ≡ true
+given_text : (words : RunArgs) → is_some (optional_text words.counts) ≡ true → is_some words.counts ≡ true
 given_text words = of words.counts
   where
     of : (path : Option (Bor (List ℕ))) → is_some (optional_text path) ≡ true → is_some path ≡ true
@@ -102,20 +102,20 @@ given_text words = of words.counts
     of (Some path) given = refl
 
 -- where the counts did not
-pub part_of_counts : (words : RunAsked) (telling : Telling) (places : List ℕ) (shard : Option Shard)
-    (old : Option (List Row)) (rows : List Row) (before after : Said) (placed : Option (List PlacedFile))
-    → is_some (optional_text words.counts) ≡ true → IsRunPut words telling places shard old rows before after
+pub part_of_counts : (words : RunArgs) (reporter : RowReporter) (places : List ℕ) (shard : Option Shard)
+    (old : Option (List Row)) (rows : List Row) (before after : CommandOutputs) (placed : Option (List CommittedFile))
+    → is_some (optional_text words.counts) ≡ true → IsRunPut words reporter places shard old rows before after
     → placed ≡ after.placed
-    → (placed ≡ before.placed) ⊎ AreRunFilesPlacedInPart words telling places shard old rows before.placed placed
-part_of_counts words telling places shard old rows before after placed given put same =
-    inr (inr (given_text words given, rw same (run_files_placed words telling places shard old rows before after put)))
+    → (placed ≡ before.placed) ⊎ AreRunFilesPlacedInPart words reporter places shard old rows before.placed placed
+part_of_counts words reporter places shard old rows before after placed given put same =
+    inr (inr (given_text words given, rw same (run_files_placed words reporter places shard old rows before after put)))
 
 -- ---- why
 
-pub unopened_counts : (words : RunAsked) (why : Stop)
+pub unopened_counts : (words : RunArgs) (why : Stop)
     → IsSomeAnd (file_path_at (optional_text words.counts)) (λ path. IsUnopenedStop path why) → IsRunPutStop words why
 unopened_counts words why is = inr (inl (unopened _ why is))
 
-pub unput_counts : (words : RunAsked) (why : Stop) → IsCountsPutStop words (file_path_at (optional_text words.counts)) why
+pub unput_counts : (words : RunArgs) (why : Stop) → IsCountsPutStop words (file_path_at (optional_text words.counts)) why
     → IsRunPutStop words why
 unput_counts words why = ⊎_elim (λ memory. inl (inr (inl memory))) (⊎_elim (λ failed. inl (inr (inr (inl failed)))) (λ is. inr is))

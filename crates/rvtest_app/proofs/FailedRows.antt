@@ -3,7 +3,7 @@ use Rattle.std.proofs.Common.{◌≡◌, ◌⊎◌, ⊎_elim, ◌++◌, ℕ, Boo
 use Rattle.std.specs.Prelude.{if◌then◌else◌, slice_get}
 use Rattle.rv_expect.specs.Judgement.{fails, is_unknown_failure, judgement}
 use Rattle.rv_jobs.specs.declared_job.Job.{Job}
-use Rattle.rv_job_text.specs.Telling.{Telling, lines_below_failure, row_line, row_lines, row_lines_at, row_lines_of_job, shows_row}
+use Rattle.rv_job_text.specs.RowReporter.{RowReporter, lines_below_failure, row_line, row_lines, row_lines_at, row_lines_of_job, shows_row}
 use Rattle.rv_job_text.specs.declared.verbosity.Verbosity.{Verbosity}
 use Rattle.rv_job_text.specs.declared.verbosity.Verbosity.TheVariants.{Quiet, Failures, All}
 use Rattle.rv_rows.specs.declared_row.Row.{Row}
@@ -20,20 +20,20 @@ lines_of_failure All failing lines is failed = rw failed refl
 pub shows_failures : (shown : Verbosity) → (shown ≡ Failures) ⊎ (shown ≡ All) → shows_row shown true ≡ true
 shows_failures shown = ⊎_elim (λ is. rw is refl) (λ is. rw is refl)
 
-lines_of_failed_job : (telling : Telling) (row : Row) → shows_row telling.verbosity true ≡ true
-    → fails telling.judging row ≡ true → (job : Option Job)
-    → row_lines_of_job telling row job ≡ row_lines_of_job (record telling { verbosity = Failures }) row job
+lines_of_failed_job : (reporter : RowReporter) (row : Row) → shows_row reporter.verbosity true ≡ true
+    → fails reporter.judging row ≡ true → (job : Option Job)
+    → row_lines_of_job reporter row job ≡ row_lines_of_job (record reporter { verbosity = Failures }) row job
 unfolding row_lines
-lines_of_failed_job telling row shown failed None = refl
-lines_of_failed_job telling row shown failed (Some job) =
-    lines_of_failure telling.verbosity (fails telling.judging row)
-    (row_line telling.plan telling.unread telling.judging job row
-    ++ (if is_unknown_failure (judgement telling.judging row) then lines_below_failure telling.plan job row telling.last else []))
+lines_of_failed_job reporter row shown failed None = refl
+lines_of_failed_job reporter row shown failed (Some job) =
+    lines_of_failure reporter.verbosity (fails reporter.judging row)
+    (row_line reporter.plan reporter.unread reporter.judging job row
+    ++ (if is_unknown_failure (judgement reporter.judging row) then lines_below_failure reporter.plan job row reporter.last else []))
     shown failed
 
 -- where a row that failed is told, its lines are those of all rows that failed
-pub lines_of_failed_row : (telling : Telling) → shows_row telling.verbosity true ≡ true → (place : ℕ) (row : Row)
-    → fails telling.judging row ≡ true → row_lines_at telling place row ≡ failure_lines telling place row
+pub lines_of_failed_row : (reporter : RowReporter) → shows_row reporter.verbosity true ≡ true → (place : ℕ) (row : Row)
+    → fails reporter.judging row ≡ true → row_lines_at reporter place row ≡ failure_lines reporter place row
 unfolding row_lines_at
-lines_of_failed_row telling shown place row failed =
-    lines_of_failed_job telling row shown failed (slice_get telling.plan.jobs place)
+lines_of_failed_row reporter shown place row failed =
+    lines_of_failed_job reporter row shown failed (slice_get reporter.plan.jobs place)

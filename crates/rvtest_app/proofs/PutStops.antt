@@ -7,7 +7,7 @@ use Rattle.rv_command.specs.declared.stop.Stop.{Stop}
 use Rattle.rv_command.specs.declared.stop.Stop.TheVariants as stop
 use Rattle.rv_files.specs.declared.file_error.FileError.{FileError}
 use Rattle.rv_files.specs.declared.file_error.FileError.TheVariants as file
-use Rattle.rv_files.specs.Placed.{PlacedFile}
+use Rattle.rv_files.specs.Placed.{CommittedFile}
 use Rattle.rv_report.specs.declared.report.WriteError.{WriteError}
 use Rattle.rv_report.specs.declared.report.WriteError.TheVariants as write
 use Rattle.rv_stream.specs.declared.error.BothError.{BothError}
@@ -75,16 +75,16 @@ put_of_unplaced report junit answer = IfErr-map answer _ _
     (λ is. inr (inr (inr (file_of_unplaced junit why is)))))
 
 -- outlets are for the paths that words give
-module _ {P W : Type 0} (place_path : P → List ℕ) (taken : W → Option (List ℕ)) (failed : W → ℕ) where
-  pub output_of_put : {X : Type 0} (placed : Option (List PlacedFile)) (report_path junit_path : Option (List ℕ))
+module _ {P W : Type 0} (pending_path : P → List ℕ) (taken : W → Option (List ℕ)) (failed : W → ℕ) where
+  pub output_of_put : {X : Type 0} (placed : Option (List CommittedFile)) (report_path junit_path : Option (List ℕ))
       (report junit : Outlet P W) (answer : Result X Stop)
-      → HasTaken place_path taken failed placed report_path [] report
-      → HasTaken place_path taken failed placed junit_path [] junit
+      → HasTaken pending_path taken failed placed report_path [] report
+      → HasTaken pending_path taken failed placed junit_path [] junit
       → IfErr answer (IsPutStop (outlet_path report) (outlet_path junit))
       → IfErr answer (IsOutputStop report_path junit_path)
   output_of_put placed report_path junit_path report junit answer for_report for_junit stopped = rw (
-    path_told place_path taken failed placed report_path report [] for_report,
-    path_told place_path taken failed placed junit_path junit [] for_junit,
+    path_told pending_path taken failed placed report_path report [] for_report,
+    path_told pending_path taken failed placed junit_path junit [] for_junit,
   ) at stopped
 
 -- ---- runs

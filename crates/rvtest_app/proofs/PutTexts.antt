@@ -4,8 +4,8 @@ use Rattle.std.proofs.Common.{append-nil, arith, inr, length, map}
 use Rattle.std.proofs.lemmas.Grind.{common_steps}
 use Rattle.std.specs.Io.KnownBytes.{Appends}
 use Rattle.rv_base.specs.Sinks.{AppendsBeginning}
-use Rattle.rv_files.specs.Placed.{PlacedFile}
-use Rattle.rvtest_app.specs.Outlets.{AreFilesPlaced, AreFilesPlacedInPart, HasTaken, IsPutInto, both_files, file_at, files_of, has_no_failure, is_out, is_stdout_at}
+use Rattle.rv_files.specs.Placed.{CommittedFile}
+use Rattle.rvtest_app.specs.Outlets.{AreFilesCommitted, AreFilesPartlyCommitted, HasTaken, IsPutInto, both_files, file_at, files_of, has_no_failure, is_out, is_stdout_at}
 use Rattle.rvtest_app.specs.Outlets.{file_path_at, outlet_path, stdout_at, stdout_part}
 use Rattle.rv_report.specs.declared.row.Row.{Row}
 use Rattle.rv_expect.specs.Judgement.{Judging}
@@ -22,7 +22,7 @@ appends_nothing (Some bytes) = sym (append-nil bytes)
 same_inside : (a b : List ℕ) → Some a ≡ Some b → a ≡ b
 same_inside a b same = cc
 
-module _ {P W : Type 0} (place_path : P → List ℕ) (taken : W → Option (List ℕ)) (failed : W → ℕ) where
+module _ {P W : Type 0} (pending_path : P → List ℕ) (taken : W → Option (List ℕ)) (failed : W → ℕ) where
   -- no put failed after a text was put, where none had failed before
   pub unfailed_after : (before after : Outlet P W) (text : List ℕ) → IsPutInto taken failed before after text
       → has_no_failure failed before → has_no_failure failed after
@@ -36,29 +36,29 @@ module _ {P W : Type 0} (place_path : P → List ℕ) (taken : W → Option (Lis
   unfailed_after (outlet.File before) outlet.Nowhere text put none = elim put [ ]
   unfailed_after (outlet.File before) outlet.Out text put none = elim put [ ]
 
-  pub unfailed : (placed : Option (List PlacedFile)) (path : Option (List ℕ)) (text : List ℕ) (o : Outlet P W)
-      → HasTaken place_path taken failed placed path text o → has_no_failure failed o
+  pub unfailed : (placed : Option (List CommittedFile)) (path : Option (List ℕ)) (text : List ℕ) (o : Outlet P W)
+      → HasTaken pending_path taken failed placed path text o → has_no_failure failed o
   unfailed placed path text outlet.Nowhere has = tt
   unfailed placed path text outlet.Out has = tt
   unfailed placed path text (outlet.File file) has = has.1.1.1
 
   -- what goes to standard output is told by the path
-  pub stdout_told : (placed : Option (List PlacedFile)) (path : Option (List ℕ)) (had : List ℕ) (o : Outlet P W) (text : List ℕ)
-      → HasTaken place_path taken failed placed path had o → stdout_part o text ≡ stdout_at path text
+  pub stdout_told : (placed : Option (List CommittedFile)) (path : Option (List ℕ)) (had : List ℕ) (o : Outlet P W) (text : List ℕ)
+      → HasTaken pending_path taken failed placed path had o → stdout_part o text ≡ stdout_at path text
   stdout_told placed path had outlet.Nowhere text has = rw has refl
   stdout_told placed path had outlet.Out text has = rw has refl
   stdout_told placed path had (outlet.File file) text has = rw (has.0, has.1.0) refl
 
   -- an outlet is standard output where its path stands for that
-  pub out_told : (placed : Option (List PlacedFile)) (path : Option (List ℕ)) (o : Outlet P W) (text : List ℕ)
-      → HasTaken place_path taken failed placed path text o → is_out o ≡ is_stdout_at path
+  pub out_told : (placed : Option (List CommittedFile)) (path : Option (List ℕ)) (o : Outlet P W) (text : List ℕ)
+      → HasTaken pending_path taken failed placed path text o → is_out o ≡ is_stdout_at path
   out_told placed path outlet.Nowhere text has = rw has refl
   out_told placed path outlet.Out text has = rw has refl
   out_told placed path (outlet.File file) text has = rw (has.0, has.1.0) refl
 
   -- the file of an outlet is named by the path
-  pub path_told : (placed : Option (List PlacedFile)) (path : Option (List ℕ)) (o : Outlet P W) (text : List ℕ)
-      → HasTaken place_path taken failed placed path text o → outlet_path o ≡ file_path_at path
+  pub path_told : (placed : Option (List CommittedFile)) (path : Option (List ℕ)) (o : Outlet P W) (text : List ℕ)
+      → HasTaken pending_path taken failed placed path text o → outlet_path o ≡ file_path_at path
   path_told placed path outlet.Nowhere text has = rw has refl
   path_told placed path outlet.Out text has = rw has refl
   path_told placed path (outlet.File file) text has = rw (has.0, has.1.0, has.1.1.2) refl
@@ -70,9 +70,9 @@ module _ {P W : Type 0} (place_path : P → List ℕ) (taken : W → Option (Lis
   taken_text (Some bytes) (Some now) had text is more = grind (arith, common_steps)
 
   -- an outlet that took a text took another behind it
-  pub taken_more : (placed : Option (List PlacedFile)) (path : Option (List ℕ)) (had text : List ℕ) (before after : Outlet P W)
-      → HasTaken place_path taken failed placed path had before → IsPutInto taken failed before after text
-      → outlet_path after ≡ outlet_path before → HasTaken place_path taken failed placed path (had ++ text) after
+  pub taken_more : (placed : Option (List CommittedFile)) (path : Option (List ℕ)) (had text : List ℕ) (before after : Outlet P W)
+      → HasTaken pending_path taken failed placed path had before → IsPutInto taken failed before after text
+      → outlet_path after ≡ outlet_path before → HasTaken pending_path taken failed placed path (had ++ text) after
   taken_more placed path had text outlet.Nowhere outlet.Nowhere has put named = has
   taken_more placed path had text outlet.Out outlet.Out has put named = has
   taken_more None path had text (outlet.File before) (outlet.File after) has put named =
@@ -97,9 +97,9 @@ module _ {P W : Type 0} (place_path : P → List ℕ) (taken : W → Option (Lis
   taken_more placed path had text (outlet.File before) outlet.Out has put named = elim put [ ]
 
   -- the file that an outlet makes is told by the path
-  pub file_told : (placed : List PlacedFile) (path : Option (List ℕ)) (had : List ℕ) (before after : Outlet P W) (text : List ℕ)
-      → HasTaken place_path taken failed (Some placed) path had before → IsPutInto taken failed before after text
-      → files_of place_path taken after ≡ Some (file_at path (had ++ text))
+  pub file_told : (placed : List CommittedFile) (path : Option (List ℕ)) (had : List ℕ) (before after : Outlet P W) (text : List ℕ)
+      → HasTaken pending_path taken failed (Some placed) path had before → IsPutInto taken failed before after text
+      → files_of pending_path taken after ≡ Some (file_at path (had ++ text))
   file_told placed path had outlet.Nowhere outlet.Nowhere text has put = rw has refl
   file_told placed path had outlet.Out outlet.Out text has put = rw has refl
   file_told placed path had (outlet.File before) (outlet.File after) text has put =
@@ -112,13 +112,13 @@ module _ {P W : Type 0} (place_path : P → List ℕ) (taken : W → Option (Lis
   file_told placed path had (outlet.File before) outlet.Out text has put = elim put [ ]
 
   -- both files stand in their places, where it is told which do
-  pub both_placed : (before after : Option (List PlacedFile)) (had : List ℕ) (junit_path report_path : Option (List ℕ))
+  pub both_placed : (before after : Option (List CommittedFile)) (had : List ℕ) (junit_path report_path : Option (List ℕ))
       (junit junit_after report report_after : Outlet P W) (junit_text report_text : List ℕ)
-      → HasTaken place_path taken failed before junit_path [] junit
-      → HasTaken place_path taken failed before report_path had report
+      → HasTaken pending_path taken failed before junit_path [] junit
+      → HasTaken pending_path taken failed before report_path had report
       → IsPutInto taken failed junit junit_after junit_text → IsPutInto taken failed report report_after report_text
-      → AreFilesPlaced before after (both_files (files_of place_path taken junit_after) (files_of place_path taken report_after))
-      → AreFilesPlaced before after (Some (file_at junit_path junit_text ++ file_at report_path (had ++ report_text)))
+      → AreFilesCommitted before after (both_files (files_of pending_path taken junit_after) (files_of pending_path taken report_after))
+      → AreFilesCommitted before after (Some (file_at junit_path junit_text ++ file_at report_path (had ++ report_text)))
   both_placed None after had junit_path report_path junit junit_after report report_after jt rt hj hr pj pr are = tt
   both_placed (Some placed) after had junit_path report_path junit junit_after report report_after jt rt hj hr pj pr are =
       rw (
@@ -127,20 +127,20 @@ module _ {P W : Type 0} (place_path : P → List ℕ) (taken : W → Option (Lis
       ) at are
 
   -- the first file stands in its place alone, where it is told which do
-  pub first_placed : (before after : Option (List PlacedFile)) (path : Option (List ℕ)) (o o_after : Outlet P W)
-      (text : List ℕ) → HasTaken place_path taken failed before path [] o → IsPutInto taken failed o o_after text
-      → AreFilesPlacedInPart before after (files_of place_path taken o_after)
-      → AreFilesPlacedInPart before after (Some (file_at path text))
+  pub first_placed : (before after : Option (List CommittedFile)) (path : Option (List ℕ)) (o o_after : Outlet P W)
+      (text : List ℕ) → HasTaken pending_path taken failed before path [] o → IsPutInto taken failed o o_after text
+      → AreFilesPartlyCommitted before after (files_of pending_path taken o_after)
+      → AreFilesPartlyCommitted before after (Some (file_at path text))
   first_placed None after path o o_after text has put are = inr tt
   first_placed (Some placed) after path o o_after text has put are =
       rw (file_told placed path [] o o_after text has put) at are
 
 -- files of equal texts
-pub placed_same : (before after : Option (List PlacedFile)) (junit_path report_path : Option (List ℕ))
+pub placed_same : (before after : Option (List CommittedFile)) (junit_path report_path : Option (List ℕ))
     (junit other_junit report other_report : List ℕ)
-    → AreFilesPlaced before after (Some (file_at junit_path junit ++ file_at report_path report))
+    → AreFilesCommitted before after (Some (file_at junit_path junit ++ file_at report_path report))
     → junit ≡ other_junit → report ≡ other_report
-    → AreFilesPlaced before after (Some (file_at junit_path other_junit ++ file_at report_path other_report))
+    → AreFilesCommitted before after (Some (file_at junit_path other_junit ++ file_at report_path other_report))
 placed_same before after junit_path report_path junit other_junit report other_report are e f = rw (e, f) at are
 
 -- equal texts on standard output
@@ -151,9 +151,9 @@ pub out_same : (before after : Option (List ℕ)) (junit_path report_path : Opti
     → Appends before after (stdout_at junit_path other_junit ++ stdout_at report_path other_report)
 out_same before after junit_path report_path junit other_junit report other_report are e f = rw (e, f) at are
 
-pub part_same : (before after : Option (List PlacedFile)) (path : Option (List ℕ)) (text other : List ℕ)
-    → AreFilesPlacedInPart before after (Some (file_at path text)) → text ≡ other
-    → AreFilesPlacedInPart before after (Some (file_at path other))
+pub part_same : (before after : Option (List CommittedFile)) (path : Option (List ℕ)) (text other : List ℕ)
+    → AreFilesPartlyCommitted before after (Some (file_at path text)) → text ≡ other
+    → AreFilesPartlyCommitted before after (Some (file_at path other))
 part_same before after path text other are e = rw e at are
 
 -- JUnit's documents of one suite, with lines that are equal

@@ -2,12 +2,12 @@
 use Rattle.std.proofs.Common.{◌≡◌, ◌∙◌, ℕ, List, Option, Some, None, ap, refl, subst, sym}
 use Rattle.std.specs.Borrow.{Bor}
 use Rattle.std.specs.Prelude.{option_copied, option_map}
-use Rattle.rvtest_cli.specs.declared.run.RunAsked.{RunAsked}
+use Rattle.rvtest_cli.specs.declared.run.RunArgs.{RunArgs}
 use Rattle.rv_expect.specs.Judgement.{Judging}
 use Rattle.rv_expect.specs.declared.passing.Rule.{Rule}
-use Rattle.rv_files.specs.Placed.{PlacedFile}
-use Rattle.rv_files.specs.declared.noting_store.Unread.{Unread}
-use Rattle.rv_job_text.specs.Telling.{Telling}
+use Rattle.rv_files.specs.Placed.{CommittedFile}
+use Rattle.rv_files.specs.declared.recording_store.UnreadPath.{UnreadPath}
+use Rattle.rv_job_text.specs.RowReporter.{RowReporter}
 use Rattle.rv_job_text.specs.declared.verbosity.Verbosity.{Verbosity}
 use Rattle.rv_jobs.specs.Plans.{Planned}
 use Rattle.rv_expect.specs.declared.known_jobs.KnownJobs.{KnownJobs}
@@ -17,7 +17,7 @@ use Rattle.rvtest_app.specs.Commands.{failure_rule, requested_verbosity}
 use Rattle.rvtest_app.specs.Runs.{AreRunFilesPlacedInPart, run_rows, run_telling}
 
 -- how rows are told, by a rule, of a plan
-abbrev pub told_by : RunAsked → Option KnownJobs → Planned → List Unread → Rule → Verbosity → Telling
+abbrev pub told_by : RunArgs → Option KnownJobs → Planned → List UnreadPath → Rule → Verbosity → RowReporter
 told_by words known plan unread rule verbosity = record {
   plan = plan;
   unread = unread;
@@ -34,7 +34,7 @@ known_behind (Some jobs) = refl
 -- ---- what is left of a run, told in equal words
 
 -- how a run is told is what words ask for
-pub told_as_asked : (words : RunAsked) (failures known : Option KnownJobs) (plan : Planned) (unread : List Unread) (rule : Rule)
+pub told_as_asked : (words : RunArgs) (failures known : Option KnownJobs) (plan : Planned) (unread : List UnreadPath) (rule : Rule)
     (verbosity : Verbosity) → rule ≡ failure_rule words.lenient → known ≡ failures
     → verbosity ≡ requested_verbosity words.verbose words.quiet
     → told_by words known plan unread rule verbosity ≡ run_telling words failures plan unread
@@ -48,10 +48,10 @@ pub same_rows : (stop_after : Option ℕ) (judging other : Judging) (plan : Plan
 same_rows stop_after judging other plan places others e f =
     sym (ap (λ (j : Judging). run_rows stop_after j plan places) e ∙ ap (λ (p : List ℕ). run_rows stop_after other plan p) f)
 
-pub same_part : (words : RunAsked) (telling other : Telling) (places others : List ℕ) (shard : Option Shard)
-    (old : Option (List Row)) (rows : List Row) (before after : Option (List PlacedFile)) → telling ≡ other → places ≡ others
-    → AreRunFilesPlacedInPart words telling places shard old rows before after
+pub same_part : (words : RunArgs) (reporter other : RowReporter) (places others : List ℕ) (shard : Option Shard)
+    (old : Option (List Row)) (rows : List Row) (before after : Option (List CommittedFile)) → reporter ≡ other → places ≡ others
+    → AreRunFilesPlacedInPart words reporter places shard old rows before after
     → AreRunFilesPlacedInPart words other others shard old rows before after
-same_part words telling other places others shard old rows before after e f part =
+same_part words reporter other places others shard old rows before after e f part =
     subst (λ (p : List ℕ). AreRunFilesPlacedInPart words other p shard old rows before after) f
-    (subst (λ (t : Telling). AreRunFilesPlacedInPart words t places shard old rows before after) e part)
+    (subst (λ (t : RowReporter). AreRunFilesPlacedInPart words t places shard old rows before after) e part)

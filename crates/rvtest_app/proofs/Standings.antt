@@ -5,11 +5,11 @@ use Rattle.std.proofs.lemmas.Option.{slice_get-get_or}
 use Rattle.std.specs.List.{list_any}
 use Rattle.rv_accept.specs.Passing.{EndedWell}
 use Rattle.rv_accept.specs.declared.standing.Candidate.{Candidate}
-use Rattle.rv_accept.specs.declared.standing.Standing.TheVariants as standing
+use Rattle.rv_accept.specs.declared.standing.CurrentVerdict.TheVariants as standing
 use Rattle.rv_base.specs.Files.{FileContents}
 use Rattle.rv_expect.specs.Comparisons.{Sides}
 use Rattle.rv_expect.specs.Reference.{signature_difference}
-use Rattle.rv_expect.specs.Telling.{is_same}
+use Rattle.rv_expect.specs.RowReporter.{is_same}
 use Rattle.rv_expect.specs.Unmet.{unmet_console, unmet_default_exit, unmet_end, unmet_exit, unmet_of, unmet_of_expecting_job, unmet_same_as, unmet_signature}
 use Rattle.rv_expect.specs.declared.unmet.Unmet.{Unmet}
 use Rattle.rv_expect.specs.declared.unmet.Unmet.TheVariants as unmet

@@ -7,15 +7,15 @@ use Rattle.std.proofs.Common.{inl, inr}
 use Rattle.std.proofs.lemmas.List.Elements.{All-append, All-cons, All-head, All-nil, All-tail}
 use Rattle.std.proofs.lemmas.Slice.Eq.{bytes_eq-Decides}
 use Rattle.rv_accept.proofs.Public.{all_left, all_right}
-use Rattle.rv_accept.specs.declared.fates.Fate.{Fate}
-use Rattle.rv_accept.specs.declared.fates.Fate.TheVariants as fate
+use Rattle.rv_accept.specs.declared.fates.GoldenFileOutcome.{GoldenFileOutcome}
+use Rattle.rv_accept.specs.declared.fates.GoldenFileOutcome.TheVariants as fate
 use Rattle.rv_accept.specs.declared.targets.Target.{Target}
 use Rattle.rv_accept_text.specs.GoldenFiles.{another_text, elf_magic, is_image_path, is_kept, is_left, is_left_of, new_text, new_text_of}
-use Rattle.rv_accept_text.specs.declared.accepting.Accepting.{Accepting}
+use Rattle.rv_accept_text.specs.declared.accepting.AcceptSummary.{AcceptSummary}
 use Rattle.rv_accept_text.specs.declared.golden_file.GoldenFile.{GoldenFile}
 use Rattle.rv_accept_text.specs.declared.golden_file.ListFile.{ListFile}
 use Rattle.rv_base.specs.Files.{FileContents}
-use Rattle.rv_files.specs.Placed.{PlacedFile, placed_file}
+use Rattle.rv_files.specs.Placed.{CommittedFile, placed_file}
 use Rattle.rvtest_app.specs.AcceptLaw.{HaveOneTextEach, IsStoreAfter}
 use Rattle.rvtest_app.specs.Accepts.{AreGoldenFiles, file_if, new_list_text, written_files}
 
@@ -28,23 +28,23 @@ any_elim {X} {A} Q xs each some =
 
 -- ---- the files that are written
 
-of_file : (P : PlacedFile → Type 0) (path : List ℕ) (text : Option (List ℕ)) → All P (file_if path text)
+of_file : (P : CommittedFile → Type 0) (path : List ℕ) (text : Option (List ℕ)) → All P (file_if path text)
     → (written : List ℕ) → text ≡ Some written → P (placed_file path written)
 of_file P path None each written is = cc
 of_file P path (Some text) each written is =
     let same : text ≡ written = cc in
     subst (λ written. P (placed_file path written)) same (All-head P (placed_file path text) [] each)
 
-to_file : (P : PlacedFile → Type 0) (path : List ℕ) (text : Option (List ℕ))
+to_file : (P : CommittedFile → Type 0) (path : List ℕ) (text : Option (List ℕ))
     → ((written : List ℕ) → text ≡ Some written → P (placed_file path written)) → All P (file_if path text)
 to_file P path None each = All-nil P
 to_file P path (Some text) each = All-cons P (placed_file path text) [] (each text refl) (All-nil P)
 
 -- what holds of the text that a golden file is given
-abbrev OfNew : (PlacedFile → Type 0) → ListFile → GoldenFile → Type 0
+abbrev OfNew : (CommittedFile → Type 0) → ListFile → GoldenFile → Type 0
 OfNew P list file = (text : List ℕ) → new_text list file ≡ Some text → P (placed_file file.place text)
 
-of_golden : (P : PlacedFile → Type 0) (list : ListFile) (files : List GoldenFile)
+of_golden : (P : CommittedFile → Type 0) (list : ListFile) (files : List GoldenFile)
     → All P (flat_map (λ (file : GoldenFile). file_if file.place (new_text list file)) files)
     → All (OfNew P list) files
 of_golden P list [] each = All-nil (OfNew P list)
@@ -52,7 +52,7 @@ of_golden P list (file ∷ files) each = All-cons (OfNew P list) file files
     (of_file P file.place (new_text list file) (all_left P (file_if file.place (new_text list file)) _ each))
     (of_golden P list files (all_right P (file_if file.place (new_text list file)) _ each))
 
-to_golden : (P : PlacedFile → Type 0) (list : ListFile) (files : List GoldenFile) → All (OfNew P list) files
+to_golden : (P : CommittedFile → Type 0) (list : ListFile) (files : List GoldenFile) → All (OfNew P list) files
     → All P (flat_map (λ (file : GoldenFile). file_if file.place (new_text list file)) files)
 to_golden P list [] each = All-nil P
 to_golden P list (file ∷ files) each = All-append P (file_if file.place (new_text list file)) _
@@ -60,11 +60,11 @@ to_golden P list (file ∷ files) each = All-append P (file_if file.place (new_t
     (to_golden P list files (All-tail (OfNew P list) file files each))
 
 -- the golden files that are written
-abbrev golden_written : Accepting → List PlacedFile
+abbrev golden_written : AcceptSummary → List CommittedFile
 golden_written told = flat_map (λ (file : GoldenFile). file_if file.place (new_text told.list file)) told.files.now
 
 -- what holds of each golden file's new text, and of the list's, holds of each file that is written
-to_written : (P : PlacedFile → Type 0) (told : Accepting) → All (OfNew P told.list) told.files.now
+to_written : (P : CommittedFile → Type 0) (told : AcceptSummary) → All (OfNew P told.list) told.files.now
     → ((text : List ℕ) → new_list_text told ≡ Some text → P (placed_file told.list.path.now text))
     → All P (written_files told)
 to_written P told golden list = All-append P (golden_written told)
@@ -94,7 +94,7 @@ kept_is_not_written {A} list file old text is keeps written =
     go (bytes_eq file.place list.path.now) (is_image_path file.target.path list.jobs.now)
     (rw (is, keeps) at written)
   where
-    no_text : (what : Fate) (old : Option (List ℕ)) → new_text_of true what old ≡ Some text → A
+    no_text : (what : GoldenFileOutcome) (old : Option (List ℕ)) → new_text_of true what old ≡ Some text → A
     no_text (fate.Agreed other) old none = cc
     no_text (fate.LeftBy job) old none = cc
     no_text (fate.Differ job other) old none = cc
@@ -109,7 +109,7 @@ kept_is_not_written {A} list file old text is keeps written =
 -- ---- a path that holds the list or an image
 
 -- what holds the list, or an ELF file which is not the list where a new list is written, is as it was
-holds_still : (told : Accepting) (before after : FileContents) (path bytes : List ℕ)
+holds_still : (told : AcceptSummary) (before after : FileContents) (path bytes : List ℕ)
     → (store : IsStoreAfter (written_files told) before after)
     → All (λ (file : GoldenFile). before file.place ≡ file.old) told.files.now
     → before path ≡ Some bytes
@@ -119,18 +119,18 @@ holds_still : (told : Accepting) (before after : FileContents) (path bytes : Lis
     → after path ≡ Some bytes
 holds_still told before after path bytes store stood holds keeps list = go (store.others path)
   where
-    golden : All (OfNew (λ (file : PlacedFile). store.leads file.path ≡ store.leads path → after path ≡ Some bytes) told.list)
+    golden : All (OfNew (λ (file : CommittedFile). store.leads file.path ≡ store.leads path → after path ≡ Some bytes) told.list)
         told.files.now
     golden = λ k other below text written leads.
         let file : GoldenFile = get_or told.files.now k other in
         kept_is_not_written told.list file bytes text
         (sym (stood k other below) ∙ store.one_before file.place path leads ∙ holds) keeps written
 
-    go : (after path ≡ before path) ⊎ Any (λ (file : PlacedFile). store.leads file.path ≡ store.leads path) (written_files told)
+    go : (after path ≡ before path) ⊎ Any (λ (file : CommittedFile). store.leads file.path ≡ store.leads path) (written_files told)
         → after path ≡ Some bytes
     go (inl same) = same ∙ holds
-    go (inr some) = any_elim (λ (file : PlacedFile). store.leads file.path ≡ store.leads path) (written_files told)
-        (to_written (λ (file : PlacedFile). store.leads file.path ≡ store.leads path → after path ≡ Some bytes) told
+    go (inr some) = any_elim (λ (file : CommittedFile). store.leads file.path ≡ store.leads path) (written_files told)
+        (to_written (λ (file : CommittedFile). store.leads file.path ≡ store.leads path → after path ≡ Some bytes) told
         golden list) some
 
 same_bytes : (bytes : List ℕ) → bytes_eq bytes bytes ≡ true
@@ -141,7 +141,7 @@ or_right true b holds = refl
 or_right false b holds = holds
 
 -- an image that begins as an ELF file does is as it was
-pub image_stays : (told : Accepting) (before after : FileContents) (path bytes : List ℕ)
+pub image_stays : (told : AcceptSummary) (before after : FileContents) (path bytes : List ℕ)
     → IsStoreAfter (written_files told) before after
     → All (λ (file : GoldenFile). before file.place ≡ file.old) told.files.now
     → before told.list.path.now ≡ Some told.list.text.now → starts_with nat_eq told.list.text.now elf_magic ≡ false
@@ -160,7 +160,7 @@ image_stays told before after path bytes store stood list no_image holds magic =
     absurd_of is = cc
 
 -- the list is as it was where no new one is written
-pub list_stays : (told : Accepting) (before after : FileContents) → IsStoreAfter (written_files told) before after
+pub list_stays : (told : AcceptSummary) (before after : FileContents) → IsStoreAfter (written_files told) before after
     → All (λ (file : GoldenFile). before file.place ≡ file.old) told.files.now
     → before told.list.path.now ≡ Some told.list.text.now → new_list_text told ≡ None
     → after told.list.path.now ≡ Some told.list.text.now
@@ -173,12 +173,12 @@ list_stays told before after store stood list none =
 
 -- ---- the list that is written
 
-pub list_is_there : (told : Accepting) (after : FileContents) (text : List ℕ)
-    → All (λ (file : PlacedFile). after file.path ≡ Some file.bytes) (written_files told)
+pub list_is_there : (told : AcceptSummary) (after : FileContents) (text : List ℕ)
+    → All (λ (file : CommittedFile). after file.path ≡ Some file.bytes) (written_files told)
     → new_list_text told ≡ Some text → after told.list.path.now ≡ Some text
 list_is_there told after text there is =
-    of_file (λ (file : PlacedFile). after file.path ≡ Some file.bytes) told.list.path.now (new_list_text told)
-    (all_right (λ (file : PlacedFile). after file.path ≡ Some file.bytes)
+    of_file (λ (file : CommittedFile). after file.path ≡ Some file.bytes) told.list.path.now (new_list_text told)
+    (all_right (λ (file : CommittedFile). after file.path ≡ Some file.bytes)
     (golden_written told) (file_if told.list.path.now (new_list_text told)) there) text is
 
 -- ---- golden files
@@ -215,12 +215,12 @@ is_not_kept {A} list file old is same kept =
     go false false none = cc
 
 -- the fate of a file that is not left, and on which jobs agree
-kept_of : (kept : Bool) (what : Fate) (text : List ℕ) → what ≡ fate.Agreed text → is_left_of kept what ≡ false
+kept_of : (kept : Bool) (what : GoldenFileOutcome) (text : List ℕ) → what ≡ fate.Agreed text → is_left_of kept what ≡ false
     → kept ≡ false
 kept_of kept what text is left = rw is at left
 
 -- a golden file that is not left, of a text on which all jobs agree, holds that text
-module _ (told : Accepting) (before after : FileContents) (store : IsStoreAfter (written_files told) before after)
+module _ (told : AcceptSummary) (before after : FileContents) (store : IsStoreAfter (written_files told) before after)
     (list : before told.list.path.now ≡ Some told.list.text.now)
     (stood : All (λ (file : GoldenFile). before file.place ≡ file.old) told.files.now)
     (alike : HaveOneTextEach store.leads told.files.now) where
@@ -229,8 +229,8 @@ module _ (told : Accepting) (before after : FileContents) (store : IsStoreAfter 
       → (new : Option (List ℕ)) → new_text_of (is_kept told.list (get_or told.files.now k d)) (get_or told.files.now k d).target.fate
       (get_or told.files.now k d).old ≡ new → after (get_or told.files.now k d).place ≡ Some text
   golden_there k d below text agreed kept (Some written) new =
-      let there = of_golden (λ (file : PlacedFile). after file.path ≡ Some file.bytes) told.list told.files.now
-      (all_left (λ (file : PlacedFile). after file.path ≡ Some file.bytes) (golden_written told) (file_if told.list.path.now (new_list_text told))
+      let there = of_golden (λ (file : CommittedFile). after file.path ≡ Some file.bytes) told.list told.files.now
+      (all_left (λ (file : CommittedFile). after file.path ≡ Some file.bytes) (golden_written told) (file_if told.list.path.now (new_list_text told))
       store.there) k d below written new in
       let same = agreed_text (is_kept told.list (get_or told.files.now k d)) text written (get_or told.files.now k d).old
       (rw agreed at new) in
@@ -243,12 +243,12 @@ module _ (told : Accepting) (before after : FileContents) (store : IsStoreAfter 
       holds : before file.place ≡ Some text
       holds = stood k d below ∙ old_text text file.old (rw (agreed, kept) at new)
 
-      golden : All (OfNew (λ (other : PlacedFile). store.leads other.path ≡ store.leads file.place → after file.place ≡ Some text)
+      golden : All (OfNew (λ (other : CommittedFile). store.leads other.path ≡ store.leads file.place → after file.place ≡ Some text)
           told.list) told.files.now
       golden = λ j e within written is leads.
           let other : GoldenFile = get_or told.files.now j e in
-          let there = of_golden (λ (file : PlacedFile). after file.path ≡ Some file.bytes) told.list told.files.now
-          (all_left (λ (file : PlacedFile). after file.path ≡ Some file.bytes) (golden_written told)
+          let there = of_golden (λ (file : CommittedFile). after file.path ≡ Some file.bytes) told.list told.files.now
+          (all_left (λ (file : CommittedFile). after file.path ≡ Some file.bytes) (golden_written told)
           (file_if told.list.path.now (new_list_text told)) store.there) j e within written is in
           let fate_is : other.target.fate ≡ fate.Agreed text = sym (alike k d below j e within (sym leads)) ∙ agreed in
           let same = agreed_text (is_kept told.list other) text written other.old (rw fate_is at is) in
@@ -261,11 +261,11 @@ module _ (told : Accepting) (before after : FileContents) (store : IsStoreAfter 
           (same_bytes told.list.text.now) kept
 
       go : (after file.place ≡ before file.place)
-          ⊎ Any (λ (other : PlacedFile). store.leads other.path ≡ store.leads file.place) (written_files told)
+          ⊎ Any (λ (other : CommittedFile). store.leads other.path ≡ store.leads file.place) (written_files told)
           → after file.place ≡ Some text
       go (inl same) = same ∙ holds
-      go (inr some) = any_elim (λ (other : PlacedFile). store.leads other.path ≡ store.leads file.place) (written_files told)
-          (to_written (λ (other : PlacedFile). store.leads other.path ≡ store.leads file.place → after file.place ≡ Some text)
+      go (inr some) = any_elim (λ (other : CommittedFile). store.leads other.path ≡ store.leads file.place) (written_files told)
+          (to_written (λ (other : CommittedFile). store.leads other.path ≡ store.leads file.place → after file.place ≡ Some text)
           told golden no_list) some
 
   pub golden_files_there : All (λ (file : GoldenFile). (text : List ℕ) → file.target.fate ≡ fate.Agreed text

@@ -8,7 +8,7 @@ use Rattle.rvtest_app.specs.ToldStops.{unreadable_words_message}
 -- they are told as no text, but where memory was wanting
 pub told_as_no_text : (before after : Option (List ℕ)) (failed_before failed_after : ℕ) (kind : ErrorKind)
     → (kind ≡ io.OutOfMemory → ⊥)
-    → IsMessagePut before after failed_before failed_after (codes "rvtest: a word is no UTF-8 text\n")
+    → IsMessagePut before after failed_before failed_after (codes "rvtest: an argument is not valid UTF-8\n")
     → IsMessagePut before after failed_before failed_after (unreadable_words_message kind)
 told_as_no_text before after failed_before failed_after io.OutOfMemory other put = absurd (other refl)
 told_as_no_text before after failed_before failed_after _ other put = put

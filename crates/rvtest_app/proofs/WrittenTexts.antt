@@ -2,29 +2,29 @@
 use Rattle.std.proofs.Common.{◌≡◌, ◌∙◌, ◌∷◌, ℕ, List, [], Option, Some, None, false, ap, append-nil, codes, refl, subst, sym}
 use Rattle.std.specs.Prelude.{IfSome, OnOk, Result}
 use Rattle.std.specs.Io.KnownBytes.{Appends}
-use Rattle.rv_files.specs.Placed.{PlacedFile, placed_file}
+use Rattle.rv_files.specs.Placed.{CommittedFile, placed_file}
 use Rattle.rvtest_app.proofs.PutTexts.{appends_nothing}
 use Rattle.rvtest_app.proofs.Results.{OnOk-from, OnOk-map}
-use Rattle.rvtest_app.specs.Outlets.{AreFilesPlaced, file_at, is_stdout}
-use Rattle.rvtest_app.specs.Said.{Said, placed_behind, where_told}
+use Rattle.rvtest_app.specs.Outlets.{AreFilesCommitted, file_at, is_stdout}
+use Rattle.rvtest_app.specs.CommandOutputs.{CommandOutputs, placed_behind, where_told}
 use Rattle.rvtest_app.specs.WrittenTexts.{IsWrittenAt}
 
 -- no file was placed
-pub no_file : (before after : Option (List PlacedFile)) → after ≡ before → AreFilesPlaced before after (Some [])
+pub no_file : (before after : Option (List CommittedFile)) → after ≡ before → AreFilesCommitted before after (Some [])
 no_file None after same = tt
-no_file (Some files) after same = same ∙ ap (λ (fs : List PlacedFile). Some fs) (sym (append-nil files))
+no_file (Some files) after same = same ∙ ap (λ (fs : List CommittedFile). Some fs) (sym (append-nil files))
 
 -- a text without a path went nowhere
-pub written_nowhere : (path : Option (List ℕ)) (text : List ℕ) (said : Said) → path ≡ None → IsWrittenAt path text said said
-written_nowhere path text said none = rw none (record {
-  out = appends_nothing said.out;
+pub written_nowhere : (path : Option (List ℕ)) (text : List ℕ) (outputs_of : CommandOutputs) → path ≡ None → IsWrittenAt path text outputs_of outputs_of
+written_nowhere path text outputs_of none = rw none (record {
+  out = appends_nothing outputs_of.out;
   errors = refl;
   failures = refl;
-  placed = no_file said.placed said.placed refl;
+  placed = no_file outputs_of.placed outputs_of.placed refl;
 })
 
 -- a text went to standard output
-pub written_out : (path : Option (List ℕ)) (text : List ℕ) (before after : Said) → path ≡ Some (codes "-")
+pub written_out : (path : Option (List ℕ)) (text : List ℕ) (before after : CommandOutputs) → path ≡ Some (codes "-")
     → Appends before.out after.out text → after.errors ≡ before.errors → after.failures ≡ before.failures
     → after.placed ≡ before.placed → IsWrittenAt path text before after
 written_out path text before after is out errors failures placed = rw is (record {
@@ -35,9 +35,9 @@ written_out path text before after is out errors failures placed = rw is (record
 })
 
 -- a text went to a file
-pub written_file : (path : Option (List ℕ)) (name text : List ℕ) (before after : Said) → path ≡ Some name
+pub written_file : (path : Option (List ℕ)) (name text : List ℕ) (before after : CommandOutputs) → path ≡ Some name
     → is_stdout name ≡ false → after.out ≡ before.out → after.errors ≡ before.errors → after.failures ≡ before.failures
-    → AreFilesPlaced before.placed after.placed (Some (placed_file name text ∷ [])) → IsWrittenAt path text before after
+    → AreFilesCommitted before.placed after.placed (Some (placed_file name text ∷ [])) → IsWrittenAt path text before after
 written_file path name text before after is file out errors failures placed = rw is (record {
   out = rw file (subst (λ (o : Option (List ℕ)). Appends before.out o []) (sym out) (appends_nothing before.out));
   errors = errors;
@@ -47,13 +47,13 @@ written_file path name text before after is file out errors failures placed = rw
 
 -- ---- where it was told which files stood in their places before
 
-placed_where_told : (earlier before after files : Option (List PlacedFile)) → AreFilesPlaced before after files
-    → AreFilesPlaced (placed_behind earlier before) after files
+placed_where_told : (earlier before after files : Option (List CommittedFile)) → AreFilesCommitted before after files
+    → AreFilesCommitted (placed_behind earlier before) after files
 placed_where_told None before after files are = tt
 placed_where_told (Some placed) before after files are = are
 
 -- a text that was written there
-pub written_where_told : (earlier : Option (List PlacedFile)) (path : Option (List ℕ)) (text : List ℕ) (before after : Said)
+pub written_where_told : (earlier : Option (List CommittedFile)) (path : Option (List ℕ)) (text : List ℕ) (before after : CommandOutputs)
     → IsWrittenAt path text before after → IsWrittenAt path text (where_told earlier before) after
 written_where_told earlier path text before after written = record {
   out = written.out;
@@ -63,17 +63,17 @@ written_where_told earlier path text before after written = record {
 }
 
 -- a file that took no bytes, where it is told what it took
-pub untold_or_empty : (placed : Option (List PlacedFile)) (P : Type 0) → P → IfSome placed (λ _. P)
+pub untold_or_empty : (placed : Option (List CommittedFile)) (P : Type 0) → P → IfSome placed (λ _. P)
 untold_or_empty None P p = tt
 untold_or_empty (Some files) P p = p
 
 -- a text that went to a file which took none before, where that is told
-pub written_file_where_told : {X Y : Type 0} (r : Result X Y) (earlier : Option (List PlacedFile)) (path : Option (List ℕ))
-    (name text : List ℕ) (before after : Said) (Empty : Type 0) → path ≡ Some name → is_stdout name ≡ false
+pub written_file_where_told : {X Y : Type 0} (r : Result X Y) (earlier : Option (List CommittedFile)) (path : Option (List ℕ))
+    (name text : List ℕ) (before after : CommandOutputs) (Empty : Type 0) → path ≡ Some name → is_stdout name ≡ false
     → after.out ≡ before.out → after.errors ≡ before.errors → after.failures ≡ before.failures
     → IfSome earlier (λ _. Empty)
     → (IfSome before.placed (λ _. Empty)
-    → OnOk r (AreFilesPlaced before.placed after.placed (Some (placed_file name text ∷ []))))
+    → OnOk r (AreFilesCommitted before.placed after.placed (Some (placed_file name text ∷ []))))
     → OnOk r (IsWrittenAt path text (where_told earlier before) after)
 written_file_where_told r None path name text before after Empty is file out errors failures empty placed =
     OnOk-from r _ (written_file path name text (where_told None before) after is file out errors failures tt)

@@ -4,14 +4,14 @@ use Rattle.std.specs.List.{All, Any}
 use Rattle.rv_accept.specs.Sharing.{names_golden_file}
 use Rattle.rv_accept.specs.Targets.{is_of_accepted}
 use Rattle.rv_accept_text.specs.GoldenFiles.{is_left}
-use Rattle.rv_accept_text.specs.declared.accepting.Accepting.{Accepting}
+use Rattle.rv_accept_text.specs.declared.accepting.AcceptSummary.{AcceptSummary}
 use Rattle.rv_accept_text.specs.declared.golden_file.GoldenFile.{GoldenFile}
 use Rattle.rv_base.specs.Files.{FileContents}
-use Rattle.rvtest_cli.specs.declared.run.RunAsked.{RunAsked}
+use Rattle.rvtest_cli.specs.declared.run.RunArgs.{RunArgs}
 use Rattle.rv_command.specs.Texts.{IsTextAt, optional_text}
-use Rattle.rv_files.specs.Placed.{PlacedFile}
+use Rattle.rv_files.specs.Placed.{CommittedFile}
 use Rattle.rv_files.specs.UnreadPaths.{contents_below}
-use Rattle.rv_files.specs.declared.noting_store.Unread.{Unread}
+use Rattle.rv_files.specs.declared.recording_store.UnreadPath.{UnreadPath}
 use Rattle.rv_jobs.specs.Jobs.{console_path}
 use Rattle.rv_jobs.specs.Plans.{Planned, kept_for}
 use Rattle.rv_jobs.specs.declared.answers.Answer.{Answer}
@@ -27,7 +27,7 @@ use Rattle.rvtest_app.specs.Runs.{IsPlanFor}
 
 -- paths lead to places, perhaps several to one, as links do. Each file that was written is there, and every path that leads to no such file
 -- holds what it held
-pub record IsStoreAfter (written : List PlacedFile) (before after : FileContents) : Type 0 where
+pub record IsStoreAfter (written : List CommittedFile) (before after : FileContents) : Type 0 where
   pub leads : List ℕ → List ℕ
   pub one_before : (path other : List ℕ) → leads path ≡ leads other → before path ≡ before other
   pub one_after : (path other : List ℕ) → leads path ≡ leads other → after path ≡ after other
@@ -42,7 +42,7 @@ HaveOneTextEach leads files = All (λ (file : GoldenFile). All (λ (other : Gold
 -- ---- the job
 
 -- of the jobs of a list this one is chosen and not left, none of its golden files is left, and it names no other job
-pub record IsWhollyAccepted (told : Accepting) (place : ℕ) (job : Job) : Type 0 where
+pub record IsWhollyAccepted (told : AcceptSummary) (place : ℕ) (job : Job) : Type 0 where
   pub stands : slice_get told.list.jobs.now place ≡ Some job
   pub accepted : IsTrue (is_of_accepted (slice_get told.runs.now place))
   pub files : All (λ (file : GoldenFile). IsTrue (names_golden_file file.target.path job)
@@ -62,7 +62,7 @@ pub record AreFilesRead (answers : List Answer) (job : Job) : Type 0 where
   pub console : IfSome (console_path job.expect_console) (λ path. IsTrue (is_read (kept_for answers path)))
 
 -- the row of the job at a place in a run of the list over a store, of which the job's files were read
-pub record IsRowIn (store : FileContents) (words : RunAsked) (place : ℕ) (row : Row) : Type 0 where
+pub record IsRowIn (store : FileContents) (words : RunArgs) (place : ℕ) (row : Row) : Type 0 where
   pub bytes : List ℕ
   pub read : IsTextAt (Some store) words.list.now bytes
   pub jobs : List Job
@@ -71,7 +71,7 @@ pub record IsRowIn (store : FileContents) (words : RunAsked) (place : ℕ) (row 
   pub stands : slice_get jobs place ≡ Some job
   pub places : List ℕ
   pub plan : Planned
-  pub unread : List Unread
+  pub unread : List UnreadPath
   pub planned : IsPlanFor (contents_below (optional_text words.root) (Some store)) jobs places plan unread
   pub files : AreFilesRead plan.answers job
   pub is : row ≡ row_of plan job

@@ -5,7 +5,7 @@ use Rattle.rv_accept.specs.Sharing.{names_golden_file}
 use Rattle.rv_accept.specs.declared.targets.Target.{Target}
 use Rattle.rv_accept_text.specs.declared.golden_file.GoldenFile.{GoldenFile}
 use Rattle.rv_base.specs.Files.{FileContents}
-use Rattle.rvtest_cli.specs.declared.accept.AcceptAsked.{AcceptAsked}
+use Rattle.rvtest_cli.specs.declared.accept.AcceptArgs.{AcceptArgs}
 use Rattle.rv_command.specs.Messages.{path_message}
 use Rattle.rv_command.specs.Stops.{IsListUnreadStop, IsStop}
 use Rattle.rv_command.specs.Texts.{IsTextAt, optional_text}
@@ -25,11 +25,11 @@ IsUnmadeStop path why = IsUnopenedStop path why ⊎ IsUnwrittenStop path why
 
 -- it has other bytes than were written
 abbrev pub IsOtherBytesStop : List ℕ → Stop → Type 0
-IsOtherBytesStop path why = IsStop 3 (path_message path (codes "has other bytes than were written")) why
+IsOtherBytesStop path why = IsStop 3 (path_message path (codes "does not contain what was written")) why
 
 -- it is another file than the one that was read
 abbrev pub IsChangedStop : List ℕ → Stop → Type 0
-IsChangedStop path why = IsStop 3 (path_message path (codes "changed since it was read; nothing is written")) why
+IsChangedStop path why = IsStop 3 (path_message path (codes "changed since it was read; nothing was written")) why
 
 -- it was not read again, or it was, and has other bytes than it had when it was read or was written
 abbrev pub IsUncheckedStop : Option FileContents → List ℕ → Stop → Type 0
@@ -62,12 +62,12 @@ abbrev pub IsGoldenPath : List Job → List ℕ → Type 0
 IsGoldenPath jobs path = IsTrue (list_any (names_golden_file path) jobs)
 
 -- a file of the list: the list itself, or a golden file of a job
-abbrev pub IsFileOfList : AcceptAsked → List Job → List ℕ → Type 0
+abbrev pub IsFileOfList : AcceptArgs → List Job → List ℕ → Type 0
 IsFileOfList words jobs place = (place ≡ words.run.list.now)
     ⊎ ((path : List ℕ) × (IsGoldenPath jobs path × (place ≡ resolved_path (optional_text words.run.root) path)))
 
 -- memory was wanting, or a golden file was not read
-abbrev pub IsGoldenUnreadStop : Option FileContents → AcceptAsked → List Job → Stop → Type 0
+abbrev pub IsGoldenUnreadStop : Option FileContents → AcceptArgs → List Job → Stop → Type 0
 IsGoldenUnreadStop known words jobs why = (why ≡ stop.OutOfMemory)
     ⊎ ((path : List ℕ) × (IsFileOfList words jobs path × IsListUnreadStop known path why))
 
@@ -76,15 +76,15 @@ abbrev pub IsFileOfListStop : Option FileContents → Bool → List ℕ → Stop
 IsFileOfListStop known check path why = IsListUnreadStop known path why ⊎ ((check ≡ false) × IsUnputStop known path why)
 
 -- memory was wanting, no thread was there, standard output did not take all, or a file of the list was not read or not written
-abbrev pub IsAcceptingStop : Option FileContents → AcceptAsked → List Job → Stop → Type 0
+abbrev pub IsAcceptingStop : Option FileContents → AcceptArgs → List Job → Stop → Type 0
 IsAcceptingStop known words jobs why = (why ≡ stop.OutOfMemory) ⊎ ((why ≡ stop.NoWorker) ⊎ ((why ≡ stop.WriteFailed)
     ⊎ ((path : List ℕ) × (IsFileOfList words jobs path × IsFileOfListStop known words.check path why))))
 
 -- a file would overwrite something; or that happened
-abbrev pub IsAcceptChosenStop : Option FileContents → AcceptAsked → List Job → Stop → Type 0
+abbrev pub IsAcceptChosenStop : Option FileContents → AcceptArgs → List Job → Stop → Type 0
 IsAcceptChosenStop known words jobs why = IsAcceptOverwriteStop why ⊎ IsAcceptingStop known words jobs why
 
 -- the list was read, and then that
-abbrev pub IsUnacceptedStop : Option FileContents → AcceptAsked → Stop → Type 0
+abbrev pub IsUnacceptedStop : Option FileContents → AcceptArgs → Stop → Type 0
 IsUnacceptedStop known words why = (text : List ℕ) × (IsTextAt known words.run.list.now text
     × ((jobs : List Job) × ((job_list_of text ≡ Ok jobs) × IsAcceptChosenStop known words jobs why)))

@@ -2,34 +2,34 @@
 use Rattle.std.specs.Prelude.{◌==◌, ◌≡◌, ◌&&◌, ◌++◌, ℕ, Bool, true, false, List, [], ◌∷◌, Option, Some, None, IfSome, Ok, ⊤, fold, if◌then◌else◌, length, map, option_map}
 use Rattle.std.specs.Io.KnownBytes.{Appends}
 use Rattle.std.specs.List.{flat_map}
-use Rattle.rv_accept.specs.Claims.{claims_of_runs}
+use Rattle.rv_accept.specs.Claims.{golden_texts_of_runs}
 use Rattle.rv_accept.specs.Edits.{edited_from}
-use Rattle.rv_accept.specs.Meant.{meant_jobs}
-use Rattle.rv_accept.specs.Runs.{judged_runs, placed_rows}
-use Rattle.rv_accept.specs.Sharing.{marks_to_run}
+use Rattle.rv_accept.specs.Meant.{intended_jobs}
+use Rattle.rv_accept.specs.Runs.{judged_runs, indexed_rows}
+use Rattle.rv_accept.specs.Sharing.{jobs_to_run}
 use Rattle.rv_accept.specs.Targets.{with_target}
 use Rattle.rv_accept.specs.declared.edits.Edit.{Edit}
 use Rattle.rv_accept.specs.declared.ends.Acceptance.{Acceptance}
 use Rattle.rv_accept.specs.declared.ends.Acceptance.TheVariants as acceptance
-use Rattle.rv_accept.specs.declared.claims.Claim.{Claim}
+use Rattle.rv_accept.specs.declared.claims.GoldenText.{GoldenText}
 use Rattle.rv_accept.specs.declared.runs.JobRun.{JobRun}
 use Rattle.rv_accept.specs.declared.standing.Candidate.{Candidate}
 use Rattle.rv_accept.specs.declared.targets.Target.{Target}
 use Rattle.rv_accept_text.specs.GoldenFiles.{new_text}
 use Rattle.rv_accept_text.specs.NewLists.{AreLeftFrom}
 use Rattle.rv_accept_text.specs.Told.{changed_count, count_line, left_count, told_lines}
-use Rattle.rv_accept_text.specs.declared.accepting.Accepting.{Accepting}
+use Rattle.rv_accept_text.specs.declared.accepting.AcceptSummary.{AcceptSummary}
 use Rattle.rv_accept_text.specs.declared.accepting.Writing.TheVariants as writing
 use Rattle.rv_accept_text.specs.declared.golden_file.GoldenFile.{GoldenFile}
 use Rattle.rv_accept_text.specs.declared.golden_file.ListFile.{ListFile}
 use Rattle.rv_accept_text.specs.declared.new_list.NewList.{NewList}
 use Rattle.rv_base.specs.Files.{FileContents}
 use Rattle.rv_choice.specs.Chosen.{IsChoice}
-use Rattle.rvtest_cli.specs.declared.accept.AcceptAsked.{AcceptAsked}
+use Rattle.rvtest_cli.specs.declared.accept.AcceptArgs.{AcceptArgs}
 use Rattle.rv_command.specs.Texts.{IsTextAt, optional_text}
-use Rattle.rv_files.specs.Placed.{PlacedFile, placed_file}
+use Rattle.rv_files.specs.Placed.{CommittedFile, placed_file}
 use Rattle.rv_files.specs.UnreadPaths.{contents_below, resolved_path}
-use Rattle.rv_files.specs.declared.noting_store.Unread.{Unread}
+use Rattle.rv_files.specs.declared.recording_store.UnreadPath.{UnreadPath}
 use Rattle.rv_jobs.specs.Plans.{Planned}
 use Rattle.rv_lists.specs.JobList.{job_list_of}
 use Rattle.rv_lists.specs.Jobs.{without_expectations}
@@ -38,9 +38,9 @@ use Rattle.rv_report.specs.declared.row.Row.{Row}
 use Rattle.rv_rows.specs.Rows.{rows_at}
 use Rattle.rvtest_app.specs.Commands.{failure_rule}
 use Rattle.rvtest_app.specs.MissingImages.{missing_images_note}
-use Rattle.rvtest_app.specs.Outlets.{AreFilesPlaced}
+use Rattle.rvtest_app.specs.Outlets.{AreFilesCommitted}
 use Rattle.rvtest_app.specs.Runs.{IsPlanFor, places_of_marks}
-use Rattle.rvtest_app.specs.Said.{IsOnlyPut, IsOnlyTold, Said}
+use Rattle.rvtest_app.specs.CommandOutputs.{IsOnlyStandardOutput, IsOnlyErrorOutput, CommandOutputs}
 use Rattle.rvtest_app.specs.Standings.{AreCandidates}
 
 -- ---- what is run
@@ -54,17 +54,17 @@ acceptance_of false = acceptance.Expected
 pub record AreRowsOfMarked (known : Option FileContents) (root : Option (List ℕ)) (bare : List Job) (marks : List Bool)
     (rows : List (Option Row)) (note : List ℕ) : Type 0 where
   pub plan : Planned
-  pub unread : List Unread
+  pub unread : List UnreadPath
   pub planned : IsPlanFor (contents_below root known) bare (places_of_marks marks) plan unread
-  pub are : rows ≡ placed_rows marks (rows_at plan (places_of_marks marks))
+  pub are : rows ≡ indexed_rows marks (rows_at plan (places_of_marks marks))
   pub noted : note ≡ missing_images_note plan.jobs unread (length (places_of_marks marks)) root
 
 -- the same, and what is said of images that are missing went to standard error
 pub record AreRowsPut (known : Option FileContents) (root : Option (List ℕ)) (bare : List Job) (marks : List Bool)
-    (rows : List (Option Row)) (before after : Said) : Type 0 where
+    (rows : List (Option Row)) (before after : CommandOutputs) : Type 0 where
   pub note : List ℕ
   pub are : AreRowsOfMarked known root bare marks rows note
-  pub told : IsOnlyTold note before after
+  pub told : IsOnlyErrorOutput note before after
 
 -- ---- what is written
 
@@ -85,15 +85,15 @@ AreGoldenFiles known root (target ∷ targets) (file ∷ files) =
     IsGoldenFile known root target file × AreGoldenFiles known root targets files
 AreGoldenFiles known root _ _ = ⊥
 
-abbrev pub file_if : List ℕ → Option (List ℕ) → List PlacedFile
+abbrev pub file_if : List ℕ → Option (List ℕ) → List CommittedFile
 file_if path None = []
 file_if path (Some text) = placed_file path text ∷ []
 
-abbrev pub new_list_text : Accepting → Option (List ℕ)
+abbrev pub new_list_text : AcceptSummary → Option (List ℕ)
 new_list_text told = option_map (λ text. text.items) told.new.now.text
 
 -- the golden files that are written, in the order of the list, and then the list
-abbrev pub written_files : Accepting → List PlacedFile
+abbrev pub written_files : AcceptSummary → List CommittedFile
 written_files told = flat_map (λ file. file_if file.place (new_text told.list file)) told.files.now
     ++ file_if told.list.path.now (new_list_text told)
 
@@ -105,49 +105,49 @@ accept_status left changed = if left == 0 && changed == 0 then 0 else 1
 
 -- what is told of golden files and of the list is so of the runs of a list's jobs, of which perhaps more are left: each golden file is
 -- what all jobs make of it that name it, and a new list reads as the jobs that are meant; where there is none, they are those of the list
-pub record IsOutcome (known : Option FileContents) (words : AcceptAsked) (bytes : List ℕ) (jobs : List Job)
-    (judged : List (Option JobRun)) (told : Accepting) : Type 0 where
+pub record IsOutcome (known : Option FileContents) (words : AcceptArgs) (bytes : List ℕ) (jobs : List Job)
+    (judged : List (Option JobRun)) (told : AcceptSummary) : Type 0 where
   pub path : told.list.path.now ≡ words.run.list.now
   pub text : told.list.text.now ≡ bytes
   pub listed : told.list.jobs.now ≡ jobs
   pub runs : AreLeftFrom judged told.runs.now
-  pub claims : told.claims.now ≡ claims_of_runs 0 jobs told.runs.now
+  pub claims : told.claims.now ≡ golden_texts_of_runs 0 jobs told.runs.now
   pub files : AreGoldenFiles known (optional_text words.run.root)
       (fold (with_target told.runs.now told.claims.now) [] told.claims.now) told.files.now
   pub edited : IfSome told.new.now.text (λ text. (edits : List Edit) × (text.items ≡ edited_from 0 bytes edits))
-  pub meant : IfSome told.new.now.text (λ text. job_list_of text.items ≡ Ok (meant_jobs jobs told.runs.now))
-  pub unchanged : told.new.now.text ≡ None → meant_jobs jobs told.runs.now ≡ jobs
+  pub meant : IfSome told.new.now.text (λ text. job_list_of text.items ≡ Ok (intended_jobs jobs told.runs.now))
+  pub unchanged : told.new.now.text ≡ None → intended_jobs jobs told.runs.now ≡ jobs
 
 -- all of that went to standard output, with the line that counts; the files are in their places, but in a check
-abbrev pub IsAcceptancePut : Bool → Accepting → ℕ → Said → Said → Type 0
+abbrev pub IsAcceptancePut : Bool → AcceptSummary → ℕ → CommandOutputs → CommandOutputs → Type 0
 IsAcceptancePut true told status before after =
     (status ≡ accept_status (left_count told) (changed_count told))
-    × IsOnlyPut (told_lines told ++ count_line writing.Asked (changed_count told) (left_count told)) before after
+    × IsOnlyStandardOutput (told_lines told ++ count_line writing.Asked (changed_count told) (left_count told)) before after
 IsAcceptancePut false told status before after =
     (status ≡ accept_status (left_count told) 0)
     × Appends before.out after.out (told_lines told ++ count_line writing.Done (changed_count told) (left_count told))
     × (after.errors ≡ before.errors) × (after.failures ≡ before.failures)
-    × AreFilesPlaced before.placed after.placed (Some (written_files told))
+    × AreFilesCommitted before.placed after.placed (Some (written_files told))
 
 -- the same of its parts
-abbrev pub accepting_of : ListFile → List (Option JobRun) → List Claim → List GoldenFile → NewList → Accepting → Type 0
+abbrev pub accepting_of : ListFile → List (Option JobRun) → List GoldenText → List GoldenFile → NewList → AcceptSummary → Type 0
 accepting_of list runs claims files new told = (told.list ≡ list) × (told.runs.now ≡ runs) × (told.claims.now ≡ claims)
     × (told.files.now ≡ files) × (told.new.now ≡ new)
 
-pub record IsOutcomePut (check : Bool) (list : ListFile) (runs : List (Option JobRun)) (claims : List Claim)
-    (files : List GoldenFile) (new : NewList) (status : ℕ) (before after : Said) : Type 0 where
-  pub told : Accepting
+pub record IsOutcomePut (check : Bool) (list : ListFile) (runs : List (Option JobRun)) (claims : List GoldenText)
+    (files : List GoldenFile) (new : NewList) (status : ℕ) (before after : CommandOutputs) : Type 0 where
+  pub told : AcceptSummary
   pub of : accepting_of list runs claims files new told
   pub put : IsAcceptancePut check told status before after
 
 -- it was said which golden files are outside of the list's directory, as far as there are directories
-pub record IsOutsideTold (before after : Said) : Type 0 where
+pub record IsOutsideTold (before after : CommandOutputs) : Type 0 where
   pub outside : List ℕ
   pub inside : IfSome before.placed (λ _. outside ≡ [])
-  pub told : IsOnlyTold outside before after
+  pub told : IsOnlyErrorOutput outside before after
 
 -- the runs of jobs of which some are chosen, by their rows: each is left or accepted by how it stands
-pub record AreJudged (known : Option FileContents) (words : AcceptAsked) (jobs : List Job) (chosen : List Bool)
+pub record AreJudged (known : Option FileContents) (words : AcceptArgs) (jobs : List Job) (chosen : List Bool)
     (rows : List (Option Row)) (judged : List (Option JobRun)) : Type 0 where
   pub candidates : List Candidate
   pub stand : AreCandidates known (optional_text words.run.root) rows jobs chosen candidates
@@ -155,29 +155,29 @@ pub record AreJudged (known : Option FileContents) (words : AcceptAsked) (jobs :
 
 -- that was said, and the jobs that are chosen ran, without their expectations, those that name a golden file of theirs, and those with
 -- which one of all these is compared
-pub record IsAcceptedOfMarks (known : Option FileContents) (words : AcceptAsked) (bytes : List ℕ) (jobs : List Job)
-    (chosen : List Bool) (status : ℕ) (before after : Said) : Type 0 where
-  pub first : Said
+pub record IsAcceptedOfMarks (known : Option FileContents) (words : AcceptArgs) (bytes : List ℕ) (jobs : List Job)
+    (chosen : List Bool) (status : ℕ) (before after : CommandOutputs) : Type 0 where
+  pub first : CommandOutputs
   pub outside : IsOutsideTold before first
   pub rows : List (Option Row)
-  pub middle : Said
+  pub middle : CommandOutputs
   pub ran : AreRowsPut known (optional_text words.run.root) (map without_expectations jobs)
-      (marks_to_run jobs chosen) rows first middle
+      (jobs_to_run jobs chosen) rows first middle
   pub judged : List (Option JobRun)
   pub judging : AreJudged known words jobs chosen rows judged
-  pub told : Accepting
+  pub told : AcceptSummary
   pub outcome : IsOutcome known words bytes jobs judged told
   pub put : IsAcceptancePut words.check told status middle after
 
 -- where no job is chosen, the status is 0 and nothing more is said
-abbrev pub IsAcceptedOfChosen : Option FileContents → AcceptAsked → List ℕ → List Job → Option (List Bool) → ℕ
-    → Said → Said → Type 0
+abbrev pub IsAcceptedOfChosen : Option FileContents → AcceptArgs → List ℕ → List Job → Option (List Bool) → ℕ
+    → CommandOutputs → CommandOutputs → Type 0
 IsAcceptedOfChosen known words bytes jobs None status before after = (status ≡ 0) × (after ≡ before)
 IsAcceptedOfChosen known words bytes jobs (Some chosen) status before after =
     IsAcceptedOfMarks known words bytes jobs chosen status before after
 
 -- of the list at the path that words name, what is said of the choice goes to standard error, and then that
-pub record IsAcceptedAt (known : Option FileContents) (words : AcceptAsked) (status : ℕ) (before after : Said)
+pub record IsAcceptedAt (known : Option FileContents) (words : AcceptArgs) (status : ℕ) (before after : CommandOutputs)
     : Type 0 where
   pub bytes : List ℕ
   pub read : IsTextAt known words.run.list.now bytes
@@ -186,6 +186,6 @@ pub record IsAcceptedAt (known : Option FileContents) (words : AcceptAsked) (sta
   pub chosen : Option (List Bool)
   pub notes : List ℕ
   pub choice : IsChoice known words.run (failure_rule words.run.lenient) jobs chosen notes
-  pub middle : Said
-  pub said : IsOnlyTold notes before middle
+  pub middle : CommandOutputs
+  pub outputs_of : IsOnlyErrorOutput notes before middle
   pub accepted : IsAcceptedOfChosen known words bytes jobs chosen status middle after

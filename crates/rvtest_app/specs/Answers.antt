@@ -7,7 +7,7 @@ use Rattle.rvtest_cli.specs.RvtestWords.{asked_words, words_fault_kinds, words_r
 use Rattle.rvtest_cli.specs.declared.requests.Asked.{Asked}
 use Rattle.rvtest_cli.specs.declared.requests.Asked.TheVariants as asked
 use Rattle.rvtest_app.specs.Accepts.{IsAcceptedAt}
-use Rattle.rvtest_app.specs.Colors.{IsSaidInColors, asked_colors}
+use Rattle.rvtest_app.specs.Colors.{IsColoredOutput, requested_colors}
 use Rattle.rvtest_app.specs.Consoles.{IsConsolePut}
 use Rattle.rvtest_app.specs.CountSums.{IsSumPut}
 use Rattle.rvtest_app.specs.Covers.{IsCoverPut}
@@ -18,17 +18,17 @@ use Rattle.rvtest_app.specs.Merges.{IsMergedAt}
 use Rattle.rvtest_app.specs.Profiles.{IsProfilePut}
 use Rattle.rvtest_app.specs.Reports.{IsCheckAt, IsDiffPut, IsExplanationAt}
 use Rattle.rvtest_app.specs.Runs.{IsRunAt}
-use Rattle.rvtest_app.specs.Said.{IsOnlyPut, Said}
+use Rattle.rvtest_app.specs.CommandOutputs.{IsOnlyStandardOutput, CommandOutputs}
 use Rattle.rvtest_app.specs.Shows.{IsShownAt}
 
 -- a command did what is asked for, over what is known of files and of standard input, and where standard output is a terminal or is
 -- none: its status, and all that went to standard output, to standard error and into files
-abbrev pub IsDone : Option FileContents → Option (List ℕ) → Bool → Asked → ℕ → Said → Said → Type 0
+abbrev pub IsDone : Option FileContents → Option (List ℕ) → Bool → Asked → ℕ → CommandOutputs → CommandOutputs → Type 0
 IsDone known input is_terminal (asked.Run words) status before after =
     IsRunAt known words status before after
 IsDone known input is_terminal (asked.Explain words) status before after =
     (text : List ℕ) × (IsExplanationAt known words text status
-    × IsOnlyPut text before after)
+    × IsOnlyStandardOutput text before after)
 IsDone known input is_terminal (asked.List words) status before after =
     IsListPut known words status before after
 IsDone known input is_terminal (asked.Console words) status before after =
@@ -37,7 +37,7 @@ IsDone known input is_terminal (asked.Gdb words) status before after =
     (rest : Option (List ℕ)) × IsGdbAnswered known is_terminal words input rest status before after
 IsDone known input is_terminal (asked.Check words) status before after =
     (text : List ℕ) × (IsCheckAt known words text status
-    × IsOnlyPut text before after)
+    × IsOnlyStandardOutput text before after)
 IsDone known input is_terminal (asked.Accept words) status before after =
     IsAcceptedAt known words status before after
 IsDone known input is_terminal (asked.Merge words) status before after =
@@ -54,15 +54,15 @@ IsDone known input is_terminal (asked.Profile words) status before after =
     IsProfilePut known words status before after
 IsDone known input is_terminal (asked.Help words) status before after =
     (text : List ℕ) × (IsTopicTold words.topic.now text status
-    × IsOnlyPut text before after)
+    × IsOnlyStandardOutput text before after)
 
 -- a command did what is asked for, and standard output took its results in the colours that are asked for, where it is a terminal
 -- for colours, or is none
 pub record IsDoneInColors (known : Option FileContents) (input : Option (List ℕ)) (is_terminal is_colored : Bool) (asked : Asked)
-    (status : ℕ) (before after : Said) : Type 0 where
-  pub plain : Said
+    (status : ℕ) (before after : CommandOutputs) : Type 0 where
+  pub plain : CommandOutputs
   pub done : IsDone known input is_terminal asked status before plain
-  pub shown : IsSaidInColors (asked_colors asked is_colored) before plain after
+  pub shown : IsColoredOutput (requested_colors asked is_colored) before plain after
 
 -- words ask for the help, or for the version
 abbrev pub AskForHelp : List (List ℕ) → Type 0
@@ -74,7 +74,7 @@ IsAnsweredAlone words status =
     ((words_request words ≡ None) × (status ≡ 2)) ⊎ (AskForHelp words × (status ≡ 0))
 
 -- the program answered words: it did what they ask for, in colours or without, or else told how it is used
-abbrev pub IsAnswered : Option FileContents → Option (List ℕ) → Bool → Bool → List (List ℕ) → ℕ → Said → Said → Type 0
+abbrev pub IsAnswered : Option FileContents → Option (List ℕ) → Bool → Bool → List (List ℕ) → ℕ → CommandOutputs → CommandOutputs → Type 0
 IsAnswered known input is_terminal is_colored words status before after =
     ((asked : Asked) × ((words_request words ≡ Some (asked_words asked))
     × IsDoneInColors known input is_terminal is_colored asked status before after))

@@ -6,7 +6,7 @@ use Rattle.std.specs.Fmt.{decimal}
 use Rattle.std.specs.List.{enumerate_from, flat_map}
 use Rattle.std.specs.Str.{is_utf8}
 use Rattle.rv_expect.specs.TwoEnds.{expects_two_ends}
-use Rattle.rv_files.specs.declared.noting_store.Unread.{Unread}
+use Rattle.rv_files.specs.declared.recording_store.UnreadPath.{UnreadPath}
 use Rattle.rv_job_text.specs.RefusalReasons.{refusal_reason}
 use Rattle.rv_job_text.specs.ResultLine.{optional_reason_text}
 use Rattle.rv_job_text.specs.TotalsLine.{job_word}
@@ -42,7 +42,7 @@ path_and_line path (Some number) = printable_text path ++ codes ":" ++ decimal n
 -- where the job at a place begins, its number, counted from 1, and its name
 unfoldable pub job_prefix : List ℕ → List ℕ → ℕ → Job → List ℕ
 job_prefix path lines place job =
-    path_and_line path (slice_get lines place) ++ codes ": job " ++ decimal (place + 1) ++ codes " (" ++ job.name ++ codes "): "
+    path_and_line path (slice_get lines place) ++ codes ": job " ++ decimal (place + 1) ++ codes " \"" ++ job.name ++ codes "\": "
 
 -- ---- a job that is refused
 
@@ -54,16 +54,16 @@ unfoldable pub refused_file_line : List ℕ → List ℕ → ℕ → Job → Ref
 refused_file_line path lines place job why reason = line (job_prefix path lines place job ++ refusal_text why reason)
 
 -- the line of its image, for which it would be refused whatever its other files are
-abbrev pub refused_image_line : List ℕ → List ℕ → Planned → List Unread → ℕ → Job → Refusal → List ℕ
+abbrev pub refused_image_line : List ℕ → List ℕ → Planned → List UnreadPath → ℕ → Job → Refusal → List ℕ
 refused_image_line path lines plan unread place job why =
     refused_file_line path lines place job why (refusal_reason plan.answers unread job why)
 
-abbrev pub refused_image_text : List ℕ → List ℕ → Planned → List Unread → ℕ → Job → List ℕ
+abbrev pub refused_image_text : List ℕ → List ℕ → Planned → List UnreadPath → ℕ → Job → List ℕ
 refused_image_text path lines plan unread place job =
     unwrap_or (option_map (refused_image_line path lines plan unread place job) (image_refusal_in plan.answers job)) []
 
 -- the line of a file with what it expects, by what is kept of the file's path; nothing of one that was read
-abbrev pub unread_reference_text : List ℕ → List ℕ → List Unread → ℕ → Job → Option Kept → Option (List ℕ) → List ℕ
+abbrev pub unread_reference_text : List ℕ → List ℕ → List UnreadPath → ℕ → Job → Option Kept → Option (List ℕ) → List ℕ
 unread_reference_text path lines unread place job (Some kept.Unreadable) (Some file) =
     refused_file_line path lines place job refusal.ReferenceUnreadable (Some (unread_file_text unread file))
 unread_reference_text path lines unread place job (Some kept.TooLong) (Some file) =
@@ -71,18 +71,18 @@ unread_reference_text path lines unread place job (Some kept.TooLong) (Some file
 unread_reference_text path lines unread place job _ _ = []
 
 -- of the path of such a file
-abbrev pub reference_text : List ℕ → List ℕ → Planned → List Unread → ℕ → Job → Option (List ℕ) → List ℕ
+abbrev pub reference_text : List ℕ → List ℕ → Planned → List UnreadPath → ℕ → Job → Option (List ℕ) → List ℕ
 reference_text path lines plan unread place job file =
     unread_reference_text path lines unread place job (option_map (kept_for plan.answers) file) file
 
 -- the lines of its image, and of the files with the signature and the console that it expects
-unfoldable pub refused_files_text : List ℕ → List ℕ → Planned → List Unread → ℕ → Job → List ℕ
+unfoldable pub refused_files_text : List ℕ → List ℕ → Planned → List UnreadPath → ℕ → Job → List ℕ
 refused_files_text path lines plan unread place job = refused_image_text path lines plan unread place job
     ++ (reference_text path lines plan unread place job job.expect_signature
     ++ reference_text path lines plan unread place job (console_path job.expect_console))
 
 -- nothing of a job that is not refused
-unfoldable pub refused_job_text : List ℕ → List ℕ → Planned → List Unread → ℕ → Job → List ℕ
+unfoldable pub refused_job_text : List ℕ → List ℕ → Planned → List UnreadPath → ℕ → Job → List ℕ
 refused_job_text path lines plan unread place job =
     if is_job_refused plan job then refused_files_text path lines plan unread place job else []
 
@@ -96,8 +96,8 @@ expected_end_name _ = codes "budget"
 -- the code and the end that a job expects, which no run meets
 abbrev pub two_ends_text : Option ℕ → Option ExpectedEnd → List ℕ
 two_ends_text code end = codes "warning: expect_exit = " ++ decimal (unwrap_or code 0)
-    ++ codes " beside expect_end = \"" ++ expected_end_name end
-    ++ codes "\": a run ends in one way, so the job never passes"
+    ++ codes " with expect_end = \"" ++ expected_end_name end
+    ++ codes "\": a run ends in only one way, so the job never passes"
 
 unfoldable pub two_ends_line : List ℕ → List ℕ → ℕ → Job → List ℕ
 two_ends_line path lines place job =
@@ -129,7 +129,7 @@ texts_of_jobs text jobs = flat_map (λ entry. text entry.0 entry.1) (enumerate_f
 
 -- what is said of the list of a path and a text, whose paths are taken from a folder where one is given, by its plan and what
 -- was noted of files that were not read
-unfoldable pub check_text : List ℕ → List ℕ → Option (List ℕ) → Planned → List Unread → List ℕ
+unfoldable pub check_text : List ℕ → List ℕ → Option (List ℕ) → Planned → List UnreadPath → List ℕ
 check_text path text root plan unread = let lines = job_begin_lines text in
     texts_of_jobs (refused_job_text path lines plan unread) plan.jobs
     ++ texts_of_jobs (warned_job_text path lines) plan.jobs

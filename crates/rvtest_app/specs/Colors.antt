@@ -9,7 +9,7 @@ use Rattle.rv_terminal.specs.declared.colors.Colors.TheVariants as colors
 use Rattle.rv_command.specs.Texts.{optional_text}
 use Rattle.rvtest_app.specs.IntoReports.{uses_run_stdout}
 use Rattle.rvtest_app.specs.Outlets.{is_stdout_at}
-use Rattle.rvtest_app.specs.Said.{Said}
+use Rattle.rvtest_app.specs.CommandOutputs.{CommandOutputs}
 
 -- without a word they are on a terminal
 abbrev pub terminal_colors : Bool → Colors
@@ -25,17 +25,17 @@ abbrev pub beside_file : Bool → Colors → Colors
 beside_file uses_stdout asked = if uses_stdout then colors.Without else asked
 
 -- what words ask for, where standard output is a terminal for colours, or is none; names, consoles, faults and reports have none
-abbrev pub asked_colors : Asked → Bool → Colors
-asked_colors (asked.Run words) is_terminal =
+abbrev pub requested_colors : Asked → Bool → Colors
+requested_colors (asked.Run words) is_terminal =
     beside_file (uses_run_stdout words) (colors_of_word (optional_text words.color) is_terminal)
-asked_colors (asked.Explain words) is_terminal = colors_of_word (optional_text words.color) is_terminal
-asked_colors (asked.Diff words) is_terminal = colors_of_word (optional_text words.color) is_terminal
-asked_colors (asked.Show words) is_terminal =
+requested_colors (asked.Explain words) is_terminal = colors_of_word (optional_text words.color) is_terminal
+requested_colors (asked.Diff words) is_terminal = colors_of_word (optional_text words.color) is_terminal
+requested_colors (asked.Show words) is_terminal =
     beside_file (is_stdout_at (optional_text words.junit)) (colors_of_word (optional_text words.color) is_terminal)
-asked_colors _ is_terminal = colors.Without
+requested_colors _ is_terminal = colors.Without
 
 -- what is said, and the same with the results on standard output in their colours: nothing else has any
-pub record IsSaidInColors (colors : Colors) (before plain after : Said) : Type 0 where
+pub record IsColoredOutput (colors : Colors) (before plain after : CommandOutputs) : Type 0 where
   pub out : IsOut colors before.out plain.out after.out
   pub errors : after.errors ≡ plain.errors
   pub failures : after.failures ≡ plain.failures

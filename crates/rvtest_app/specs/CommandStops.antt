@@ -8,21 +8,21 @@ use Rattle.rv_choice.specs.ChoiceStops.{IsChoiceStop}
 use Rattle.rv_choice.specs.UnknownName.{IsUnknownNameStop}
 use Rattle.rvtest_cli.specs.RvtestCommand.{test_app}
 use Rattle.rvtest_cli.specs.RvtestWords.{asked_words, misuse_text, words_fault_kinds, words_misuse, words_request}
-use Rattle.rvtest_cli.specs.declared.accept.AcceptAsked.{AcceptAsked}
-use Rattle.rvtest_cli.specs.declared.check.CheckAsked.{CheckAsked}
-use Rattle.rvtest_cli.specs.declared.console.ConsoleAsked.{ConsoleAsked}
-use Rattle.rvtest_cli.specs.declared.diff.DiffAsked.{DiffAsked}
-use Rattle.rvtest_cli.specs.declared.explain.ExplainAsked.{ExplainAsked}
-use Rattle.rvtest_cli.specs.declared.gdb.GdbAsked.{GdbAsked}
-use Rattle.rvtest_cli.specs.declared.run.RunAsked.{RunAsked}
-use Rattle.rvtest_cli.specs.declared.show.ShowAsked.{ShowAsked}
+use Rattle.rvtest_cli.specs.declared.accept.AcceptArgs.{AcceptArgs}
+use Rattle.rvtest_cli.specs.declared.check.CheckArgs.{CheckArgs}
+use Rattle.rvtest_cli.specs.declared.console.ConsoleArgs.{ConsoleArgs}
+use Rattle.rvtest_cli.specs.declared.diff.DiffArgs.{DiffArgs}
+use Rattle.rvtest_cli.specs.declared.explain.ExplainArgs.{ExplainArgs}
+use Rattle.rvtest_cli.specs.declared.gdb.GdbArgs.{GdbArgs}
+use Rattle.rvtest_cli.specs.declared.run.RunArgs.{RunArgs}
+use Rattle.rvtest_cli.specs.declared.show.ShowArgs.{ShowArgs}
 use Rattle.rvtest_cli.specs.declared.requests.Asked.{Asked}
 use Rattle.rvtest_cli.specs.declared.requests.Asked.TheVariants as asked
 use Rattle.rv_command.specs.Stops.{IsListFaultStop, IsListUnreadStop, IsRefusal, IsRequestedUnreadStop, IsUsageStop}
 use Rattle.rv_command.specs.Texts.{IsReportReadAt, IsTextAt, optional_text}
 use Rattle.rv_command.specs.declared.stop.Stop.{Stop}
 use Rattle.rv_command.specs.declared.stop.Stop.TheVariants as stop
-use Rattle.rv_gdb.specs.declared.conversation.Broken.{Broken}
+use Rattle.rv_gdb.specs.declared.conversation.SessionError.{SessionError}
 use Rattle.rv_lists.specs.JobList.{job_list_of}
 use Rattle.rv_lists.specs.declared.job.Job.{Job}
 use Rattle.rv_report.specs.declared.partial.PartialReport.{PartialReport}
@@ -38,11 +38,11 @@ use Rattle.rvtest_app.specs.Overwrites.{IsShowOverwriteStop}
 use Rattle.rvtest_app.specs.ProfileStops.{IsProfileStop}
 use Rattle.rvtest_app.specs.PutStops.{IsOutputStop}
 use Rattle.rvtest_app.specs.RunStops.{IsRunStop}
-use Rattle.rvtest_app.specs.Said.{Said}
+use Rattle.rvtest_app.specs.CommandOutputs.{CommandOutputs}
 use Rattle.rvtest_app.specs.ToldStops.{IsHelpAsked}
 
 -- `check`: the list was not read; or memory was wanting, or the list has a fault
-abbrev pub IsCheckStop : Option FileContents → CheckAsked → Stop → Type 0
+abbrev pub IsCheckStop : Option FileContents → CheckArgs → Stop → Type 0
 IsCheckStop known words why = IsListUnreadStop known words.list.now why
     ⊎ ((text : List ℕ) × (IsTextAt known words.list.now text × IsListFaultStop words.list.now text why))
 
@@ -52,61 +52,61 @@ IsNoJobStop path text name why = IsListFaultStop path text why
     ⊎ ((jobs : List Job) × ((job_list_of text ≡ Ok jobs) × IsUnknownNameStop path jobs name why))
 
 -- `explain`: the list was not read, or it has no such job
-abbrev pub IsExplainStop : Option FileContents → ExplainAsked → Stop → Type 0
+abbrev pub IsExplainStop : Option FileContents → ExplainArgs → Stop → Type 0
 IsExplainStop known words why = IsListUnreadStop known words.list.now why
     ⊎ ((text : List ℕ) × (IsTextAt known words.list.now text × IsNoJobStop words.list.now text words.name.now why))
 
 -- `console`: the same
-abbrev pub IsConsoleStop : Option FileContents → ConsoleAsked → Stop → Type 0
+abbrev pub IsConsoleStop : Option FileContents → ConsoleArgs → Stop → Type 0
 IsConsoleStop known words why = IsListUnreadStop known words.list.now why
     ⊎ ((text : List ℕ) × (IsTextAt known words.list.now text × IsNoJobStop words.list.now text words.name.now why))
 
 -- `gdb`: the list was not read, it has no such job, or that job is refused; or memory was wanting, or standard input was not read
-abbrev pub IsUnopenedAtStop : Option FileContents → GdbAsked → Stop → Type 0
+abbrev pub IsUnopenedAtStop : Option FileContents → GdbArgs → Stop → Type 0
 IsUnopenedAtStop known words why = IsListUnreadStop known words.list.now why
     ⊎ ((text : List ℕ) × (IsTextAt known words.list.now text
     × (IsNoJobStop words.list.now text words.name.now why ⊎ IsUnopenedOfStop known words text why)))
 
 -- standard output is a terminal, or it is none and the job is not shown
-abbrev pub IsUnshownStop : Option FileContents → Bool → GdbAsked → Stop → Type 0
+abbrev pub IsUnshownStop : Option FileContents → Bool → GdbArgs → Stop → Type 0
 IsUnshownStop known is_terminal words why = ((is_terminal ≡ true) × IsNoGdbStop why)
     ⊎ ((is_terminal ≡ false) × IsUnopenedAtStop known words why)
 
 -- the job was not shown, or the session was broken off
-abbrev pub IsGdbStop : Option FileContents → Bool → GdbAsked → Stop → Type 0
+abbrev pub IsGdbStop : Option FileContents → Bool → GdbArgs → Stop → Type 0
 IsGdbStop known is_terminal words why = IsUnshownStop known is_terminal words why
-    ⊎ ((is_terminal ≡ false) × ((broken : Broken) × IsBrokenStop broken why))
+    ⊎ ((is_terminal ≡ false) × ((broken : SessionError) × IsBrokenStop broken why))
 
 -- The job was not shown, and nothing was said. Or the session was broken off: by a put if one failed of those to standard output,
 -- which are counted before and behind, and by something else if none did.
-abbrev pub IsGdbStopped : Option FileContents → Bool → GdbAsked → Stop → Said → Said → ℕ → ℕ → Type 0
+abbrev pub IsGdbStopped : Option FileContents → Bool → GdbArgs → Stop → CommandOutputs → CommandOutputs → ℕ → ℕ → Type 0
 IsGdbStopped known is_terminal words why before after failures_before failures_after =
     (IsUnshownStop known is_terminal words why × (after ≡ before))
-    ⊎ ((is_terminal ≡ false) × ((broken : Broken) × (IsBrokenStop broken why × IsFailureTold broken failures_before failures_after)))
+    ⊎ ((is_terminal ≡ false) × ((broken : SessionError) × (IsBrokenStop broken why × IsFailureTold broken failures_before failures_after)))
 
 -- a text is no list, or words choose no job of it
-abbrev pub IsNoChoiceStop : Option FileContents → RunAsked → List ℕ → Stop → Type 0
+abbrev pub IsNoChoiceStop : Option FileContents → RunArgs → List ℕ → Stop → Type 0
 IsNoChoiceStop known words text why = IsListFaultStop words.list.now text why
     ⊎ ((jobs : List Job) × ((job_list_of text ≡ Ok jobs)
     × IsChoiceStop known words (failure_rule words.lenient) jobs why))
 
 -- `list`: the list was not read, or words choose no job of it
-abbrev pub IsListStop : Option FileContents → RunAsked → Stop → Type 0
+abbrev pub IsListStop : Option FileContents → RunArgs → Stop → Type 0
 IsListStop known words why = IsListUnreadStop known words.list.now why
     ⊎ ((text : List ℕ) × (IsTextAt known words.list.now text × IsNoChoiceStop known words text why))
 
 -- `accept`: no jobs were found that words choose, or the chosen ones were not accepted
-abbrev pub IsAcceptStop : Option FileContents → AcceptAsked → Stop → Type 0
+abbrev pub IsAcceptStop : Option FileContents → AcceptArgs → Stop → Type 0
 IsAcceptStop known words why = IsListStop known words.run why ⊎ IsUnacceptedStop known words why
 
 -- `diff`: the old report was not read, or it was, and the new one was not
-abbrev pub IsDiffAtStop : Option FileContents → DiffAsked → Stop → Type 0
+abbrev pub IsDiffAtStop : Option FileContents → DiffArgs → Stop → Type 0
 IsDiffAtStop known words why = IsRequestedUnreadStop known words.partial words.old.now why
     ⊎ ((found : PartialReport) × (IsReportReadAt known words.partial words.old.now found
     × IsRequestedUnreadStop known words.partial words.new.now why))
 
 -- `show`: the JUnit file would replace the report; or that was not read, or it was, and what is shown of it did not go out
-abbrev pub IsShowStop : Option FileContents → ShowAsked → Stop → Type 0
+abbrev pub IsShowStop : Option FileContents → ShowArgs → Stop → Type 0
 IsShowStop known words why = IsShowOverwriteStop words why ⊎ (IsRequestedUnreadStop known words.partial words.report.now why
     ⊎ ((found : PartialReport) × (IsReportReadAt known words.partial words.report.now found
     × IsOutputStop None (optional_text words.junit) why)))

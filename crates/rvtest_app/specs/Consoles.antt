@@ -1,21 +1,21 @@
 -- What `console` puts of a job.
 use Rattle.std.specs.Prelude.{◌≡◌, ℕ, List, [], ◌∷◌, Option, Ok, slice_index_or}
 use Rattle.rv_base.specs.Files.{FileContents}
-use Rattle.rvtest_cli.specs.declared.console.ConsoleAsked.{ConsoleAsked}
+use Rattle.rvtest_cli.specs.declared.console.ConsoleArgs.{ConsoleArgs}
 use Rattle.rv_command.specs.Texts.{IsTextAt, optional_text}
 use Rattle.rv_expect.specs.Judgement.{judging_by_rule}
 use Rattle.rv_expect.specs.Passing.{has_passed}
 use Rattle.rv_expect.specs.declared.passing.Rule.TheVariants.{Strict}
 use Rattle.rv_files.specs.UnreadPaths.{contents_below}
-use Rattle.rv_files.specs.declared.noting_store.Unread.{Unread}
-use Rattle.rv_job_text.specs.Telling.{row_line}
+use Rattle.rv_files.specs.declared.recording_store.UnreadPath.{UnreadPath}
+use Rattle.rv_job_text.specs.RowReporter.{row_line}
 use Rattle.rv_jobs.specs.Plans.{AreKept, Planned, jobs_needed_for, paths_of, paths_used}
 use Rattle.rv_lists.specs.JobList.{job_list_of}
 use Rattle.rv_lists.specs.declared.job.Job.{Job}
 use Rattle.rv_rows.specs.Rows.{row_of}
 use Rattle.rvtest_app.specs.Commands.{passing_status}
 use Rattle.rvtest_app.specs.Reports.{AreNotesOf, IsFirstNamed}
-use Rattle.rvtest_app.specs.Said.{IsOnlyPut, IsOnlyTold, Said}
+use Rattle.rvtest_app.specs.CommandOutputs.{IsOnlyStandardOutput, IsOnlyErrorOutput, CommandOutputs}
 
 -- the console, the line and the status are those of the row of the job at a place, over answers for the paths that its row needs,
 -- which agree with what stands there
@@ -25,7 +25,7 @@ pub record IsJobConsole (known : Option FileContents) (jobs : List Job) (place :
   pub listed : plan.jobs ≡ jobs
   pub paths : paths_of plan.answers ≡ paths_used (jobs_needed_for jobs (place ∷ []))
   pub kept : AreKept known plan.answers
-  pub unread : List Unread
+  pub unread : List UnreadPath
   pub noted : AreNotesOf plan.answers unread
   pub written : (d : Job) → console ≡ (row_of plan (slice_index_or plan.jobs place d)).console
   pub told : (d : Job) → line ≡ row_line plan unread (judging_by_rule Strict) (slice_index_or plan.jobs place d)
@@ -42,18 +42,18 @@ pub record IsConsoleOf (known : Option FileContents) (bytes name console line : 
   pub of_job : IsJobConsole known jobs place console line status
 
 -- the same of the list at the path that words name
-pub record IsConsoleAt (known : Option FileContents) (words : ConsoleAsked) (console line : List ℕ) (status : ℕ)
+pub record IsConsoleAt (known : Option FileContents) (words : ConsoleArgs) (console line : List ℕ) (status : ℕ)
     : Type 0 where
   pub bytes : List ℕ
   pub read : IsTextAt known words.list.now bytes
   pub of_list : IsConsoleOf (contents_below (optional_text words.root) known) bytes words.name.now console line status
 
 -- that console went to standard output and nothing else did, and then that line to standard error
-pub record IsConsolePut (known : Option FileContents) (words : ConsoleAsked) (status : ℕ) (before after : Said)
+pub record IsConsolePut (known : Option FileContents) (words : ConsoleArgs) (status : ℕ) (before after : CommandOutputs)
     : Type 0 where
   pub console : List ℕ
   pub line : List ℕ
   pub of : IsConsoleAt known words console line status
-  pub middle : Said
-  pub put : IsOnlyPut console before middle
-  pub told : IsOnlyTold line middle after
+  pub middle : CommandOutputs
+  pub put : IsOnlyStandardOutput console before middle
+  pub told : IsOnlyErrorOutput line middle after

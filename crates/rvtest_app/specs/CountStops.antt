@@ -2,7 +2,7 @@
 use Rattle.std.specs.Prelude.{◌≡◌, ◌⊎◌, ◌++◌, ◌∷◌, ℕ, List, Option, codes}
 use Rattle.std.specs.Borrow.{Bor}
 use Rattle.rv_base.specs.Files.{FileContents}
-use Rattle.rvtest_cli.specs.declared.counts.CountsAsked.{CountsAsked}
+use Rattle.rvtest_cli.specs.declared.counts.CountsArgs.{CountsArgs}
 use Rattle.rv_command.specs.Messages.{path_message, path_number_message}
 use Rattle.rv_command.specs.Stops.{IsStop, IsResultUnreadStop}
 use Rattle.rv_command.specs.Texts.{IsTextAt, optional_text}
@@ -27,8 +27,8 @@ use Rattle.rvtest_app.specs.WrittenTexts.{IsUnwrittenAtStop, written_path}
 abbrev pub IsReadErrorStop : List ℕ → ReadError → Stop → Type 0
 IsReadErrorStop path read.OutOfMemory why = why ≡ stop.OutOfMemory
 IsReadErrorStop path (read.Line line) why =
-    IsStop 2 (path_number_message path (codes ":") line (codes ": no table of counts has this line here\n")) why
-IsReadErrorStop path read.CutOff why = IsStop 2 (path_message path (codes "the table is cut off")) why
+    IsStop 2 (path_number_message path (codes ":") line (codes ": invalid line in a table of counts\n")) why
+IsReadErrorStop path read.CutOff why = IsStop 2 (path_message path (codes "the table is truncated")) why
 
 -- a count of an address, or in the stacks of a function, would be 2^64 or more with the table at a path
 abbrev pub great_count_message : List ℕ → List ℕ → ℕ → List ℕ
@@ -43,7 +43,7 @@ two_names_message path function = codes "rvtest: " ++ printable_text path ++ cod
 -- a table is not added to others
 abbrev pub IsSumErrorStop : List ℕ → SumError → Stop → Type 0
 IsSumErrorStop path sum.OutOfMemory why = why ≡ stop.OutOfMemory
-IsSumErrorStop path (sum.Count address) why = IsStop 2 (great_count_message path (codes ": a count of ") address) why
+IsSumErrorStop path (sum.Count address) why = IsStop 2 (great_count_message path (codes ": the count at ") address) why
 IsSumErrorStop path (sum.Spot function) why =
     IsStop 2 (great_count_message path (codes ": a count in the stacks of ") function) why
 IsSumErrorStop path (sum.Names function) why = IsStop 2 (two_names_message path function) why
@@ -78,7 +78,7 @@ pub record IsSumStop (known : Option FileContents) (paths : List (Bor (List ℕ)
 
 -- `counts`: the sum would replace a table; or memory was wanting, or one of the tables was not added, or all were, and their sum was
 -- not written
-abbrev pub IsCountsStop : Option FileContents → CountsAsked → Stop → Type 0
+abbrev pub IsCountsStop : Option FileContents → CountsArgs → Stop → Type 0
 IsCountsStop known words why = IsSumOverwriteStop words why ⊎ ((why ≡ stop.OutOfMemory) ⊎ (IsSumStop known words.tables.items why
     ⊎ ((sum : CountTable) × (AreAdded known words.tables.items no_counts sum
     × IsUnwrittenAtStop (written_path (optional_text words.out)) why))))

@@ -3,7 +3,7 @@ use Rattle.std.specs.Prelude.{◌≡◌, ◌++◌, ◌==◌, ◌+◌, ◌-◌, �
 use Rattle.std.specs.Borrow.{Bor}
 use Rattle.std.specs.Fmt.{decimal}
 use Rattle.rv_base.specs.Files.{FileContents}
-use Rattle.rvtest_cli.specs.declared.counts.CountsAsked.{CountsAsked}
+use Rattle.rvtest_cli.specs.declared.counts.CountsArgs.{CountsArgs}
 use Rattle.rv_command.specs.Texts.{IsTextAt, optional_text}
 use Rattle.rv_count_tables.specs.Sum.{IsSum, no_counts}
 use Rattle.rv_count_tables.specs.Table.{IsTable}
@@ -11,7 +11,7 @@ use Rattle.rv_count_tables.specs.Text.{table_text}
 use Rattle.rv_count_tables.specs.declared.table.AddressCounts.{AddressCounts}
 use Rattle.rv_count_tables.specs.declared.table.CountTable.{CountTable}
 use Rattle.rv_count_tables.specs.declared.table.ImageCounts.{ImageCounts}
-use Rattle.rvtest_app.specs.Said.{IsOnlyTold, Said}
+use Rattle.rvtest_app.specs.CommandOutputs.{IsOnlyErrorOutput, CommandOutputs}
 use Rattle.rvtest_app.specs.WrittenTexts.{IsWrittenAt, written_path}
 
 -- the table whose text stands at a path
@@ -65,10 +65,10 @@ sum_note table = decimal table.runs ++ run_word table.runs ++ decimal (length ta
 
 -- the text of the sum of the tables at the paths went to the path that is given, or to standard output, and what is said of it to standard
 -- error; the status is 0
-pub record IsSumPut (known : Option FileContents) (words : CountsAsked) (status : ℕ) (before after : Said) : Type 0 where
+pub record IsSumPut (known : Option FileContents) (words : CountsArgs) (status : ℕ) (before after : CommandOutputs) : Type 0 where
   pub sum : CountTable
   pub added : AreAdded known words.tables.items no_counts sum
-  pub middle : Said
+  pub middle : CommandOutputs
   pub put : IsWrittenAt (Some (written_path (optional_text words.out))) (table_text sum) before middle
-  pub told : IsOnlyTold (sum_note sum) middle after
+  pub told : IsOnlyErrorOutput (sum_note sum) middle after
   pub done : status ≡ 0

@@ -1,11 +1,11 @@
 -- Why `cover` ended before its work was done.
 use Rattle.std.specs.Prelude.{Option}
 use Rattle.rv_base.specs.Files.{FileContents}
-use Rattle.rvtest_cli.specs.declared.cover.CoverAsked.{CoverAsked}
+use Rattle.rvtest_cli.specs.declared.cover.CoverArgs.{CoverArgs}
 use Rattle.rv_command.specs.declared.stop.Stop.{Stop}
 use Rattle.rvtest_app.specs.ViewStops.{IsViewStop}
 use Rattle.rvtest_app.specs.declared.view.View.TheVariants as view
 
 -- no jobs were found that words ask for, or they were, and what ran of their images was not put
-abbrev pub IsCoverStop : Option FileContents → CoverAsked → Stop → Type 0
+abbrev pub IsCoverStop : Option FileContents → CoverArgs → Stop → Type 0
 IsCoverStop known words why = IsViewStop known words.run (view.Cover words.csv) why

@@ -4,7 +4,7 @@ use Rattle.std.specs.Io.KnownBytes.{Consumes, IsAtEnd}
 use Rattle.std.specs.Result.{result_ok}
 use Rattle.rv_base.specs.Counts.{one_more}
 use Rattle.rv_base.specs.Files.{FileContents}
-use Rattle.rvtest_cli.specs.declared.gdb.GdbAsked.{GdbAsked}
+use Rattle.rvtest_cli.specs.declared.gdb.GdbArgs.{GdbArgs}
 use Rattle.rv_command.specs.Messages.{path_message}
 use Rattle.rv_command.specs.Stops.{IsStop, IsSystemStop}
 use Rattle.rv_command.specs.Texts.{IsTextAt, optional_text}
@@ -13,30 +13,30 @@ use Rattle.rv_command.specs.declared.stop.Stop.TheVariants as stop
 use Rattle.rv_expect.specs.Judgement.{judging_by_rule}
 use Rattle.rv_expect.specs.declared.passing.Rule.TheVariants.{Strict}
 use Rattle.rv_files.specs.UnreadPaths.{contents_below, resolved_path}
-use Rattle.rv_files.specs.declared.noting_store.Unread.{Unread}
+use Rattle.rv_files.specs.declared.recording_store.UnreadPath.{UnreadPath}
 use Rattle.rv_gdb.specs.Conversing.{IsEnded, IsReadWhileOpen}
-use Rattle.rv_gdb.specs.declared.conversation.Broken.{Broken}
-use Rattle.rv_gdb.specs.declared.conversation.Broken.TheVariants as broken
+use Rattle.rv_gdb.specs.declared.conversation.SessionError.{SessionError}
+use Rattle.rv_gdb.specs.declared.conversation.SessionError.TheVariants as broken
 use Rattle.rv_gdb.specs.JobSessions.{IsSessionOf}
-use Rattle.rv_job_text.specs.Telling.{outcome_text, row_line}
+use Rattle.rv_job_text.specs.RowReporter.{outcome_text, row_line}
 use Rattle.rv_jobs.specs.Plans.{AreKept, Planned, jobs_needed_for, paths_of, paths_used}
 use Rattle.rv_lists.specs.JobList.{job_list_of}
 use Rattle.rv_lists.specs.declared.job.Job.{Job}
 use Rattle.rv_machine.specs.State.{State}
 use Rattle.rv_rows.specs.Flat.{flat_state}
 use Rattle.rv_rows.specs.Rows.{row_of, start_in}
-use Rattle.rv_session.specs.Heard.{IsFed}
+use Rattle.rv_session.specs.Incoming.{IsFed}
 use Rattle.rv_session.specs.declared.session.Session.{Session}
 use Rattle.rvtest_app.specs.Reports.{AreNotesOf, IsFirstNamed}
-use Rattle.rvtest_app.specs.Said.{IsOnlyPut, Said}
+use Rattle.rvtest_app.specs.CommandOutputs.{IsOnlyStandardOutput, CommandOutputs}
 
 -- what `run` says of a job: its line, and the expectations that it does not meet
-abbrev pub end_text_of_job : Planned → List Unread → Option Job → List ℕ
+abbrev pub end_text_of_job : Planned → List UnreadPath → Option Job → List ℕ
 end_text_of_job plan unread None = []
 end_text_of_job plan unread (Some job) = outcome_text plan unread (judging_by_rule Strict) job (row_of plan job)
 
 -- the same of the job at a place
-unfoldable pub job_end_text : Planned → List Unread → ℕ → List ℕ
+unfoldable pub job_end_text : Planned → List UnreadPath → ℕ → List ℕ
 job_end_text plan unread place = end_text_of_job plan unread (slice_get plan.jobs place)
 
 -- the state in which the run of the job at a place starts; where none does, as of an image without a byte
@@ -52,14 +52,14 @@ pub record IsJobOpened (known : Option FileContents) (root : Option (List ℕ)) 
   pub listed : plan.jobs ≡ jobs
   pub paths : paths_of plan.answers ≡ paths_used (jobs_needed_for jobs (place ∷ []))
   pub kept : AreKept known plan.answers
-  pub unread : List Unread
+  pub unread : List UnreadPath
   pub noted : AreNotesOf plan.answers unread
   pub over : (d : Job) → IsSessionOf plan.answers (slice_index_or plan.jobs place d)
       (resolved_path root (slice_index_or plan.jobs place d).image) session
-  pub said : end_text ≡ job_end_text plan unread place
+  pub outputs_of : end_text ≡ job_end_text plan unread place
 
 -- the same of the first job of a name in the list that a text is
-pub record IsOpenedOf (known : Option FileContents) (words : GdbAsked) (bytes end_text : List ℕ) (session : Session) : Type 0 where
+pub record IsOpenedOf (known : Option FileContents) (words : GdbArgs) (bytes end_text : List ℕ) (session : Session) : Type 0 where
   pub jobs : List Job
   pub listed : job_list_of bytes ≡ Ok jobs
   pub place : ℕ
@@ -67,7 +67,7 @@ pub record IsOpenedOf (known : Option FileContents) (words : GdbAsked) (bytes en
   pub of_job : IsJobOpened (contents_below (optional_text words.root) known) (optional_text words.root) jobs place end_text session
 
 -- the same of the list at the path that words name
-pub record IsOpenedAt (known : Option FileContents) (words : GdbAsked) (end_text : List ℕ) (session : Session) : Type 0 where
+pub record IsOpenedAt (known : Option FileContents) (words : GdbArgs) (end_text : List ℕ) (session : Session) : Type 0 where
   pub bytes : List ℕ
   pub read : IsTextAt known words.list.now bytes
   pub of_list : IsOpenedOf known words bytes end_text session
@@ -75,8 +75,8 @@ pub record IsOpenedAt (known : Option FileContents) (words : GdbAsked) (end_text
 -- bytes of standard input were read, up to the end of the session or of the bytes, none once the session was over, and what the session answers to them went to
 -- standard output, which is no terminal, and nothing else did; in front of each stop at the end of the run goes what `run` says of the
 -- job. A move was broken off only where 0x03 came next, or the end of the bytes.
-pub record IsGdbAnswered (known : Option FileContents) (is_terminal : Bool) (words : GdbAsked) (input rest : Option (List ℕ))
-    (status : ℕ) (before after : Said) : Type 0 where
+pub record IsGdbAnswered (known : Option FileContents) (is_terminal : Bool) (words : GdbArgs) (input rest : Option (List ℕ))
+    (status : ℕ) (before after : CommandOutputs) : Type 0 where
   pub spoken : is_terminal ≡ false
   pub end_text : List ℕ
   pub first : Session
@@ -91,7 +91,7 @@ pub record IsGdbAnswered (known : Option FileContents) (is_terminal : Bool) (wor
   pub fed : IsFed end_text may_end first heard told last
   pub made : last.asked ≡ None
   pub ended : IsEnded last rest
-  pub put : IsOnlyPut told before after
+  pub put : IsOnlyStandardOutput told before after
   pub done : status ≡ 0
 
 -- ---- why it is stopped
@@ -99,7 +99,7 @@ pub record IsGdbAnswered (known : Option FileContents) (is_terminal : Bool) (wor
 -- a terminal stands in gdb's place: it is said how gdb starts the command
 abbrev pub IsNoGdbStop : Stop → Type 0
 IsNoGdbStop why = IsStop 2 (path_message (codes "standard output")
-    (codes "it is a terminal, not gdb; run gdb-multiarch -ex 'target remote | rvtest gdb LIST NAME'")) why
+    (codes "expected gdb, found a terminal; run gdb-multiarch -ex 'target remote | rvtest gdb LIST NAME'")) why
 
 -- a job is refused, as its line says
 pub record IsRefusedJobStop (known : Option FileContents) (jobs : List Job) (place : ℕ) (why : Stop) : Type 0 where
@@ -107,7 +107,7 @@ pub record IsRefusedJobStop (known : Option FileContents) (jobs : List Job) (pla
   pub listed : plan.jobs ≡ jobs
   pub paths : paths_of plan.answers ≡ paths_used (jobs_needed_for jobs (place ∷ []))
   pub kept : AreKept known plan.answers
-  pub unread : List Unread
+  pub unread : List UnreadPath
   pub noted : AreNotesOf plan.answers unread
   pub refused : (d : Job) → is_ok (start_in plan.answers (slice_index_or plan.jobs place d)) ≡ false
   pub told : (d : Job) → IsStop 2 (row_line plan unread (judging_by_rule Strict) (slice_index_or plan.jobs place d)
@@ -118,7 +118,7 @@ abbrev pub IsUnopenedStop : Option FileContents → List Job → ℕ → Stop �
 IsUnopenedStop known jobs place why = (why ≡ stop.OutOfMemory) ⊎ IsRefusedJobStop known jobs place why
 
 -- the first job of a name in the list that a text is was not shown
-pub record IsUnopenedOfStop (known : Option FileContents) (words : GdbAsked) (bytes : List ℕ) (why : Stop) : Type 0 where
+pub record IsUnopenedOfStop (known : Option FileContents) (words : GdbArgs) (bytes : List ℕ) (why : Stop) : Type 0 where
   pub jobs : List Job
   pub listed : job_list_of bytes ≡ Ok jobs
   pub place : ℕ
@@ -126,11 +126,11 @@ pub record IsUnopenedOfStop (known : Option FileContents) (words : GdbAsked) (by
   pub refused : IsRefusedJobStop (contents_below (optional_text words.root) known) jobs place why
 
 -- what broke off the session: memory was wanting; standard input was not read, for a reason of the system's; or a put failed
-abbrev pub IsBrokenStop : Broken → Stop → Type 0
+abbrev pub IsBrokenStop : SessionError → Stop → Type 0
 IsBrokenStop broken.OutOfMemory why = why ≡ stop.OutOfMemory
-IsBrokenStop (broken.Unread reason) why = IsSystemStop (codes "standard input") reason why
+IsBrokenStop (broken.UnreadPath reason) why = IsSystemStop (codes "standard input") reason why
 IsBrokenStop broken.Unput why = why ≡ stop.WriteFailed
 
 -- a put broke the session off where one failed, and something else where none did, as the count of failed puts tells
-abbrev pub IsFailureTold : Broken → ℕ → ℕ → Type 0
+abbrev pub IsFailureTold : SessionError → ℕ → ℕ → Type 0
 IsFailureTold cause before after = (cause ≡ broken.Unput → after ≡ one_more before) × (cause ≢ broken.Unput → after ≡ before)

@@ -15,8 +15,8 @@ abbrev pub IsTopicTold : List ℕ → List ℕ → ℕ → Type 0
 IsTopicTold topic text status = (topic ≡ list_topic) × ((text ≡ LIST_KEYS.now) × (status ≡ 0))
 
 abbrev pub no_topic_message : List ℕ → List ℕ
-no_topic_message topic = codes "rvtest: nothing is told of '" ++ printable_value topic
-    ++ codes "': help list tells the keys of a list, and COMMAND --help of a command\n"
+no_topic_message topic = codes "rvtest: unknown help topic \"" ++ printable_value topic
+    ++ codes "\": try \"help list\" for the keys of a list, or \"COMMAND --help\" for a command\n"
 
 -- memory was wanting, or the topic is another one and is told
 abbrev pub IsNoTopicStop : List ℕ → Stop → Type 0

@@ -2,7 +2,7 @@
 use Rattle.std.specs.Prelude.{◌≡◌, ◌||◌, ℕ, Bool, List, [], ◌∷◌, IsSomeAnd, MatchOption, Option, Some, None, map, slice_set}
 use Rattle.std.specs.Option.{option_or}
 use Rattle.rv_base.specs.Files.{FileContents}
-use Rattle.rvtest_cli.specs.declared.run.RunAsked.{RunAsked}
+use Rattle.rvtest_cli.specs.declared.run.RunArgs.{RunArgs}
 use Rattle.rv_command.specs.Texts.{IsReportAt, optional_text}
 use Rattle.rv_lists.specs.declared.job.Job.{Job}
 use Rattle.rv_report.specs.Report.{report_text, row_text}
@@ -31,7 +31,7 @@ IsWholeReportAt known path jobs rows = (report : SavedReport) × (IsReportAt kno
     × (IsWholeReport jobs report × (rows ≡ report.rows)))
 
 -- the rows among which words put those of the run, if they name a report for that
-abbrev pub AreOldRows : Option FileContents → RunAsked → List Job → Option (List Row) → Type 0
+abbrev pub AreOldRows : Option FileContents → RunArgs → List Job → Option (List Row) → Type 0
 AreOldRows known words jobs old = MatchOption words.into (old ≡ None)
     (λ path. IsSomeAnd old (IsWholeReportAt known path.now jobs))
 
@@ -59,10 +59,10 @@ run_report_rest (Some old) jobs places shard rows = report_text (rows_put places
 run_report_rest None jobs places shard rows = chosen_last_line jobs places shard rows
 
 -- the path at which it is put
-abbrev pub run_report_path : RunAsked → Option (List ℕ)
+abbrev pub run_report_path : RunArgs → Option (List ℕ)
 run_report_path words = option_or (optional_text words.into) (optional_text words.report)
 
 -- whether one of the files that words ask for goes to standard output
-abbrev pub uses_run_stdout : RunAsked → Bool
+abbrev pub uses_run_stdout : RunArgs → Bool
 uses_run_stdout words = (is_stdout_at (run_report_path words) || is_stdout_at (optional_text words.junit))
     || is_stdout_at (optional_text words.counts)

@@ -3,8 +3,8 @@ use Rattle.std.specs.Prelude.{◌≡◌, ◌⊎◌, ◌==◌, ◌++◌, ◌+◌,
 use Rattle.std.specs.Fmt.{decimal}
 use Rattle.std.specs.Str.{bytes_eq}
 use Rattle.rv_base.specs.Files.{FileContents}
-use Rattle.rvtest_cli.specs.declared.run.RunAsked.{RunAsked}
-use Rattle.rv_command.specs.Stops.{IsReportUnreadStop, IsStop}
+use Rattle.rvtest_cli.specs.declared.run.RunArgs.{RunArgs}
+use Rattle.rv_command.specs.Stops.{IsReportReadError, IsStop}
 use Rattle.rv_command.specs.Texts.{IsReportAt}
 use Rattle.rv_command.specs.declared.stop.Stop.{Stop}
 use Rattle.rv_lists.specs.declared.job.Job.{Job}
@@ -22,7 +22,7 @@ use Rattle.rvtest_app.specs.declared.whole_report.OtherName.{OtherName}
 
 -- what is wanted in the place of such a report
 abbrev pub whole_wanted : List ℕ
-whole_wanted = codes ": --into takes the whole report of the list\n"
+whole_wanted = codes ": --into expects a report of the whole list\n"
 
 -- the report at a path has so many rows of a list of so many jobs
 abbrev pub part_refusal : List ℕ → ℕ → ℕ → List ℕ
@@ -32,12 +32,12 @@ part_refusal path rows jobs = codes "rvtest: " ++ printable_text path ++ codes "
 -- it has so many rows, and the list at a path so many jobs
 abbrev pub count_refusal : List ℕ → List ℕ → ℕ → ℕ → List ℕ
 count_refusal path list rows jobs = codes "rvtest: " ++ printable_text path ++ codes ": " ++ decimal rows
-    ++ codes " rows, and " ++ printable_text list ++ codes " has " ++ decimal jobs ++ codes " jobs" ++ whole_wanted
+    ++ codes " rows, but " ++ printable_text list ++ codes " has " ++ decimal jobs ++ codes " jobs" ++ whole_wanted
 
 -- the job of a number has one name in it, and another in the list at a path
 abbrev pub name_refusal : List ℕ → List ℕ → ℕ → List ℕ → List ℕ → List ℕ
 name_refusal path list number name wanted = codes "rvtest: " ++ printable_text path ++ codes ": job "
-    ++ decimal number ++ codes " is \"" ++ name ++ codes "\", and \"" ++ wanted ++ codes "\" in "
+    ++ decimal number ++ codes " is \"" ++ name ++ codes "\", but \"" ++ wanted ++ codes "\" in "
     ++ printable_text list ++ whole_wanted
 
 abbrev pub not_whole_refusal : List ℕ → List ℕ → NotWhole → List ℕ
@@ -74,11 +74,11 @@ IsNotWhole jobs report (other.Name name) = (report.extent ≡ extent.Whole)
 
 -- the report at a path was not read, or it is not the whole one of the jobs of the list at another, and is refused for that
 abbrev pub IsNoWholeReportStop : Option FileContents → List ℕ → List ℕ → List Job → Stop → Type 0
-IsNoWholeReportStop known path list jobs why = IsReportUnreadStop known path why
+IsNoWholeReportStop known path list jobs why = IsReportReadError known path why
     ⊎ ((report : SavedReport) × (IsReportAt known path report
     × ((other : NotWhole) × (IsNotWhole jobs report other × IsStop 2 (not_whole_refusal path list other) why))))
 
 -- words name such a path for the rows of a run
-abbrev pub IsIntoStop : Option FileContents → RunAsked → List Job → Stop → Type 0
+abbrev pub IsIntoStop : Option FileContents → RunArgs → List Job → Stop → Type 0
 IsIntoStop known words jobs why =
     IsSomeAnd words.into (λ path. IsNoWholeReportStop known path.now words.list.now jobs why)

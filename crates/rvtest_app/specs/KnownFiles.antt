@@ -29,11 +29,11 @@ IsKnownAt files (Some path) jobs known = IsSomeAnd known (IsKnownFile files path
 -- what is wrong with a line, over the path of the list
 abbrev pub known_fault_text : List ℕ → List ℕ → KnownFaultKind → List ℕ
 known_fault_text list name kind.NoName =
-    codes "'" ++ printable_value name ++ codes "' is no job's name; a name stands alone, and a reason behind '#'"
-known_fault_text list name kind.Twice = printable_value name ++ codes " stands in a line before it, too"
+    codes "\"" ++ printable_value name ++ codes "\" is not a job name: expected NAME [# REASON]"
+known_fault_text list name kind.Twice = printable_value name ++ codes " is already listed on an earlier line"
 known_fault_text list name kind.NoJob =
-    codes "no job of " ++ printable_text list ++ codes " is called " ++ printable_value name
+    codes "no job of " ++ printable_text list ++ codes " is named " ++ printable_value name
 
 abbrev pub known_fault_message : List ℕ → List ℕ → KnownFault → List ℕ
-known_fault_message path list fault = codes "rvtest: " ++ printable_text path ++ codes ": line " ++ decimal fault.line
+known_fault_message path list fault = codes "rvtest: " ++ printable_text path ++ codes ":" ++ decimal fault.line
     ++ codes ": " ++ known_fault_text list fault.name fault.kind ++ codes "\n"

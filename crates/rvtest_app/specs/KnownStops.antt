@@ -1,7 +1,7 @@
 -- Why the jobs that are known to fail were not had.
 use Rattle.std.specs.Prelude.{◌≡◌, ◌⊎◌, ℕ, List, IsSomeAnd, Option, Err}
 use Rattle.rv_base.specs.Files.{FileContents}
-use Rattle.rvtest_cli.specs.declared.run.RunAsked.{RunAsked}
+use Rattle.rvtest_cli.specs.declared.run.RunArgs.{RunArgs}
 use Rattle.rv_command.specs.Stops.{IsStop, IsListUnreadStop}
 use Rattle.rv_command.specs.Texts.{IsTextAt}
 use Rattle.rv_command.specs.declared.stop.Stop.{Stop}
@@ -24,6 +24,6 @@ IsNoKnownFileStop known path list jobs why = IsListUnreadStop known path why
     ⊎ ((bytes : List ℕ) × (IsTextAt known path bytes × IsKnownFaultStop path list jobs bytes why))
 
 -- words name such a path for the jobs that are known to fail
-abbrev pub IsKnownStop : Option FileContents → RunAsked → List Job → Stop → Type 0
+abbrev pub IsKnownStop : Option FileContents → RunArgs → List Job → Stop → Type 0
 IsKnownStop known words jobs why =
     IsSomeAnd words.known (λ path. IsNoKnownFileStop known path.now words.list.now jobs why)

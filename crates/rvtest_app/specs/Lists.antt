@@ -3,7 +3,7 @@ use Rattle.std.specs.Prelude.{◌≡◌, ℕ, Bool, List, [], Option, Some, None
 use Rattle.std.specs.List.{flat_map}
 use Rattle.rv_base.specs.Files.{FileContents}
 use Rattle.rv_choice.specs.Chosen.{IsChoice}
-use Rattle.rvtest_cli.specs.declared.run.RunAsked.{RunAsked}
+use Rattle.rvtest_cli.specs.declared.run.RunArgs.{RunArgs}
 use Rattle.rv_command.specs.Texts.{IsTextAt}
 use Rattle.rv_jobs.specs.Jobs.{single_job}
 use Rattle.rv_lists.specs.JobList.{job_list_of}
@@ -11,7 +11,7 @@ use Rattle.rv_lists.specs.declared.job.Job.{Job}
 use Rattle.rv_report.specs.Report.{line}
 use Rattle.rvtest_app.specs.Commands.{failure_rule}
 use Rattle.rvtest_app.specs.Runs.{places_of_marks}
-use Rattle.rvtest_app.specs.Said.{IsOnlyPut, IsOnlyTold, Said}
+use Rattle.rvtest_app.specs.CommandOutputs.{IsOnlyStandardOutput, IsOnlyErrorOutput, CommandOutputs}
 
 abbrev pub name_line : Job → List ℕ
 name_line job = line job.name
@@ -27,7 +27,7 @@ chosen_name_lines jobs (Some marks) = name_lines jobs (places_of_marks marks)
 
 -- the names are those of the jobs that a run of these words would run, of the list that a text is, and the notes are what is said
 -- of the choice
-pub record AreListedOf (known : Option FileContents) (words : RunAsked) (bytes names notes : List ℕ) : Type 0 where
+pub record AreListedOf (known : Option FileContents) (words : RunArgs) (bytes names notes : List ℕ) : Type 0 where
   pub jobs : List Job
   pub listed : job_list_of bytes ≡ Ok jobs
   pub marks : Option (List Bool)
@@ -35,17 +35,17 @@ pub record AreListedOf (known : Option FileContents) (words : RunAsked) (bytes n
   pub named : names ≡ chosen_name_lines jobs marks
 
 -- the same of the list at the path that words name
-pub record AreListedAt (known : Option FileContents) (words : RunAsked) (names notes : List ℕ) : Type 0 where
+pub record AreListedAt (known : Option FileContents) (words : RunArgs) (names notes : List ℕ) : Type 0 where
   pub bytes : List ℕ
   pub read : IsTextAt known words.list.now bytes
   pub of : AreListedOf known words bytes names notes
 
 -- those notes went to standard error, and then those names to standard output; the status is 0
-pub record IsListPut (known : Option FileContents) (words : RunAsked) (status : ℕ) (before after : Said) : Type 0 where
+pub record IsListPut (known : Option FileContents) (words : RunArgs) (status : ℕ) (before after : CommandOutputs) : Type 0 where
   pub names : List ℕ
   pub notes : List ℕ
   pub are : AreListedAt known words names notes
-  pub middle : Said
-  pub told : IsOnlyTold notes before middle
-  pub put : IsOnlyPut names middle after
+  pub middle : CommandOutputs
+  pub told : IsOnlyErrorOutput notes before middle
+  pub put : IsOnlyStandardOutput names middle after
   pub done : status ≡ 0

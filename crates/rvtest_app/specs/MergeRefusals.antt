@@ -32,26 +32,26 @@ other_run_message parts path what = two_parts_message path what (part_path parts
 -- what is wrong with the part of a path and a text
 abbrev pub flaw_message : List (Bor (List ℕ)) → List ℕ → List ℕ → Flaw → List ℕ
 flaw_message parts path text (flaw.Line number) = refused_line_message (codes "part") path text number
-flaw_message parts path text flaw.CutOff = path_message path (codes "the part is cut off")
-flaw_message parts path text flaw.Whole = path_message path (codes "a whole report, which is no part of a run")
+flaw_message parts path text flaw.CutOff = path_message path (codes "the part is truncated")
+flaw_message parts path text flaw.Whole = path_message path (codes "expected a part of a run, found a whole report")
 flaw_message parts path text flaw.Choice =
-    path_message path (codes "the report of a choice of jobs, which is no shard's")
-flaw_message parts path text flaw.OtherShards = other_run_message parts path (codes "another number of shards than ")
-flaw_message parts path text flaw.OtherJobs = other_run_message parts path (codes "a list of another number of jobs than ")
-flaw_message parts path text flaw.OtherStamp = other_run_message parts path (codes "another stamp than ")
+    path_message path (codes "expected the part of a shard, found a report of selected jobs")
+flaw_message parts path text flaw.OtherShards = other_run_message parts path (codes "a different number of shards than ")
+flaw_message parts path text flaw.OtherJobs = other_run_message parts path (codes "a list with a different number of jobs than ")
+flaw_message parts path text flaw.OtherStamp = other_run_message parts path (codes "a different stamp than ")
 flaw_message parts path text (flaw.OtherText earlier) =
-    two_parts_message path (codes "the same shard as ") (part_path parts earlier) (codes ", and another text\n")
+    two_parts_message path (codes "the same shard as ") (part_path parts earlier) (codes ", but different contents\n")
 flaw_message parts path text (flaw.NameTwice number) =
-    path_number_message path (codes ": job ") number (codes " has the name of a job before it\n")
+    path_number_message path (codes ": job ") number (codes " has the name of an earlier job\n")
 
 -- the parts of some paths and texts are refused for an error: the part that it is of is blamed
 abbrev pub IsMergeErrorStop : List (Bor (List ℕ)) → List (List ℕ) → MergeError → Stop → Type 0
 IsMergeErrorStop parts texts error.OutOfMemory why = why ≡ stop.OutOfMemory
-IsMergeErrorStop parts texts error.NoTexts why = IsStop 2 (codes "rvtest: there is no part\n") why
+IsMergeErrorStop parts texts error.NoTexts why = IsStop 2 (codes "rvtest: expected at least one part\n") why
 IsMergeErrorStop parts texts (error.Text place flaw) why =
     IsStop 2 (flaw_message parts (part_path parts place) (nth_text texts place) flaw) why
 IsMergeErrorStop parts texts (error.Missing number) why =
-    IsStop 2 (codes "rvtest: no part is that of shard " ++ decimal number ++ codes "\n") why
+    IsStop 2 (codes "rvtest: missing part of shard " ++ decimal number ++ codes "\n") why
 
 -- memory was wanting, or the texts at the paths are refused for an error that they have
 abbrev pub ArePartsRefused : List (Bor (List ℕ)) → List (List ℕ) → Stop → Type 0

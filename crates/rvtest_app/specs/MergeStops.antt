@@ -2,7 +2,7 @@
 use Rattle.std.specs.Prelude.{◌≡◌, ◌⊎◌, ◌++◌, ◌∷◌, ℕ, List, Option}
 use Rattle.std.specs.Borrow.{Bor}
 use Rattle.rv_base.specs.Files.{FileContents}
-use Rattle.rvtest_cli.specs.declared.merge.MergeAsked.{MergeAsked}
+use Rattle.rvtest_cli.specs.declared.merge.MergeArgs.{MergeArgs}
 use Rattle.rv_command.specs.Stops.{IsResultUnreadStop}
 use Rattle.rv_command.specs.Texts.{optional_text}
 use Rattle.rv_command.specs.declared.stop.Stop.{Stop}
@@ -29,16 +29,16 @@ abbrev pub ArePartsUnread : Option FileContents → List (Bor (List ℕ)) → St
 ArePartsUnread known paths why = (why ≡ stop.OutOfMemory) ⊎ IsPartUnreadStop known paths why
 
 -- the report of the rows, or what stands beside it, did not go out
-abbrev pub IsMergedPutStop : MergeAsked → Stop → Type 0
+abbrev pub IsMergedPutStop : MergeArgs → Stop → Type 0
 IsMergedPutStop words why = IsOutputStop
     (merged_report_path (optional_text words.report) (optional_text words.junit)) (optional_text words.junit) why
 
 -- texts are refused as parts of one run, or they are its parts, and their rows did not go out
-abbrev pub IsMergeOfStop : MergeAsked → List (List ℕ) → Stop → Type 0
+abbrev pub IsMergeOfStop : MergeArgs → List (List ℕ) → Stop → Type 0
 IsMergeOfStop words texts why = ArePartsRefused words.parts.items texts why
     ⊎ ((rows : List Row) × (AreParts rows texts × IsMergedPutStop words why))
 
 -- `merge`: a file would replace a part; or a part was not read, or all were, and that happened
-abbrev pub IsMergeStop : Option FileContents → MergeAsked → Stop → Type 0
+abbrev pub IsMergeStop : Option FileContents → MergeArgs → Stop → Type 0
 IsMergeStop known words why = IsMergeOverwriteStop words why ⊎ (ArePartsUnread known words.parts.items why
     ⊎ ((texts : List (List ℕ)) × (AreTextsAt known words.parts.items texts × IsMergeOfStop words texts why)))

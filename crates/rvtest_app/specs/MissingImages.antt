@@ -5,7 +5,7 @@ use Rattle.std.specs.List.{list_all, starts_with}
 use Rattle.std.specs.Option.{option_map_or}
 use Rattle.std.specs.declared.io.ErrorKind.{ErrorKind}
 use Rattle.std.specs.declared.io.ErrorKind.TheVariants as kind
-use Rattle.rv_files.specs.declared.noting_store.Unread.{Unread}
+use Rattle.rv_files.specs.declared.recording_store.UnreadPath.{UnreadPath}
 use Rattle.rv_job_text.specs.UnreadFiles.{unread_note}
 use Rattle.rv_lists.specs.declared.job.Job.{Job}
 use Rattle.rv_report.specs.Report.{line}
@@ -16,27 +16,27 @@ abbrev pub is_not_found : ErrorKind → Bool
 is_not_found kind.NotFound = true
 is_not_found _ = false
 
-abbrev pub is_noted_missing : Option Unread → Bool
+abbrev pub is_noted_missing : Option UnreadPath → Bool
 is_noted_missing note = option_map_or (λ one. is_not_found one.reason) note false
 
 -- the image of a job is missing, and its path is one that is taken from a folder
-abbrev pub is_image_missing : List Unread → Job → Bool
+abbrev pub is_image_missing : List UnreadPath → Job → Bool
 is_image_missing unread job = not (starts_with nat_eq job.image (codes "/")) && is_noted_missing (unread_note unread job.image)
 
 -- so it is of each of some jobs
-abbrev pub are_images_missing : List Job → List Unread → Bool
+abbrev pub are_images_missing : List Job → List UnreadPath → Bool
 are_images_missing jobs unread = list_all (is_image_missing unread) jobs
 
 -- where paths are taken from, with --root and without
 abbrev pub paths_text : Option (List ℕ) → List ℕ
-paths_text None = codes "every image is missing: paths are taken from the folder that rvtest runs in; --root DIR takes them from DIR"
-paths_text (Some folder) = codes "every image is missing: paths are taken from " ++ printable_text folder ++ codes " (--root)"
+paths_text None = codes "no image was found: relative paths are resolved against the current directory; use --root DIR to resolve them against DIR"
+paths_text (Some folder) = codes "no image was found: relative paths are resolved against " ++ printable_text folder ++ codes " (--root)"
 
 -- what `run` says of the jobs of a list, where as many of them run as there are
-abbrev pub missing_images_note : List Job → List Unread → ℕ → Option (List ℕ) → List ℕ
+abbrev pub missing_images_note : List Job → List UnreadPath → ℕ → Option (List ℕ) → List ℕ
 missing_images_note jobs unread count root =
     if count == length jobs && are_images_missing jobs unread then codes "rvtest: " ++ line (paths_text root) else []
 
 -- what `check` says of them
-abbrev pub missing_images_line : List Job → List Unread → Option (List ℕ) → List ℕ
+abbrev pub missing_images_line : List Job → List UnreadPath → Option (List ℕ) → List ℕ
 missing_images_line jobs unread root = if are_images_missing jobs unread then line (paths_text root) else []

@@ -3,7 +3,7 @@ use Rattle.std.specs.Prelude.{◌≡◌, ◌||◌, ◌⊎◌, ℕ, Bool, true, f
 use Rattle.std.specs.Prelude.{codes, if◌then◌else◌}
 use Rattle.std.specs.Str.{bytes_eq}
 use Rattle.std.specs.Io.KnownBytes.{Appends}
-use Rattle.rv_files.specs.Placed.{PlacedFile}
+use Rattle.rv_files.specs.Placed.{CommittedFile}
 use Rattle.rvtest_app.specs.declared.outlets.Outlet.{Outlet}
 use Rattle.rvtest_app.specs.declared.outlets.Outlet.TheVariants as outlet
 use Rattle.rvtest_app.specs.declared.outlets.Outlets.{Outlets}
@@ -16,7 +16,7 @@ is_stdout path = bytes_eq path (codes "-")
 -- ---- by paths
 
 -- the file that a text makes at a path, if one is given that is not standard output
-abbrev pub file_at : Option (List ℕ) → List ℕ → List PlacedFile
+abbrev pub file_at : Option (List ℕ) → List ℕ → List CommittedFile
 file_at None text = []
 file_at (Some path) text = if is_stdout path then [] else record { path = path; bytes = text } ∷ []
 
@@ -64,14 +64,14 @@ module _ {P W : Type 0} where
   has_no_failure failed (outlet.File file) = failed file.sink ≡ 0
 
   -- the outlet is for a path, which messages name, and took this text so far, where it is told what is placed
-  abbrev pub HasTaken : (P → List ℕ) → (W → Option (List ℕ)) → (W → ℕ) → Option (List PlacedFile)
+  abbrev pub HasTaken : (P → List ℕ) → (W → Option (List ℕ)) → (W → ℕ) → Option (List CommittedFile)
       → Option (List ℕ) → List ℕ → Outlet P W → Type 0
-  HasTaken place_path taken failed placed path text outlet.Nowhere = path ≡ None
-  HasTaken place_path taken failed placed path text outlet.Out = path ≡ Some (codes "-")
-  HasTaken place_path taken failed placed path text (outlet.File file) =
-      (path ≡ Some (place_path file.place)) × ((is_stdout (place_path file.place) ≡ false)
+  HasTaken pending_path taken failed placed path text outlet.Nowhere = path ≡ None
+  HasTaken pending_path taken failed placed path text outlet.Out = path ≡ Some (codes "-")
+  HasTaken pending_path taken failed placed path text (outlet.File file) =
+      (path ≡ Some (pending_path file.place)) × ((is_stdout (pending_path file.place) ≡ false)
       × (IfSome placed (λ _. taken file.sink ≡ Some text) × (failed file.sink ≡ 0)
-      × (file.path.now ≡ place_path file.place)))
+      × (file.path.now ≡ pending_path file.place)))
 
   -- a text was put into the outlet, and no put failed
   abbrev pub IsPutInto : (W → Option (List ℕ)) → (W → ℕ) → Outlet P W → Outlet P W → List ℕ → Type 0
@@ -83,30 +83,30 @@ module _ {P W : Type 0} where
   IsPutInto taken failed _ _ text = ⊥
 
   -- the files that outlets make, where it is told what they took
-  abbrev pub files_of : (P → List ℕ) → (W → Option (List ℕ)) → Outlet P W → Option (List PlacedFile)
-  files_of place_path taken outlet.Nowhere = Some []
-  files_of place_path taken outlet.Out = Some []
-  files_of place_path taken (outlet.File file) =
-      option_map (λ bytes. record { path = place_path file.place; bytes = bytes } ∷ []) (taken file.sink)
+  abbrev pub files_of : (P → List ℕ) → (W → Option (List ℕ)) → Outlet P W → Option (List CommittedFile)
+  files_of pending_path taken outlet.Nowhere = Some []
+  files_of pending_path taken outlet.Out = Some []
+  files_of pending_path taken (outlet.File file) =
+      option_map (λ bytes. record { path = pending_path file.place; bytes = bytes } ∷ []) (taken file.sink)
 
 module _ {P S : Type 0} where
-  abbrev pub synced_files : (P → List ℕ) → (S → Option (List ℕ)) → Option (SyncedFile P S) → Option (List PlacedFile)
-  synced_files place_path bytes None = Some []
-  synced_files place_path bytes (Some file) =
-      option_map (λ bytes. record { path = place_path file.place; bytes = bytes } ∷ []) (bytes file.file)
+  abbrev pub synced_files : (P → List ℕ) → (S → Option (List ℕ)) → Option (SyncedFile P S) → Option (List CommittedFile)
+  synced_files pending_path bytes None = Some []
+  synced_files pending_path bytes (Some file) =
+      option_map (λ bytes. record { path = pending_path file.place; bytes = bytes } ∷ []) (bytes file.file)
 
   -- the path by which messages name the file
   abbrev pub synced_path : Option (SyncedFile P S) → Option (List ℕ)
   synced_path synced = option_map (λ file. file.path.now) synced
 
 -- files were put in their places, behind those that stood there
-abbrev pub AreFilesPlaced : Option (List PlacedFile) → Option (List PlacedFile) → Option (List PlacedFile) → Type 0
-AreFilesPlaced before after files = IfSome before (λ earlier. IfSome files (λ files. after ≡ Some (earlier ++ files)))
+abbrev pub AreFilesCommitted : Option (List CommittedFile) → Option (List CommittedFile) → Option (List CommittedFile) → Type 0
+AreFilesCommitted before after files = IfSome before (λ earlier. IfSome files (λ files. after ≡ Some (earlier ++ files)))
 
 -- what an error leaves: no more files in their places, or the first of two alone, where the second was not put in its place
-abbrev pub AreFilesPlacedInPart : Option (List PlacedFile) → Option (List PlacedFile) → Option (List PlacedFile) → Type 0
-AreFilesPlacedInPart before after first = (after ≡ before) ⊎ AreFilesPlaced before after first
+abbrev pub AreFilesPartlyCommitted : Option (List CommittedFile) → Option (List CommittedFile) → Option (List CommittedFile) → Type 0
+AreFilesPartlyCommitted before after first = (after ≡ before) ⊎ AreFilesCommitted before after first
 
 -- the files of the first and then those of the second
-abbrev pub both_files : Option (List PlacedFile) → Option (List PlacedFile) → Option (List PlacedFile)
+abbrev pub both_files : Option (List CommittedFile) → Option (List CommittedFile) → Option (List CommittedFile)
 both_files first second = option_and_then (λ first. option_map (λ second. first ++ second) second) first

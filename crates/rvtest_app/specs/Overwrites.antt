@@ -5,17 +5,17 @@ use Rattle.std.specs.List.{flat_map, list_any}
 use Rattle.std.specs.Path.{path_buf_bytes}
 use Rattle.std.specs.Str.{bytes_eq}
 use Rattle.rv_base.specs.Files.{FileContents}
-use Rattle.rv_accept.specs.Sharing.{marks_to_run}
-use Rattle.rvtest_cli.specs.declared.accept.AcceptAsked.{AcceptAsked}
-use Rattle.rvtest_cli.specs.declared.counts.CountsAsked.{CountsAsked}
-use Rattle.rvtest_cli.specs.declared.merge.MergeAsked.{MergeAsked}
-use Rattle.rvtest_cli.specs.declared.run.RunAsked.{RunAsked}
-use Rattle.rvtest_cli.specs.declared.show.ShowAsked.{ShowAsked}
+use Rattle.rv_accept.specs.Sharing.{jobs_to_run}
+use Rattle.rvtest_cli.specs.declared.accept.AcceptArgs.{AcceptArgs}
+use Rattle.rvtest_cli.specs.declared.counts.CountsArgs.{CountsArgs}
+use Rattle.rvtest_cli.specs.declared.merge.MergeArgs.{MergeArgs}
+use Rattle.rvtest_cli.specs.declared.run.RunArgs.{RunArgs}
+use Rattle.rvtest_cli.specs.declared.show.ShowArgs.{ShowArgs}
 use Rattle.rv_command.specs.Stops.{IsStop}
 use Rattle.rv_command.specs.Texts.{IsTextAt, optional_text}
 use Rattle.rv_command.specs.declared.stop.Stop.{Stop}
 use Rattle.rv_command.specs.declared.stop.Stop.TheVariants as stop
-use Rattle.rv_files.specs.Placed.{PlacedFile}
+use Rattle.rv_files.specs.Placed.{CommittedFile}
 use Rattle.rv_files.specs.UnreadPaths.{resolved_path}
 use Rattle.rv_lists.specs.JobList.{job_list_of}
 use Rattle.rv_lists.specs.Jobs.{console_path}
@@ -34,7 +34,7 @@ abbrev pub read_paths : List ReadPath → List (List ℕ)
 read_paths read = map (λ (one : ReadPath). path_buf_bytes one.path) read
 
 -- where it is told which files are placed, these are known by their paths
-abbrev pub AreFilesOf : Option (List PlacedFile) → List (List ℕ) → ReadFiles → Type 0
+abbrev pub AreFilesOf : Option (List CommittedFile) → List (List ℕ) → ReadFiles → Type 0
 AreFilesOf placed paths read = IfSome placed (λ _. read.identities.items ≡ paths)
 
 -- a file is one of some files, by what they are known by
@@ -99,26 +99,26 @@ abbrev pub paths_of_job : Option (List ℕ) → Job → List (List ℕ)
 paths_of_job root job = resolved_path root job.image ∷ golden_paths_of_job root job
 
 -- what a run reads and never writes: its list, the known failures, and the files of all jobs of the list
-abbrev pub inputs_of_run : RunAsked → List Job → List (List ℕ)
+abbrev pub inputs_of_run : RunArgs → List Job → List (List ℕ)
 inputs_of_run words jobs = words.list.now ∷ option_to_list (optional_text words.known)
     ++ flat_map (paths_of_job (optional_text words.root)) jobs
 
 -- the report whose failed jobs it runs again
-abbrev pub failed_of_run : RunAsked → List (List ℕ)
+abbrev pub failed_of_run : RunArgs → List (List ℕ)
 failed_of_run words = option_to_list (optional_text words.failed)
 
 -- the reports that it reads, of which --into replaces its own
-abbrev pub reports_of_run : RunAsked → List (List ℕ)
+abbrev pub reports_of_run : RunArgs → List (List ℕ)
 reports_of_run words = failed_of_run words ++ option_to_list (optional_text words.into)
 
 -- no file of a run is a report that it reads, but that of --into
-pub record AreReportsKept (words : RunAsked) : Type 0 where
+pub record AreReportsKept (words : RunArgs) : Type 0 where
   pub report : IsApart (failed_of_run words) (optional_text words.report)
   pub junit : IsApart (reports_of_run words) (optional_text words.junit)
   pub counts : IsApart (reports_of_run words) (optional_text words.counts)
 
 -- no file of a run is one that it reads
-pub record AreRunFilesApart (words : RunAsked) (jobs : List Job) : Type 0 where
+pub record AreRunFilesApart (words : RunArgs) (jobs : List Job) : Type 0 where
   pub report : IsApart (inputs_of_run words jobs) (optional_text words.report)
   pub junit : IsApart (inputs_of_run words jobs) (optional_text words.junit)
   pub counts : IsApart (inputs_of_run words jobs) (optional_text words.counts)
@@ -126,7 +126,7 @@ pub record AreRunFilesApart (words : RunAsked) (jobs : List Job) : Type 0 where
   pub reports : AreReportsKept words
 
 -- a file of a run would be one
-abbrev pub IsRunOverwriteStop : RunAsked → Stop → Type 0
+abbrev pub IsRunOverwriteStop : RunArgs → Stop → Type 0
 IsRunOverwriteStop words why = (why ≡ stop.OutOfMemory)
     ⊎ (IsOptionStop (codes "--report") (optional_text words.report) why
     ⊎ (IsOptionStop (codes "--junit") (optional_text words.junit) why
@@ -134,11 +134,11 @@ IsRunOverwriteStop words why = (why ≡ stop.OutOfMemory)
     ⊎ IsOptionStop (codes "--into") (optional_text words.into) why)))
 
 -- files were placed only where none of them is one that is read, as far as it is told which files are placed
-abbrev pub IsPlacedApart : Type 0 → Option (List PlacedFile) → Option (List PlacedFile) → Type 0
+abbrev pub IsPlacedApart : Type 0 → Option (List CommittedFile) → Option (List CommittedFile) → Type 0
 IsPlacedApart Apart before after = (after ≡ before) ⊎ IfSome before (λ _. Apart)
 
 -- so of a run of a list
-abbrev pub AreRunInputsKept : Option FileContents → RunAsked → Option (List PlacedFile) → Option (List PlacedFile) → Type 0
+abbrev pub AreRunInputsKept : Option FileContents → RunArgs → Option (List CommittedFile) → Option (List CommittedFile) → Type 0
 AreRunInputsKept known words before after = (after ≡ before)
     ⊎ ((text : List ℕ) × (jobs : List Job) × (IsTextAt known words.list.now text × ((job_list_of text ≡ Ok jobs)
     × IfSome before (λ _. AreRunFilesApart words jobs))))
@@ -149,7 +149,7 @@ AreRunInputsKept known words before after = (after ≡ before)
 abbrev pub image_paths : Option (List ℕ) → Job → List (List ℕ)
 image_paths root job = resolved_path root job.image ∷ []
 
-abbrev pub inputs_of_accept : AcceptAsked → List Job → List (List ℕ)
+abbrev pub inputs_of_accept : AcceptArgs → List Job → List (List ℕ)
 inputs_of_accept words jobs = failed_of_run words.run ++ flat_map (image_paths (optional_text words.run.root)) jobs
 
 -- the golden files of the jobs that are marked
@@ -167,7 +167,7 @@ abbrev pub is_golden_read : List (List ℕ) → ReadPath → Bool
 is_golden_read read golden = is_read read (path_buf_bytes golden.path)
 
 -- no golden file of the marked jobs is the list or something else that is read, and nor is the list
-pub record AreAcceptFilesApart (words : AcceptAsked) (jobs : List Job) (marks : List Bool) : Type 0 where
+pub record AreAcceptFilesApart (words : AcceptArgs) (jobs : List Job) (marks : List Bool) : Type 0 where
   pub list : IsUnread (inputs_of_accept words jobs) words.run.list.now
   pub no_list : list_any (is_read (words.run.list.now ∷ [])) (golden_paths_of_marked (optional_text words.run.root) jobs marks) ≡ false
   pub no_input : list_any (is_read (inputs_of_accept words jobs)) (golden_paths_of_marked (optional_text words.run.root) jobs marks) ≡ false
@@ -204,10 +204,10 @@ abbrev pub IsAcceptOverwriteStop : Stop → Type 0
 IsAcceptOverwriteStop why = (why ≡ stop.OutOfMemory) ⊎ IsAnyUnwritableStop why
 
 -- accept placed files only where none of them is one that it reads, as far as it is told which files are placed
-abbrev pub AreAcceptInputsKept : Option FileContents → AcceptAsked → Option (List PlacedFile) → Option (List PlacedFile) → Type 0
+abbrev pub AreAcceptInputsKept : Option FileContents → AcceptArgs → Option (List CommittedFile) → Option (List CommittedFile) → Type 0
 AreAcceptInputsKept known words before after = (after ≡ before)
     ⊎ ((text : List ℕ) × (jobs : List Job) × (chosen : List Bool) × (IsTextAt known words.run.list.now text
-    × ((job_list_of text ≡ Ok jobs) × IfSome before (λ _. AreAcceptFilesApart words jobs (marks_to_run jobs chosen)))))
+    × ((job_list_of text ≡ Ok jobs) × IfSome before (λ _. AreAcceptFilesApart words jobs (jobs_to_run jobs chosen)))))
 
 -- ---- the files of the other commands
 
@@ -215,25 +215,25 @@ abbrev pub paths_of_words : List (Bor (List ℕ)) → List (List ℕ)
 paths_of_words words = map (λ (word : Bor (List ℕ)). word.now) words
 
 -- no file of a merge is a part
-abbrev pub AreMergeFilesApart : MergeAsked → Type 0
+abbrev pub AreMergeFilesApart : MergeArgs → Type 0
 AreMergeFilesApart words = IsApart (paths_of_words words.parts.items) (optional_text words.report)
     × IsApart (paths_of_words words.parts.items) (optional_text words.junit)
 
-abbrev pub IsMergeOverwriteStop : MergeAsked → Stop → Type 0
+abbrev pub IsMergeOverwriteStop : MergeArgs → Stop → Type 0
 IsMergeOverwriteStop words why = (why ≡ stop.OutOfMemory)
     ⊎ (IsOptionStop (codes "--report") (optional_text words.report) why
     ⊎ IsOptionStop (codes "--junit") (optional_text words.junit) why)
 
 -- the JUnit file of a report is not the report
-abbrev pub IsShowFileApart : ShowAsked → Type 0
+abbrev pub IsShowFileApart : ShowArgs → Type 0
 IsShowFileApart words = IsApart (words.report.now ∷ []) (optional_text words.junit)
 
-abbrev pub IsShowOverwriteStop : ShowAsked → Stop → Type 0
+abbrev pub IsShowOverwriteStop : ShowArgs → Stop → Type 0
 IsShowOverwriteStop words why = (why ≡ stop.OutOfMemory) ⊎ IsOptionStop (codes "--junit") (optional_text words.junit) why
 
 -- the sum of tables is none of them
-abbrev pub IsSumFileApart : CountsAsked → Type 0
+abbrev pub IsSumFileApart : CountsArgs → Type 0
 IsSumFileApart words = IsApart (paths_of_words words.tables.items) (optional_text words.out)
 
-abbrev pub IsSumOverwriteStop : CountsAsked → Stop → Type 0
+abbrev pub IsSumOverwriteStop : CountsArgs → Stop → Type 0
 IsSumOverwriteStop words why = (why ≡ stop.OutOfMemory) ⊎ IsOptionStop (codes "--out") (optional_text words.out) why

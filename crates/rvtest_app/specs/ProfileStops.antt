@@ -1,12 +1,12 @@
 -- Why `profile` ended before its work was done.
 use Rattle.std.specs.Prelude.{Option}
 use Rattle.rv_base.specs.Files.{FileContents}
-use Rattle.rvtest_cli.specs.declared.profile.ProfileAsked.{ProfileAsked}
+use Rattle.rvtest_cli.specs.declared.profile.ProfileArgs.{ProfileArgs}
 use Rattle.rv_command.specs.declared.stop.Stop.{Stop}
 use Rattle.rvtest_app.specs.Profiles.{profile_format}
 use Rattle.rvtest_app.specs.ViewStops.{IsViewStop}
 use Rattle.rvtest_app.specs.declared.view.View.TheVariants as view
 
 -- no jobs were found that words ask for, or they were, and where their steps were was not put
-abbrev pub IsProfileStop : Option FileContents → ProfileAsked → Stop → Type 0
+abbrev pub IsProfileStop : Option FileContents → ProfileArgs → Stop → Type 0
 IsProfileStop known words why = IsViewStop known words.run (view.Profile (profile_format words)) why

@@ -6,30 +6,30 @@ use Rattle.rv_junit.specs.Junit.{junit_text}
 use Rattle.rv_report.specs.declared.row.Row.{Row}
 use Rattle.rv_stream.specs.Streams.{row_text_list}
 use Rattle.rvtest_app.specs.declared.file_texts.FileTexts.{FileTexts}
-use Rattle.rvtest_app.specs.Outlets.{AreFilesPlaced, file_at, is_stdout_at, stdout_at}
+use Rattle.rvtest_app.specs.Outlets.{AreFilesCommitted, file_at, is_stdout_at, stdout_at}
 use Rattle.rvtest_app.specs.ReportTexts.{report_rows}
-use Rattle.rvtest_app.specs.Said.{IsOnlyPut, IsOnlyTold, Said}
+use Rattle.rvtest_app.specs.CommandOutputs.{IsOnlyStandardOutput, IsOnlyErrorOutput, CommandOutputs}
 
 -- a text is shown: on standard error where a file goes to standard output, else there
-abbrev pub IsShown : Bool → List ℕ → Said → Said → Type 0
-IsShown true text before after = IsOnlyTold text before after
-IsShown false text before after = IsOnlyPut text before after
+abbrev pub IsShown : Bool → List ℕ → CommandOutputs → CommandOutputs → Type 0
+IsShown true text before after = IsOnlyErrorOutput text before after
+IsShown false text before after = IsOnlyStandardOutput text before after
 
 -- the document of the rows of a report, with the lines that are told of them
 abbrev pub junit_of : {T : Type 0} → (T → ℕ → Row → List ℕ) → FileTexts T → List ℕ
 junit_of line texts = junit_text texts.suite.name.now (judging_of texts.suite.judge)
-    (row_text_list (line texts.telling.now) texts.places.now (report_rows texts.report)) (report_rows texts.report)
+    (row_text_list (line texts.reporter.now) texts.places.now (report_rows texts.report)) (report_rows texts.report)
 
 -- what a command shows and the files that it makes at two paths went out: what it shows to standard error, or to standard output
 pub record WentOutBeside (is_beside : Bool) (report_path junit_path : Option (List ℕ)) (shown report junit : List ℕ)
-    (before after : Said) : Type 0 where
-  pub middle : Said
+    (before after : CommandOutputs) : Type 0 where
+  pub middle : CommandOutputs
   pub seen : IsShown is_beside shown before middle
   pub out : Appends middle.out after.out (stdout_at junit_path junit ++ stdout_at report_path report)
   pub quiet : (after.errors ≡ middle.errors) × (after.failures ≡ middle.failures)
-  pub placed : AreFilesPlaced middle.placed after.placed (Some (file_at junit_path junit ++ file_at report_path report))
+  pub placed : AreFilesCommitted middle.placed after.placed (Some (file_at junit_path junit ++ file_at report_path report))
 
 -- what it shows goes to standard error where one of the paths stands for standard output
-abbrev pub WentOut : Option (List ℕ) → Option (List ℕ) → List ℕ → List ℕ → List ℕ → Said → Said → Type 0
+abbrev pub WentOut : Option (List ℕ) → Option (List ℕ) → List ℕ → List ℕ → List ℕ → CommandOutputs → CommandOutputs → Type 0
 WentOut report_path junit_path shown report junit before after =
     WentOutBeside (is_stdout_at report_path || is_stdout_at junit_path) report_path junit_path shown report junit before after

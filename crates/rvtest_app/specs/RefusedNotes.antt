@@ -1,12 +1,12 @@
 -- What is told of jobs that are refused, where it is shown what came of the images of jobs.
 use Rattle.std.specs.Prelude.{◌++◌, ℕ, if◌then◌else◌, List, [], length}
 use Rattle.std.specs.List.{flat_map}
-use Rattle.rvtest_cli.specs.declared.run.RunAsked.{RunAsked}
+use Rattle.rvtest_cli.specs.declared.run.RunArgs.{RunArgs}
 use Rattle.rv_command.specs.Texts.{optional_text}
 use Rattle.rv_counting.specs.JobTables.{jobs_at}
 use Rattle.rv_expect.specs.Judgement.{Judging}
-use Rattle.rv_files.specs.declared.noting_store.Unread.{Unread}
-use Rattle.rv_job_text.specs.Telling.{row_line}
+use Rattle.rv_files.specs.declared.recording_store.UnreadPath.{UnreadPath}
+use Rattle.rv_job_text.specs.RowReporter.{row_line}
 use Rattle.rv_jobs.specs.Plans.{Planned}
 use Rattle.rv_lists.specs.declared.job.Job.{Job}
 use Rattle.rv_rows.specs.Rows.{row_of}
@@ -14,15 +14,15 @@ use Rattle.rvtest_app.specs.Commands.{is_job_refused, report_judging}
 use Rattle.rvtest_app.specs.MissingImages.{missing_images_note}
 
 -- the line of a job that is refused; of another nothing
-unfoldable pub refused_line : Judging → Planned → List Unread → Job → List ℕ
+unfoldable pub refused_line : Judging → Planned → List UnreadPath → Job → List ℕ
 refused_line judging plan unread job =
     if is_job_refused plan job then row_line plan unread judging job (row_of plan job) else []
 
 -- the lines of the jobs that are refused among those at some places
-abbrev pub refused_lines : Judging → Planned → List Unread → List ℕ → List ℕ
+abbrev pub refused_lines : Judging → Planned → List UnreadPath → List ℕ → List ℕ
 refused_lines judging plan unread places = flat_map (refused_line judging plan unread) (jobs_at plan places)
 
 -- where paths are taken from, if every image is missing, and the jobs that are refused
-abbrev pub refused_note : RunAsked → Planned → List Unread → List ℕ → List ℕ
+abbrev pub refused_note : RunArgs → Planned → List UnreadPath → List ℕ → List ℕ
 refused_note words plan unread places = missing_images_note plan.jobs unread (length places) (optional_text words.root)
     ++ refused_lines (report_judging words.lenient) plan unread places

@@ -3,9 +3,9 @@ use Rattle.std.specs.Prelude.{◌≡◌, ◌+◌, ◌++◌, ◌-◌, if◌then�
 use Rattle.std.specs.Prelude.{slice_index_or}
 use Rattle.std.specs.Str.{bytes_eq}
 use Rattle.rv_base.specs.Files.{FileContents}
-use Rattle.rvtest_cli.specs.declared.check.CheckAsked.{CheckAsked}
-use Rattle.rvtest_cli.specs.declared.diff.DiffAsked.{DiffAsked}
-use Rattle.rvtest_cli.specs.declared.explain.ExplainAsked.{ExplainAsked}
+use Rattle.rvtest_cli.specs.declared.check.CheckArgs.{CheckArgs}
+use Rattle.rvtest_cli.specs.declared.diff.DiffArgs.{DiffArgs}
+use Rattle.rvtest_cli.specs.declared.explain.ExplainArgs.{ExplainArgs}
 use Rattle.rv_command.specs.Messages.{cut_off_note}
 use Rattle.rv_command.specs.Texts.{IsReportRead, IsTextAt, optional_text}
 use Rattle.rv_diff.specs.Diff.{counts_of_differing, diff_text, rows_beside}
@@ -15,10 +15,10 @@ use Rattle.rv_expect.specs.Judgement.{judging_by_rule}
 use Rattle.rv_expect.specs.Passing.{has_passed}
 use Rattle.rv_expect.specs.declared.passing.Rule.TheVariants.{Strict}
 use Rattle.rv_files.specs.UnreadPaths.{contents_below}
-use Rattle.rv_files.specs.declared.noting_store.Unread.{Unread}
+use Rattle.rv_files.specs.declared.recording_store.UnreadPath.{UnreadPath}
 use Rattle.rv_hang.specs.declared.budget_use.BudgetUse.{BudgetUse}
 use Rattle.rv_job_text.specs.BudgetUseLine.{IsUseOfRow}
-use Rattle.rv_job_text.specs.Telling.{explanation_text}
+use Rattle.rv_job_text.specs.RowReporter.{explanation_text}
 use Rattle.rv_jobs.specs.Plans.{AreKept, Planned, jobs_needed_for, one_more_times, paths_of, paths_used}
 use Rattle.rv_jobs.specs.Plans.{unreadable_count}
 use Rattle.rv_jobs.specs.declared.answers.Answer.{Answer}
@@ -35,13 +35,13 @@ use Rattle.rv_report.specs.declared.saved.Extent.TheVariants as extent
 use Rattle.rv_report.specs.declared.saved.SavedReport.{SavedReport}
 use Rattle.rv_rows.specs.Rows.{row_of}
 use Rattle.rvtest_app.specs.CheckText.{check_text}
-use Rattle.rvtest_app.specs.Said.{IsOnlyPut, IsOnlyTold, Said}
+use Rattle.rvtest_app.specs.CommandOutputs.{IsOnlyStandardOutput, IsOnlyErrorOutput, CommandOutputs}
 use Rattle.rvtest_app.specs.Commands.{check_status, diff_status, passing_status, refused_job_count}
 
 -- ---- paths that were not read
 
 -- there is a note for each path that is unreadable
-abbrev pub AreNotesOf : List Answer → List Unread → Type 0
+abbrev pub AreNotesOf : List Answer → List UnreadPath → Type 0
 AreNotesOf answers unread = length unread ≡ one_more_times 0 (unreadable_count answers)
 
 -- ---- diff
@@ -74,7 +74,7 @@ pub record IsDiffOfReports (compare : Compare) (before after : SavedReport) (out
   pub judged : status ≡ diff_status (counts_of_differing compare (compared_rows after before) (compared_rows before after))
 
 -- the same of the reports that two texts are; the notes say how many rows each has that is cut off
-pub record IsDiffOf (words : DiffAsked) (old new output notes : List ℕ) (status : ℕ) : Type 0 where
+pub record IsDiffOf (words : DiffArgs) (old new output notes : List ℕ) (status : ℕ) : Type 0 where
   pub before : PartialReport
   pub before_is : IsReportRead words.partial old before
   pub after : PartialReport
@@ -83,7 +83,7 @@ pub record IsDiffOf (words : DiffAsked) (old new output notes : List ℕ) (statu
   pub noted : notes ≡ cut_off_note words.old.now before ++ cut_off_note words.new.now after
 
 -- the same of what stands at the two paths that words name
-pub record IsDiffAt (known : Option FileContents) (words : DiffAsked) (output notes : List ℕ) (status : ℕ) : Type 0 where
+pub record IsDiffAt (known : Option FileContents) (words : DiffArgs) (output notes : List ℕ) (status : ℕ) : Type 0 where
   pub old : List ℕ
   pub old_read : IsTextAt known words.old.now old
   pub new : List ℕ
@@ -91,13 +91,13 @@ pub record IsDiffAt (known : Option FileContents) (words : DiffAsked) (output no
   pub diff : IsDiffOf words old new output notes status
 
 -- the notes went to standard error, and then the output to standard output
-pub record IsDiffPut (known : Option FileContents) (words : DiffAsked) (status : ℕ) (before after : Said) : Type 0 where
+pub record IsDiffPut (known : Option FileContents) (words : DiffArgs) (status : ℕ) (before after : CommandOutputs) : Type 0 where
   pub text : List ℕ
   pub notes : List ℕ
   pub diff : IsDiffAt known words text notes status
-  pub middle : Said
-  pub told : IsOnlyTold notes before middle
-  pub put : IsOnlyPut text middle after
+  pub middle : CommandOutputs
+  pub told : IsOnlyErrorOutput notes before middle
+  pub put : IsOnlyStandardOutput text middle after
 
 -- ---- check
 
@@ -109,7 +109,7 @@ pub record IsPlanCheckOf (known : Option FileContents) (root : Option (List ℕ)
   pub listed : job_list_of bytes ≡ Ok plan.jobs
   pub paths : paths_of plan.answers ≡ paths_used plan.jobs
   pub kept : AreKept known plan.answers
-  pub unread : List Unread
+  pub unread : List UnreadPath
   pub noted : AreNotesOf plan.answers unread
   pub text : output ≡ check_text path bytes root plan unread
   pub judged : status ≡ check_status (refused_job_count plan)
@@ -122,7 +122,7 @@ IsCheckOf known root (fault ∷ faults) path bytes output status =
     PutsEachFault (IsToldFault path bytes) (fault ∷ faults) [] output × (status ≡ 2)
 
 -- the same of the list at the path that words name
-pub record IsCheckAt (known : Option FileContents) (words : CheckAsked) (output : List ℕ) (status : ℕ) : Type 0 where
+pub record IsCheckAt (known : Option FileContents) (words : CheckArgs) (output : List ℕ) (status : ℕ) : Type 0 where
   pub bytes : List ℕ
   pub read : IsTextAt known words.list.now bytes
   pub check : IsCheckOf (contents_below (optional_text words.root) known) (optional_text words.root) (list_faults bytes)
@@ -132,7 +132,7 @@ pub record IsCheckAt (known : Option FileContents) (words : CheckAsked) (output 
 
 -- a text explains the row of the job at a place of a plan, with so many of its last instructions, and with what is found of
 -- a used-up budget
-pub record IsTextExplaining (plan : Planned) (unread : List Unread) (place last : ℕ) (text : List ℕ) : Type 0 where
+pub record IsTextExplaining (plan : Planned) (unread : List UnreadPath) (place last : ℕ) (text : List ℕ) : Type 0 where
   pub budget_use : Option BudgetUse
   pub found : (d : Job) → IsUseOfRow plan (slice_index_or plan.jobs place d)
       (row_of plan (slice_index_or plan.jobs place d)) budget_use
@@ -147,7 +147,7 @@ pub record IsJobExplained (known : Option FileContents) (jobs : List Job) (place
   pub listed : plan.jobs ≡ jobs
   pub paths : paths_of plan.answers ≡ paths_used (jobs_needed_for jobs (place ∷ []))
   pub kept : AreKept known plan.answers
-  pub unread : List Unread
+  pub unread : List UnreadPath
   pub noted : AreNotesOf plan.answers unread
   pub text : IsTextExplaining plan unread place last output
   pub judged : (d : Job) → status ≡ passing_status
@@ -159,7 +159,7 @@ IsFirstNamed jobs name place = position (λ (job : Job). bytes_eq job.name name)
 
 -- the same of the first job of the name that words say in the list that a text is, all jobs of the list with the budget that is
 -- asked for
-pub record IsExplanationOf (known : Option FileContents) (words : ExplainAsked) (bytes output : List ℕ) (status : ℕ)
+pub record IsExplanationOf (known : Option FileContents) (words : ExplainArgs) (bytes output : List ℕ) (status : ℕ)
     : Type 0 where
   pub jobs : List Job
   pub listed : job_list_of bytes ≡ Ok jobs
@@ -169,7 +169,7 @@ pub record IsExplanationOf (known : Option FileContents) (words : ExplainAsked) 
       words.last output status
 
 -- the same of the list at the path that words name
-pub record IsExplanationAt (known : Option FileContents) (words : ExplainAsked) (output : List ℕ) (status : ℕ)
+pub record IsExplanationAt (known : Option FileContents) (words : ExplainArgs) (output : List ℕ) (status : ℕ)
     : Type 0 where
   pub bytes : List ℕ
   pub read : IsTextAt known words.list.now bytes

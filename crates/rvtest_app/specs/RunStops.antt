@@ -3,7 +3,7 @@ use Rattle.std.specs.Prelude.{◌≡◌, ◌⊎◌, ℕ, Bool, List, IsSomeAnd, 
 use Rattle.rv_base.specs.Files.{FileContents}
 use Rattle.rv_choice.specs.ChoiceStops.{IsChoiceStop}
 use Rattle.rv_choice.specs.Shard.{IsShardStop}
-use Rattle.rvtest_cli.specs.declared.run.RunAsked.{RunAsked}
+use Rattle.rvtest_cli.specs.declared.run.RunArgs.{RunArgs}
 use Rattle.rv_command.specs.Stops.{IsListFaultStop, IsListUnreadStop}
 use Rattle.rv_command.specs.Texts.{IsTextAt, optional_text}
 use Rattle.rv_command.specs.declared.stop.Stop.{Stop}
@@ -27,23 +27,23 @@ use Rattle.rvtest_app.specs.Runs.{AreJobsToRun, AreRequestedJobs}
 use Rattle.rvtest_app.specs.StackStops.{IsUnstackedStop}
 
 -- the shard is refused; or no shard is asked for, and words choose no jobs
-abbrev pub IsUnmarkedStop : Option FileContents → RunAsked → List Job → Stop → Type 0
+abbrev pub IsUnmarkedStop : Option FileContents → RunArgs → List Job → Stop → Type 0
 IsUnmarkedStop known words jobs why = IsShardStop words.shard words.stamp why
     ⊎ ((is_some words.shard ≡ false) × IsChoiceStop known words (failure_rule words.lenient) jobs why)
 
 -- a text is no list; or the report that words name is not the whole one of its jobs, or they ask for none of these
-abbrev pub IsUnlistedStop : Option FileContents → RunAsked → List ℕ → Stop → Type 0
+abbrev pub IsUnlistedStop : Option FileContents → RunArgs → List ℕ → Stop → Type 0
 IsUnlistedStop known words text why = IsListFaultStop words.list.now text why
     ⊎ ((jobs : List Job) × ((job_list_of text ≡ Ok jobs)
     × (IsIntoStop known words jobs why ⊎ IsUnmarkedStop known words jobs why)))
 
 -- the list was not read, or it has no jobs that words ask for
-abbrev pub IsUnrequestedStop : Option FileContents → RunAsked → Stop → Type 0
+abbrev pub IsUnrequestedStop : Option FileContents → RunArgs → Stop → Type 0
 IsUnrequestedStop known words why = IsListUnreadStop known words.list.now why
     ⊎ ((text : List ℕ) × (IsTextAt known words.list.now text × IsUnlistedStop known words text why))
 
 -- the jobs of the list that words ask for were found, and the file that they name has not the known failures among them
-pub record IsUnknownStop (known : Option FileContents) (words : RunAsked) (why : Stop) : Type 0 where
+pub record IsUnknownStop (known : Option FileContents) (words : RunArgs) (why : Stop) : Type 0 where
   pub jobs : List Job
   pub marks : Option (List Bool)
   pub shard : Option Shard
@@ -68,21 +68,21 @@ IsBothStop path (both.Second stream.OutOfMemory) why = why ≡ stop.OutOfMemory
 IsBothStop path (both.Second stream.NoWorker) why = why ≡ stop.NoWorker
 
 -- jobs that are asked for were not run, or the results, the report or JUnit's file did not go out
-abbrev pub IsRowsPutStop : RunAsked → Stop → Type 0
+abbrev pub IsRowsPutStop : RunArgs → Stop → Type 0
 IsRowsPutStop words why = (why ≡ stop.NoWorker)
     ⊎ IsOutputStop (run_report_path words) (optional_text words.junit) why
 
 -- or the table of counts did not, or the stacks that are to stand in it have no sum
-abbrev pub IsRunPutStop : RunAsked → Stop → Type 0
+abbrev pub IsRunPutStop : RunArgs → Stop → Type 0
 IsRunPutStop words why = IsRowsPutStop words why
     ⊎ (IsFileStop (file_path_at (optional_text words.counts)) why ⊎ IsUnstackedStop words why)
 
 -- jobs that are to run were found, and that happened
-abbrev pub IsUnfinishedStop : Option FileContents → RunAsked → Stop → Type 0
+abbrev pub IsUnfinishedStop : Option FileContents → RunArgs → Stop → Type 0
 IsUnfinishedStop known words why = AreJobsToRun known words × IsRunPutStop words why
 
 -- `run`: a file would replace one that it reads; or no jobs were found that words ask for; or they were, and the known failures among
 -- them were not; or both were, and the run was not finished
-abbrev pub IsRunStop : Option FileContents → RunAsked → Stop → Type 0
+abbrev pub IsRunStop : Option FileContents → RunArgs → Stop → Type 0
 IsRunStop known words why = IsRunOverwriteStop words why ⊎ (IsUnrequestedStop known words why
     ⊎ (IsUnknownStop known words why ⊎ IsUnfinishedStop known words why))

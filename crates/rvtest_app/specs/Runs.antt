@@ -3,20 +3,20 @@ use Rattle.std.specs.Prelude.{◌≡◌, ◌⊎◌, ◌++◌, ℕ, Bool, true, f
 use Rattle.rv_base.specs.Files.{FileContents}
 use Rattle.rv_choice.specs.Chosen.{IsChoice}
 use Rattle.rv_choice.specs.Shard.{IsShardOf, stamp_for}
-use Rattle.rvtest_cli.specs.declared.run.RunAsked.{RunAsked}
+use Rattle.rvtest_cli.specs.declared.run.RunArgs.{RunArgs}
 use Rattle.rv_command.specs.Texts.{IsTextAt, optional_text}
-use Rattle.rv_files.specs.Placed.{PlacedFile}
+use Rattle.rv_files.specs.Placed.{CommittedFile}
 use Rattle.rv_files.specs.UnreadPaths.{contents_below}
-use Rattle.rv_files.specs.declared.noting_store.Unread.{Unread}
-use Rattle.rv_job_text.specs.Telling.{Telling, row_lines_at}
+use Rattle.rv_files.specs.declared.recording_store.UnreadPath.{UnreadPath}
+use Rattle.rv_job_text.specs.RowReporter.{RowReporter, row_lines_at}
 use Rattle.rv_job_text.specs.declared.verbosity.Verbosity.TheVariants.{Failures}
 use Rattle.rv_junit.specs.Junit.{junit_text}
-use Rattle.rv_jobs.specs.Choices.{marked_places}
+use Rattle.rv_jobs.specs.Choices.{selected_indices}
 use Rattle.rv_jobs.specs.Plans.{AreKept, Planned, jobs_needed_for, one_more_times, paths_of, paths_used, unreadable_count}
 use Rattle.rv_lists.specs.JobList.{job_list_of}
 use Rattle.rv_lists.specs.Jobs.{with_budget}
 use Rattle.rv_lists.specs.declared.job.Job.{Job}
-use Rattle.rv_merge.specs.Shards.{shard_marks}
+use Rattle.rv_merge.specs.Shards.{shard_selection}
 use Rattle.rv_report.specs.declared.saved.Shard.{Shard}
 use Rattle.rv_report.specs.declared.row.Row.{Row}
 use Rattle.rv_rows.specs.Rows.{rows_at}
@@ -31,30 +31,30 @@ use Rattle.rv_expect.specs.declared.known_jobs.KnownJobs.{KnownJobs}
 use Rattle.rvtest_app.specs.Commands.{failure_rule, requested_verbosity}
 use Rattle.rvtest_app.specs.KnownFiles.{IsKnownAt}
 use Rattle.rvtest_app.specs.MissingImages.{missing_images_note}
-use Rattle.rvtest_app.specs.Outlets.{AreFilesPlaced, file_at}
+use Rattle.rvtest_app.specs.Outlets.{AreFilesCommitted, file_at}
 use Rattle.rvtest_app.specs.Puts.{WentOutBeside}
 use Rattle.rvtest_app.specs.RunOutput.{rows_status, run_output_text}
 use Rattle.rvtest_app.specs.IntoReports.{AreOldRows, run_report_path, run_report_text, uses_run_stdout}
 use Rattle.rvtest_app.specs.JunitTexts.{suite_name}
-use Rattle.rvtest_app.specs.Said.{IsOnlyTold, Said}
+use Rattle.rvtest_app.specs.CommandOutputs.{IsOnlyErrorOutput, CommandOutputs}
 use Rattle.rvtest_app.specs.WrittenTexts.{IsWrittenAt}
 
 -- the places of the jobs that are marked
 abbrev pub places_of_marks : List Bool → List ℕ
-places_of_marks marks = marked_places marks (length marks)
+places_of_marks marks = selected_indices marks (length marks)
 
 -- the marks of the jobs that words ask for, if any are: those of a shard, else those that are chosen; and what is said of the
 -- choice
-abbrev pub AreRequestedMarks : Option FileContents → Option Shard → RunAsked → List Job → Option (List Bool) → List ℕ
+abbrev pub AreRequestedMarks : Option FileContents → Option Shard → RunArgs → List Job → Option (List Bool) → List ℕ
     → Type 0
 AreRequestedMarks known (Some shard) words jobs marks notes =
-    (marks ≡ Some (shard_marks shard.shards shard.number (length jobs))) × (notes ≡ [])
+    (marks ≡ Some (shard_selection shard.shards shard.number (length jobs))) × (notes ≡ [])
 AreRequestedMarks known None words jobs marks notes =
     IsChoice known words (failure_rule words.lenient) jobs marks notes
 
 -- the jobs of the list at the path that words name, the marks of those that are to run, if any are, the shard that they are
 -- of, the rows of the whole report into which theirs are put, if one is named, and what is said of the choice
-pub record AreRequestedJobs (known : Option FileContents) (words : RunAsked) (jobs : List Job)
+pub record AreRequestedJobs (known : Option FileContents) (words : RunArgs) (jobs : List Job)
     (marks : Option (List Bool)) (shard : Option Shard) (old : Option (List Row)) (notes : List ℕ) : Type 0 where
   pub bytes : List ℕ
   pub read : IsTextAt known words.list.now bytes
@@ -65,7 +65,7 @@ pub record AreRequestedJobs (known : Option FileContents) (words : RunAsked) (jo
   pub into : AreOldRows known words jobs old
 
 -- the jobs of the list that words ask for were found, with the known failures among them, and some are to run
-pub record AreJobsToRun (known : Option FileContents) (words : RunAsked) : Type 0 where
+pub record AreJobsToRun (known : Option FileContents) (words : RunArgs) : Type 0 where
   pub jobs : List Job
   pub marks : List Bool
   pub shard : Option Shard
@@ -78,23 +78,23 @@ pub record AreJobsToRun (known : Option FileContents) (words : RunAsked) : Type 
 -- a plan of the jobs has answers for the paths that the rows at some places need, which agree with what stands there; why paths
 -- were not read is noted as often as answers are unreadable
 pub record IsPlanFor (known : Option FileContents) (jobs : List Job) (places : List ℕ) (plan : Planned)
-    (unread : List Unread) : Type 0 where
+    (unread : List UnreadPath) : Type 0 where
   pub listed : plan.jobs ≡ jobs
   pub paths : paths_of plan.answers ≡ paths_used (jobs_needed_for jobs places)
   pub kept : AreKept known plan.answers
   pub noted : length unread ≡ one_more_times 0 (unreadable_count plan.answers)
 
 -- the document of the rows of the jobs at some places, with the lines that are told of those that failed
-abbrev pub run_junit : RunAsked → Telling → List ℕ → List Row → List ℕ
-run_junit words telling places rows = junit_text (suite_name (optional_text words.suite) words.list.now) telling.judging
-    (row_text_list (row_lines_at (record telling { verbosity = Failures })) places rows) rows
+abbrev pub run_junit : RunArgs → RowReporter → List ℕ → List Row → List ℕ
+run_junit words reporter places rows = junit_text (suite_name (optional_text words.suite) words.list.now) reporter.judging
+    (row_text_list (row_lines_at (record reporter { verbosity = Failures })) places rows) rows
 
 -- how the rows of a run are counted, with the known failures, where there are any
-abbrev pub run_judging : RunAsked → Option KnownJobs → Judging
+abbrev pub run_judging : RunArgs → Option KnownJobs → Judging
 run_judging words failures = record { rule = failure_rule words.lenient; known = failures }
 
 -- how they are told
-abbrev pub run_telling : RunAsked → Option KnownJobs → Planned → List Unread → Telling
+abbrev pub run_telling : RunArgs → Option KnownJobs → Planned → List UnreadPath → RowReporter
 run_telling words failures plan unread = record {
   plan = plan;
   unread = unread;
@@ -112,22 +112,22 @@ abbrev pub shown_places : List ℕ → List Row → List ℕ
 shown_places places rows = take (length rows) places
 
 -- the two files of these rows, where words ask for them
-abbrev pub junit_file : RunAsked → Telling → List ℕ → List Row → List PlacedFile
-junit_file words telling places rows =
-    file_at (optional_text words.junit) (run_junit words telling (shown_places places rows) rows)
+abbrev pub junit_file : RunArgs → RowReporter → List ℕ → List Row → List CommittedFile
+junit_file words reporter places rows =
+    file_at (optional_text words.junit) (run_junit words reporter (shown_places places rows) rows)
 
-abbrev pub report_file : RunAsked → Telling → List ℕ → Option Shard → Option (List Row) → List Row → List PlacedFile
-report_file words telling places shard old rows = file_at (run_report_path words)
-    (run_report_text old (length telling.plan.jobs) (shown_places places rows) shard rows)
+abbrev pub report_file : RunArgs → RowReporter → List ℕ → Option Shard → Option (List Row) → List Row → List CommittedFile
+report_file words reporter places shard old rows = file_at (run_report_path words)
+    (run_report_text old (length reporter.plan.jobs) (shown_places places rows) shard rows)
 
 -- a run that words ask for put these rows, of the first of the jobs at some places: their lines with the totals, the report, and
 -- JUnit's document
-abbrev pub IsRunPut : RunAsked → Telling → List ℕ → Option Shard → Option (List Row) → List Row → Said → Said → Type 0
-IsRunPut words telling places shard old rows before after =
+abbrev pub IsRunPut : RunArgs → RowReporter → List ℕ → Option Shard → Option (List Row) → List Row → CommandOutputs → CommandOutputs → Type 0
+IsRunPut words reporter places shard old rows before after =
     WentOutBeside (uses_run_stdout words) (run_report_path words) (optional_text words.junit)
-    (run_output_text (row_lines_at telling) telling.judging places rows)
-    (run_report_text old (length telling.plan.jobs) (shown_places places rows) shard rows)
-    (run_junit words telling (shown_places places rows) rows) before after
+    (run_output_text (row_lines_at reporter) reporter.judging places rows)
+    (run_report_text old (length reporter.plan.jobs) (shown_places places rows) shard rows)
+    (run_junit words reporter (shown_places places rows) rows) before after
 
 -- the table of counts of the runs of the jobs at some places, with their stacks where those are asked for
 abbrev pub IsCountsTable : Bool → Planned → List ℕ → CountTable → Type 0
@@ -140,43 +140,43 @@ IsCountsText stacks plan places text =
     (table : CountTable) × (IsCountsTable stacks plan places table × (text ≡ table_text table))
 
 -- it went to a path, if one is given
-abbrev pub AreCountsPut : Bool → Option (List ℕ) → Planned → List ℕ → Said → Said → Type 0
+abbrev pub AreCountsPut : Bool → Option (List ℕ) → Planned → List ℕ → CommandOutputs → CommandOutputs → Type 0
 AreCountsPut stacks None plan places before after = IsWrittenAt None [] before after
 AreCountsPut stacks (Some path) plan places before after =
     (text : List ℕ) × (IsCountsText stacks plan places text × IsWrittenAt (Some path) text before after)
 
 -- that run put these rows, and then the table of its counts
-pub record IsCountedRunPut (words : RunAsked) (telling : Telling) (places : List ℕ) (shard : Option Shard) (old : Option (List Row))
-    (rows : List Row) (before after : Said) : Type 0 where
-  pub middle : Said
-  pub put : IsRunPut words telling places shard old rows before middle
-  pub counted : AreCountsPut words.stacks (optional_text words.counts) telling.plan (shown_places places rows) middle after
+pub record IsCountedRunPut (words : RunArgs) (reporter : RowReporter) (places : List ℕ) (shard : Option Shard) (old : Option (List Row))
+    (rows : List Row) (before after : CommandOutputs) : Type 0 where
+  pub middle : CommandOutputs
+  pub put : IsRunPut words reporter places shard old rows before middle
+  pub counted : AreCountsPut words.stacks (optional_text words.counts) reporter.plan (shown_places places rows) middle after
 
 -- over such a plan of the jobs, all with the budget that words ask for, it is said where paths are taken from, if every image
 -- is missing; and the rows of the jobs at some places went out as words ask for them: their lines with the totals, the report,
 -- and JUnit's document; the status is by these rows
-pub record IsRunOfPlaces (known : Option FileContents) (words : RunAsked) (failures : Option KnownJobs) (jobs : List Job) (places : List ℕ)
-    (shard : Option Shard) (old : Option (List Row)) (status : ℕ) (before after : Said) : Type 0 where
+pub record IsRunOfPlaces (known : Option FileContents) (words : RunArgs) (failures : Option KnownJobs) (jobs : List Job) (places : List ℕ)
+    (shard : Option Shard) (old : Option (List Row)) (status : ℕ) (before after : CommandOutputs) : Type 0 where
   pub plan : Planned
-  pub unread : List Unread
+  pub unread : List UnreadPath
   pub planned : IsPlanFor (contents_below (optional_text words.root) known) (with_budget words.budget jobs) places plan
       unread
   pub rows : List Row
   pub shown : rows ≡ run_rows words.stop_after (run_judging words failures) plan places
   pub judged : status ≡ rows_status (run_judging words failures) rows
-  pub middle : Said
-  pub noted : IsOnlyTold (missing_images_note plan.jobs unread (length places) (optional_text words.root)) before middle
+  pub middle : CommandOutputs
+  pub noted : IsOnlyErrorOutput (missing_images_note plan.jobs unread (length places) (optional_text words.root)) before middle
   pub put : IsCountedRunPut words (run_telling words failures plan unread) places shard old rows middle after
 
 -- the same of the jobs that are marked; where none are to run, the status is 0 and nothing more is said
-abbrev pub IsRunOfMarked : Option FileContents → RunAsked → Option KnownJobs → List Job → Option (List Bool) → Option Shard
-    → Option (List Row) → ℕ → Said → Said → Type 0
+abbrev pub IsRunOfMarked : Option FileContents → RunArgs → Option KnownJobs → List Job → Option (List Bool) → Option Shard
+    → Option (List Row) → ℕ → CommandOutputs → CommandOutputs → Type 0
 IsRunOfMarked known words failures jobs None shard old status before after = (status ≡ 0) × (after ≡ before)
 IsRunOfMarked known words failures jobs (Some marks) shard old status before after =
     IsRunOfPlaces known words failures jobs (places_of_marks marks) shard old status before after
 
 -- a run of what words ask for, with the failures that their file knows: what is said of the choice goes to standard error, and then the jobs run
-pub record IsRunAt (known : Option FileContents) (words : RunAsked) (status : ℕ) (before after : Said) : Type 0 where
+pub record IsRunAt (known : Option FileContents) (words : RunArgs) (status : ℕ) (before after : CommandOutputs) : Type 0 where
   pub jobs : List Job
   pub marks : Option (List Bool)
   pub shard : Option Shard
@@ -185,26 +185,26 @@ pub record IsRunAt (known : Option FileContents) (words : RunAsked) (status : �
   pub asked : AreRequestedJobs known words jobs marks shard old notes
   pub failures : Option KnownJobs
   pub known_to_fail : IsKnownAt known (optional_text words.known) jobs failures
-  pub middle : Said
-  pub told : IsOnlyTold notes before middle
+  pub middle : CommandOutputs
+  pub told : IsOnlyErrorOutput notes before middle
   pub ran : IsRunOfMarked known words failures jobs marks shard old status middle after
 
 -- ---- runs that an error ended
 
 -- the files of the rows of a run that were put in their places where one behind them was not: JUnit's document alone, or, where counts are
 -- asked for, the report too
-abbrev pub AreRunFilesPlacedInPart : RunAsked → Telling → List ℕ → Option Shard → Option (List Row) → List Row
-    → Option (List PlacedFile) → Option (List PlacedFile) → Type 0
-AreRunFilesPlacedInPart words telling places shard old rows before after =
-    AreFilesPlaced before after (Some (junit_file words telling places rows))
-    ⊎ ((is_some words.counts ≡ true) × AreFilesPlaced before after
-    (Some (junit_file words telling places rows ++ report_file words telling places shard old rows)))
+abbrev pub AreRunFilesPlacedInPart : RunArgs → RowReporter → List ℕ → Option Shard → Option (List Row) → List Row
+    → Option (List CommittedFile) → Option (List CommittedFile) → Type 0
+AreRunFilesPlacedInPart words reporter places shard old rows before after =
+    AreFilesCommitted before after (Some (junit_file words reporter places rows))
+    ⊎ ((is_some words.counts ≡ true) × AreFilesCommitted before after
+    (Some (junit_file words reporter places rows ++ report_file words reporter places shard old rows)))
 
 -- over a plan of the jobs, all with the budget that words ask for, these files of those at some places alone were put in their places
-pub record IsRunInPart (known : Option FileContents) (words : RunAsked) (failures : Option KnownJobs) (jobs : List Job) (places : List ℕ)
-    (shard : Option Shard) (old : Option (List Row)) (before after : Option (List PlacedFile)) : Type 0 where
+pub record IsRunInPart (known : Option FileContents) (words : RunArgs) (failures : Option KnownJobs) (jobs : List Job) (places : List ℕ)
+    (shard : Option Shard) (old : Option (List Row)) (before after : Option (List CommittedFile)) : Type 0 where
   pub plan : Planned
-  pub unread : List Unread
+  pub unread : List UnreadPath
   pub planned : IsPlanFor (contents_below (optional_text words.root) known) (with_budget words.budget jobs) places plan
       unread
   pub rows : List Row
@@ -212,17 +212,17 @@ pub record IsRunInPart (known : Option FileContents) (words : RunAsked) (failure
   pub placed : AreRunFilesPlacedInPart words (run_telling words failures plan unread) places shard old rows before after
 
 -- no file was put in its place, or these alone
-abbrev pub IsUndoneRunOfPlaces : Option FileContents → RunAsked → Option KnownJobs → List Job → List ℕ → Option Shard
-    → Option (List Row) → Option (List PlacedFile) → Option (List PlacedFile) → Type 0
+abbrev pub IsUndoneRunOfPlaces : Option FileContents → RunArgs → Option KnownJobs → List Job → List ℕ → Option Shard
+    → Option (List Row) → Option (List CommittedFile) → Option (List CommittedFile) → Type 0
 IsUndoneRunOfPlaces known words failures jobs places shard old before after =
     (after ≡ before) ⊎ IsRunInPart known words failures jobs places shard old before after
 
 -- of the jobs that words ask for, these files alone were put in their places
-pub record IsRunInPartAt (known : Option FileContents) (words : RunAsked) (before after : Option (List PlacedFile))
+pub record IsRunInPartAt (known : Option FileContents) (words : RunArgs) (before after : Option (List CommittedFile))
     : Type 0 where
   pub found : AreJobsToRun known words
   pub alone : IsRunInPart known words found.failures found.jobs (places_of_marks found.marks) found.shard found.old before after
 
 -- a run that an error ended put no file in its place, or these alone
-abbrev pub IsUndoneRunAt : Option FileContents → RunAsked → Option (List PlacedFile) → Option (List PlacedFile) → Type 0
+abbrev pub IsUndoneRunAt : Option FileContents → RunArgs → Option (List CommittedFile) → Option (List CommittedFile) → Type 0
 IsUndoneRunAt known words before after = (after ≡ before) ⊎ IsRunInPartAt known words before after

@@ -1,45 +1,45 @@
 -- What `show` shows of a report.
 use Rattle.std.specs.Prelude.{◌≡◌, ◌⊎◌, ℕ, List, Option, None, Some}
 use Rattle.rv_base.specs.Files.{FileContents}
-use Rattle.rvtest_cli.specs.declared.show.ShowAsked.{ShowAsked}
+use Rattle.rvtest_cli.specs.declared.show.ShowArgs.{ShowArgs}
 use Rattle.rv_command.specs.Messages.{cut_off_note}
 use Rattle.rv_command.specs.Texts.{IsReportReadAt, optional_text}
-use Rattle.rv_files.specs.Placed.{PlacedFile}
+use Rattle.rv_files.specs.Placed.{CommittedFile}
 use Rattle.rv_report.specs.Report.{report_text}
 use Rattle.rv_report.specs.declared.partial.PartialReport.{PartialReport}
 use Rattle.rv_report.specs.declared.row.Row.{Row}
 use Rattle.rvtest_app.specs.Commands.{report_judging}
-use Rattle.rvtest_app.specs.Outlets.{AreFilesPlaced, file_at}
+use Rattle.rvtest_app.specs.Outlets.{AreFilesCommitted, file_at}
 use Rattle.rvtest_app.specs.Puts.{WentOut}
 use Rattle.rvtest_app.specs.ReportSummary.{summary_text}
 use Rattle.rvtest_app.specs.RunOutput.{rows_status}
 use Rattle.rvtest_app.specs.JunitTexts.{failures_junit, suite_name}
-use Rattle.rvtest_app.specs.Said.{IsOnlyTold, Said}
+use Rattle.rvtest_app.specs.CommandOutputs.{IsOnlyErrorOutput, CommandOutputs}
 
 -- JUnit's document of the rows of a report
-abbrev pub shown_junit : ShowAsked → List Row → List ℕ
+abbrev pub shown_junit : ShowArgs → List Row → List ℕ
 shown_junit words rows =
     failures_junit (suite_name (optional_text words.suite) words.report.now) (report_judging words.lenient) rows
 
 -- of the report at the path that words name: where it is cut off that went to standard error, with how many rows it has; and then the
 -- summary went out, and where it is asked for JUnit's document; the status is by its rows
-pub record IsShownAt (known : Option FileContents) (words : ShowAsked) (status : ℕ) (before after : Said)
+pub record IsShownAt (known : Option FileContents) (words : ShowArgs) (status : ℕ) (before after : CommandOutputs)
     : Type 0 where
   pub found : PartialReport
   pub read : IsReportReadAt known words.partial words.report.now found
-  pub middle : Said
-  pub noted : IsOnlyTold (cut_off_note words.report.now found) before middle
+  pub middle : CommandOutputs
+  pub noted : IsOnlyErrorOutput (cut_off_note words.report.now found) before middle
   pub judged : status ≡ rows_status (report_judging words.lenient) found.report.rows
   pub put : WentOut None (optional_text words.junit) (summary_text (report_judging words.lenient) found.report.rows)
       (report_text found.report.rows) (shown_junit words found.report.rows)
       middle after
 
 -- of these rows that document was put in its place
-pub record IsShownJunit (known : Option FileContents) (words : ShowAsked) (before after : Option (List PlacedFile)) : Type 0 where
+pub record IsShownJunit (known : Option FileContents) (words : ShowArgs) (before after : Option (List CommittedFile)) : Type 0 where
   pub found : PartialReport
   pub read : IsReportReadAt known words.partial words.report.now found
-  pub placed : AreFilesPlaced before after (Some (file_at (optional_text words.junit) (shown_junit words found.report.rows)))
+  pub placed : AreFilesCommitted before after (Some (file_at (optional_text words.junit) (shown_junit words found.report.rows)))
 
 -- an error left no file in its place, or that document
-abbrev pub IsUndoneShowAt : Option FileContents → ShowAsked → Option (List PlacedFile) → Option (List PlacedFile) → Type 0
+abbrev pub IsUndoneShowAt : Option FileContents → ShowArgs → Option (List CommittedFile) → Option (List CommittedFile) → Type 0
 IsUndoneShowAt known words before after = (after ≡ before) ⊎ IsShownJunit known words before after

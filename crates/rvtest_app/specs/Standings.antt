@@ -6,12 +6,12 @@ use Rattle.rv_accept.specs.Ends.{is_accepted_end}
 use Rattle.rv_accept.specs.Runs.{row_or_none}
 use Rattle.rv_accept.specs.declared.ends.Acceptance.TheVariants as acceptance
 use Rattle.rv_accept.specs.declared.standing.Candidate.{Candidate}
-use Rattle.rv_accept.specs.declared.standing.Standing.{Standing}
-use Rattle.rv_accept.specs.declared.standing.Standing.TheVariants as standing
+use Rattle.rv_accept.specs.declared.standing.CurrentVerdict.{CurrentVerdict}
+use Rattle.rv_accept.specs.declared.standing.CurrentVerdict.TheVariants as standing
 use Rattle.rv_base.specs.Files.{FileContents}
 use Rattle.rv_base.specs.Limits.{most_bytes}
 use Rattle.rv_expect.specs.Comparisons.{Sides}
-use Rattle.rv_expect.specs.Telling.{is_same}
+use Rattle.rv_expect.specs.RowReporter.{is_same}
 use Rattle.rv_expect.specs.Unmet.{unmet_of}
 use Rattle.rv_expect.specs.declared.unmet.Unmet.{Unmet}
 use Rattle.rv_files.specs.UnreadPaths.{resolved_path}
@@ -55,12 +55,12 @@ is_none_unmet [] = true
 is_none_unmet (one ∷ more) = false
 
 -- by whether it ran, and the expectations that its run does not meet
-abbrev pub standing_by : Bool → List Unmet → Standing
+abbrev pub standing_by : Bool → List Unmet → CurrentVerdict
 standing_by ran unmet = if ran && is_none_unmet unmet then standing.Passes
     else if list_any is_same unmet then standing.Differs else standing.Fails
 
 -- a row of a job, beside what it is compared with: it passes where it ran, and no expectation is unmet, which `run` counts as a pass too
-abbrev pub standing_of : Sides → Standing
+abbrev pub standing_of : Sides → CurrentVerdict
 standing_of sides = standing_by (did_run sides.row.ending) (unmet_of sides)
 
 abbrev pub sides_over : List (Option Row) → Job → Row → Option (List ℕ) → Option (List ℕ) → Sides
@@ -74,7 +74,7 @@ sides_over rows job row console signature = record {
 
 -- a job that came to a row stands so, over its golden files as they are, among the rows of all jobs
 pub record IsStanding (known : Option FileContents) (root : Option (List ℕ)) (rows : List (Option Row)) (job : Job) (row : Row)
-    (stands : Standing) : Type 0 where
+    (stands : CurrentVerdict) : Type 0 where
   pub console : Option (List ℕ)
   pub signature : Option (List ℕ)
   pub console_read : IsGoldenText known root (path_to_read job row (console_path job.expect_console)) console
@@ -82,7 +82,7 @@ pub record IsStanding (known : Option FileContents) (root : Option (List ℕ)) (
   pub is : stands ≡ standing_of (sides_over rows job row console signature)
 
 -- one that was not run does not pass
-abbrev pub IsStandingIfRun : Option FileContents → Option (List ℕ) → List (Option Row) → Job → Option Row → Standing → Type 0
+abbrev pub IsStandingIfRun : Option FileContents → Option (List ℕ) → List (Option Row) → Job → Option Row → CurrentVerdict → Type 0
 IsStandingIfRun known root rows job None stands = stands ≡ standing.Fails
 IsStandingIfRun known root rows job (Some row) stands = IsStanding known root rows job row stands
 

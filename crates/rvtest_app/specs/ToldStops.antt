@@ -7,7 +7,7 @@ use Rattle.std.specs.declared.io.ErrorKind.TheVariants as io
 use Rattle.clap.specs.declared.error.kind.ErrorKind.{ErrorKind as WordsFault}
 use Rattle.clap.specs.declared.error.kind.ErrorKind.TheVariants as words
 use Rattle.rv_base.specs.Counts.{one_more}
-use Rattle.rvtest_cli.specs.declared.diff.DiffAsked.{DiffAsked}
+use Rattle.rvtest_cli.specs.declared.diff.DiffArgs.{DiffArgs}
 use Rattle.rv_command.specs.Messages.{end_message}
 use Rattle.rvtest_cli.specs.declared.words_error.WordsError.{WordsError}
 use Rattle.rvtest_cli.specs.declared.words_error.WordsError.TheVariants as error
@@ -16,15 +16,15 @@ use Rattle.rv_command.specs.Texts.{IsReportRead}
 use Rattle.rv_command.specs.declared.stop.Stop.{Stop}
 use Rattle.rv_command.specs.declared.stop.Stop.TheVariants as stop
 use Rattle.rv_report.specs.declared.partial.PartialReport.{PartialReport}
-use Rattle.rvtest_app.specs.Said.{IsOnlyTold, Said}
+use Rattle.rvtest_app.specs.CommandOutputs.{IsOnlyErrorOutput, CommandOutputs}
 
 -- ---- the program
 
 -- the program ended by a stop of some kind, where the reader of standard output closed it or did not: the status is by both, and
 -- the message was put last, to standard error
-abbrev pub IsStopTold : Bool → (Stop → Type 0) → ℕ → Said → Type 0
-IsStopTold closed ended status after = (why : Stop) × ended why × (status ≡ end_status closed why)
-    × ((before : Said) × IsOnlyTold (end_message closed why) before after)
+abbrev pub IsStopReported : Bool → (Stop → Type 0) → ℕ → CommandOutputs → Type 0
+IsStopReported closed ended status after = (why : Stop) × ended why × (status ≡ end_status closed why)
+    × ((before : CommandOutputs) × IsOnlyErrorOutput (end_message closed why) before after)
 
 -- why the process gives no words, and what is told of that with which status
 abbrev pub unreadable_words_status : ErrorKind → ℕ
@@ -33,7 +33,7 @@ unreadable_words_status _ = 2
 
 abbrev pub unreadable_words_message : ErrorKind → List ℕ
 unreadable_words_message io.OutOfMemory = codes "rvtest: out of memory\n"
-unreadable_words_message _ = codes "rvtest: a word is no UTF-8 text\n"
+unreadable_words_message _ = codes "rvtest: an argument is not valid UTF-8\n"
 
 -- ---- help
 
@@ -67,6 +67,6 @@ IsNewReportStop partial path (Err unread) why = why ≡ unread
 
 -- memory was wanting; or what is wrong with the old report is told; or the old one is a report, and the new one is
 -- blamed
-abbrev pub IsDiffStop : DiffAsked → List ℕ → Result (Vec ℕ Global) Stop → Stop → Type 0
+abbrev pub IsDiffStop : DiffArgs → List ℕ → Result (Vec ℕ Global) Stop → Stop → Type 0
 IsDiffStop words old new why = (why ≡ stop.OutOfMemory) ⊎ (IsRequestedFaultStop words.partial words.old.now old why
     ⊎ ((found : PartialReport) × IsReportRead words.partial old found × IsNewReportStop words.partial words.new.now new why))

@@ -1,7 +1,7 @@
 -- Why `cover` or `profile` ended before its work was done.
 use Rattle.std.specs.Prelude.{◌≡◌, ◌⊎◌, ◌++◌, ℕ, Bool, false, List, Option, Some, None, codes, unwrap_or}
 use Rattle.rv_base.specs.Files.{FileContents}
-use Rattle.rvtest_cli.specs.declared.run.RunAsked.{RunAsked}
+use Rattle.rvtest_cli.specs.declared.run.RunArgs.{RunArgs}
 use Rattle.rv_command.specs.Messages.{path_message}
 use Rattle.rv_command.specs.Stops.{IsStop, IsResultUnreadStop}
 use Rattle.rv_command.specs.Texts.{IsTextAt, optional_text}
@@ -13,7 +13,7 @@ use Rattle.rv_cover_view.specs.ImageCounts.{other_image}
 use Rattle.rv_cover_view.specs.JobImages.{FileImage, images_of}
 use Rattle.rv_counting.specs.JobTables.{jobs_at}
 use Rattle.rv_files.specs.UnreadPaths.{contents_below}
-use Rattle.rv_files.specs.declared.noting_store.Unread.{Unread}
+use Rattle.rv_files.specs.declared.recording_store.UnreadPath.{UnreadPath}
 use Rattle.rv_jobs.specs.Plans.{Planned}
 use Rattle.rv_lists.specs.declared.job.Job.{Job}
 use Rattle.rv_profile.specs.ImageStacks.{image_past_64_bits}
@@ -34,7 +34,7 @@ use Rattle.rvtest_app.specs.declared.view.View.TheVariants as view
 -- the table at a path has no counts of the image of another path, but of one that stood there
 abbrev pub other_image_message : List ℕ → List ℕ → List ℕ
 other_image_message table path = codes "rvtest: " ++ printable_text table ++ codes ": " ++ printable_text path
-    ++ codes ": another image than that of the chosen jobs\n"
+    ++ codes ": the image differs from that of the selected jobs\n"
 
 -- the table at a path has counts of another image than one of these
 abbrev pub IsOtherImageStop : Option FileContents → List ℕ → List FileImage → Stop → Type 0
@@ -48,7 +48,7 @@ IsNoTableStop known path images why = IsResultUnreadStop known path why
     ⊎ IsOtherImageStop known path images why)
 
 abbrev pub no_stacks_message : List ℕ → List ℕ
-no_stacks_message table = path_message table (codes "a table without stacks: rvtest run LIST --counts FILE --stacks writes one with them")
+no_stacks_message table = path_message table (codes "the table has no stacks: write one with rvtest run LIST --counts FILE --stacks")
 
 -- the table at a path has not what is shown
 abbrev pub IsStacklessStop : Option FileContents → View → List ℕ → Stop → Type 0
@@ -72,7 +72,7 @@ IsUncountedStop (view.Cover csv) plan places path why = why ≡ stop.OutOfMemory
 IsUncountedStop (view.Profile format) plan places path why = IsUnstackedJobsStop plan places path why
 
 -- there is no table: of a run of the jobs at some places, or at a path
-abbrev pub IsUntabledStop : Option FileContents → RunAsked → View → Option (List ℕ) → Planned → List ℕ → Stop → Type 0
+abbrev pub IsUntabledStop : Option FileContents → RunArgs → View → Option (List ℕ) → Planned → List ℕ → Stop → Type 0
 IsUntabledStop known words shown None plan places why = IsUncountedStop shown plan places words.list.now why
 IsUntabledStop known words shown (Some path) plan places why =
     IsUnfitTableStop known shown path (images_of plan.answers (jobs_at plan places)) why
@@ -80,7 +80,7 @@ IsUntabledStop known words shown (Some path) plan places why =
 -- ---- too many steps
 
 -- the table that words name, or the list
-abbrev pub counts_source : RunAsked → List ℕ
+abbrev pub counts_source : RunArgs → List ℕ
 counts_source words = unwrap_or (optional_text words.counts) words.list.now
 
 -- of a table or list, and the image of a path
@@ -99,7 +99,7 @@ IsTextlessStop (view.Cover csv) table images source why = why ≡ stop.OutOfMemo
 IsTextlessStop (view.Profile format) table images source why = (why ≡ stop.OutOfMemory) ⊎ IsPast64BitsStop table images source why
 
 -- that is so of the images of the jobs at some places
-abbrev pub IsTextlessTableStop : Option FileContents → RunAsked → View → Planned → List ℕ → Stop → Type 0
+abbrev pub IsTextlessTableStop : Option FileContents → RunArgs → View → Planned → List ℕ → Stop → Type 0
 IsTextlessTableStop known words shown plan places why = (table : CountTable)
     × (IsTableFor known shown (optional_text words.counts) plan places table
     × IsTextlessStop shown table (images_of plan.answers (jobs_at plan places)) (counts_source words) why)
@@ -107,26 +107,26 @@ IsTextlessTableStop known words shown plan places why = (table : CountTable)
 -- ---- the command
 
 -- memory was wanting, or there is no table, or no text of one
-abbrev pub IsUnshownStop : Option FileContents → RunAsked → View → Planned → List ℕ → Stop → Type 0
+abbrev pub IsUnshownStop : Option FileContents → RunArgs → View → Planned → List ℕ → Stop → Type 0
 IsUnshownStop known words shown plan places why = (why ≡ stop.OutOfMemory)
     ⊎ (IsUntabledStop known words shown (optional_text words.counts) plan places why
     ⊎ IsTextlessTableStop known words shown plan places why)
 
 -- that happened over a plan of the jobs
-pub record IsUnshownOfPlaces (known : Option FileContents) (words : RunAsked) (shown : View) (jobs : List Job) (places : List ℕ)
+pub record IsUnshownOfPlaces (known : Option FileContents) (words : RunArgs) (shown : View) (jobs : List Job) (places : List ℕ)
     (why : Stop) : Type 0 where
   pub plan : Planned
-  pub unread : List Unread
+  pub unread : List UnreadPath
   pub planned : IsPlanFor (contents_below (optional_text words.root) known) jobs places plan unread
   pub unshown : IsUnshownStop known words shown plan places why
 
 -- or memory was wanting, or the text was not put
-abbrev pub IsUnviewedStop : Option FileContents → RunAsked → View → List Job → List ℕ → Stop → Type 0
+abbrev pub IsUnviewedStop : Option FileContents → RunArgs → View → List Job → List ℕ → Stop → Type 0
 IsUnviewedStop known words shown jobs places why = (why ≡ stop.OutOfMemory)
     ⊎ ((why ≡ stop.WriteFailed) ⊎ IsUnshownOfPlaces known words shown jobs places why)
 
 -- the jobs that words ask for were found, and that happened to them
-pub record IsUnviewedAtStop (known : Option FileContents) (words : RunAsked) (shown : View) (why : Stop) : Type 0 where
+pub record IsUnviewedAtStop (known : Option FileContents) (words : RunArgs) (shown : View) (why : Stop) : Type 0 where
   pub jobs : List Job
   pub marks : List Bool
   pub shard : Option Shard
@@ -136,5 +136,5 @@ pub record IsUnviewedAtStop (known : Option FileContents) (words : RunAsked) (sh
   pub unviewed : IsUnviewedStop known words shown jobs (places_of_marks marks) why
 
 -- no jobs were found that words ask for, or they were, and what is shown of their images was not put
-abbrev pub IsViewStop : Option FileContents → RunAsked → View → Stop → Type 0
+abbrev pub IsViewStop : Option FileContents → RunArgs → View → Stop → Type 0
 IsViewStop known words shown why = IsUnrequestedStop known words why ⊎ IsUnviewedAtStop known words shown why

@@ -1,7 +1,7 @@
 -- What `cover` and `profile` put: what is shown of the images of the jobs that words ask for, by a run of these jobs or by a table of counts.
 use Rattle.std.specs.Prelude.{◌≡◌, ℕ, Bool, true, List, None, Option, Some}
 use Rattle.rv_base.specs.Files.{FileContents}
-use Rattle.rvtest_cli.specs.declared.run.RunAsked.{RunAsked}
+use Rattle.rvtest_cli.specs.declared.run.RunArgs.{RunArgs}
 use Rattle.rv_command.specs.Texts.{optional_text}
 use Rattle.rv_count_tables.specs.declared.table.CountTable.{CountTable}
 use Rattle.rv_cover_view.specs.ImageCounts.{other_image}
@@ -9,7 +9,7 @@ use Rattle.rv_cover_view.specs.ImagesText.{IsCoverText}
 use Rattle.rv_cover_view.specs.JobImages.{FileImage, images_of}
 use Rattle.rv_counting.specs.JobTables.{IsTableOfPlaces, jobs_at}
 use Rattle.rv_files.specs.UnreadPaths.{contents_below}
-use Rattle.rv_files.specs.declared.noting_store.Unread.{Unread}
+use Rattle.rv_files.specs.declared.recording_store.UnreadPath.{UnreadPath}
 use Rattle.rv_jobs.specs.Plans.{Planned}
 use Rattle.rv_lists.specs.declared.job.Job.{Job}
 use Rattle.rv_profile.specs.ImageStacks.{has_stacks}
@@ -20,7 +20,7 @@ use Rattle.rv_stacks.specs.StackTables.{IsTableWithStacks}
 use Rattle.rvtest_app.specs.CountSums.{IsTableAt}
 use Rattle.rvtest_app.specs.RefusedNotes.{refused_note}
 use Rattle.rvtest_app.specs.Runs.{AreRequestedJobs, IsPlanFor, places_of_marks}
-use Rattle.rvtest_app.specs.Said.{IsOnlyPut, IsOnlyTold, Said}
+use Rattle.rvtest_app.specs.CommandOutputs.{IsOnlyStandardOutput, IsOnlyErrorOutput, CommandOutputs}
 use Rattle.rvtest_app.specs.declared.view.View.{View}
 use Rattle.rvtest_app.specs.declared.view.View.TheVariants as view
 
@@ -56,7 +56,7 @@ IsTableFor known shown None plan places table = IsCountedFor shown plan places t
 IsTableFor known shown (Some path) plan places table = IsFitTableAt known shown path (images_of plan.answers (jobs_at plan places)) table
 
 -- this is shown of the images of the jobs at some places of a plan
-abbrev pub IsViewOfPlan : Option FileContents → RunAsked → View → Planned → List ℕ → List ℕ → Type 0
+abbrev pub IsViewOfPlan : Option FileContents → RunArgs → View → Planned → List ℕ → List ℕ → Type 0
 IsViewOfPlan known words shown plan places text = (table : CountTable)
     × (IsTableFor known shown (optional_text words.counts) plan places table
     × IsViewText shown table (images_of plan.answers (jobs_at plan places)) text)
@@ -64,33 +64,33 @@ IsViewOfPlan known words shown plan places text = (table : CountTable)
 -- ---- the command
 
 -- over a plan of the jobs at some places this was told, and then what is shown was put
-pub record IsViewOfPlaces (known : Option FileContents) (words : RunAsked) (shown : View) (jobs : List Job) (places : List ℕ)
-    (before after : Said) : Type 0 where
+pub record IsViewOfPlaces (known : Option FileContents) (words : RunArgs) (shown : View) (jobs : List Job) (places : List ℕ)
+    (before after : CommandOutputs) : Type 0 where
   pub plan : Planned
-  pub unread : List Unread
+  pub unread : List UnreadPath
   pub planned : IsPlanFor (contents_below (optional_text words.root) known) jobs places plan unread
-  pub middle : Said
-  pub told : IsOnlyTold (refused_note words plan unread places) before middle
+  pub middle : CommandOutputs
+  pub told : IsOnlyErrorOutput (refused_note words plan unread places) before middle
   pub text : List ℕ
   pub of_plan : IsViewOfPlan known words shown plan places text
-  pub put : IsOnlyPut text middle after
+  pub put : IsOnlyStandardOutput text middle after
 
 -- the same of the jobs that are marked; where there are none, nothing is put
-abbrev pub IsViewOfMarked : Option FileContents → RunAsked → View → List Job → Option (List Bool) → Said → Said → Type 0
+abbrev pub IsViewOfMarked : Option FileContents → RunArgs → View → List Job → Option (List Bool) → CommandOutputs → CommandOutputs → Type 0
 IsViewOfMarked known words shown jobs None before after = after ≡ before
 IsViewOfMarked known words shown jobs (Some marks) before after =
     IsViewOfPlaces known words shown jobs (places_of_marks marks) before after
 
 -- what is said of the choice went to standard error, and then what is shown of the images of the jobs that words ask for was put; the
 -- status is 0
-pub record IsViewPut (known : Option FileContents) (words : RunAsked) (shown : View) (status : ℕ) (before after : Said) : Type 0 where
+pub record IsViewPut (known : Option FileContents) (words : RunArgs) (shown : View) (status : ℕ) (before after : CommandOutputs) : Type 0 where
   pub jobs : List Job
   pub marks : Option (List Bool)
   pub shard : Option Shard
   pub old : Option (List Row)
   pub notes : List ℕ
   pub asked : AreRequestedJobs known words jobs marks shard old notes
-  pub middle : Said
-  pub told : IsOnlyTold notes before middle
+  pub middle : CommandOutputs
+  pub told : IsOnlyErrorOutput notes before middle
   pub viewed : IsViewOfMarked known words shown jobs marks middle after
   pub done : status ≡ 0

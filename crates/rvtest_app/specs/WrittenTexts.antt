@@ -4,8 +4,8 @@ use Rattle.std.specs.Io.KnownBytes.{Appends}
 use Rattle.rv_command.specs.declared.stop.Stop.{Stop}
 use Rattle.rv_command.specs.declared.stop.Stop.TheVariants as stop
 use Rattle.rvtest_app.specs.AcceptStops.{IsUnmadeStop}
-use Rattle.rvtest_app.specs.Outlets.{AreFilesPlaced, file_at, is_stdout, stdout_at}
-use Rattle.rvtest_app.specs.Said.{Said}
+use Rattle.rvtest_app.specs.Outlets.{AreFilesCommitted, file_at, is_stdout, stdout_at}
+use Rattle.rvtest_app.specs.CommandOutputs.{CommandOutputs}
 
 -- the path that is given, or the one that stands for standard output
 abbrev pub written_path : Option (List ℕ) → List ℕ
@@ -13,11 +13,11 @@ written_path (Some path) = path
 written_path None = codes "-"
 
 -- a text went to the file at the path, or to standard output, and nothing else was said; without a path it went nowhere
-pub record IsWrittenAt (path : Option (List ℕ)) (text : List ℕ) (before after : Said) : Type 0 where
+pub record IsWrittenAt (path : Option (List ℕ)) (text : List ℕ) (before after : CommandOutputs) : Type 0 where
   pub out : Appends before.out after.out (stdout_at path text)
   pub errors : after.errors ≡ before.errors
   pub failures : after.failures ≡ before.failures
-  pub placed : AreFilesPlaced before.placed after.placed (Some (file_at path text))
+  pub placed : AreFilesCommitted before.placed after.placed (Some (file_at path text))
 
 -- why a text was not written there
 abbrev pub IsUnwrittenBy : Bool → List ℕ → Stop → Type 0

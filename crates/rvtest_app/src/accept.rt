@@ -3,11 +3,11 @@
 ghost use Rattle.std.specs.Prelude.{◌≡◌, ◌≤◌, ◌⊎◌, [], IfErr, IfOk, IfSome, List, Ok, OnOk, fold, length, map, option_map, true};
 ghost use Rattle.std.specs.Io.KnownBytes.{Appends};
 ghost use Rattle.std.specs.Option.{ForSome};
-ghost use Rattle.rv_accept.specs.Claims.{claims_of_runs};
+ghost use Rattle.rv_accept.specs.Claims.{golden_texts_of_runs};
 ghost use Rattle.rv_accept.specs.Edits.{edited_from};
-ghost use Rattle.rv_accept.specs.Meant.{meant_jobs};
+ghost use Rattle.rv_accept.specs.Meant.{intended_jobs};
 ghost use Rattle.rv_accept.specs.declared.edits.Edit.{Edit as AnEdit};
-ghost use Rattle.rv_accept.specs.Sharing.{marks_to_run};
+ghost use Rattle.rv_accept.specs.Sharing.{jobs_to_run};
 ghost use Rattle.rv_accept.specs.Targets.{with_target};
 ghost use Rattle.rv_accept_text.specs.NewLists.{AreLeftFrom};
 ghost use Rattle.rv_accept_text.specs.Told.{changed_count, count_line, left_count, told_lines};
@@ -21,7 +21,7 @@ ghost use Rattle.rvtest_app.specs.Accepts.{acceptance_of};
 ghost use Rattle.rvtest_app.specs.CommandStops.{IsAcceptStop, IsListStop};
 ghost use Rattle.rvtest_app.specs.Commands.{failure_rule};
 ghost use Rattle.rvtest_app.specs.Overwrites.{AreAcceptFilesApart, AreAcceptInputsKept, IsAcceptOverwriteStop};
-ghost use Rattle.rvtest_app.specs.Said.{said};
+ghost use Rattle.rvtest_app.specs.CommandOutputs.{outputs_of};
 
 use crate::accept_inputs::refuse_accept_overwrites;
 use crate::accepted_files::{
@@ -33,19 +33,20 @@ use crate::host::Host;
 use crate::missing_images::missing_images_note;
 use crate::rules::failure_rule;
 use crate::run::gather_jobs_at;
-use crate::standing::Standpoint;
+use crate::standing::CurrentFiles;
 use rv_accept::{
-    Acceptance, Claim, JobRun, claims_of_runs, judged_runs, marks_to_run, placed_rows, targets_of,
+    Acceptance, GoldenText, JobRun, golden_texts_of_runs, indexed_rows, jobs_to_run, judged_runs,
+    targets_of,
 };
-use rv_accept_text::{Accepting, GoldenFile, ListFile, NewList, Writing, accept_values};
+use rv_accept_text::{AcceptSummary, GoldenFile, ListFile, NewList, Writing, accept_values};
 use rv_choice::{Choice, Chooser};
 use rv_command::{DONE, SOME_FAIL, Stop, parse_list, put_message, put_results, read_list_text};
 use rv_engine::RunError;
-use rv_files::{Inputs, NotingStore, Outputs};
+use rv_files::{Inputs, Outputs, RecordingStore};
 use rv_fleet::{Batch, Row, run_batch};
-use rv_jobs::{Job, JobList, marked_places};
+use rv_jobs::{Job, JobList, selected_indices};
 use rv_rows::Sink;
-use rvtest_cli::{AcceptAsked, ChoosingCommand};
+use rvtest_cli::{AcceptArgs, ChoosingCommand};
 use std::alloc::{AllocError, Global};
 use std::sync::Wait;
 use std::thread::Threads;
@@ -73,7 +74,7 @@ struct BareJobs {
 // What the jobs came to that were run.
 #[derive(Drop)]
 struct Outcomes {
-    claims: Vec<Claim>,
+    claims: Vec<GoldenText>,
     files: Vec<GoldenFile>,
     new: NewList,
 }
@@ -86,14 +87,10 @@ pub(crate) fn accept_runs<
     F: Outputs + Drop,
     O: Sink + Drop,
     E: Sink + Drop,
->(
-    host: &Host<'_, R, D>,
-    asked: &AcceptAsked<'_>,
-    to: &mut Destinations<F, O, E>,
-) -> Result<u8, Stop>
+>(host: &Host<'_, R, D>, asked: &AcceptArgs<'_>, to: &mut Destinations<F, O, E>) -> Result<u8, Stop>
     ensures low { IfOk result (λ status. status ≤ 1) }
     ensures accepted { IfOk result (λ status. IsAcceptedAt (D.contents host.now.inputs.now) asked.now status
-        (said F.placed O.taken E.taken E.failed to.old) (said F.placed O.taken E.taken E.failed to.new)) }
+        (outputs_of F.placed O.taken E.taken E.failed to.old) (outputs_of F.placed O.taken E.taken E.failed to.new)) }
     // In a check nothing is opened for writing, whatever comes of it.
     ensures unwritten { asked.now.check ≡ true → to.new.files ≡ to.old.files }
     ensures stopped { IfErr result (IsAcceptStop (D.contents host.now.inputs.now) asked.now) }
@@ -117,7 +114,7 @@ fn accept_chosen<
     E: Sink + Drop,
 >(
     host: &Host<'_, R, D>,
-    asked: &AcceptAsked<'_>,
+    asked: &AcceptArgs<'_>,
     list: &ChosenList,
     chosen: &[bool],
     to: &mut Destinations<F, O, E>,
@@ -127,12 +124,12 @@ fn accept_chosen<
     ensures low { IfOk result (λ status. status ≤ 1) }
     ensures accepted { IfOk result (λ status. IsAcceptedOfMarks (D.contents host.now.inputs.now) asked.now
         list.now.text.items list.now.jobs chosen.now status
-        (said F.placed O.taken E.taken E.failed to.old) (said F.placed O.taken E.taken E.failed to.new)) }
+        (outputs_of F.placed O.taken E.taken E.failed to.old) (outputs_of F.placed O.taken E.taken E.failed to.new)) }
     ensures unwritten { asked.now.check ≡ true → to.new.files ≡ to.old.files }
     ensures stopped { IfErr result
         (IsAcceptChosenStop (D.contents host.now.inputs.now) asked.now list.now.jobs) }
     ensures kept { (F.placed to.new.files ≡ F.placed to.old.files) ⊎ IfSome (F.placed to.old.files) (λ _. AreAcceptFilesApart
-        asked.now list.now.jobs (marks_to_run list.now.jobs chosen.now)) }
+        asked.now list.now.jobs (jobs_to_run list.now.jobs chosen.now)) }
 {
     let marked = guarded_jobs(host, asked, list, chosen, to)?;
     let rows = run_marked(host, asked, marked, to)?;
@@ -149,7 +146,7 @@ fn accept_chosen<
 // The jobs that run, once it is known that no file replaces something else that is read.
 fn guarded_jobs<R, D, F: Outputs + Drop, O: Sink + Drop, E: Sink + Drop>(
     host: &Host<'_, R, D>,
-    asked: &AcceptAsked<'_>,
+    asked: &AcceptArgs<'_>,
     list: &ChosenList,
     chosen: &[bool],
     to: &mut Destinations<F, O, E>,
@@ -158,12 +155,12 @@ fn guarded_jobs<R, D, F: Outputs + Drop, O: Sink + Drop, E: Sink + Drop>(
     requires listed { job_list_of list.now.text.items ≡ Ok list.now.jobs }
     ensures jobs { IfOk result (λ marked. marked.jobs ≡ map without_expectations list.now.jobs) }
     ensures marks { IfOk result (λ marked. marked.marks.items
-        ≡ marks_to_run list.now.jobs chosen.now) }
+        ≡ jobs_to_run list.now.jobs chosen.now) }
     ensures files { to.new.files ≡ to.old.files }
-    ensures outside { OnOk result (IsOutsideTold (said F.placed O.taken E.taken E.failed to.old)
-        (said F.placed O.taken E.taken E.failed to.new)) }
+    ensures outside { OnOk result (IsOutsideTold (outputs_of F.placed O.taken E.taken E.failed to.old)
+        (outputs_of F.placed O.taken E.taken E.failed to.new)) }
     ensures apart { OnOk result (IfSome (F.placed to.old.files) (λ _. AreAcceptFilesApart
-        asked.now list.now.jobs (marks_to_run list.now.jobs chosen.now))) }
+        asked.now list.now.jobs (jobs_to_run list.now.jobs chosen.now))) }
     ensures stopped { IfErr result IsAcceptOverwriteStop }
 {
     let marked = marked_jobs(host.alloc, asked, list, chosen)?;
@@ -176,7 +173,7 @@ fn guarded_jobs<R, D, F: Outputs + Drop, O: Sink + Drop, E: Sink + Drop>(
 // The runs of jobs, of which some are chosen, by the rows of those that were run.
 fn judge_rows<R, D: Inputs>(
     host: &Host<'_, R, D>,
-    asked: &AcceptAsked<'_>,
+    asked: &AcceptArgs<'_>,
     jobs: &[Job],
     chosen: &[bool],
     rows: Vec<Option<Row>>,
@@ -184,7 +181,7 @@ fn judge_rows<R, D: Inputs>(
     ensures { IfOk result (λ runs. AreJudged (D.contents host.now.inputs.now) asked.now jobs.now chosen.now
         rows.items runs.items) }
 {
-    let standpoint = Standpoint {
+    let standpoint = CurrentFiles {
         inputs: host.inputs,
         alloc: host.alloc,
         folder: asked.run.root,
@@ -208,7 +205,7 @@ fn acceptance_of(ends: bool) -> Acceptance
 // The list at the path that words name, and the jobs that they choose.
 fn chosen_list<R, D: Inputs>(
     host: &Host<'_, R, D>,
-    asked: &AcceptAsked<'_>,
+    asked: &AcceptArgs<'_>,
 ) -> Result<ChosenList, Stop>
     ensures read { IfOk result (λ list. IsTextAt (D.contents host.now.inputs.now) asked.now.run.list.now list.text.items) }
     ensures listed { IfOk result (λ list. job_list_of list.text.items ≡ Ok list.jobs) }
@@ -238,7 +235,7 @@ fn chosen_list<R, D: Inputs>(
 // The jobs of a list without their expectations, with marks for those that run where some are chosen.
 fn marked_jobs(
     alloc: Global,
-    asked: &AcceptAsked<'_>,
+    asked: &AcceptArgs<'_>,
     list: &ChosenList,
     chosen: &[bool],
 ) -> Result<BareJobs, Stop>
@@ -246,12 +243,12 @@ fn marked_jobs(
     requires listed { job_list_of list.now.text.items ≡ Ok list.now.jobs }
     ensures jobs { IfOk result (λ marked. marked.jobs ≡ map without_expectations list.now.jobs) }
     ensures marks { IfOk result (λ marked. marked.marks.items
-        ≡ marks_to_run list.now.jobs chosen.now) }
+        ≡ jobs_to_run list.now.jobs chosen.now) }
     ensures memory { IfErr result (λ why. why ≡ Stop.OutOfMemory) }
 {
     let listed = parse_list(alloc, asked.run.list, list.text.as_slice())?;
     let jobs = listed.without_expectations();
-    let marks = marks_to_run(alloc, list.jobs.as_slice(), chosen)?;
+    let marks = jobs_to_run(alloc, list.jobs.as_slice(), chosen)?;
     Ok(BareJobs { jobs, marks })
 }
 
@@ -264,20 +261,20 @@ fn run_marked<
     E: Sink + Drop,
 >(
     host: &Host<'_, R, D>,
-    asked: &AcceptAsked<'_>,
+    asked: &AcceptArgs<'_>,
     marked: BareJobs,
     to: &mut Destinations<F, O, E>,
 ) -> Result<Vec<Option<Row>>, Stop>
     ensures files { to.new.files ≡ to.old.files }
     ensures rows { IfOk result (λ rows. AreRowsPut (D.contents host.now.inputs.now)
         (optional_text asked.now.run.root) marked.jobs marked.marks.items rows.items
-        (said F.placed O.taken E.taken E.failed to.old) (said F.placed O.taken E.taken E.failed to.new)) }
+        (outputs_of F.placed O.taken E.taken E.failed to.old) (outputs_of F.placed O.taken E.taken E.failed to.new)) }
     ensures stopped { IfErr result (λ why. (why ≡ Stop.OutOfMemory) ⊎ (why ≡ Stop.NoWorker)) }
 {
     let BareJobs { jobs, marks, .. } = marked;
     let (alloc, root) = (host.alloc, asked.run.root);
-    let places = marked_places(alloc, marks.as_slice())?;
-    let mut store = NotingStore::new(host.inputs, alloc, root);
+    let places = selected_indices(alloc, marks.as_slice())?;
+    let mut store = RecordingStore::new(host.inputs, alloc, root);
     let plan = gather_jobs_at(alloc, jobs, places.as_slice(), &mut store)?;
     let count = places.as_slice().len();
     let note = missing_images_note(alloc, &plan, store.unread_paths(), count, root)?;
@@ -285,7 +282,7 @@ fn run_marked<
     let crew = requested_crew(host.rt, alloc, &asked.run);
     let batch = Batch::new(&plan, places.as_slice());
     match run_batch(&crew, &batch) {
-        Ok(rows) => Ok(placed_rows(alloc, marks.as_slice(), rows.into_vec())?),
+        Ok(rows) => Ok(indexed_rows(alloc, marks.as_slice(), rows.into_vec())?),
         Err(error) => Err(stop_of_run(error)),
     }
 }
@@ -302,28 +299,28 @@ fn stop_of_run(error: RunError) -> Stop
 // What changes where runs are accepted, and what stands now where it is written.
 fn outcomes_of_runs<R, D: Inputs>(
     host: &Host<'_, R, D>,
-    asked: &AcceptAsked<'_>,
+    asked: &AcceptArgs<'_>,
     list: &ListFile<'_>,
     runs: Vec<Option<JobRun>>,
 ) -> Result<Outcomes, Stop>
     ensures runs { IfOk result (λ outcomes. AreLeftFrom runs.items outcomes.new.runs.items) }
     ensures claims { IfOk result (λ outcomes. outcomes.claims.items
-        ≡ claims_of_runs 0 list.now.jobs.now outcomes.new.runs.items) }
+        ≡ golden_texts_of_runs 0 list.now.jobs.now outcomes.new.runs.items) }
     ensures files { IfOk result (λ outcomes. AreGoldenFiles (D.contents host.now.inputs.now)
         (optional_text asked.now.run.root)
         (fold (with_target outcomes.new.runs.items outcomes.claims.items) [] outcomes.claims.items) outcomes.files.items) }
     ensures edited { IfOk result (λ outcomes. IfSome outcomes.new.text
         (λ new. (edits : List AnEdit) × (new.items ≡ edited_from 0 list.now.text.now edits))) }
     ensures meant { IfOk result (λ outcomes. IfSome outcomes.new.text
-        (λ text. job_list_of text.items ≡ Ok (meant_jobs list.now.jobs.now outcomes.new.runs.items))) }
+        (λ text. job_list_of text.items ≡ Ok (intended_jobs list.now.jobs.now outcomes.new.runs.items))) }
     ensures unchanged { IfOk result (λ outcomes. outcomes.new.text ≡ None
-        → meant_jobs list.now.jobs.now outcomes.new.runs.items ≡ list.now.jobs.now) }
+        → intended_jobs list.now.jobs.now outcomes.new.runs.items ≡ list.now.jobs.now) }
     ensures stopped { IfErr result
         (IsGoldenUnreadStop (D.contents host.now.inputs.now) asked.now list.now.jobs.now) }
 {
     let alloc = host.alloc;
     let new = accept_values(alloc, list.text, list.jobs, runs)?;
-    let claims = claims_of_runs(alloc, list.jobs, new.runs.as_slice())?;
+    let claims = golden_texts_of_runs(alloc, list.jobs, new.runs.as_slice())?;
     let targets = targets_of(alloc, new.runs.as_slice(), claims.as_slice())?;
     let files = read_golden_files(host.inputs, alloc, asked.run.root, targets)?;
     Ok(Outcomes { claims, files, new })
@@ -332,7 +329,7 @@ fn outcomes_of_runs<R, D: Inputs>(
 // Tells what changes, and writes it.
 fn put_accepted<'x, R, D: Inputs, F: Outputs + Drop, O: Sink + Drop, E: Sink + Drop>(
     host: &Host<'_, R, D>,
-    asked: &AcceptAsked<'_>,
+    asked: &AcceptArgs<'_>,
     list: &ListFile<'x>,
     outcomes: &'x Outcomes,
     to: &mut Destinations<F, O, E>,
@@ -341,11 +338,11 @@ fn put_accepted<'x, R, D: Inputs, F: Outputs + Drop, O: Sink + Drop, E: Sink + D
     ensures unwritten { asked.now.check ≡ true → to.new.files ≡ to.old.files }
     ensures put { IfOk result (λ status. IsOutcomePut asked.now.check list.now outcomes.now.new.runs.items
         outcomes.now.claims.items outcomes.now.files.items outcomes.now.new status
-        (said F.placed O.taken E.taken E.failed to.old) (said F.placed O.taken E.taken E.failed to.new)) }
+        (outputs_of F.placed O.taken E.taken E.failed to.old) (outputs_of F.placed O.taken E.taken E.failed to.new)) }
     ensures stopped { IfErr result (IsPutAcceptedStop (D.contents host.now.inputs.now) asked.now.check
         list.now.path.now outcomes.now.files.items) }
 {
-    let accepting = Accepting {
+    let accepting = AcceptSummary {
         list: *list,
         runs: outcomes.new.runs.as_slice(),
         claims: outcomes.claims.as_slice(),
@@ -364,7 +361,7 @@ fn put_accepted<'x, R, D: Inputs, F: Outputs + Drop, O: Sink + Drop, E: Sink + D
     Ok(accept_status(accepting.left_count(), 0))
 }
 
-fn put_lines<O: Sink>(alloc: Global, accepting: &Accepting<'_>, out: &mut O) -> Result<(), Stop>
+fn put_lines<O: Sink>(alloc: Global, accepting: &AcceptSummary<'_>, out: &mut O) -> Result<(), Stop>
     ensures put { OnOk result (Appends (O.taken out.old) (O.taken out.new) (told_lines accepting.now)) }
     ensures stopped { IfErr result (λ why. (why ≡ Stop.OutOfMemory) ⊎ (why ≡ Stop.WriteFailed)) }
 {
@@ -375,7 +372,7 @@ fn put_lines<O: Sink>(alloc: Global, accepting: &Accepting<'_>, out: &mut O) -> 
 
 fn put_count<O: Sink>(
     alloc: Global,
-    accepting: &Accepting<'_>,
+    accepting: &AcceptSummary<'_>,
     writing: Writing,
     out: &mut O,
 ) -> Result<(), Stop>

@@ -18,7 +18,7 @@ use rv_command::{Stop, file_error_stop};
 use rv_files::Outputs;
 use rv_jobs::Job;
 use rv_text::{Span, push_spans, push_text};
-use rvtest_cli::AcceptAsked;
+use rvtest_cli::AcceptArgs;
 use std::alloc::{AllocError, Global};
 use std::path::Path;
 
@@ -38,7 +38,7 @@ struct AcceptReads<'a> {
 pub(crate) fn refuse_accept_overwrites<F: Outputs>(
     files: &F,
     alloc: Global,
-    asked: &AcceptAsked<'_>,
+    asked: &AcceptArgs<'_>,
     jobs: &[Job],
     marks: &[bool],
 ) -> Result<Vec<u8>, Stop>
@@ -58,7 +58,7 @@ pub(crate) fn refuse_accept_overwrites<F: Outputs>(
 fn look_up_reads<'a, F: Outputs>(
     files: &F,
     alloc: Global,
-    asked: &AcceptAsked<'_>,
+    asked: &AcceptArgs<'_>,
     jobs: &'a [Job],
 ) -> Result<AcceptReads<'a>, AllocError>
     ensures list { IfOk result (λ reads. AreFilesOf (F.placed files.now) (asked.now.run.list.now ∷ []) reads.list) }
@@ -76,7 +76,7 @@ fn look_up_reads<'a, F: Outputs>(
 
 fn inputs_of_accept<'a>(
     alloc: Global,
-    asked: &AcceptAsked<'_>,
+    asked: &AcceptArgs<'_>,
     jobs: &'a [Job],
 ) -> Result<Vec<ReadPath<'a>>, AllocError>
     ensures { IfOk result (λ read. read_paths read.items ≡ inputs_of_accept asked.now jobs.now) }
@@ -253,7 +253,7 @@ struct Bounds<'a> {
 fn outside_notes<F: Outputs>(
     files: &F,
     alloc: Global,
-    asked: &AcceptAsked<'_>,
+    asked: &AcceptArgs<'_>,
     golden: &[ReadPath<'_>],
 ) -> Result<Vec<u8>, Stop>
     ensures inside { IfOk result (λ notes. IfSome (F.placed files.now) (λ _. notes.items ≡ [])) }

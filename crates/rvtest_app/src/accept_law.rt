@@ -3,21 +3,21 @@
 ghost use Rattle.std.specs.Prelude.{◌≡◌, ℕ, Bool, IsTrue, List, Ok, Some};
 ghost use Rattle.rv_accept.specs.Passing.{is_pass_or_unasked};
 ghost use Rattle.rv_base.specs.Files.{FileContents};
-ghost use Rattle.rvtest_cli.specs.declared.accept.AcceptAsked.{AcceptAsked as Words};
+ghost use Rattle.rvtest_cli.specs.declared.accept.AcceptArgs.{AcceptArgs as Words};
 ghost use Rattle.rv_command.specs.Texts.{IsTextAt};
 ghost use Rattle.rv_lists.specs.JobList.{job_list_of};
 ghost use Rattle.rv_lists.specs.declared.job.Job.{Job};
 ghost use Rattle.rv_report.specs.declared.row.Row.{Row};
 ghost use Rattle.rvtest_app.specs.AcceptLaw.{HaveOneTextEach, IsRowIn, IsStoreAfter, IsWhollyAccepted};
 ghost use Rattle.rvtest_app.specs.Accepts.{IsAcceptedOfMarks, written_files};
-ghost use Rattle.rvtest_app.specs.Said.{Said};
+ghost use Rattle.rvtest_app.specs.CommandOutputs.{CommandOutputs};
 
 /// After `accept`, over the store with the new files, each chosen job passes in `run`, or nothing is expected of it, if it is not left, none
 /// of its golden files is left, and it names no other job. The golden files that lead to one place are given the same text, and the
 /// run reads the job's files.
 pub fn accepted_jobs_pass()
     ensures { (words : Words) (before after : FileContents) (bytes : List ℕ) (jobs : List Job) (chosen : List Bool)
-        (status : ℕ) (from to : Said) (place : ℕ) (job : Job) (row : Row)
+        (status : ℕ) (from to : CommandOutputs) (place : ℕ) (job : Job) (row : Row)
         → IsTextAt (Some before) words.run.list.now bytes → job_list_of bytes ≡ Ok jobs
         → (accepted : IsAcceptedOfMarks (Some before) words bytes jobs chosen status from to)
         → (store : IsStoreAfter (written_files accepted.told) before after)

@@ -6,11 +6,11 @@ ghost use Rattle.rv_command.specs.Texts.{optional_text};
 ghost use Rattle.rv_files.specs.UnreadPaths.{resolved_path};
 ghost use Rattle.rvtest_app.specs.AcceptStops.{AreTargetsUnread, IsChangedStop, IsOtherBytesStop, IsStopOfFiles, IsUncheckedStop, IsUnmadeStop};
 ghost use Rattle.rvtest_app.specs.Accepts.{AreGoldenFiles, IsOldAt, written_files};
-ghost use Rattle.rvtest_app.specs.Outlets.{AreFilesPlaced};
+ghost use Rattle.rvtest_app.specs.Outlets.{AreFilesCommitted};
 
 use crate::written_text::write_file;
 use rv_accept::Target;
-use rv_accept_text::{Accepting, GoldenFile};
+use rv_accept_text::{AcceptSummary, GoldenFile};
 use rv_command::{Stop, path_message, read_file};
 use rv_files::{InputError, Inputs, Outputs, io_error_text, read_whole_up_to, resolved_path};
 use rv_jobs::limits::MOST_BYTES;
@@ -67,7 +67,7 @@ fn read_golden_file<D: Inputs>(inputs: &D, alloc: Global, path: &str) -> Result<
         Ok(None) => Err(Stop::of_failure(path_message(
             alloc,
             path,
-            "the file has more than 16777216 bytes",
+            "the file is larger than 16777216 bytes",
         ))),
         Err(InputError::OutOfMemory) => Err(Stop::OutOfMemory),
         Err(InputError::Failed(ErrorKind::NotFound)) => Ok(None),
@@ -83,7 +83,7 @@ fn read_golden_file<D: Inputs>(inputs: &D, alloc: Global, path: &str) -> Result<
 pub(crate) fn check_unchanged_files<D: Inputs>(
     inputs: &D,
     alloc: Global,
-    accepting: &Accepting<'_>,
+    accepting: &AcceptSummary<'_>,
 ) -> Result<(), Stop>
     ensures { IfErr result (IsStopOfFiles (IsUncheckedStop (D.contents inputs.now))
         accepting.now.list.path.now accepting.now.files.now) }
@@ -137,7 +137,7 @@ fn is_text(found: &Option<Bytes>, old: Option<&[u8]>) -> bool
 fn changed_stop(alloc: Global, path: &str) -> Stop
     ensures { IsChangedStop path.now result }
 {
-    let what = "changed since it was read; nothing is written";
+    let what = "changed since it was read; nothing was written";
     Stop::of_failure(path_message(alloc, path, what))
 }
 
@@ -145,9 +145,9 @@ fn changed_stop(alloc: Global, path: &str) -> Stop
 pub(crate) fn write_accepted_files<F: Outputs>(
     files: &mut F,
     alloc: Global,
-    accepting: &Accepting<'_>,
+    accepting: &AcceptSummary<'_>,
 ) -> Result<(), Stop>
-    ensures placed { OnOk result (AreFilesPlaced (F.placed files.old) (F.placed files.new) (Some (written_files accepting.now))) }
+    ensures placed { OnOk result (AreFilesCommitted (F.placed files.old) (F.placed files.new) (Some (written_files accepting.now))) }
     ensures stopped { IfErr result
         (IsStopOfFiles IsUnmadeStop accepting.now.list.path.now accepting.now.files.now) }
 {
@@ -167,7 +167,7 @@ pub(crate) fn write_accepted_files<F: Outputs>(
 pub(crate) fn check_written_files<D: Inputs>(
     inputs: &D,
     alloc: Global,
-    accepting: &Accepting<'_>,
+    accepting: &AcceptSummary<'_>,
 ) -> Result<(), Stop>
     ensures { IfErr result (IsStopOfFiles (IsUncheckedStop (D.contents inputs.now))
         accepting.now.list.path.now accepting.now.files.now) }
@@ -197,6 +197,6 @@ fn check_written<D: Inputs>(inputs: &D, alloc: Global, path: &str, text: &[u8]) 
 fn other_bytes_stop(alloc: Global, path: &str) -> Stop
     ensures { IsOtherBytesStop path.now result }
 {
-    let what = "has other bytes than were written";
+    let what = "does not contain what was written";
     Stop::of_failure(path_message(alloc, path, what))
 }

@@ -14,18 +14,18 @@ use crate::check_text::{CheckedList, push_job_counts_line};
 use crate::findings::Found;
 use crate::missing_images::push_missing_images_line;
 use rv_command::{DONE, REFUSED, Stop, all_faults_text, parse_list, read_list_text};
-use rv_files::{Inputs, NotingStore, Unread};
+use rv_files::{Inputs, RecordingStore, UnreadPath};
 use rv_jobs::{Plan, gather};
 use rv_list_locations::job_line_numbers;
 use rv_lists::read_faults;
-use rvtest_cli::CheckAsked;
+use rvtest_cli::CheckArgs;
 use std::alloc::{AllocError, Global};
 
 /// All that is wrong with a list, or with the files of its jobs; nothing is run. The status is 2 where anything is.
 pub(crate) fn check_list<D: Inputs>(
     inputs: &D,
     alloc: Global,
-    asked: CheckAsked<'_>,
+    asked: CheckArgs<'_>,
 ) -> Result<Found, Stop>
     ensures checked { IfOk result (λ found. IsCheckAt (D.contents inputs.now) asked.entry
         found.text.items found.status) }
@@ -40,7 +40,7 @@ pub(crate) fn check_list<D: Inputs>(
 fn check_list_text<D: Inputs>(
     inputs: &D,
     alloc: Global,
-    asked: CheckAsked<'_>,
+    asked: CheckArgs<'_>,
     text: &[u8],
 ) -> Result<Found, Stop>
     ensures check { IfOk result (λ found. IsCheckOf
@@ -65,7 +65,7 @@ fn check_list_text<D: Inputs>(
 fn check_files<D: Inputs>(
     inputs: &D,
     alloc: Global,
-    asked: CheckAsked<'_>,
+    asked: CheckArgs<'_>,
     text: &[u8],
 ) -> Result<Found, Stop>
     ensures plan { IfOk result (λ found. IsPlanCheckOf
@@ -75,7 +75,7 @@ fn check_files<D: Inputs>(
     ensures stopped { IfErr result (IsListFaultStop asked.entry.list.now text.now) }
 {
     let jobs = parse_list(alloc, asked.list, text)?;
-    let mut store = NotingStore::new(inputs, alloc, asked.root);
+    let mut store = RecordingStore::new(inputs, alloc, asked.root);
     let plan = gather(alloc, jobs, &mut store)?;
     check_plan(alloc, asked, text, &plan, store.unread_paths())
 }
@@ -84,10 +84,10 @@ fn check_files<D: Inputs>(
 #[tactic(auto, unfolding(crate::specs::CheckText::check_text))]
 fn check_plan(
     alloc: Global,
-    asked: CheckAsked<'_>,
+    asked: CheckArgs<'_>,
     text: &[u8],
     plan: &Plan,
-    unread: &[Unread],
+    unread: &[UnreadPath],
 ) -> Result<Found, Stop>
     ensures low { IfOk result (λ found. found.status ≤ 2) }
     ensures text { IfOk result (λ found. found.text.items

@@ -12,7 +12,7 @@ ghost use Rattle.rvtest_app.specs.CheckText.{warning_count_text};
 ghost use Rattle.rvtest_app.specs.Commands.{is_job_refused, refused_job_count, warned_job_count};
 
 use rv_expect::expects_two_ends;
-use rv_files::Unread;
+use rv_files::UnreadPath;
 use rv_job_text::{
     console_path, ending_reason, job_word, reference_path, too_long_file_text, unread_file_text,
 };
@@ -27,7 +27,7 @@ pub(crate) struct CheckedList<'a> {
     pub(crate) path: &'a str,
     pub(crate) lines: &'a [usize],
     pub(crate) plan: &'a Plan,
-    pub(crate) unread: &'a [Unread],
+    pub(crate) unread: &'a [UnreadPath],
     ghost few: { length plan.now.jobs ≤ most_jobs },
 }
 
@@ -244,9 +244,9 @@ impl<'a> CheckedList<'a> {
             &[
                 Span::Text(": job "),
                 Span::Number(place as u64 + 1),
-                Span::Text(" ("),
+                Span::Text(" \""),
                 Span::Text(job.name.as_str()),
-                Span::Text("): "),
+                Span::Text("\": "),
             ],
         )
     }
@@ -298,9 +298,9 @@ fn push_two_ends(
         &[
             Span::Text("warning: expect_exit = "),
             Span::Number(code.unwrap_or(0) as u64),
-            Span::Text(" beside expect_end = \""),
+            Span::Text(" with expect_end = \""),
             Span::Text(expected_end_name(end)),
-            Span::Text("\": a run ends in one way, so the job never passes"),
+            Span::Text("\": a run ends in only one way, so the job never passes"),
         ],
     )
 }

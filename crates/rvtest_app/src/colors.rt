@@ -2,7 +2,7 @@
 
 ghost use Rattle.std.specs.Prelude.{◌≡◌};
 ghost use Rattle.rv_command.specs.Texts.{optional_text};
-ghost use Rattle.rvtest_app.specs.Colors.{asked_colors, beside_file, colors_of_word, terminal_colors};
+ghost use Rattle.rvtest_app.specs.Colors.{requested_colors, beside_file, colors_of_word, terminal_colors};
 
 use crate::into_report::uses_run_stdout;
 use crate::outlets::is_stdout_at;
@@ -10,8 +10,8 @@ use rv_terminal::Colors;
 use rvtest_cli::Asked;
 
 /// Whether what words ask for has colours, where standard output is a terminal for colours, or is none.
-pub(crate) fn asked_colors(asked: &Asked<'_>, is_terminal: bool) -> Colors
-    ensures { result ≡ asked_colors asked.now is_terminal }
+pub(crate) fn requested_colors(asked: &Asked<'_>, is_terminal: bool) -> Colors
+    ensures { result ≡ requested_colors asked.now is_terminal }
 {
     match asked {
         Asked::Run(asked) => beside_file(

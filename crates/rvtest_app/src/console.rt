@@ -7,28 +7,28 @@ ghost use Rattle.rv_command.specs.Texts.{optional_text};
 ghost use Rattle.rv_expect.specs.Passing.{has_passed};
 ghost use Rattle.rv_expect.specs.declared.passing.Rule.TheVariants.{Strict};
 ghost use Rattle.rv_files.specs.UnreadPaths.{contents_below};
-ghost use Rattle.rv_job_text.specs.Telling.{row_line};
+ghost use Rattle.rv_job_text.specs.RowReporter.{row_line};
 ghost use Rattle.rv_rows.specs.Rows.{row_of};
 ghost use Rattle.rvtest_app.specs.CommandStops.{IsConsoleStop, IsNoJobStop};
 ghost use Rattle.rvtest_app.specs.Commands.{passing_status};
 ghost use Rattle.rvtest_app.specs.Consoles.{IsConsoleAt, IsConsoleOf, IsConsolePut, IsJobConsole};
-ghost use Rattle.rvtest_app.specs.Said.{said};
+ghost use Rattle.rvtest_app.specs.CommandOutputs.{outputs_of};
 
 use crate::destinations::Destinations;
 use crate::named_job::{NamedJob, find_named_job};
 use crate::rules::passing_status;
 use rv_command::{Stop, put_message, put_results, read_list_text};
 use rv_expect::{Judge, Rule, has_passed};
-use rv_files::{Inputs, NotingStore, Outputs, Unread};
-use rv_job_text::{RowTelling, Verbosity};
-use rv_jobs::{JobList, Plan, gather_places};
+use rv_files::{Inputs, Outputs, RecordingStore, UnreadPath};
+use rv_job_text::{TextReporter, Verbosity};
+use rv_jobs::{JobList, Plan, gather_jobs};
 use rv_rows::{Row, Sink, row_at};
-use rvtest_cli::ConsoleAsked;
+use rvtest_cli::ConsoleArgs;
 use std::alloc::Global;
 
 // The row of a job, its line, and the status.
 #[derive(Drop)]
-struct ToldRow {
+struct ReportedRow {
     row: Row,
     line: Vec<u8>,
     status: u8,
@@ -38,16 +38,16 @@ struct ToldRow {
 pub(crate) fn put_job_console<D: Inputs, F: Outputs + Drop, O: Sink + Drop, E: Sink + Drop>(
     inputs: &D,
     alloc: Global,
-    asked: ConsoleAsked<'_>,
+    asked: ConsoleArgs<'_>,
     to: &mut Destinations<F, O, E>,
 ) -> Result<u8, Stop>
     ensures put { IfOk result (λ status. IsConsolePut (D.contents inputs.now) asked.entry status
-        (said F.placed O.taken E.taken E.failed to.old) (said F.placed O.taken E.taken E.failed to.new)) }
+        (outputs_of F.placed O.taken E.taken E.failed to.old) (outputs_of F.placed O.taken E.taken E.failed to.new)) }
     ensures low { IfOk result (λ status. status ≤ 1) }
     ensures stopped { IfErr result (λ why. (why ≡ Stop.WriteFailed)
         ⊎ IsConsoleStop (D.contents inputs.now) asked.entry why) }
 {
-    let ToldRow { row, line, status } = run_named_job(inputs, alloc, asked)?;
+    let ReportedRow { row, line, status } = run_named_job(inputs, alloc, asked)?;
     put_results(&mut to.out, row.console.as_slice())?;
     put_message(&mut to.errors, line.as_slice());
     Ok(status)
@@ -57,8 +57,8 @@ pub(crate) fn put_job_console<D: Inputs, F: Outputs + Drop, O: Sink + Drop, E: S
 fn run_named_job<D: Inputs>(
     inputs: &D,
     alloc: Global,
-    asked: ConsoleAsked<'_>,
-) -> Result<ToldRow, Stop>
+    asked: ConsoleArgs<'_>,
+) -> Result<ReportedRow, Stop>
     ensures told { IfOk result (λ told. IsConsoleAt (D.contents inputs.now) asked.entry
         told.row.console told.line.items told.status) }
     ensures low { IfOk result (λ told. told.status ≤ 1) }
@@ -72,9 +72,9 @@ fn run_named_job<D: Inputs>(
 fn run_job_of_text<D: Inputs>(
     inputs: &D,
     alloc: Global,
-    asked: ConsoleAsked<'_>,
+    asked: ConsoleArgs<'_>,
     text: &[u8],
-) -> Result<ToldRow, Stop>
+) -> Result<ReportedRow, Stop>
     ensures told { IfOk result (λ told.
         IsConsoleOf (contents_below (optional_text asked.entry.root) (D.contents inputs.now))
         text.now asked.entry.name.now told.row.console told.line.items told.status) }
@@ -89,10 +89,10 @@ fn run_job_of_text<D: Inputs>(
 fn run_job_at<D: Inputs>(
     inputs: &D,
     alloc: Global,
-    asked: ConsoleAsked<'_>,
+    asked: ConsoleArgs<'_>,
     jobs: JobList,
     place: usize,
-) -> Result<ToldRow, Stop>
+) -> Result<ReportedRow, Stop>
     requires { place < length jobs }
     ensures told { IfOk result (λ told.
         IsJobConsole (contents_below (optional_text asked.entry.root) (D.contents inputs.now))
@@ -101,8 +101,8 @@ fn run_job_at<D: Inputs>(
     ensures memory { IfErr result (λ stop. stop ≡ Stop.OutOfMemory) }
 {
     let places = vec![in alloc; place; 1]?;
-    let mut store = NotingStore::new(inputs, alloc, asked.root);
-    let plan = gather_places(alloc, jobs, places, &mut store)?;
+    let mut store = RecordingStore::new(inputs, alloc, asked.root);
+    let plan = gather_jobs(alloc, jobs, places, &mut store)?;
     run_planned_job(alloc, &plan, store.unread_paths(), place)
 }
 
@@ -110,9 +110,9 @@ fn run_job_at<D: Inputs>(
 fn run_planned_job(
     alloc: Global,
     plan: &Plan,
-    unread: &[Unread],
+    unread: &[UnreadPath],
     place: usize,
-) -> Result<ToldRow, Stop>
+) -> Result<ReportedRow, Stop>
     requires { place < length plan.now.jobs }
     ensures row { IfOk result (λ told. (d : AJob) → told.row ≡ row_of plan.now (slice_index_or plan.now.jobs place d)) }
     ensures line { IfOk result (λ told. (d : AJob) → told.line.items
@@ -124,7 +124,7 @@ fn run_planned_job(
     ensures memory { IfErr result (λ stop. stop ≡ Stop.OutOfMemory) }
 {
     let row = row_at(alloc, plan, place)?;
-    let telling = RowTelling {
+    let reporter = TextReporter {
         plan,
         unread,
         judge: Judge::by_rule(Rule::Strict),
@@ -132,7 +132,7 @@ fn run_planned_job(
         last: None,
     };
     let mut line = Vec::new(alloc);
-    telling.push_lone_row_line(alloc, place, &row, &mut line)?;
+    reporter.push_lone_row_line(alloc, place, &row, &mut line)?;
     let status = passing_status(has_passed(Rule::Strict, &row));
-    Ok(ToldRow { row, line, status })
+    Ok(ReportedRow { row, line, status })
 }

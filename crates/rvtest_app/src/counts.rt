@@ -9,7 +9,7 @@ ghost use Rattle.rvtest_app.specs.CountStops.{IsCountsStop, IsReadErrorStop, IsS
 ghost use Rattle.rvtest_app.specs.CountSums.{AreAdded, IsAdded, IsSumPut};
 ghost use Rattle.rvtest_app.specs.Outlets.{is_stdout};
 ghost use Rattle.rvtest_app.specs.Overwrites.{IsPlacedApart, IsSumFileApart, IsSumOverwriteStop};
-ghost use Rattle.rvtest_app.specs.Said.{said};
+ghost use Rattle.rvtest_app.specs.CommandOutputs.{outputs_of};
 ghost use Rattle.rvtest_app.specs.WrittenTexts.{written_path};
 
 use crate::counts_note::sum_note;
@@ -23,18 +23,18 @@ use rv_count_tables::{
 use rv_files::{Inputs, Outputs};
 use rv_rows::Sink;
 use rv_text::{Span, text_of_spans};
-use rvtest_cli::CountsAsked;
+use rvtest_cli::CountsArgs;
 use std::alloc::{AllocError, Global};
 
 /// Adds up the tables of counts at some paths, and writes the sum. The status is 0.
 pub(crate) fn put_sum_of_tables<D: Inputs, F: Outputs + Drop, O: Sink + Drop, E: Sink + Drop>(
     inputs: &D,
     alloc: Global,
-    asked: &CountsAsked<'_>,
+    asked: &CountsArgs<'_>,
     to: &mut Destinations<F, O, E>,
 ) -> Result<u8, Stop>
     ensures put { IfOk result (λ status. IsSumPut (D.contents inputs.now) asked.now status
-        (said F.placed O.taken E.taken E.failed to.old) (said F.placed O.taken E.taken E.failed to.new)) }
+        (outputs_of F.placed O.taken E.taken E.failed to.old) (outputs_of F.placed O.taken E.taken E.failed to.new)) }
     ensures low { IfOk result (λ status. status ≤ 1) }
     ensures undone { OnErr result (F.placed to.new.files ≡ F.placed to.old.files) }
     // The sum goes to standard output, or nothing does.
@@ -56,7 +56,7 @@ pub(crate) fn put_sum_of_tables<D: Inputs, F: Outputs + Drop, O: Sink + Drop, E:
 fn refuse_sum_overwrite<F: Outputs>(
     files: &F,
     alloc: Global,
-    asked: &CountsAsked<'_>,
+    asked: &CountsArgs<'_>,
 ) -> Result<(), Stop>
     ensures apart { OnOk result (IfSome (F.placed files.now) (λ _. IsSumFileApart asked.now)) }
     ensures stopped { IfErr result (IsSumOverwriteStop asked.now) }
@@ -122,10 +122,12 @@ fn read_error_stop(alloc: Global, path: &str, error: ReadError) -> Stop
     match error {
         ReadError::OutOfMemory => Stop::OutOfMemory,
         ReadError::Line(line) => {
-            let what = ": no table of counts has this line here\n";
+            let what = ": invalid line in a table of counts\n";
             Stop::of_refusal(path_number_message(alloc, path, ":", line, what))
         }
-        ReadError::CutOff => { Stop::of_refusal(path_message(alloc, path, "the table is cut off")) }
+        ReadError::CutOff => {
+            Stop::of_refusal(path_message(alloc, path, "the table is truncated"))
+        }
     }
 }
 
@@ -136,7 +138,7 @@ pub(crate) fn sum_error_stop(alloc: Global, path: &str, error: SumError) -> Stop
     match error {
         SumError::OutOfMemory => Stop::OutOfMemory,
         SumError::Count(address) => {
-            let what = ": a count of ";
+            let what = ": the count at ";
             Stop::of_refusal(great_count_message(alloc, path, what, address))
         }
         SumError::Spot(function) => {

@@ -3,7 +3,7 @@
 ghost use Rattle.std.specs.Prelude.{◌≡◌, ◌⊎◌, ◌≤◌, IfErr, IfOk};
 ghost use Rattle.rvtest_app.specs.CoverStops.{IsCoverStop};
 ghost use Rattle.rvtest_app.specs.Covers.{IsCoverPut};
-ghost use Rattle.rvtest_app.specs.Said.{said};
+ghost use Rattle.rvtest_app.specs.CommandOutputs.{outputs_of};
 
 use crate::destinations::Destinations;
 use crate::host::Host;
@@ -11,7 +11,7 @@ use crate::view::{JobsView, View};
 use rv_command::Stop;
 use rv_files::{Inputs, Outputs};
 use rv_rows::Sink;
-use rvtest_cli::{ChoosingCommand, CoverAsked};
+use rvtest_cli::{ChoosingCommand, CoverArgs};
 use std::sync::Wait;
 use std::thread::Threads;
 
@@ -22,9 +22,9 @@ pub(crate) fn cover_requested_jobs<
     F: Outputs + Drop,
     O: Sink + Drop,
     E: Sink + Drop,
->(host: &Host<'_, R, D>, asked: &CoverAsked<'_>, to: &mut Destinations<F, O, E>) -> Result<u8, Stop>
+>(host: &Host<'_, R, D>, asked: &CoverArgs<'_>, to: &mut Destinations<F, O, E>) -> Result<u8, Stop>
     ensures put { IfOk result (λ status. IsCoverPut (D.contents host.now.inputs.now) asked.now status
-        (said F.placed O.taken E.taken E.failed to.old) (said F.placed O.taken E.taken E.failed to.new)) }
+        (outputs_of F.placed O.taken E.taken E.failed to.old) (outputs_of F.placed O.taken E.taken E.failed to.new)) }
     ensures low { IfOk result (λ status. status ≤ 1) }
     ensures stopped { IfErr result (λ why. (why ≡ Stop.WriteFailed)
         ⊎ IsCoverStop (D.contents host.now.inputs.now) asked.now why) }

@@ -5,7 +5,7 @@ ghost use Rattle.rvtest_app.specs.Crews.{AreRequestedWorkers, requested_group};
 
 use rv_fleet::Crew;
 use rv_jobs::limits::{MOST_GROUP, MOST_WORKERS};
-use rvtest_cli::RunAsked;
+use rvtest_cli::RunArgs;
 use std::alloc::Global;
 use std::thread::{self, Threads};
 
@@ -13,7 +13,7 @@ use std::thread::{self, Threads};
 pub(crate) fn requested_crew<'r, R: Threads>(
     rt: &'r R,
     alloc: Global,
-    asked: &RunAsked<'_>,
+    asked: &RunArgs<'_>,
 ) -> Crew<'r, R>
     ensures workers { AreRequestedWorkers asked.now.workers result.workers }
     ensures group { result.group ≡ requested_group asked.now.group }
@@ -23,7 +23,7 @@ pub(crate) fn requested_crew<'r, R: Threads>(
 }
 
 // As many threads as are asked for, or as there are processors: from 1 to 64.
-fn requested_workers<R: Threads>(rt: &R, asked: &RunAsked<'_>) -> u32
+fn requested_workers<R: Threads>(rt: &R, asked: &RunArgs<'_>) -> u32
     ensures { AreRequestedWorkers asked.now.workers result }
 {
     match asked.workers {

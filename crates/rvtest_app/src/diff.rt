@@ -5,7 +5,7 @@ ghost use Rattle.rv_command.specs.Messages.{cut_off_note};
 ghost use Rattle.rvtest_app.specs.Commands.{diff_status};
 ghost use Rattle.rvtest_app.specs.Reports.{IsDiffAt, IsDiffOf, IsDiffOfReports, IsDiffPut, compared_rows, leaves_out, left_out_count};
 ghost use Rattle.rvtest_app.specs.Reports.{requested_comparison};
-ghost use Rattle.rvtest_app.specs.Said.{said};
+ghost use Rattle.rvtest_app.specs.CommandOutputs.{outputs_of};
 ghost use Rattle.rvtest_app.specs.CommandStops.{IsDiffAtStop};
 ghost use Rattle.rvtest_app.specs.ToldStops.{IsDiffStop};
 ghost use Rattle.rv_command.specs.declared.stop.Stop.TheVariants.{OutOfMemory, WriteFailed};
@@ -21,7 +21,7 @@ use rv_diff::{Compare, Compared, Differing, push_diff, rows_beside};
 use rv_files::{Inputs, Outputs};
 use rv_report::{Extent, PartialReport, SavedReport};
 use rv_rows::{Row, Sink};
-use rvtest_cli::DiffAsked;
+use rvtest_cli::DiffArgs;
 use std::alloc::{AllocError, Global};
 
 // In which jobs two reports differ, the status of that, and what is said of reports that are cut off.
@@ -36,11 +36,11 @@ struct NotedDiff {
 pub(crate) fn diff_reports<D: Inputs, F: Outputs + Drop, O: Sink + Drop, E: Sink + Drop>(
     inputs: &D,
     alloc: Global,
-    asked: DiffAsked<'_>,
+    asked: DiffArgs<'_>,
     to: &mut Destinations<F, O, E>,
 ) -> Result<u8, Stop>
     ensures put { IfOk result (λ status. IsDiffPut (D.contents inputs.now) asked.entry status
-        (said F.placed O.taken E.taken E.failed to.old) (said F.placed O.taken E.taken E.failed to.new)) }
+        (outputs_of F.placed O.taken E.taken E.failed to.old) (outputs_of F.placed O.taken E.taken E.failed to.new)) }
     ensures low { IfOk result (λ status. status ≤ 1) }
     ensures stopped { IfErr result (λ why. (why ≡ WriteFailed)
         ⊎ IsDiffAtStop (D.contents inputs.now) asked.entry why) }
@@ -55,7 +55,7 @@ pub(crate) fn diff_reports<D: Inputs, F: Outputs + Drop, O: Sink + Drop, E: Sink
 fn diff_of_files<D: Inputs>(
     inputs: &D,
     alloc: Global,
-    asked: DiffAsked<'_>,
+    asked: DiffArgs<'_>,
 ) -> Result<NotedDiff, Stop>
     ensures diff { IfOk result (λ noted. IsDiffAt (D.contents inputs.now) asked.entry
         noted.found.text.items noted.notes.items noted.found.status) }
@@ -70,7 +70,7 @@ fn diff_of_files<D: Inputs>(
 // The same of the texts of the two. What is wrong with the old one comes before what kept the new one from being read.
 fn diff_report_texts(
     alloc: Global,
-    asked: DiffAsked<'_>,
+    asked: DiffArgs<'_>,
     old: &[u8],
     new: Result<Vec<u8>, Stop>,
 ) -> Result<NotedDiff, Stop>
@@ -86,7 +86,7 @@ fn diff_report_texts(
 }
 
 // The report at one of the two paths.
-fn requested<'a>(path: &'a str, asked: DiffAsked<'_>) -> RequestedReport<'a>
+fn requested<'a>(path: &'a str, asked: DiffArgs<'_>) -> RequestedReport<'a>
     ensures path { result.path.now ≡ path.entry.now }
     ensures partial { result.partial ≡ asked.entry.partial }
 {
@@ -99,7 +99,7 @@ fn requested<'a>(path: &'a str, asked: DiffAsked<'_>) -> RequestedReport<'a>
 // The same of the two reports that were read.
 fn diff_read_reports(
     alloc: Global,
-    asked: DiffAsked<'_>,
+    asked: DiffArgs<'_>,
     old: PartialReport,
     new: PartialReport,
 ) -> Result<NotedDiff, Stop>

@@ -17,18 +17,18 @@ use crate::named_job::{NamedJob, find_named_job};
 use crate::rules::passing_status;
 use rv_command::{Stop, read_list_text};
 use rv_expect::{Judge, Rule, has_passed};
-use rv_files::{Inputs, NotingStore, Unread};
-use rv_job_text::{RowTelling, Verbosity, WayToEnd, budget_use_at};
-use rv_jobs::{JobList, Plan, gather_places};
+use rv_files::{Inputs, RecordingStore, UnreadPath};
+use rv_job_text::{TextReporter, TraceOptions, Verbosity, budget_use_at};
+use rv_jobs::{JobList, Plan, gather_jobs};
 use rv_rows::row_at;
-use rvtest_cli::ExplainAsked;
+use rvtest_cli::ExplainArgs;
 use std::alloc::Global;
 
 /// How the job of a name ends and comes there, which is run for that. The status is 1 where it failed.
 pub(crate) fn explain_named_job<D: Inputs>(
     inputs: &D,
     alloc: Global,
-    asked: ExplainAsked<'_>,
+    asked: ExplainArgs<'_>,
 ) -> Result<Found, Stop>
     ensures explained { IfOk result (λ found. IsExplanationAt (D.contents inputs.now) asked.entry
         found.text.items found.status) }
@@ -43,7 +43,7 @@ pub(crate) fn explain_named_job<D: Inputs>(
 fn explain_job_of_text<D: Inputs>(
     inputs: &D,
     alloc: Global,
-    asked: ExplainAsked<'_>,
+    asked: ExplainArgs<'_>,
     text: &[u8],
 ) -> Result<Found, Stop>
     ensures explanation { IfOk result (λ found. IsExplanationOf (D.contents inputs.now) asked.entry text.now
@@ -59,7 +59,7 @@ fn explain_job_of_text<D: Inputs>(
 fn explain_job_at<D: Inputs>(
     inputs: &D,
     alloc: Global,
-    asked: ExplainAsked<'_>,
+    asked: ExplainArgs<'_>,
     jobs: JobList,
     place: usize,
 ) -> Result<Found, Stop>
@@ -72,8 +72,8 @@ fn explain_job_at<D: Inputs>(
 {
     let places = vec![in alloc; place; 1]?;
     let jobs = jobs.with_budget(asked.budget);
-    let mut store = NotingStore::new(inputs, alloc, asked.root);
-    let plan = gather_places(alloc, jobs, places, &mut store)?;
+    let mut store = RecordingStore::new(inputs, alloc, asked.root);
+    let plan = gather_jobs(alloc, jobs, places, &mut store)?;
     explain_planned_job(alloc, &plan, store.unread_paths(), place, asked.last)
 }
 
@@ -81,7 +81,7 @@ fn explain_job_at<D: Inputs>(
 fn explain_planned_job(
     alloc: Global,
     plan: &Plan,
-    unread: &[Unread],
+    unread: &[UnreadPath],
     place: usize,
     last: u32,
 ) -> Result<Found, Stop>
@@ -94,7 +94,7 @@ fn explain_planned_job(
     ensures memory { IfErr result (λ stop. stop ≡ Stop.OutOfMemory) }
 {
     let row = row_at(alloc, plan, place)?;
-    let telling = RowTelling {
+    let reporter = TextReporter {
         plan,
         unread,
         judge: Judge::by_rule(Rule::Strict),
@@ -102,9 +102,9 @@ fn explain_planned_job(
         last: None,
     };
     let budget_use = budget_use_at(alloc, plan, place, &row)?;
-    let way = WayToEnd { last, budget_use };
+    let way = TraceOptions { last, budget_use };
     let mut text = Vec::new(alloc);
-    telling.push_job_explanation(alloc, place, &row, &way, &mut text)?;
+    reporter.push_job_explanation(alloc, place, &row, &way, &mut text)?;
     let status = passing_status(has_passed(Rule::Strict, &row));
     Ok(Found { text, status })
 }

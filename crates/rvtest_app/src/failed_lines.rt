@@ -7,7 +7,7 @@ ghost use Rattle.rvtest_app.specs.ReportSummary.{failed_line};
 use rv_expect::Judge;
 use rv_job_text::{EndDetail, push_result_line};
 use rv_rows::Row;
-use rv_stream::Telling;
+use rv_stream::RowReporter;
 use std::alloc::{AllocError, Global};
 
 /// Tells of a row that counts as a failure its line, with no symbol and no reason, and of any other nothing.
@@ -16,7 +16,7 @@ pub struct FailedLines<'a> {
     pub judge: Judge<'a>,
 }
 
-impl<'a> Telling for FailedLines<'a> {
+impl<'a> RowReporter for FailedLines<'a> {
     ghost use Rattle.rv_expect.specs.Judgement.{judging_of};
     ghost use Rattle.rvtest_app.specs.ReportSummary.{failed_line};
 

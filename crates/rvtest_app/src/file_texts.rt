@@ -10,7 +10,7 @@ use rv_junit::Suite;
 #[derive(Drop)]
 pub(crate) struct FileTexts<'s, 't, 'p, T> {
     pub(crate) suite: Suite<'s>,
-    pub(crate) telling: &'t T,
+    pub(crate) reporter: &'t T,
     pub(crate) places: &'p [usize],
     pub(crate) report: ReportText<'p>,
     ghost placed: { length (report_rows report) ≤ length places.now },

@@ -9,12 +9,12 @@ ghost use Rattle.rv_expect.specs.Judgement.{judging_by_rule};
 ghost use Rattle.rv_expect.specs.declared.passing.Rule.TheVariants.{Strict};
 ghost use Rattle.rv_files.specs.UnreadPaths.{contents_below, resolved_path};
 ghost use Rattle.rv_gdb.specs.JobSessions.{IsSessionOf};
-ghost use Rattle.rv_job_text.specs.Telling.{row_line};
+ghost use Rattle.rv_job_text.specs.RowReporter.{row_line};
 ghost use Rattle.rv_machine.proofs.Public.{state_code};
 ghost use Rattle.rv_rows.specs.Rows.{row_of, start_in};
 ghost use Rattle.rvtest_app.specs.CommandStops.{IsGdbStopped, IsNoJobStop, IsUnopenedAtStop};
 ghost use Rattle.rvtest_app.specs.Debugging.{IsBrokenStop, IsGdbAnswered, IsJobOpened, IsNoGdbStop, IsOpenedAt, IsOpenedOf, IsUnopenedOfStop, IsUnopenedStop, job_end_text, job_start};
-ghost use Rattle.rvtest_app.specs.Said.{said};
+ghost use Rattle.rvtest_app.specs.CommandOutputs.{outputs_of};
 
 use crate::destinations::Destinations;
 use crate::host::Host;
@@ -23,13 +23,13 @@ use crate::named_job::{NamedJob, find_named_job};
 use rv_base::Bytes;
 use rv_command::{DONE, Stop, file_error_stop, path_message, read_list_text};
 use rv_expect::{Judge, Rule};
-use rv_files::{FileError, Inputs, NotingStore, Outputs, Unread, resolved_path};
-use rv_gdb::{Broken, Means, converse, session_at};
-use rv_job_text::{RowTelling, Verbosity};
-use rv_jobs::{Plan, gather_places};
+use rv_files::{FileError, Inputs, Outputs, RecordingStore, UnreadPath, resolved_path};
+use rv_gdb::{SessionContext, SessionError, serve, session_at};
+use rv_job_text::{TextReporter, Verbosity};
+use rv_jobs::{Plan, gather_jobs};
 use rv_rows::{Sink, row_at};
 use rv_session::Session;
-use rvtest_cli::GdbAsked;
+use rvtest_cli::GdbArgs;
 use std::alloc::{AllocError, Global};
 use std::io::Read;
 use std::thread::Threads;
@@ -54,17 +54,17 @@ pub(crate) fn show_job_to_gdb<
     E: Sink + Drop,
 >(
     host: &Host<'_, R, D>,
-    asked: GdbAsked<'_>,
+    asked: GdbArgs<'_>,
     is_terminal: bool,
     input: &mut I,
     to: &mut Destinations<F, O, E>,
 ) -> Result<u8, Stop>
     ensures answered { IfOk result (λ status. IsGdbAnswered (D.contents host.now.inputs.now) is_terminal asked.entry
         (I.remaining input.old) (I.remaining input.new) status
-        (said F.placed O.taken E.taken E.failed to.old) (said F.placed O.taken E.taken E.failed to.new)) }
+        (outputs_of F.placed O.taken E.taken E.failed to.old) (outputs_of F.placed O.taken E.taken E.failed to.new)) }
     ensures done { IfOk result (λ status. status ≡ 0) }
     ensures stopped { IfErr result (λ why. IsGdbStopped (D.contents host.now.inputs.now) is_terminal asked.entry why
-        (said F.placed O.taken E.taken E.failed to.old) (said F.placed O.taken E.taken E.failed to.new)
+        (outputs_of F.placed O.taken E.taken E.failed to.old) (outputs_of F.placed O.taken E.taken E.failed to.new)
         (O.failed to.old.out) (O.failed to.new.out)) }
 {
     let alloc = host.alloc;
@@ -74,12 +74,12 @@ pub(crate) fn show_job_to_gdb<
     let opened = session_of_named_job(host.inputs, alloc, asked)?;
     let Opened { mut session, job } = opened;
     set_memory(alloc, &mut session, asked.memory);
-    let means = Means {
+    let means = SessionContext {
         rt: host.rt,
         alloc,
         end: &job,
     };
-    match converse(&means, &mut session, input, &mut to.out) {
+    match serve(&means, &mut session, input, &mut to.out) {
         Ok(()) => Ok(DONE),
         Err(broken) => Err(broken_stop(alloc, broken)),
     }
@@ -99,18 +99,18 @@ fn no_gdb_stop(alloc: Global) -> Stop
     ensures { IsNoGdbStop result }
 {
     let how =
-        "it is a terminal, not gdb; run gdb-multiarch -ex 'target remote | rvtest gdb LIST NAME'";
+        "expected gdb, found a terminal; run gdb-multiarch -ex 'target remote | rvtest gdb LIST NAME'";
     Stop::of_refusal(path_message(alloc, "standard output", how))
 }
 
 // Why the session with gdb was broken off.
-fn broken_stop(alloc: Global, broken: Broken) -> Stop
+fn broken_stop(alloc: Global, broken: SessionError) -> Stop
     ensures { IsBrokenStop broken result }
 {
     match broken {
-        Broken::OutOfMemory => Stop::OutOfMemory,
-        Broken::Unput => Stop::WriteFailed,
-        Broken::Unread(reason) => {
+        SessionError::OutOfMemory => Stop::OutOfMemory,
+        SessionError::Unput => Stop::WriteFailed,
+        SessionError::UnreadPath(reason) => {
             file_error_stop(alloc, "standard input", FileError::Failed(reason))
         }
     }
@@ -120,7 +120,7 @@ fn broken_stop(alloc: Global, broken: Broken) -> Stop
 fn session_of_named_job<D: Inputs>(
     inputs: &D,
     alloc: Global,
-    asked: GdbAsked<'_>,
+    asked: GdbArgs<'_>,
 ) -> Result<Opened, Stop>
     ensures opened { IfOk result (λ opened. IsOpenedAt (D.contents inputs.now) asked.entry
         (job_end_text opened.job.plan opened.job.unread.items opened.job.place) opened.session) }
@@ -134,7 +134,7 @@ fn session_of_named_job<D: Inputs>(
 fn session_of_text<D: Inputs>(
     inputs: &D,
     alloc: Global,
-    asked: GdbAsked<'_>,
+    asked: GdbArgs<'_>,
     text: &[u8],
 ) -> Result<Opened, Stop>
     ensures opened { IfOk result (λ opened. IsOpenedOf (D.contents inputs.now) asked.entry text.now
@@ -150,7 +150,7 @@ fn session_of_text<D: Inputs>(
 fn session_of_job<D: Inputs>(
     inputs: &D,
     alloc: Global,
-    asked: GdbAsked<'_>,
+    asked: GdbArgs<'_>,
     named: NamedJob,
 ) -> Result<Opened, Stop>
     requires { named.place < length named.jobs }
@@ -162,8 +162,8 @@ fn session_of_job<D: Inputs>(
 {
     let NamedJob { jobs, place } = named;
     let places = vec![in alloc; place; 1]?;
-    let mut store = NotingStore::new(inputs, alloc, asked.root);
-    let plan = gather_places(alloc, jobs, places, &mut store)?;
+    let mut store = RecordingStore::new(inputs, alloc, asked.root);
+    let plan = gather_jobs(alloc, jobs, places, &mut store)?;
     match session_over_plan(alloc, &plan, place, asked.root)? {
         Some(session) => {
             let unread = store.into_unread_paths();
@@ -204,7 +204,7 @@ fn image_path(alloc: Global, root: Option<&str>, image: &str) -> Result<Bytes, A
 }
 
 // The job at a place is refused, as its line says.
-fn refused_job_stop(alloc: Global, plan: &Plan, unread: &[Unread], place: usize) -> Stop
+fn refused_job_stop(alloc: Global, plan: &Plan, unread: &[UnreadPath], place: usize) -> Stop
     requires { place < length plan.now.jobs }
     ensures { (d : AJob) → IsStop 2 (row_line plan.now unread.now (judging_by_rule Strict)
         (slice_index_or plan.now.jobs place d) (row_of plan.now (slice_index_or plan.now.jobs place d))) result }
@@ -216,7 +216,7 @@ fn refused_job_stop(alloc: Global, plan: &Plan, unread: &[Unread], place: usize)
 fn row_line(
     alloc: Global,
     plan: &Plan,
-    unread: &[Unread],
+    unread: &[UnreadPath],
     place: usize,
 ) -> Result<Vec<u8>, AllocError>
     requires { place < length plan.now.jobs }
@@ -224,7 +224,7 @@ fn row_line(
         (slice_index_or plan.now.jobs place d) (row_of plan.now (slice_index_or plan.now.jobs place d))) }
 {
     let row = row_at(alloc, plan, place)?;
-    let telling = RowTelling {
+    let reporter = TextReporter {
         plan,
         unread,
         judge: Judge::by_rule(Rule::Strict),
@@ -232,6 +232,6 @@ fn row_line(
         last: None,
     };
     let mut line = Vec::new(alloc);
-    telling.push_lone_row_line(alloc, place, &row, &mut line)?;
+    reporter.push_lone_row_line(alloc, place, &row, &mut line)?;
     Ok(line)
 }

@@ -8,11 +8,11 @@ use crate::findings::Found;
 use crate::list_keys::LIST_KEYS;
 use rv_command::{DONE, Stop};
 use rv_text::{Span, push_text, text_of_spans};
-use rvtest_cli::HelpAsked;
+use rvtest_cli::HelpArgs;
 use std::alloc::{AllocError, Global};
 
 /// Tells the keys of a list, which are the only topic.
-pub(crate) fn tell_topic(alloc: Global, asked: HelpAsked<'_>) -> Result<Found, Stop>
+pub(crate) fn tell_topic(alloc: Global, asked: HelpArgs<'_>) -> Result<Found, Stop>
     ensures told { IfOk result (λ found. IsTopicTold asked.entry.topic.now found.text.items found.status) }
     ensures stopped { IfErr result (IsNoTopicStop asked.entry.topic.now) }
 {
@@ -36,9 +36,11 @@ fn no_topic_message(alloc: Global, topic: &str) -> Result<Vec<u8>, AllocError>
     text_of_spans(
         alloc,
         &[
-            Span::Text("rvtest: nothing is told of '"),
+            Span::Text("rvtest: unknown help topic \""),
             Span::Value(topic.as_bytes()),
-            Span::Text("': help list tells the keys of a list, and COMMAND --help of a command\n"),
+            Span::Text(
+                "\": try \"help list\" for the keys of a list, or \"COMMAND --help\" for a command\n",
+            ),
         ],
     )
 }

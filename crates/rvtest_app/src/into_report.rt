@@ -10,7 +10,7 @@ use crate::outlets::is_stdout_at;
 use rv_fleet::Rows;
 use rv_report::Shard;
 use rv_rows::Row;
-use rvtest_cli::RunAsked;
+use rvtest_cli::RunArgs;
 
 /// What a run's report has beside the run's rows.
 #[derive(Drop)]
@@ -56,14 +56,14 @@ fn put_rows_at(whole: &mut Vec<Row>, places: &[usize], rows: Vec<Row>)
 }
 
 /// Where the report of a run goes.
-pub(crate) fn run_report_path<'a>(asked: &RunAsked<'a>) -> Option<&'a str>
+pub(crate) fn run_report_path<'a>(asked: &RunArgs<'a>) -> Option<&'a str>
     ensures { optional_text result ≡ run_report_path asked.now }
 {
     asked.into.or(asked.report)
 }
 
 /// Whether one of the files of a run goes to standard output.
-pub(crate) fn uses_run_stdout(asked: &RunAsked<'_>) -> bool
+pub(crate) fn uses_run_stdout(asked: &RunArgs<'_>) -> bool
     ensures { result ≡ uses_run_stdout asked.now }
 {
     is_stdout_at(run_report_path(asked)) || is_stdout_at(asked.junit) || is_stdout_at(asked.counts)

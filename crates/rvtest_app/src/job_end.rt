@@ -8,8 +8,8 @@ ghost use Rattle.rv_rows.specs.Rows.{row_of, start_in};
 ghost use Rattle.rvtest_app.specs.Debugging.{job_start};
 
 use rv_expect::{Judge, Rule};
-use rv_files::Unread;
-use rv_job_text::{RowTelling, Verbosity};
+use rv_files::UnreadPath;
+use rv_job_text::{TextReporter, Verbosity};
 use rv_jobs::Plan;
 use rv_machine::Machine;
 use rv_rows::{Row, row_at, row_from};
@@ -20,7 +20,7 @@ use std::alloc::{AllocError, Global};
 #[derive(Drop)]
 pub(crate) struct JobEnd {
     pub(crate) plan: Plan,
-    pub(crate) unread: Vec<Unread>,
+    pub(crate) unread: Vec<UnreadPath>,
     pub(crate) place: usize,
     ghost within: { place < length plan.jobs },
     ghost runs: { (d : AJob) → is_ok (start_in plan.answers (slice_index_or plan.jobs place d)) ≡ true },
@@ -42,14 +42,14 @@ impl EndText for JobEnd {
         text: &mut Vec<u8>,
     ) -> Result<(), AllocError> {
         let row = row_behind(alloc, self, place, machine)?;
-        let telling = RowTelling {
+        let reporter = TextReporter {
             plan: &self.plan,
             unread: self.unread.as_slice(),
             judge: Judge::by_rule(Rule::Strict),
             verbosity: Verbosity::All,
             last: None,
         };
-        telling.push_outcome(alloc, self.place, &row, text)
+        reporter.push_outcome(alloc, self.place, &row, text)
     }
 }
 

@@ -12,14 +12,14 @@ use rv_expect::{KnownFault, KnownFaultKind, KnownJobs, read_known_jobs};
 use rv_files::Inputs;
 use rv_jobs::{Job, Text};
 use rv_text::{Span, push_spans, push_text};
-use rvtest_cli::RunAsked;
+use rvtest_cli::RunArgs;
 use std::alloc::{AllocError, Global};
 
 /// The known failures among the jobs of a list, where words name a file.
 pub(crate) fn requested_known_jobs<D: Inputs>(
     inputs: &D,
     alloc: Global,
-    asked: &RunAsked<'_>,
+    asked: &RunArgs<'_>,
     jobs: &[Job],
 ) -> Result<Option<KnownJobs>, Stop>
     ensures known { IfOk result (IsKnownAt (D.contents inputs.now) (optional_text asked.now.known) jobs.now) }
@@ -76,7 +76,7 @@ fn known_fault_message(
         &[
             Span::Text("rvtest: "),
             Span::Shown(path.as_bytes()),
-            Span::Text(": line "),
+            Span::Text(":"),
             Span::Number(fault.line as u64),
             Span::Text(": "),
         ],
@@ -98,16 +98,16 @@ fn push_known_fault<'a>(
         KnownFaultKind::NoName => push_spans(
             message,
             &[
-                Span::Text("'"),
+                Span::Text("\""),
                 Span::Value(name),
-                Span::Text("' is no job's name; a name stands alone, and a reason behind '#'"),
+                Span::Text("\" is not a job name: expected NAME [# REASON]"),
             ],
         ),
         KnownFaultKind::Twice => push_spans(
             message,
             &[
                 Span::Value(name),
-                Span::Text(" stands in a line before it, too"),
+                Span::Text(" is already listed on an earlier line"),
             ],
         ),
         KnownFaultKind::NoJob => push_spans(
@@ -115,7 +115,7 @@ fn push_known_fault<'a>(
             &[
                 Span::Text("no job of "),
                 Span::Shown(list.as_bytes()),
-                Span::Text(" is called "),
+                Span::Text(" is named "),
                 Span::Value(name),
             ],
         ),

@@ -2,7 +2,7 @@
 
 ghost use Rattle.std.specs.Prelude.{◌≡◌, [], List};
 ghost use Rattle.rv_accept_text.specs.Told.{changed_count};
-ghost use Rattle.rv_accept_text.specs.declared.accepting.Accepting.{Accepting};
+ghost use Rattle.rv_accept_text.specs.declared.accepting.AcceptSummary.{AcceptSummary};
 ghost use Rattle.rv_report.specs.declared.row.Row.{Row};
 ghost use Rattle.rvtest_app.specs.Accepts.{written_files};
 ghost use Rattle.rvtest_app.specs.ReportSummary.{AreSortedBySteps, rows_by_steps};
@@ -14,5 +14,5 @@ pub fn rows_by_steps_are_sorted()
 
 /// Where `accept` tells no change, it writes no file.
 pub fn nothing_is_written_where_nothing_changes()
-    ensures { (told : Accepting) → changed_count told ≡ 0 → written_files told ≡ [] }
+    ensures { (told : AcceptSummary) → changed_count told ≡ 0 → written_files told ≡ [] }
 {}

@@ -6,17 +6,17 @@ ghost use Rattle.rvtest_app.specs.CommandStops.{IsListStop, IsNoChoiceStop};
 ghost use Rattle.rvtest_app.specs.Commands.{failure_rule};
 ghost use Rattle.rvtest_app.specs.Lists.{AreListedOf, AreListedAt, IsListPut, name_line, name_lines};
 ghost use Rattle.rvtest_app.specs.Runs.{places_of_marks};
-ghost use Rattle.rvtest_app.specs.Said.{said};
+ghost use Rattle.rvtest_app.specs.CommandOutputs.{outputs_of};
 
 use crate::destinations::Destinations;
 use crate::rules::failure_rule;
 use rv_choice::{Choice, Chooser};
 use rv_command::{DONE, Stop, parse_list, put_message, put_results, read_list_text};
 use rv_files::{Inputs, Outputs};
-use rv_jobs::{Job, marked_places};
+use rv_jobs::{Job, selected_indices};
 use rv_rows::Sink;
 use rv_text::push_text;
-use rvtest_cli::{ChoosingCommand, RunAsked};
+use rvtest_cli::{ChoosingCommand, RunArgs};
 use std::alloc::{AllocError, Global};
 
 // The names of chosen jobs, one a line, and what is said of the choice.
@@ -30,11 +30,11 @@ struct ListedJobs {
 pub(crate) fn list_chosen_jobs<D: Inputs, F: Outputs + Drop, O: Sink + Drop, E: Sink + Drop>(
     inputs: &D,
     alloc: Global,
-    asked: &RunAsked<'_>,
+    asked: &RunArgs<'_>,
     to: &mut Destinations<F, O, E>,
 ) -> Result<u8, Stop>
     ensures put { IfOk result (λ status. IsListPut (D.contents inputs.now) asked.now status
-        (said F.placed O.taken E.taken E.failed to.old) (said F.placed O.taken E.taken E.failed to.new)) }
+        (outputs_of F.placed O.taken E.taken E.failed to.old) (outputs_of F.placed O.taken E.taken E.failed to.new)) }
     ensures low { IfOk result (λ status. status ≤ 1) }
     ensures stopped { IfErr result (λ why. (why ≡ Stop.WriteFailed)
         ⊎ IsListStop (D.contents inputs.now) asked.now why) }
@@ -49,7 +49,7 @@ pub(crate) fn list_chosen_jobs<D: Inputs, F: Outputs + Drop, O: Sink + Drop, E: 
 fn chosen_jobs<D: Inputs>(
     inputs: &D,
     alloc: Global,
-    asked: &RunAsked<'_>,
+    asked: &RunArgs<'_>,
 ) -> Result<ListedJobs, Stop>
     ensures listed { IfOk result (λ listed. AreListedAt (D.contents inputs.now) asked.now
         listed.names.items listed.notes.items) }
@@ -63,7 +63,7 @@ fn chosen_jobs<D: Inputs>(
 fn chosen_jobs_of_text<D: Inputs>(
     inputs: &D,
     alloc: Global,
-    asked: &RunAsked<'_>,
+    asked: &RunArgs<'_>,
     text: &[u8],
 ) -> Result<ListedJobs, Stop>
     ensures listed { IfOk result (λ listed. AreListedOf (D.contents inputs.now) asked.now text.now
@@ -90,7 +90,7 @@ fn marked_name_lines(alloc: Global, jobs: &[Job], marks: &[bool]) -> Result<Vec<
     requires { length marks.now ≡ length jobs.now }
     ensures { IfOk result (λ names. names.items ≡ name_lines jobs.now (places_of_marks marks.now)) }
 {
-    let places = marked_places(alloc, marks)?;
+    let places = selected_indices(alloc, marks)?;
     let mut names = Vec::new(alloc);
     push_name_lines(&mut names, jobs, places.as_slice())?;
     Ok(names)

@@ -5,33 +5,33 @@ pub(crate) const LIST_KEYS: &str = "\
 The keys of a job, a table of the array job:
 
   name
-      1 to 64 ASCII letters, digits, ., _, -; no other job's; if absent: refused
+      1 to 64 ASCII letters, digits, ., _, -; unique in the list; required
   image
-      path of an ELF file; if absent: refused
+      path of an ELF file; required
   budget
-      steps at most, 1 to 1,000,000,000; if absent: refused
+      maximum number of steps, 1 to 1,000,000,000; required
   input, input_hex
       the console's script, as text or hexadecimal digits: at most 65,536 bytes;
-      if absent: nothing
+      default: empty
   load
-      \"physical\" or \"virtual\": where segments are placed; if absent: physical
+      \"physical\" or \"virtual\": where segments are placed; default: physical
   region
       1 to 4 tables of base, size, write: multiples of 4, together at most
-      16,777,216 bytes; if absent: 1,048,576 writable bytes at 0x8000_0000
+      16,777,216 bytes; default: 1,048,576 writable bytes at 0x8000_0000
   signature
-      [\"begin\", \"end\"]: two symbols; if absent: none
+      [\"begin\", \"end\"]: two symbols; default: none
   isa
-      \"rv32i\", \"rv32im\", \"rv32ic\", \"rv32imc\"; if absent: rv32imc
+      \"rv32i\", \"rv32im\", \"rv32ic\", \"rv32imc\"; default: rv32imc
   misaligned
-      \"fault\" or \"allow\" misaligned loads and stores; if absent: fault
+      \"fault\" or \"allow\" misaligned loads and stores; default: fault
   expect_exit
       the exit code
   expect_end
-      \"budget\", or the kind of fault, as \"load-access\"
+      \"budget\", or a kind of fault such as \"load-access\"
   expect_console, expect_console_file
       the output: at most 65,536 bytes, or a file's path
   expect_signature
-      path of a file with the signature's lines; only beside signature
+      path of a file with the signature's lines; requires signature
   same_as
-      an earlier job, which ended alike with equal console and signature
+      an earlier job that must have the same end, console and signature
 ";

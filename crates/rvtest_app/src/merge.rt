@@ -11,11 +11,11 @@ ghost use Rattle.rvtest_app.specs.MergeRefusals.{ArePartsRefused, IsMergeErrorSt
 ghost use Rattle.rvtest_app.specs.MergeRefusals.{part_path, two_parts_message};
 ghost use Rattle.rvtest_app.specs.MergeStops.{ArePartsUnread, IsMergeStop, IsMergedPutStop};
 ghost use Rattle.rvtest_app.specs.Merges.{AreTextsAt, IsMergedAt, IsUndoneMergeAt, merged_junit, merged_report_path, merged_suite};
-ghost use Rattle.rvtest_app.specs.Outlets.{AreFilesPlacedInPart, file_at};
+ghost use Rattle.rvtest_app.specs.Outlets.{AreFilesPartlyCommitted, file_at};
 ghost use Rattle.rvtest_app.specs.Overwrites.{AreMergeFilesApart, IsMergeOverwriteStop, IsPlacedApart};
 ghost use Rattle.rvtest_app.specs.Puts.{WentOut};
 ghost use Rattle.rvtest_app.specs.RunOutput.{rows_status};
-ghost use Rattle.rvtest_app.specs.Said.{said};
+ghost use Rattle.rvtest_app.specs.CommandOutputs.{outputs_of};
 ghost use Rattle.rv_command.specs.Texts.{optional_text};
 
 use crate::destinations::Destinations;
@@ -33,7 +33,7 @@ use rv_junit::Suite;
 use rv_merge::{Flaw, MergeError, merge_parts};
 use rv_rows::Sink;
 use rv_text::{Span, text_of_spans};
-use rvtest_cli::MergeAsked;
+use rvtest_cli::MergeArgs;
 use std::alloc::{AllocError, Global};
 
 // The rows of a whole list, with the line that counts them and their status.
@@ -48,12 +48,12 @@ struct Merged {
 pub(crate) fn merge_reports<D: Inputs, F: Outputs + Drop, O: Sink + Drop, E: Sink + Drop>(
     inputs: &D,
     alloc: Global,
-    asked: &MergeAsked<'_>,
+    asked: &MergeArgs<'_>,
     to: &mut Destinations<F, O, E>,
 ) -> Result<u8, Stop>
     ensures low { IfOk result (λ status. status ≤ 1) }
     ensures merged { IfOk result (λ status. IsMergedAt (D.contents inputs.now) asked.now status
-        (said F.placed O.taken E.taken E.failed to.old) (said F.placed O.taken E.taken E.failed to.new)) }
+        (outputs_of F.placed O.taken E.taken E.failed to.old) (outputs_of F.placed O.taken E.taken E.failed to.new)) }
     ensures undone { OnErr result (IsUndoneMergeAt (D.contents inputs.now) asked.now
         (F.placed to.old.files) (F.placed to.new.files)) }
     ensures stopped { IfErr result (IsMergeStop (D.contents inputs.now) asked.now) }
@@ -72,7 +72,7 @@ pub(crate) fn merge_reports<D: Inputs, F: Outputs + Drop, O: Sink + Drop, E: Sin
 fn refuse_merge_overwrites<F: Outputs>(
     files: &F,
     alloc: Global,
-    asked: &MergeAsked<'_>,
+    asked: &MergeArgs<'_>,
 ) -> Result<(), Stop>
     ensures apart { OnOk result (IfSome (F.placed files.now) (λ _. AreMergeFilesApart asked.now)) }
     ensures stopped { IfErr result (IsMergeOverwriteStop asked.now) }
@@ -87,7 +87,7 @@ fn refuse_merge_overwrites<F: Outputs>(
 }
 
 // Standard output has the report where nothing else is asked for.
-fn merged_report_path<'a>(asked: &MergeAsked<'a>) -> Option<&'a str>
+fn merged_report_path<'a>(asked: &MergeArgs<'a>) -> Option<&'a str>
     ensures { optional_text result ≡ merged_report_path (optional_text asked.now.report)
         (optional_text asked.now.junit) }
 {
@@ -99,11 +99,7 @@ fn merged_report_path<'a>(asked: &MergeAsked<'a>) -> Option<&'a str>
 }
 
 // The rows of the list whose parts the texts are, with their last line and their status.
-fn merge_part_texts(
-    alloc: Global,
-    asked: &MergeAsked<'_>,
-    texts: &[Vec<u8>],
-) -> Result<Merged, Stop>
+fn merge_part_texts(alloc: Global, asked: &MergeArgs<'_>, texts: &[Vec<u8>]) -> Result<Merged, Stop>
     ensures parts { IfOk result
         (λ merged. AreParts merged.rows (map (λ text. text.items) texts.now)) }
     ensures line { IfOk result (λ merged. merged.line.items
@@ -122,11 +118,7 @@ fn merge_part_texts(
 }
 
 // The rows of the list whose parts the texts are.
-fn rows_of_part_texts(
-    alloc: Global,
-    asked: &MergeAsked<'_>,
-    texts: &[Vec<u8>],
-) -> Result<Rows, Stop>
+fn rows_of_part_texts(alloc: Global, asked: &MergeArgs<'_>, texts: &[Vec<u8>]) -> Result<Rows, Stop>
     ensures parts { IfOk result (λ rows. AreParts rows (map (λ text. text.items) texts.now)) }
     ensures few { IfOk result (λ rows. length rows ≤ most_jobs) }
     ensures blamed { IfErr result (ArePartsRefused asked.now.parts.items (map (λ text. text.items) texts.now)) }
@@ -142,7 +134,7 @@ fn rows_of_part_texts(
 fn read_part_texts<D: Inputs>(
     inputs: &D,
     alloc: Global,
-    asked: &MergeAsked<'_>,
+    asked: &MergeArgs<'_>,
 ) -> Result<Vec<Vec<u8>>, Stop>
     ensures read { IfOk result (λ texts. AreTextsAt (D.contents inputs.now)
         asked.now.parts.items (map (λ text. text.items) texts.items)) }
@@ -177,7 +169,7 @@ fn text_slices(alloc: Global, texts: &[Vec<u8>]) -> Result<Vec<&[u8]>, AllocErro
 // Puts the last line, and the files that are asked for.
 fn put_merged<F: Outputs + Drop, O: Sink + Drop, E: Sink + Drop>(
     alloc: Global,
-    asked: &MergeAsked<'_>,
+    asked: &MergeArgs<'_>,
     merged: Merged,
     to: &mut Destinations<F, O, E>,
 ) -> Result<(), Stop>
@@ -185,8 +177,8 @@ fn put_merged<F: Outputs + Drop, O: Sink + Drop, E: Sink + Drop>(
         (merged_report_path (optional_text asked.now.report) (optional_text asked.now.junit))
         (optional_text asked.now.junit) merged.line.items (report_text merged.rows)
         (merged_junit asked.now merged.rows)
-        (said F.placed O.taken E.taken E.failed to.old) (said F.placed O.taken E.taken E.failed to.new)) }
-    ensures part { OnErr result (AreFilesPlacedInPart (F.placed to.old.files) (F.placed to.new.files)
+        (outputs_of F.placed O.taken E.taken E.failed to.old) (outputs_of F.placed O.taken E.taken E.failed to.new)) }
+    ensures part { OnErr result (AreFilesPartlyCommitted (F.placed to.old.files) (F.placed to.new.files)
         (Some (file_at (optional_text asked.now.junit) (merged_junit asked.now merged.rows)))) }
     ensures stopped { IfErr result (IsMergedPutStop asked.now) }
 {
@@ -206,7 +198,7 @@ fn put_merged<F: Outputs + Drop, O: Sink + Drop, E: Sink + Drop>(
 }
 
 // The name of the suite: the one that is asked for, else by the report's path, if one is given.
-fn merged_suite<'a>(asked: &MergeAsked<'a>) -> &'a str
+fn merged_suite<'a>(asked: &MergeArgs<'a>) -> &'a str
     ensures { result.now ≡ merged_suite (optional_text asked.now.suite) (optional_text asked.now.report) }
 {
     match asked.report {
@@ -218,7 +210,7 @@ fn merged_suite<'a>(asked: &MergeAsked<'a>) -> &'a str
 // Why the parts are not those of one run.
 fn merge_error_stop(
     alloc: Global,
-    asked: &MergeAsked<'_>,
+    asked: &MergeArgs<'_>,
     texts: &[&[u8]],
     error: MergeError,
 ) -> Stop
@@ -227,7 +219,10 @@ fn merge_error_stop(
     match error {
         MergeError::OutOfMemory => Stop::OutOfMemory,
         MergeError::NoTexts => {
-            Stop::of_refusal(text_of_spans(alloc, &[Span::Text("rvtest: there is no part\n")]))
+            Stop::of_refusal(text_of_spans(
+                alloc,
+                &[Span::Text("rvtest: expected at least one part\n")],
+            ))
         }
         MergeError::Text(at, flaw) => {
             let part = Part {
@@ -242,19 +237,19 @@ fn merge_error_stop(
 
 fn missing_shard_message(alloc: Global, number: usize) -> Result<Vec<u8>, AllocError>
     ensures { IfOk result (λ text. text.items
-        ≡ codes "rvtest: no part is that of shard " ++ decimal number ++ codes "\n") }
+        ≡ codes "rvtest: missing part of shard " ++ decimal number ++ codes "\n") }
 {
     text_of_spans(
         alloc,
         &[
-            Span::Text("rvtest: no part is that of shard "),
+            Span::Text("rvtest: missing part of shard "),
             Span::Number(number as u64),
             Span::Text("\n"),
         ],
     )
 }
 
-fn part_path<'a>(asked: &MergeAsked<'a>, at: usize) -> &'a str
+fn part_path<'a>(asked: &MergeArgs<'a>, at: usize) -> &'a str
     ensures { result.now ≡ part_path asked.now.parts.items at }
 {
     match asked.parts.get(at) {
@@ -280,7 +275,7 @@ struct Part<'a> {
 // What is wrong with a part.
 fn part_flaw_message(
     alloc: Global,
-    asked: &MergeAsked<'_>,
+    asked: &MergeArgs<'_>,
     part: Part<'_>,
     flaw: Flaw,
 ) -> Result<Vec<u8>, AllocError>
@@ -290,35 +285,39 @@ fn part_flaw_message(
     let Part { path, text } = part;
     match flaw {
         Flaw::Line(line) => refused_line_message(alloc, "part", path, text, line),
-        Flaw::CutOff => path_message(alloc, path, "the part is cut off"),
-        Flaw::Whole => path_message(alloc, path, "a whole report, which is no part of a run"),
+        Flaw::CutOff => path_message(alloc, path, "the part is truncated"),
+        Flaw::Whole => path_message(
+            alloc,
+            path,
+            "expected a part of a run, found a whole report",
+        ),
         Flaw::Choice => path_message(
             alloc,
             path,
-            "the report of a choice of jobs, which is no shard's",
+            "expected the part of a shard, found a report of selected jobs",
         ),
         Flaw::OtherShards => other_run_message(
             alloc,
             asked,
             path,
-            "another number of shards than ",
+            "a different number of shards than ",
         ),
         Flaw::OtherJobs => other_run_message(
             alloc,
             asked,
             path,
-            "a list of another number of jobs than ",
+            "a list with a different number of jobs than ",
         ),
-        Flaw::OtherStamp => other_run_message(alloc, asked, path, "another stamp than "),
+        Flaw::OtherStamp => other_run_message(alloc, asked, path, "a different stamp than "),
         Flaw::OtherText(earlier) => two_parts_message(
             alloc,
             path,
             "the same shard as ",
             part_path(asked, earlier),
-            ", and another text\n",
+            ", but different contents\n",
         ),
         Flaw::NameTwice(number) => {
-            let what = " has the name of a job before it\n";
+            let what = " has the name of an earlier job\n";
             path_number_message(alloc, path, ": job ", number, what)
         }
     }
@@ -327,7 +326,7 @@ fn part_flaw_message(
 // That it is of another run than the first part.
 fn other_run_message(
     alloc: Global,
-    asked: &MergeAsked<'_>,
+    asked: &MergeArgs<'_>,
     path: &str,
     what: &str,
 ) -> Result<Vec<u8>, AllocError>

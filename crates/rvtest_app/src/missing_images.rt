@@ -7,7 +7,7 @@ ghost use Rattle.rv_report.specs.Report.{line};
 ghost use Rattle.rvtest_app.specs.MissingImages.{are_images_missing, is_image_missing, is_not_found};
 ghost use Rattle.rvtest_app.specs.MissingImages.{is_noted_missing, missing_images_line, missing_images_note, paths_text};
 
-use rv_files::Unread;
+use rv_files::UnreadPath;
 use rv_jobs::{Job, Plan};
 use rv_text::{Span, push_spans, push_text};
 use std::alloc::{AllocError, Global};
@@ -18,7 +18,7 @@ use std::io::ErrorKind;
 pub(crate) fn missing_images_note(
     alloc: Global,
     plan: &Plan,
-    unread: &[Unread],
+    unread: &[UnreadPath],
     count: usize,
     root: Option<&str>,
 ) -> Result<Vec<u8>, AllocError>
@@ -37,7 +37,7 @@ pub(crate) fn missing_images_note(
 pub(crate) fn push_missing_images_line(
     told: &mut Vec<u8>,
     plan: &Plan,
-    unread: &[Unread],
+    unread: &[UnreadPath],
     root: Option<&str>,
 ) -> Result<(), AllocError>
     ensures { OnOk result (told.new.items
@@ -56,19 +56,19 @@ fn push_paths_line(told: &mut Vec<u8>, root: Option<&str>) -> Result<(), AllocEr
         Some(folder) => push_spans(
             told,
             &[
-                Span::Text("every image is missing: paths are taken from "),
+                Span::Text("no image was found: relative paths are resolved against "),
                 Span::Shown(folder.as_bytes()),
                 Span::Text(" (--root)\n"),
             ],
         ),
         None => push_text(
             told,
-            "every image is missing: paths are taken from the folder that rvtest runs in; --root DIR takes them from DIR\n",
+            "no image was found: relative paths are resolved against the current directory; use --root DIR to resolve them against DIR\n",
         ),
     }
 }
 
-fn are_images_missing(plan: &Plan, unread: &[Unread]) -> bool
+fn are_images_missing(plan: &Plan, unread: &[UnreadPath]) -> bool
     ensures { result ≡ are_images_missing plan.now.jobs unread.now }
 {
     let mut all = true;
@@ -80,7 +80,7 @@ fn are_images_missing(plan: &Plan, unread: &[Unread]) -> bool
 }
 
 // Whether the image of a job is missing, and its path is one that is taken from a folder.
-fn is_image_missing(job: &Job, unread: &[Unread]) -> bool
+fn is_image_missing(job: &Job, unread: &[UnreadPath]) -> bool
     ensures { result ≡ is_image_missing unread.now job.now }
 {
     let path = job.image.as_str();
@@ -88,13 +88,13 @@ fn is_image_missing(job: &Job, unread: &[Unread]) -> bool
 }
 
 // The first that was noted of a path.
-fn unread_note<'a>(unread: &'a [Unread], path: &str) -> Option<&'a Unread>
+fn unread_note<'a>(unread: &'a [UnreadPath], path: &str) -> Option<&'a UnreadPath>
     ensures { option_map (λ one. one.now) result ≡ unread_note unread.now path.now }
 {
     unread.iter().find(|one| path == one.path.as_str())
 }
 
-fn is_noted_missing(note: Option<&Unread>) -> bool
+fn is_noted_missing(note: Option<&UnreadPath>) -> bool
     ensures { result ≡ is_noted_missing (option_map (λ one. one.now) note.entry) }
 {
     match note {

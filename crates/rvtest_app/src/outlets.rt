@@ -16,8 +16,8 @@ ghost use Rattle.rvtest_app.specs.ReportTexts.{report_rest_of, report_text_of};
 use crate::report_texts::ReportText;
 use rv_command::{Stop, file_error_stop, path_message};
 use rv_files::{LastError, Outputs, write_error_text};
-use rv_junit::{PlacedRows, Suite, write_junit};
-use rv_rows::{Sink, Telling, WriteError};
+use rv_junit::{IndexedRows, Suite, write_junit};
+use rv_rows::{RowReporter, Sink, WriteError};
 use std::alloc::Global;
 use std::io::ErrorKind;
 
@@ -53,9 +53,9 @@ pub(crate) fn open_outlets<'a, F: Outputs>(
     junit: Option<&'a str>,
 ) -> Result<Outlets<'a, F::Place, F::File>, Stop>
     ensures same { F.placed files.new ≡ F.placed files.old }
-    ensures report { IfOk result (λ outlets. HasTaken F.place_path F.File.taken F.File.failed
+    ensures report { IfOk result (λ outlets. HasTaken F.pending_path F.File.taken F.File.failed
         (F.placed files.old) (optional_text report.entry) [] outlets.report) }
-    ensures junit { IfOk result (λ outlets. HasTaken F.place_path F.File.taken F.File.failed
+    ensures junit { IfOk result (λ outlets. HasTaken F.pending_path F.File.taken F.File.failed
         (F.placed files.old) (optional_text junit.entry) [] outlets.junit) }
     ensures unfailed { IfOk result (λ outlets. has_no_failure F.File.failed outlets.report
         × has_no_failure F.File.failed outlets.junit) }
@@ -79,7 +79,7 @@ pub(crate) fn open_outlet<'a, F: Outputs>(
     path: Option<&'a str>,
 ) -> Result<Outlet<'a, F::Place, F::File>, Stop>
     ensures same { F.placed files.new ≡ F.placed files.old }
-    ensures open { IfOk result (HasTaken F.place_path F.File.taken F.File.failed
+    ensures open { IfOk result (HasTaken F.pending_path F.File.taken F.File.failed
         (F.placed files.old) (optional_text path.entry) []) }
     ensures stopped { IfErr result (λ why. IsSomeAnd (file_path_at (optional_text path.entry))
         (λ path. IsUnopenedStop path why)) }
@@ -115,7 +115,7 @@ fn open_file<'a, F: Outputs>(
 ) -> Result<Outlet<'a, F::Place, F::File>, Stop>
     requires { is_stdout path.now ≡ false }
     ensures same { F.placed files.new ≡ F.placed files.old }
-    ensures open { IfOk result (HasTaken F.place_path F.File.taken F.File.failed
+    ensures open { IfOk result (HasTaken F.pending_path F.File.taken F.File.failed
         (F.placed files.old) (Some path.now) []) }
     ensures stopped { IfErr result (IsUnopenedStop path.now) }
 {
@@ -177,29 +177,29 @@ impl<'a, P: Drop, W: Sink + LastError + Drop> Outlet<'a, P, W> {
     }
 
     /// Puts rows as JUnit's XML, each with the lines that are told of it.
-    pub(crate) fn put_junit<T: Telling, O: Sink>(
+    pub(crate) fn put_junit<T: RowReporter, O: Sink>(
         &mut self,
         alloc: Global,
         out: &mut O,
         suite: &Suite<'_>,
-        telling: &T,
-        rows: &PlacedRows<'_>,
+        reporter: &T,
+        rows: &IndexedRows<'_>,
     ) -> Result<(), Stop>
         ensures put { OnOk result (IsPutInto W.taken W.failed self.old self.new
             (junit_text suite.now.name.now (judging_of suite.now.judge)
-            (row_text_list (T.line telling.now) rows.now.places.now rows.now.rows.now) rows.now.rows.now)) }
+            (row_text_list (T.line reporter.now) rows.now.places.now rows.now.rows.now) rows.now.rows.now)) }
         ensures out { OnOk result (Appends (O.taken out.old) (O.taken out.new) (stdout_part self.old
             (junit_text suite.now.name.now (judging_of suite.now.judge)
-            (row_text_list (T.line telling.now) rows.now.places.now rows.now.rows.now) rows.now.rows.now))) }
+            (row_text_list (T.line reporter.now) rows.now.places.now rows.now.rows.now) rows.now.rows.now))) }
         ensures counted { OnOk result (O.failed out.new ≡ O.failed out.old) }
         ensures path { outlet_path self.new ≡ outlet_path self.old }
         ensures stopped { IfErr result (IsTextStop (outlet_path self.old)) }
     {
         match self {
             Outlet::Nowhere => Ok(()),
-            Outlet::Out => stdout_result(write_junit(alloc, suite, telling, rows, out)),
+            Outlet::Out => stdout_result(write_junit(alloc, suite, reporter, rows, out)),
             Outlet::File(file) => {
-                let written = write_junit(alloc, suite, telling, rows, &mut file.sink);
+                let written = write_junit(alloc, suite, reporter, rows, &mut file.sink);
                 file_result(alloc, file.path, file.sink.last_error(), written)
             }
         }

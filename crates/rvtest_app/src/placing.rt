@@ -1,7 +1,7 @@
 //! Files that are handed to the disk, and then put in their places.
 
 ghost use Rattle.std.specs.Prelude.{◌≡◌, ◌⊎◌, IfErr, IfOk, OnErr, OnOk};
-ghost use Rattle.rvtest_app.specs.Outlets.{AreFilesPlaced, AreFilesPlacedInPart, both_files, files_of, has_no_failure};
+ghost use Rattle.rvtest_app.specs.Outlets.{AreFilesCommitted, AreFilesPartlyCommitted, both_files, files_of, has_no_failure};
 ghost use Rattle.rvtest_app.specs.Outlets.{outlet_path, synced_files, synced_path};
 ghost use Rattle.rvtest_app.specs.PutStops.{IsUnplacedStop};
 
@@ -27,18 +27,18 @@ struct SyncedFiles<'a, P: Drop, S: Drop> {
 
 /// Hands the files to the disk, and then puts both in their places, JUnit's first. Neither is there where the disk does not
 /// take them both.
-pub(crate) fn place_outlets<F: Outputs>(
+pub(crate) fn commit_outlets<F: Outputs>(
     files: &mut F,
     alloc: Global,
     outlets: Outlets<'_, F::Place, F::File>,
 ) -> Result<(), Stop>
     requires report { has_no_failure F.File.failed outlets.report }
     requires junit { has_no_failure F.File.failed outlets.junit }
-    ensures placed { OnOk result (AreFilesPlaced (F.placed files.old) (F.placed files.new)
-        (both_files (files_of F.place_path F.File.taken outlets.entry.junit)
-        (files_of F.place_path F.File.taken outlets.entry.report))) }
-    ensures part { OnErr result (AreFilesPlacedInPart (F.placed files.old) (F.placed files.new)
-        (files_of F.place_path F.File.taken outlets.entry.junit)) }
+    ensures placed { OnOk result (AreFilesCommitted (F.placed files.old) (F.placed files.new)
+        (both_files (files_of F.pending_path F.File.taken outlets.entry.junit)
+        (files_of F.pending_path F.File.taken outlets.entry.report))) }
+    ensures part { OnErr result (AreFilesPartlyCommitted (F.placed files.old) (F.placed files.new)
+        (files_of F.pending_path F.File.taken outlets.entry.junit)) }
     ensures stopped { IfErr result (λ why. IsUnplacedStop (outlet_path outlets.entry.report) why
         ⊎ IsUnplacedStop (outlet_path outlets.entry.junit) why) }
 {
@@ -55,10 +55,10 @@ fn sync_outlets<'a, F: Outputs>(
     requires report { has_no_failure F.File.failed outlets.report }
     requires junit { has_no_failure F.File.failed outlets.junit }
     ensures same { F.placed files.new ≡ F.placed files.old }
-    ensures junit { IfOk result (λ synced. synced_files F.place_path F.synced_bytes synced.junit
-        ≡ files_of F.place_path F.File.taken outlets.entry.junit) }
-    ensures report { IfOk result (λ synced. synced_files F.place_path F.synced_bytes synced.report
-        ≡ files_of F.place_path F.File.taken outlets.entry.report) }
+    ensures junit { IfOk result (λ synced. synced_files F.pending_path F.synced_bytes synced.junit
+        ≡ files_of F.pending_path F.File.taken outlets.entry.junit) }
+    ensures report { IfOk result (λ synced. synced_files F.pending_path F.synced_bytes synced.report
+        ≡ files_of F.pending_path F.File.taken outlets.entry.report) }
     ensures junit_path { IfOk result (λ synced. synced_path synced.junit ≡ outlet_path outlets.entry.junit) }
     ensures report_path { IfOk result (λ synced. synced_path synced.report ≡ outlet_path outlets.entry.report) }
     ensures stopped { IfErr result (λ why. IsUnplacedStop (outlet_path outlets.entry.report) why
@@ -88,8 +88,8 @@ fn sync_outlet<'a, F: Outputs>(
 ) -> Result<Option<SyncedFile<'a, F::Place, F::Synced>>, Stop>
     requires { has_no_failure F.File.failed outlet }
     ensures same { F.placed files.new ≡ F.placed files.old }
-    ensures synced { IfOk result (λ synced. synced_files F.place_path F.synced_bytes synced
-        ≡ files_of F.place_path F.File.taken outlet.entry) }
+    ensures synced { IfOk result (λ synced. synced_files F.pending_path F.synced_bytes synced
+        ≡ files_of F.pending_path F.File.taken outlet.entry) }
     ensures path { IfOk result (λ synced. synced_path synced ≡ outlet_path outlet.entry) }
     ensures stopped { IfErr result (IsUnplacedStop (outlet_path outlet.entry)) }
 {
@@ -120,11 +120,11 @@ fn place_both<F: Outputs>(
     first: Option<SyncedFile<'_, F::Place, F::Synced>>,
     second: Option<SyncedFile<'_, F::Place, F::Synced>>,
 ) -> Result<(), Stop>
-    ensures placed { OnOk result (AreFilesPlaced (F.placed files.old) (F.placed files.new)
-        (both_files (synced_files F.place_path F.synced_bytes first.entry)
-        (synced_files F.place_path F.synced_bytes second.entry))) }
-    ensures part { OnErr result (AreFilesPlacedInPart (F.placed files.old) (F.placed files.new)
-        (synced_files F.place_path F.synced_bytes first.entry)) }
+    ensures placed { OnOk result (AreFilesCommitted (F.placed files.old) (F.placed files.new)
+        (both_files (synced_files F.pending_path F.synced_bytes first.entry)
+        (synced_files F.pending_path F.synced_bytes second.entry))) }
+    ensures part { OnErr result (AreFilesPartlyCommitted (F.placed files.old) (F.placed files.new)
+        (synced_files F.pending_path F.synced_bytes first.entry)) }
     ensures stopped { IfErr result
         (λ why. IsUnplacedStop (synced_path second.entry) why ⊎ IsUnplacedStop (synced_path first.entry) why) }
 {
@@ -142,8 +142,8 @@ fn place_synced<F: Outputs>(
     alloc: Global,
     synced: Option<SyncedFile<'_, F::Place, F::Synced>>,
 ) -> Result<(), Stop>
-    ensures placed { OnOk result (AreFilesPlaced (F.placed files.old) (F.placed files.new)
-        (synced_files F.place_path F.synced_bytes synced.entry)) }
+    ensures placed { OnOk result (AreFilesCommitted (F.placed files.old) (F.placed files.new)
+        (synced_files F.pending_path F.synced_bytes synced.entry)) }
     ensures same { OnErr result (F.placed files.new ≡ F.placed files.old) }
     ensures stopped { IfErr result (IsUnplacedStop (synced_path synced.entry)) }
 {

@@ -3,15 +3,15 @@
 ghost use Rattle.std.specs.Prelude.{◌≡◌, ◌≤◌, length, take};
 ghost use Rattle.std.specs.Option.{ForSome};
 ghost use Rattle.std.specs.List.Sorted.{IsStrictlyIncreasing};
-ghost use Rattle.rv_fleet.specs.Choices.{AreJobPlaces};
-ghost use Rattle.rv_job_text.specs.Telling.{telling_of};
+ghost use Rattle.rv_fleet.specs.Choices.{AreJobIndices};
+ghost use Rattle.rv_job_text.specs.RowReporter.{reporter_of};
 ghost use Rattle.rvtest_app.specs.FailureLines.{failure_lines};
 
 use crate::into_report::ReportFrame;
 use rv_expect::KnownJobs;
-use rv_job_text::RowTelling;
+use rv_job_text::TextReporter;
 use rv_jobs::JobList;
-use rv_kept_lines::{KeptLines, RowLines};
+use rv_kept_lines::{LinesSpec, RecordedLines};
 use std::sync::Mutex;
 
 /// The jobs of a list, with a mark for each that words ask for.
@@ -29,7 +29,7 @@ pub(crate) struct RequestedJobs {
 
 /// The jobs of a list, with a mark for each that is to run.
 #[derive(Drop)]
-pub(crate) struct MarkedJobs {
+pub(crate) struct SelectedJobs {
     pub(crate) jobs: JobList,
     pub(crate) marks: Vec<bool>,
     pub(crate) frame: ReportFrame,
@@ -41,24 +41,24 @@ pub(crate) struct MarkedJobs {
 
 /// The jobs at some places of a plan, how they are told, and the lines that are kept of those that failed.
 #[derive(Drop)]
-pub(crate) struct PlannedRun<'a, J: RowLines> {
-    pub(crate) telling: &'a RowTelling<'a>,
+pub(crate) struct PlannedRun<'a, J: LinesSpec> {
+    pub(crate) reporter: &'a TextReporter<'a>,
     pub(crate) places: &'a [usize],
-    pub(crate) kept: &'a Mutex<KeptLines<J>>,
-    ghost within: { AreJobPlaces telling.now.plan.now places.now },
+    pub(crate) kept: &'a Mutex<RecordedLines<J>>,
+    ghost within: { AreJobIndices reporter.now.plan.now places.now },
     ghost rising: { IsStrictlyIncreasing places.now },
-    ghost told: { J.lines ≡ failure_lines (telling_of telling.now) },
+    ghost told: { J.lines ≡ failure_lines (reporter_of reporter.now) },
 }
 
-impl<'a, J: RowLines> PlannedRun<'a, J> {
+impl<'a, J: LinesSpec> PlannedRun<'a, J> {
     /// The first so many of the jobs.
     pub(crate) fn first_jobs(&self, count: usize) -> PlannedRun<'a, J>
         requires { count ≤ length self.now.places.now }
         ensures places { result.places.now ≡ take count self.now.places.now }
-        ensures telling { result.telling.now ≡ self.now.telling.now }
+        ensures reporter { result.reporter.now ≡ self.now.reporter.now }
     {
         PlannedRun {
-            telling: self.telling,
+            reporter: self.reporter,
             places: &self.places[..count],
             kept: self.kept,
         }

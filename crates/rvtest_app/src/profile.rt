@@ -3,7 +3,7 @@
 ghost use Rattle.std.specs.Prelude.{◌≡◌, ◌⊎◌, ◌≤◌, IfErr, IfOk};
 ghost use Rattle.rvtest_app.specs.ProfileStops.{IsProfileStop};
 ghost use Rattle.rvtest_app.specs.Profiles.{IsProfilePut, profile_format};
-ghost use Rattle.rvtest_app.specs.Said.{said};
+ghost use Rattle.rvtest_app.specs.CommandOutputs.{outputs_of};
 
 use crate::destinations::Destinations;
 use crate::host::Host;
@@ -12,7 +12,7 @@ use rv_command::Stop;
 use rv_files::{Inputs, Outputs};
 use rv_profile::ProfileFormat;
 use rv_rows::Sink;
-use rvtest_cli::{ChoosingCommand, ProfileAsked};
+use rvtest_cli::{ChoosingCommand, ProfileArgs};
 use std::sync::Wait;
 use std::thread::Threads;
 
@@ -25,11 +25,11 @@ pub(crate) fn profile_requested_jobs<
     E: Sink + Drop,
 >(
     host: &Host<'_, R, D>,
-    asked: &ProfileAsked<'_>,
+    asked: &ProfileArgs<'_>,
     to: &mut Destinations<F, O, E>,
 ) -> Result<u8, Stop>
     ensures put { IfOk result (λ status. IsProfilePut (D.contents host.now.inputs.now) asked.now status
-        (said F.placed O.taken E.taken E.failed to.old) (said F.placed O.taken E.taken E.failed to.new)) }
+        (outputs_of F.placed O.taken E.taken E.failed to.old) (outputs_of F.placed O.taken E.taken E.failed to.new)) }
     ensures low { IfOk result (λ status. status ≤ 1) }
     ensures stopped { IfErr result (λ why. (why ≡ Stop.WriteFailed)
         ⊎ IsProfileStop (D.contents host.now.inputs.now) asked.now why) }
@@ -42,7 +42,7 @@ pub(crate) fn profile_requested_jobs<
     view.put(ChoosingCommand::Profile, to)
 }
 
-fn profile_format(asked: &ProfileAsked<'_>) -> ProfileFormat
+fn profile_format(asked: &ProfileArgs<'_>) -> ProfileFormat
     ensures { result ≡ profile_format asked.now }
 {
     ProfileFormat {

@@ -5,14 +5,14 @@ ghost use Rattle.std.specs.IoError.{error_kind};
 ghost use Rattle.rv_command.specs.Messages.{IsMessagePut};
 ghost use Rattle.rv_terminal.specs.ColorSinks.{IsOutInPart};
 ghost use Rattle.rvtest_app.specs.Answers.{IsAnswered, IsDone, IsDoneInColors};
-ghost use Rattle.rvtest_app.specs.Colors.{asked_colors};
+ghost use Rattle.rvtest_app.specs.Colors.{requested_colors};
 ghost use Rattle.rvtest_app.specs.CommandStops.{IsCommandStop, IsStopFor};
-ghost use Rattle.rvtest_app.specs.Said.{said};
-ghost use Rattle.rvtest_app.specs.ToldStops.{IsStopTold, unreadable_words_message, unreadable_words_status};
+ghost use Rattle.rvtest_app.specs.CommandOutputs.{outputs_of};
+ghost use Rattle.rvtest_app.specs.ToldStops.{IsStopReported, unreadable_words_message, unreadable_words_status};
 
 use crate::accept::accept_runs;
 use crate::check::check_list;
-use crate::colors::asked_colors;
+use crate::colors::requested_colors;
 use crate::console::put_job_console;
 use crate::counts::put_sum_of_tables;
 use crate::cover::cover_requested_jobs;
@@ -66,15 +66,15 @@ where
     // A status of 0 or 1 says that all went out, to standard output in the colours that are asked for.
     ensures answered { result.1 ≤ 1 → IsAnswered (D.contents host.now.inputs.now) (I.remaining input.old)
         terminals.is_out_terminal terminals.is_out_colored (map T.text words.entry.now) result.1
-        (said F.placed O.taken E.taken E.failed to) (said F.placed O.taken E.taken E.failed result.0) }
+        (outputs_of F.placed O.taken E.taken E.failed to) (outputs_of F.placed O.taken E.taken E.failed result.0) }
     // Any other status says that the command ended before its work was done, and that this was told last; but a reader that closed
     // standard output is told nothing.
     ensures ended { IsAnswered (D.contents host.now.inputs.now) (I.remaining input.old)
         terminals.is_out_terminal terminals.is_out_colored (map T.text words.entry.now) result.1
-        (said F.placed O.taken E.taken E.failed to) (said F.placed O.taken E.taken E.failed result.0)
-        ⊎ IsStopTold (O.closed result.0.out)
+        (outputs_of F.placed O.taken E.taken E.failed to) (outputs_of F.placed O.taken E.taken E.failed result.0)
+        ⊎ IsStopReported (O.closed result.0.out)
         (IsStopFor (D.contents host.now.inputs.now) terminals.is_out_terminal (map T.text words.entry.now))
-        result.1 (said F.placed O.taken E.taken E.failed result.0) }
+        result.1 (outputs_of F.placed O.taken E.taken E.failed result.0) }
 {
     let (mut to, answer) = answer_words(host, words, to, terminals, input);
     match answer {
@@ -109,7 +109,7 @@ where
     ensures low { IfOk result.1 (λ status. status ≤ 2) }
     ensures answered { IfOk result.1 (λ status. IsAnswered (D.contents host.now.inputs.now) (I.remaining input.old)
         terminals.is_out_terminal terminals.is_out_colored (map T.text words.entry.now) status
-        (said F.placed O.taken E.taken E.failed to) (said F.placed O.taken E.taken E.failed result.0)) }
+        (outputs_of F.placed O.taken E.taken E.failed to) (outputs_of F.placed O.taken E.taken E.failed result.0)) }
     ensures stopped { IfErr result.1 (IsStopFor (D.contents host.now.inputs.now) terminals.is_out_terminal
         (map T.text words.entry.now)) }
 {
@@ -145,18 +145,18 @@ fn run_in_colors<
 ) -> (Destinations<F, O, E>, Result<u8, Stop>)
 where
     F::File: Send,
-    requires colors { asked_colors asked terminals.is_out_colored ≡ J.colors }
+    requires colors { requested_colors asked terminals.is_out_colored ≡ J.colors }
     requires before { O.taken to.out ≡ J.before }
     ensures low { IfOk result.1 (λ status. status ≤ 2) }
     ensures done { IfOk result.1 (λ status. IsDoneInColors (D.contents host.now.inputs.now) (I.remaining input.old)
         terminals.is_out_terminal terminals.is_out_colored asked.entry status
-        (said F.placed O.taken E.taken E.failed to) (said F.placed O.taken E.taken E.failed result.0)) }
+        (outputs_of F.placed O.taken E.taken E.failed to) (outputs_of F.placed O.taken E.taken E.failed result.0)) }
     ensures stopped { IfErr result.1 (IsCommandStop (D.contents host.now.inputs.now) terminals.is_out_terminal asked.entry) }
     // Whatever comes of it, standard output took results in their colours, and behind them at most the first bytes of a mark.
-    ensures shown { (plain : Option (List ℕ)) × IsOutInPart (asked_colors asked.entry terminals.is_out_colored)
+    ensures shown { (plain : Option (List ℕ)) × IsOutInPart (requested_colors asked.entry terminals.is_out_colored)
         (O.taken to.out) plain (O.taken result.0.out) }
 {
-    let colors = asked_colors(&asked, terminals.is_out_colored);
+    let colors = requested_colors(&asked, terminals.is_out_colored);
     let Destinations { files, out, errors } = to;
     let out = ColorSink::<J, O>::new(out, colors);
     let to = Destinations { files, out, errors };
@@ -200,7 +200,7 @@ where
     ensures low { IfOk result.1 (λ status. status ≤ 2) }
     ensures done { IfOk result.1 (λ status. IsDone (D.contents host.now.inputs.now) (I.remaining input.old)
         terminals.is_out_terminal asked.entry status
-        (said F.placed O.taken E.taken E.failed to) (said F.placed O.taken E.taken E.failed result.0)) }
+        (outputs_of F.placed O.taken E.taken E.failed to) (outputs_of F.placed O.taken E.taken E.failed result.0)) }
     // A command that could not have been stopped by a failed put put nothing.
     ensures untouched { IfOk result.1 (λ _.
         IsCommandStop (D.contents host.now.inputs.now) terminals.is_out_terminal asked.entry Stop.WriteFailed
@@ -242,7 +242,7 @@ pub fn refuse_unreadable_words<E: Sink>(error: &io::Error, errors: &mut E) -> u8
     match error.kind() {
         ErrorKind::OutOfMemory => put_stop_message(errors, Stop::OutOfMemory),
         _ => {
-            put_message(errors, b"rvtest: a word is no UTF-8 text\n");
+            put_message(errors, b"rvtest: an argument is not valid UTF-8\n");
             REFUSED
         }
     }

@@ -2,21 +2,21 @@
 
 ghost use Rattle.std.specs.Prelude.{◌≡◌, ◌++◌, [], ℕ, List, Option, IfErr, OnErr, OnOk, Some};
 ghost use Rattle.std.specs.Io.KnownBytes.{Appends};
-ghost use Rattle.rvtest_app.specs.Outlets.{AreFilesPlaced, AreFilesPlacedInPart, HasTaken, IsPutInto, file_at, has_no_failure};
+ghost use Rattle.rvtest_app.specs.Outlets.{AreFilesCommitted, AreFilesPartlyCommitted, HasTaken, IsPutInto, file_at, has_no_failure};
 ghost use Rattle.rvtest_app.specs.Outlets.{outlet_path, stdout_at, stdout_part};
 ghost use Rattle.rvtest_app.specs.Puts.{IsShown, junit_of};
 ghost use Rattle.rvtest_app.specs.PutStops.{IsPutStop};
 ghost use Rattle.rvtest_app.specs.ReportTexts.{report_rest_of, report_text_of};
-ghost use Rattle.rvtest_app.specs.Said.{said};
+ghost use Rattle.rvtest_app.specs.CommandOutputs.{outputs_of};
 
 use crate::destinations::Destinations;
 use crate::file_texts::FileTexts;
 use crate::outlets::{Outlets, abandon_outlets};
-use crate::placing::place_outlets;
+use crate::placing::commit_outlets;
 use rv_command::{Stop, put_message, put_results};
 use rv_files::{LastError, Outputs};
-use rv_junit::PlacedRows;
-use rv_rows::{Sink, Telling};
+use rv_junit::IndexedRows;
+use rv_rows::{RowReporter, Sink};
 use std::alloc::Global;
 
 /// Puts what a command shows: to standard error where a file goes to standard output, else there.
@@ -27,7 +27,7 @@ pub(crate) fn put_shown<F: Outputs + Drop, O: Sink + Drop, E: Sink + Drop>(
 ) -> Result<(), Stop>
     ensures files { to.new.files ≡ to.old.files }
     ensures shown { OnOk result (IsShown is_beside text.now
-        (said F.placed O.taken E.taken E.failed to.old) (said F.placed O.taken E.taken E.failed to.new)) }
+        (outputs_of F.placed O.taken E.taken E.failed to.old) (outputs_of F.placed O.taken E.taken E.failed to.new)) }
     ensures stopped { IfErr result (λ why. why ≡ Stop.WriteFailed) }
 {
     if is_beside {
@@ -39,7 +39,7 @@ pub(crate) fn put_shown<F: Outputs + Drop, O: Sink + Drop, E: Sink + Drop>(
 
 /// Puts both files, or of the report the rest, and then puts them in their places, JUnit's first. After an error neither is there, but where the second could
 /// not be put in its place.
-pub(crate) fn put_files<F: Outputs + Drop, O: Sink + Drop, E: Sink + Drop, T: Telling>(
+pub(crate) fn put_files<F: Outputs + Drop, O: Sink + Drop, E: Sink + Drop, T: RowReporter>(
     alloc: Global,
     to: &mut Destinations<F, O, E>,
     outlets: Outlets<'_, F::Place, F::File>,
@@ -49,26 +49,26 @@ pub(crate) fn put_files<F: Outputs + Drop, O: Sink + Drop, E: Sink + Drop, T: Te
     requires junit { has_no_failure F.File.failed outlets.junit }
     ensures errors { to.new.errors ≡ to.old.errors }
     ensures put { (had : List ℕ) (report_path junit_path : Option (List ℕ))
-        → HasTaken F.place_path F.File.taken F.File.failed (F.placed to.old.files) report_path had outlets.entry.report
-        → HasTaken F.place_path F.File.taken F.File.failed (F.placed to.old.files) junit_path [] outlets.entry.junit
+        → HasTaken F.pending_path F.File.taken F.File.failed (F.placed to.old.files) report_path had outlets.entry.report
+        → HasTaken F.pending_path F.File.taken F.File.failed (F.placed to.old.files) junit_path [] outlets.entry.junit
         → OnOk result (Appends (O.taken to.old.out) (O.taken to.new.out)
         (stdout_at junit_path (junit_of T.line texts.entry) ++ stdout_at report_path (report_text_of texts.entry.report))) }
     ensures placed { (had : List ℕ) (report_path junit_path : Option (List ℕ))
-        → HasTaken F.place_path F.File.taken F.File.failed (F.placed to.old.files) report_path had outlets.entry.report
-        → HasTaken F.place_path F.File.taken F.File.failed (F.placed to.old.files) junit_path [] outlets.entry.junit
-        → OnOk result (AreFilesPlaced (F.placed to.old.files) (F.placed to.new.files)
+        → HasTaken F.pending_path F.File.taken F.File.failed (F.placed to.old.files) report_path had outlets.entry.report
+        → HasTaken F.pending_path F.File.taken F.File.failed (F.placed to.old.files) junit_path [] outlets.entry.junit
+        → OnOk result (AreFilesCommitted (F.placed to.old.files) (F.placed to.new.files)
         (Some (file_at junit_path (junit_of T.line texts.entry)
         ++ file_at report_path (had ++ report_rest_of texts.entry.report)))) }
     ensures part { (junit_path : Option (List ℕ))
-        → HasTaken F.place_path F.File.taken F.File.failed (F.placed to.old.files) junit_path [] outlets.entry.junit
-        → OnErr result (AreFilesPlacedInPart (F.placed to.old.files) (F.placed to.new.files)
+        → HasTaken F.pending_path F.File.taken F.File.failed (F.placed to.old.files) junit_path [] outlets.entry.junit
+        → OnErr result (AreFilesPartlyCommitted (F.placed to.old.files) (F.placed to.new.files)
         (Some (file_at junit_path (junit_of T.line texts.entry)))) }
     ensures stopped { IfErr result
         (IsPutStop (outlet_path outlets.entry.report) (outlet_path outlets.entry.junit)) }
 {
     let mut outlets = outlets;
     match put_texts(alloc, &mut to.out, &mut outlets, texts) {
-        Ok(()) => place_outlets(&mut to.files, alloc, outlets),
+        Ok(()) => commit_outlets(&mut to.files, alloc, outlets),
         Err(stop) => {
             abandon_outlets(&mut to.files, outlets);
             Err(stop)
@@ -76,7 +76,7 @@ pub(crate) fn put_files<F: Outputs + Drop, O: Sink + Drop, E: Sink + Drop, T: Te
     }
 }
 
-fn put_texts<P: Drop, W: Sink + LastError + Drop, O: Sink, T: Telling>(
+fn put_texts<P: Drop, W: Sink + LastError + Drop, O: Sink, T: RowReporter>(
     alloc: Global,
     out: &mut O,
     outlets: &mut Outlets<'_, P, W>,
@@ -96,15 +96,17 @@ fn put_texts<P: Drop, W: Sink + LastError + Drop, O: Sink, T: Telling>(
 {
     let FileTexts {
         suite,
-        telling,
+        reporter,
         places,
         report,
         ..
     } = texts;
-    let rows = PlacedRows {
+    let rows = IndexedRows {
         places,
         rows: report.rows(),
     };
-    outlets.junit.put_junit(alloc, out, &suite, telling, &rows)?;
+    outlets
+        .junit
+        .put_junit(alloc, out, &suite, reporter, &rows)?;
     outlets.report.put_report(alloc, out, report)
 }

@@ -1,7 +1,7 @@
 //! What `cover` and `profile` tell of jobs that are refused.
 
 ghost use Rattle.std.specs.Prelude.{◌≡◌, ◌<◌, ◌++◌, IfOk, OnOk, length, slice_index_or};
-ghost use Rattle.rv_fleet.specs.Choices.{AreJobPlaces};
+ghost use Rattle.rv_fleet.specs.Choices.{AreJobIndices};
 ghost use Rattle.rv_expect.specs.Judgement.{judging_of};
 ghost use Rattle.rv_lists.specs.declared.job.Job.{Job as AJob};
 ghost use Rattle.rvtest_app.specs.RefusedNotes.{refused_line, refused_lines, refused_note};
@@ -9,49 +9,49 @@ ghost use Rattle.rvtest_app.specs.RefusedNotes.{refused_line, refused_lines, ref
 use crate::missing_images::missing_images_note;
 use crate::rules::failure_rule;
 use rv_expect::Judge;
-use rv_files::Unread;
-use rv_job_text::{RowTelling, Verbosity};
+use rv_files::UnreadPath;
+use rv_job_text::{TextReporter, Verbosity};
 use rv_jobs::Plan;
 use rv_rows::{refusal_at, row_at};
-use rvtest_cli::RunAsked;
+use rvtest_cli::RunArgs;
 use std::alloc::{AllocError, Global};
 
 /// Where paths are taken from, if every image is missing, and the lines of the jobs at some places that are refused.
 pub(crate) fn refused_note(
     alloc: Global,
-    asked: &RunAsked<'_>,
+    asked: &RunArgs<'_>,
     plan: &Plan,
-    unread: &[Unread],
+    unread: &[UnreadPath],
     places: &[usize],
 ) -> Result<Vec<u8>, AllocError>
-    requires { AreJobPlaces plan.now places.now }
+    requires { AreJobIndices plan.now places.now }
     ensures { IfOk result (λ note. note.items ≡ refused_note asked.now plan.now unread.now places.now) }
 {
     let mut note = missing_images_note(alloc, plan, unread, places.len(), asked.root)?;
-    let telling = RowTelling {
+    let reporter = TextReporter {
         plan,
         unread,
         judge: Judge::by_rule(failure_rule(asked.lenient)),
         verbosity: Verbosity::All,
         last: None,
     };
-    push_refused_lines(alloc, &telling, places, &mut note)?;
+    push_refused_lines(alloc, &reporter, places, &mut note)?;
     Ok(note)
 }
 
 // Appends the lines of the jobs at some places that are refused.
 fn push_refused_lines(
     alloc: Global,
-    telling: &RowTelling<'_>,
+    reporter: &TextReporter<'_>,
     places: &[usize],
     text: &mut Vec<u8>,
 ) -> Result<(), AllocError>
-    requires { AreJobPlaces telling.now.plan.now places.now }
+    requires { AreJobIndices reporter.now.plan.now places.now }
     ensures { OnOk result (text.new.items ≡ text.old.items
-        ++ refused_lines (judging_of telling.now.judge) telling.now.plan.now telling.now.unread.now places.now) }
+        ++ refused_lines (judging_of reporter.now.judge) reporter.now.plan.now reporter.now.unread.now places.now) }
 {
     for place in places {
-        push_refused_line(alloc, telling, *place, text)?;
+        push_refused_line(alloc, reporter, *place, text)?;
     }
     Ok(())
 }
@@ -60,19 +60,19 @@ fn push_refused_lines(
 #[tactic(auto, unfolding(crate::specs::RefusedNotes::refused_line))]
 fn push_refused_line(
     alloc: Global,
-    telling: &RowTelling<'_>,
+    reporter: &TextReporter<'_>,
     place: usize,
     text: &mut Vec<u8>,
 ) -> Result<(), AllocError>
-    requires place { place < length telling.now.plan.now.jobs }
+    requires place { place < length reporter.now.plan.now.jobs }
     ensures { OnOk result ((d : AJob) → text.new.items ≡ text.old.items
-        ++ refused_line (judging_of telling.now.judge) telling.now.plan.now telling.now.unread.now
-        (slice_index_or telling.now.plan.now.jobs place d)) }
+        ++ refused_line (judging_of reporter.now.judge) reporter.now.plan.now reporter.now.unread.now
+        (slice_index_or reporter.now.plan.now.jobs place d)) }
 {
-    match refusal_at(alloc, telling.plan, place)? {
+    match refusal_at(alloc, reporter.plan, place)? {
         Some(_) => {
-            let row = row_at(alloc, telling.plan, place)?;
-            telling.push_lone_row_line(alloc, place, &row, text)
+            let row = row_at(alloc, reporter.plan, place)?;
+            reporter.push_lone_row_line(alloc, place, &row, text)
         }
         None => Ok(()),
     }

@@ -4,7 +4,7 @@ ghost use Rattle.std.specs.Prelude.{◌≡◌, ◌≤◌, ◌<◌, [], None, Opt
 ghost use Rattle.std.specs.Option.{ForSome};
 ghost use Rattle.rv_choice.specs.ChoiceStops.{IsChoiceStop};
 ghost use Rattle.rv_choice.specs.Chosen.{IsChoice};
-ghost use Rattle.rv_merge.specs.Shards.{shard_marks};
+ghost use Rattle.rv_merge.specs.Shards.{shard_selection};
 ghost use Rattle.rvtest_app.specs.Commands.{failure_rule};
 ghost use Rattle.rvtest_app.specs.IntoReports.{AreOldRows};
 ghost use Rattle.rvtest_app.specs.IntoStops.{IsIntoStop};
@@ -21,7 +21,7 @@ use rv_command::{Stop, parse_list, read_list_text};
 use rv_files::Inputs;
 use rv_fleet::Rows;
 use rv_jobs::{Job, JobList};
-use rv_merge::shard_marks;
+use rv_merge::shard_selection;
 use rv_report::Shard;
 use rvtest_cli::ChoosingCommand;
 
@@ -76,11 +76,11 @@ impl<'x, R, D: Inputs> ListRun<'x, R, D> {
         ensures old { IfOk result (λ requested. requested.frame.old ≡ old) }
         ensures marked { IfOk result (λ requested. (requested.jobs ≡ jobs) × (requested.frame.shard ≡ Some shard)
             × (option_map (λ marks. marks.items) requested.marks
-            ≡ Some (shard_marks shard.shards shard.number (length jobs))) × (requested.notes.items ≡ [])) }
+            ≡ Some (shard_selection shard.shards shard.number (length jobs))) × (requested.notes.items ≡ [])) }
         ensures memory { IfErr result (λ stop. stop ≡ Stop.OutOfMemory) }
     {
         let alloc = self.host.alloc;
-        let marks = shard_marks(alloc, jobs.as_slice().len(), shard.number, shard.shards)?;
+        let marks = shard_selection(alloc, jobs.as_slice().len(), shard.number, shard.shards)?;
         Ok(RequestedJobs {
             jobs,
             marks: Some(marks),

@@ -8,23 +8,23 @@ ghost use Rattle.rvtest_app.specs.Overwrites.{AreRunInputsKept};
 ghost use Rattle.rvtest_app.specs.RunStops.{IsRunPutStop, IsRunStop};
 ghost use Rattle.rvtest_app.specs.Runs.{AreJobsToRun, IsRunAt, IsRunOfMarked, IsUndoneRunAt, IsUndoneRunOfPlaces};
 ghost use Rattle.rvtest_app.specs.Runs.{places_of_marks};
-ghost use Rattle.rvtest_app.specs.Said.{said};
+ghost use Rattle.rvtest_app.specs.CommandOutputs.{outputs_of};
 
 use crate::destinations::Destinations;
 use crate::host::Host;
 use crate::known_file::requested_known_jobs;
 use crate::missing_images::missing_images_note;
-use crate::planned_run::{MarkedJobs, RequestedJobs};
+use crate::planned_run::{RequestedJobs, SelectedJobs};
 use crate::rules::failure_rule;
 use crate::run_inputs::refuse_run_overwrites;
 use crate::terminals::Terminals;
 use rv_command::{DONE, Stop, put_message};
 use rv_expect::{Judge, Rule};
-use rv_files::{Inputs, NotingStore, Outputs};
-use rv_job_text::{RowTelling, Verbosity};
-use rv_jobs::{JobList, Plan, Store, gather_places, marked_places};
+use rv_files::{Inputs, Outputs, RecordingStore};
+use rv_job_text::{TextReporter, Verbosity};
+use rv_jobs::{JobList, Plan, Store, gather_jobs, selected_indices};
 use rv_rows::Sink;
-use rvtest_cli::{ChoosingCommand, RunAsked};
+use rvtest_cli::{ChoosingCommand, RunArgs};
 use std::alloc::{AllocError, Global};
 use std::io::Write;
 use std::marker::Brand;
@@ -36,7 +36,7 @@ use std::time::Clock;
 #[derive(Drop)]
 pub(crate) struct ListRun<'x, R, D> {
     pub(crate) host: &'x Host<'x, R, D>,
-    pub(crate) asked: &'x RunAsked<'x>,
+    pub(crate) asked: &'x RunArgs<'x>,
     /// Which rows are failures.
     pub(crate) rule: Rule,
 }
@@ -51,14 +51,14 @@ pub(crate) fn run_requested_jobs<
     P: Write + Drop + Send,
 >(
     host: &Host<'_, R, D>,
-    asked: &RunAsked<'_>,
+    asked: &RunArgs<'_>,
     to: Destinations<F, O, E>,
     terminals: Terminals<P>,
 ) -> (Destinations<F, O, E>, Result<u8, Stop>)
 where
     F::File: Send,
     ensures run { IfOk result.1 (λ status. IsRunAt (D.contents host.now.inputs.now) asked.now status
-        (said F.placed O.taken E.taken E.failed to) (said F.placed O.taken E.taken E.failed result.0)) }
+        (outputs_of F.placed O.taken E.taken E.failed to) (outputs_of F.placed O.taken E.taken E.failed result.0)) }
     ensures undone { OnErr result.1 (IsUndoneRunAt (D.contents host.now.inputs.now) asked.now
         (F.placed to.files) (F.placed result.0.files)) }
     ensures low { IfOk result.1 (λ status. status ≤ 1) }
@@ -94,7 +94,7 @@ where
     put_message(&mut to.errors, notes.as_slice());
     match marks {
         Some(marks) => {
-            let marked = MarkedJobs {
+            let marked = SelectedJobs {
                 jobs,
                 marks,
                 frame,
@@ -115,7 +115,7 @@ impl<'x, R: Threads + Wait + Sync + Clock, D: Inputs> ListRun<'x, R, D> {
         P: Write + Drop + Send,
     >(
         &self,
-        marked: MarkedJobs,
+        marked: SelectedJobs,
         to: Destinations<F, O, E>,
         terminals: Terminals<P>,
     ) -> (Destinations<F, O, E>, Result<u8, Stop>)
@@ -124,13 +124,13 @@ impl<'x, R: Threads + Wait + Sync + Clock, D: Inputs> ListRun<'x, R, D> {
         requires { self.now.rule ≡ failure_rule self.now.asked.now.lenient }
         ensures run { IfOk result.1 (λ status. IsRunOfMarked (D.contents self.now.host.now.inputs.now) self.now.asked.now
             marked.known marked.jobs (Some marked.marks.items) marked.frame.shard marked.frame.old status
-            (said F.placed O.taken E.taken E.failed to) (said F.placed O.taken E.taken E.failed result.0)) }
+            (outputs_of F.placed O.taken E.taken E.failed to) (outputs_of F.placed O.taken E.taken E.failed result.0)) }
         ensures undone { OnErr result.1 (IsUndoneRunOfPlaces (D.contents self.now.host.now.inputs.now) self.now.asked.now
             marked.known marked.jobs (places_of_marks marked.marks.items) marked.frame.shard marked.frame.old
             (F.placed to.files) (F.placed result.0.files)) }
         ensures stopped { IfErr result.1 (IsRunPutStop self.now.asked.now) }
     {
-        let MarkedJobs {
+        let SelectedJobs {
             jobs,
             marks,
             frame,
@@ -138,12 +138,12 @@ impl<'x, R: Threads + Wait + Sync + Clock, D: Inputs> ListRun<'x, R, D> {
             ..
         } = marked;
         let (alloc, asked) = (self.host.alloc, self.asked);
-        let places = match marked_places(alloc, marks.as_slice()) {
+        let places = match selected_indices(alloc, marks.as_slice()) {
             Ok(places) => places,
             Err(error) => return (to, Err(Stop::from(error))),
         };
         let jobs = jobs.with_budget(asked.budget);
-        let mut store = NotingStore::new(self.host.inputs, alloc, asked.root);
+        let mut store = RecordingStore::new(self.host.inputs, alloc, asked.root);
         let plan = match gather_jobs_at(alloc, jobs, places.as_slice(), &mut store) {
             Ok(plan) => plan,
             Err(error) => return (to, Err(Stop::from(error))),
@@ -160,7 +160,7 @@ impl<'x, R: Threads + Wait + Sync + Clock, D: Inputs> ListRun<'x, R, D> {
             rule: self.rule,
             known: known.as_ref(),
         };
-        let telling = RowTelling {
+        let reporter = TextReporter {
             plan: &plan,
             unread,
             judge,
@@ -168,7 +168,7 @@ impl<'x, R: Threads + Wait + Sync + Clock, D: Inputs> ListRun<'x, R, D> {
             last: asked.last,
         };
         self.run_planned_jobs::<Brand, F, O, E, P>(
-            &telling,
+            &reporter,
             places.as_slice(),
             frame,
             to,
@@ -193,10 +193,10 @@ pub(crate) fn gather_jobs_at<S: Store>(
     ensures faults { IfOk result (λ plan. S.faulted store.new
         ≡ one_more_times (S.faulted store.old) (unreadable_count plan.answers)) }
 {
-    gather_places(alloc, jobs, Vec::from_slice(alloc, places)?, store)
+    gather_jobs(alloc, jobs, Vec::from_slice(alloc, places)?, store)
 }
 
-fn requested_verbosity(asked: &RunAsked<'_>) -> Verbosity
+fn requested_verbosity(asked: &RunArgs<'_>) -> Verbosity
     ensures { result ≡ requested_verbosity asked.now.verbose asked.now.quiet }
 {
     match (asked.verbose, asked.quiet) {

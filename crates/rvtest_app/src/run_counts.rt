@@ -2,11 +2,11 @@
 
 ghost use Rattle.std.specs.Prelude.{◌≡◌, [], ℕ, List, None, Option, IfErr, IfOk, OnErr, OnOk, is_some, string_bytes, true};
 ghost use Rattle.std.specs.List.Sorted.{IsStrictlyIncreasing};
-ghost use Rattle.rv_files.specs.Placed.{PlacedFile};
-ghost use Rattle.rv_fleet.specs.Choices.{AreJobPlaces};
+ghost use Rattle.rv_files.specs.Placed.{CommittedFile};
+ghost use Rattle.rv_fleet.specs.Choices.{AreJobIndices};
 ghost use Rattle.rvtest_app.specs.Outlets.{HasTaken, outlet_path};
 ghost use Rattle.rvtest_app.specs.Runs.{AreCountsPut, IsCountsTable, IsCountsText};
-ghost use Rattle.rvtest_app.specs.Said.{said, where_told};
+ghost use Rattle.rvtest_app.specs.CommandOutputs.{outputs_of, where_told};
 ghost use Rattle.rvtest_app.specs.StackStops.{IsCountsPutStop, IsUncountedRunStop};
 
 use crate::counts::sum_error_stop;
@@ -17,12 +17,12 @@ use crate::run::ListRun;
 use crate::written_text::put_into_outlet;
 use rv_command::Stop;
 use rv_count_tables::{CountTable, table_text};
-use rv_counting::count_places;
+use rv_counting::count_batch;
 use rv_files::{Inputs, Outputs};
 use rv_fleet::Batch;
 use rv_jobs::Plan;
 use rv_rows::Sink;
-use rv_stacks::count_places_with_stacks;
+use rv_stacks::count_batch_with_stacks;
 use std::sync::Wait;
 use std::thread::Threads;
 use std::time::Clock;
@@ -36,17 +36,17 @@ impl<'x, R: Threads + Wait + Sync + Clock, D: Inputs> ListRun<'x, R, D> {
         outlet: Outlet<'_, F::Place, F::File>,
         to: &mut Destinations<F, O, E>,
     ) -> Result<(), Stop>
-        requires within { AreJobPlaces plan.now places.now }
+        requires within { AreJobIndices plan.now places.now }
         requires rising { IsStrictlyIncreasing places.now }
         requires open { (path : Option (List ℕ))
-            × HasTaken F.place_path F.File.taken F.File.failed None path [] outlet }
-        ensures counted { (path : Option (List ℕ)) (earlier : Option (List PlacedFile))
-            → HasTaken F.place_path F.File.taken F.File.failed earlier path [] outlet.entry
+            × HasTaken F.pending_path F.File.taken F.File.failed None path [] outlet }
+        ensures counted { (path : Option (List ℕ)) (earlier : Option (List CommittedFile))
+            → HasTaken F.pending_path F.File.taken F.File.failed earlier path [] outlet.entry
             → OnOk result (AreCountsPut self.now.asked.now.stacks path plan.now places.now
-            (where_told earlier (said F.placed O.taken E.taken E.failed to.old))
-            (said F.placed O.taken E.taken E.failed to.new)) }
-        ensures asked { (path : Option (List ℕ)) (earlier : Option (List PlacedFile))
-            → HasTaken F.place_path F.File.taken F.File.failed earlier path [] outlet.entry
+            (where_told earlier (outputs_of F.placed O.taken E.taken E.failed to.old))
+            (outputs_of F.placed O.taken E.taken E.failed to.new)) }
+        ensures asked { (path : Option (List ℕ)) (earlier : Option (List CommittedFile))
+            → HasTaken F.pending_path F.File.taken F.File.failed earlier path [] outlet.entry
             → OnErr result (is_some path ≡ true) }
         ensures same { OnErr result (F.placed to.new.files ≡ F.placed to.old.files) }
         ensures stopped { IfErr result (IsCountsPutStop self.now.asked.now (outlet_path outlet.entry)) }
@@ -65,7 +65,7 @@ impl<'x, R: Threads + Wait + Sync + Clock, D: Inputs> ListRun<'x, R, D> {
 
     // The text of the table of their counts, with their stacks where those are asked for.
     fn counts_text(&self, plan: &Plan, places: &[usize]) -> Result<String, Stop>
-        requires within { AreJobPlaces plan.now places.now }
+        requires within { AreJobIndices plan.now places.now }
         requires rising { IsStrictlyIncreasing places.now }
         ensures text { IfOk result (λ text. IsCountsText self.now.asked.now.stacks plan.now places.now (string_bytes text)) }
         ensures stopped { IfErr result (IsUncountedRunStop self.now.asked.now) }
@@ -75,7 +75,7 @@ impl<'x, R: Threads + Wait + Sync + Clock, D: Inputs> ListRun<'x, R, D> {
     }
 
     fn table_of_counts(&self, plan: &Plan, places: &[usize]) -> Result<CountTable, Stop>
-        requires within { AreJobPlaces plan.now places.now }
+        requires within { AreJobIndices plan.now places.now }
         requires rising { IsStrictlyIncreasing places.now }
         ensures table { IfOk result (IsCountsTable self.now.asked.now.stacks plan.now places.now) }
         ensures stopped { IfErr result (IsUncountedRunStop self.now.asked.now) }
@@ -84,9 +84,9 @@ impl<'x, R: Threads + Wait + Sync + Clock, D: Inputs> ListRun<'x, R, D> {
         let crew = requested_crew(rt, alloc, self.asked);
         let batch = Batch::new(plan, places);
         if !self.asked.stacks {
-            return Ok(count_places(&crew, &batch)?);
+            return Ok(count_batch(&crew, &batch)?);
         }
-        match count_places_with_stacks(&crew, &batch) {
+        match count_batch_with_stacks(&crew, &batch) {
             Ok(table) => Ok(table),
             Err(error) => Err(sum_error_stop(alloc, self.asked.counts.unwrap_or("-"), error)),
         }

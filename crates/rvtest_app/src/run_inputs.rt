@@ -11,7 +11,7 @@ use crate::read_files::{ReadPath, ReadRole};
 use rv_command::Stop;
 use rv_files::Outputs;
 use rv_jobs::Job;
-use rvtest_cli::RunAsked;
+use rvtest_cli::RunArgs;
 use std::alloc::{AllocError, Global};
 
 /// Refuses the files of a run that would replace or remove something that it reads: its list, the known failures, a file of a
@@ -19,7 +19,7 @@ use std::alloc::{AllocError, Global};
 pub(crate) fn refuse_run_overwrites<F: Outputs>(
     files: &F,
     alloc: Global,
-    asked: &RunAsked<'_>,
+    asked: &RunArgs<'_>,
     jobs: &[Job],
 ) -> Result<(), Stop>
     ensures apart { OnOk result (IfSome (F.placed files.now) (λ _. AreRunFilesApart asked.now jobs.now)) }
@@ -37,7 +37,7 @@ pub(crate) fn refuse_run_overwrites<F: Outputs>(
 fn refuse_report_overwrites<F: Outputs>(
     files: &F,
     alloc: Global,
-    asked: &RunAsked<'_>,
+    asked: &RunArgs<'_>,
 ) -> Result<(), Stop>
     ensures apart { OnOk result (IfSome (F.placed files.now) (λ _. AreReportsKept asked.now)) }
     ensures stopped { IfErr result (IsRunOverwriteStop asked.now) }
@@ -51,7 +51,7 @@ fn refuse_report_overwrites<F: Outputs>(
 
 fn inputs_of_run<'a>(
     alloc: Global,
-    asked: &RunAsked<'_>,
+    asked: &RunArgs<'_>,
     jobs: &'a [Job],
 ) -> Result<Vec<ReadPath<'a>>, AllocError>
     ensures { IfOk result (λ read. read_paths read.items ≡ inputs_of_run asked.now jobs.now) }
@@ -136,7 +136,7 @@ fn console_file(job: &Job) -> Option<&str>
 /// The report whose failed jobs are chosen.
 pub(crate) fn failed_of_run<'a>(
     alloc: Global,
-    asked: &RunAsked<'_>,
+    asked: &RunArgs<'_>,
 ) -> Result<Vec<ReadPath<'a>>, AllocError>
     ensures { IfOk result (λ read. read_paths read.items ≡ failed_of_run asked.now) }
 {
@@ -147,7 +147,7 @@ pub(crate) fn failed_of_run<'a>(
     Ok(read)
 }
 
-fn reports_of_run<'a>(alloc: Global, asked: &RunAsked<'_>) -> Result<Vec<ReadPath<'a>>, AllocError>
+fn reports_of_run<'a>(alloc: Global, asked: &RunArgs<'_>) -> Result<Vec<ReadPath<'a>>, AllocError>
     ensures { IfOk result (λ read. read_paths read.items ≡ reports_of_run asked.now) }
 {
     let mut read = failed_of_run(alloc, asked)?;

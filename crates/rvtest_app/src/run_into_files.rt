@@ -5,12 +5,12 @@ ghost use Rattle.std.specs.Io.KnownBytes.{Appends};
 ghost use Rattle.std.specs.List.Sorted.{IsStrictlyIncreasing};
 ghost use Rattle.std.specs.Option.{ForSome};
 ghost use Rattle.rv_expect.specs.Judgement.{judging_of};
-ghost use Rattle.rv_fleet.specs.Choices.{AreJobPlaces};
-ghost use Rattle.rv_job_text.specs.Telling.{row_lines_at, telling_of};
+ghost use Rattle.rv_fleet.specs.Choices.{AreJobIndices};
+ghost use Rattle.rv_job_text.specs.RowReporter.{row_lines_at, reporter_of};
 ghost use Rattle.rv_rows.specs.declared_row.Row.{Row as ARow};
 ghost use Rattle.rvtest_app.specs.FailureLines.{failure_lines};
 ghost use Rattle.rvtest_app.specs.IntoReports.{rows_ahead, run_report_text, uses_run_stdout};
-ghost use Rattle.rvtest_app.specs.Outlets.{AreFilesPlaced, AreFilesPlacedInPart, HasTaken, IsPutInto, file_at, has_no_failure};
+ghost use Rattle.rvtest_app.specs.Outlets.{AreFilesCommitted, AreFilesPartlyCommitted, HasTaken, IsPutInto, file_at, has_no_failure};
 ghost use Rattle.rvtest_app.specs.Outlets.{outlet_path, stdout_at};
 ghost use Rattle.rvtest_app.specs.Puts.{IsShown};
 ghost use Rattle.rvtest_app.specs.PutStops.{IsPutStop};
@@ -18,7 +18,7 @@ ghost use Rattle.rvtest_app.specs.RowsFiles.{IsOutletOfRows};
 ghost use Rattle.rvtest_app.specs.RunOutput.{rows_status, run_output_text};
 ghost use Rattle.rvtest_app.specs.RunStops.{IsRowsPutStop, IsRowsStop, IsRunPutStop};
 ghost use Rattle.rvtest_app.specs.Runs.{AreRunFilesPlacedInPart, IsCountedRunPut, IsRunPut, junit_file, run_junit, run_rows};
-ghost use Rattle.rvtest_app.specs.Said.{said};
+ghost use Rattle.rvtest_app.specs.CommandOutputs.{outputs_of};
 
 use crate::chosen_rows::ChosenRows;
 use crate::destinations::Destinations;
@@ -38,9 +38,9 @@ use crate::terminals::Terminals;
 use rv_command::Stop;
 use rv_files::{Inputs, Outputs};
 use rv_fleet::Rows;
-use rv_job_text::{RowTelling, Verbosity};
+use rv_job_text::{TextReporter, Verbosity};
 use rv_junit::Suite;
-use rv_kept_lines::{KeptLines, RecallingTelling, RowLines};
+use rv_kept_lines::{LinesSpec, RecordedLines, ReplayingReporter};
 use rv_rows::Sink;
 use std::io::Write;
 use std::sync::{Mutex, Wait};
@@ -50,14 +50,14 @@ use std::time::Clock;
 impl<'x, R: Threads + Wait + Sync + Clock, D: Inputs> ListRun<'x, R, D> {
     /// Runs the jobs at some places of a plan. All files are opened before the first of them runs.
     pub(crate) fn run_planned_jobs<
-        J: RowLines + Send + Sync,
+        J: LinesSpec + Send + Sync,
         F: Outputs + Drop,
         O: Sink + Drop + Send,
         E: Sink + Drop + Send,
         P: Write + Drop + Send,
     >(
         &self,
-        telling: &RowTelling<'_>,
+        reporter: &TextReporter<'_>,
         places: &[usize],
         frame: ReportFrame,
         to: Destinations<F, O, E>,
@@ -65,18 +65,18 @@ impl<'x, R: Threads + Wait + Sync + Clock, D: Inputs> ListRun<'x, R, D> {
     ) -> (Destinations<F, O, E>, Result<u8, Stop>)
     where
         F::File: Send,
-        requires within { AreJobPlaces telling.now.plan.now places.now }
+        requires within { AreJobIndices reporter.now.plan.now places.now }
         requires rising { IsStrictlyIncreasing places.now }
-        requires lines { J.lines ≡ failure_lines (telling_of telling.now) }
-        requires whole { ForSome frame.old (λ rows. length rows ≡ length telling.now.plan.now.jobs) }
-        ensures status { IfOk result.1 (λ status. status ≡ rows_status (judging_of telling.now.judge) (run_rows
-            self.now.asked.now.stop_after (judging_of telling.now.judge) telling.now.plan.now places.now)) }
-        ensures said { OnOk result.1 (IsCountedRunPut self.now.asked.now (telling_of telling.now) places.now frame.shard frame.old
-            (run_rows self.now.asked.now.stop_after (judging_of telling.now.judge) telling.now.plan.now places.now)
-            (said F.placed O.taken E.taken E.failed to) (said F.placed O.taken E.taken E.failed result.0)) }
-        ensures part { (rows : List ARow) → rows ≡ run_rows self.now.asked.now.stop_after (judging_of telling.now.judge)
-            telling.now.plan.now places.now → OnErr result.1 ((F.placed result.0.files ≡ F.placed to.files)
-            ⊎ AreRunFilesPlacedInPart self.now.asked.now (telling_of telling.now) places.now frame.shard frame.old rows
+        requires lines { J.lines ≡ failure_lines (reporter_of reporter.now) }
+        requires whole { ForSome frame.old (λ rows. length rows ≡ length reporter.now.plan.now.jobs) }
+        ensures status { IfOk result.1 (λ status. status ≡ rows_status (judging_of reporter.now.judge) (run_rows
+            self.now.asked.now.stop_after (judging_of reporter.now.judge) reporter.now.plan.now places.now)) }
+        ensures outputs_of { OnOk result.1 (IsCountedRunPut self.now.asked.now (reporter_of reporter.now) places.now frame.shard frame.old
+            (run_rows self.now.asked.now.stop_after (judging_of reporter.now.judge) reporter.now.plan.now places.now)
+            (outputs_of F.placed O.taken E.taken E.failed to) (outputs_of F.placed O.taken E.taken E.failed result.0)) }
+        ensures part { (rows : List ARow) → rows ≡ run_rows self.now.asked.now.stop_after (judging_of reporter.now.judge)
+            reporter.now.plan.now places.now → OnErr result.1 ((F.placed result.0.files ≡ F.placed to.files)
+            ⊎ AreRunFilesPlacedInPart self.now.asked.now (reporter_of reporter.now) places.now frame.shard frame.old rows
             (F.placed to.files) (F.placed result.0.files)) }
         ensures stopped { IfErr result.1 (IsRunPutStop self.now.asked.now) }
     {
@@ -86,7 +86,7 @@ impl<'x, R: Threads + Wait + Sync + Clock, D: Inputs> ListRun<'x, R, D> {
             Err(stop) => return (to, Err(stop)),
         };
         let (mut to, shown, put) = self.run_into_files::<J, F, O, E, P>(
-            telling, places, frame, to, terminals,
+            reporter, places, frame, to, terminals,
         );
         let status = match put {
             Ok(status) => status,
@@ -95,7 +95,7 @@ impl<'x, R: Threads + Wait + Sync + Clock, D: Inputs> ListRun<'x, R, D> {
                 return (to, Err(stop));
             }
         };
-        match self.put_counts(telling.plan, &places[..shown], counts, &mut to) {
+        match self.put_counts(reporter.plan, &places[..shown], counts, &mut to) {
             Ok(()) => (to, Ok(status)),
             Err(stop) => (to, Err(stop)),
         }
@@ -103,14 +103,14 @@ impl<'x, R: Threads + Wait + Sync + Clock, D: Inputs> ListRun<'x, R, D> {
 
     // Runs them, and puts what is shown of them, their report and JUnit's file; and says how many of them were run.
     fn run_into_files<
-        J: RowLines + Send + Sync,
+        J: LinesSpec + Send + Sync,
         F: Outputs + Drop,
         O: Sink + Drop + Send,
         E: Sink + Drop + Send,
         P: Write + Drop + Send,
     >(
         &self,
-        telling: &RowTelling<'_>,
+        reporter: &TextReporter<'_>,
         places: &[usize],
         frame: ReportFrame,
         to: Destinations<F, O, E>,
@@ -118,21 +118,21 @@ impl<'x, R: Threads + Wait + Sync + Clock, D: Inputs> ListRun<'x, R, D> {
     ) -> (Destinations<F, O, E>, usize, Result<u8, Stop>)
     where
         F::File: Send,
-        requires within { AreJobPlaces telling.now.plan.now places.now }
+        requires within { AreJobIndices reporter.now.plan.now places.now }
         requires rising { IsStrictlyIncreasing places.now }
-        requires lines { J.lines ≡ failure_lines (telling_of telling.now) }
-        requires whole { ForSome frame.old (λ rows. length rows ≡ length telling.now.plan.now.jobs) }
+        requires lines { J.lines ≡ failure_lines (reporter_of reporter.now) }
+        requires whole { ForSome frame.old (λ rows. length rows ≡ length reporter.now.plan.now.jobs) }
         ensures shown { OnOk result.2 (result.1 ≡ length (run_rows
-            self.now.asked.now.stop_after (judging_of telling.now.judge) telling.now.plan.now places.now)) }
+            self.now.asked.now.stop_after (judging_of reporter.now.judge) reporter.now.plan.now places.now)) }
         ensures few { OnOk result.2 (result.1 ≤ length places.now) }
-        ensures status { IfOk result.2 (λ status. status ≡ rows_status (judging_of telling.now.judge) (run_rows
-            self.now.asked.now.stop_after (judging_of telling.now.judge) telling.now.plan.now places.now)) }
-        ensures said { OnOk result.2 (IsRunPut self.now.asked.now (telling_of telling.now) places.now frame.shard frame.old
-            (run_rows self.now.asked.now.stop_after (judging_of telling.now.judge) telling.now.plan.now places.now)
-            (said F.placed O.taken E.taken E.failed to) (said F.placed O.taken E.taken E.failed result.0)) }
-        ensures part { (rows : List ARow) → rows ≡ run_rows self.now.asked.now.stop_after (judging_of telling.now.judge)
-            telling.now.plan.now places.now → OnErr result.2 (AreFilesPlacedInPart (F.placed to.files) (F.placed result.0.files)
-            (Some (junit_file self.now.asked.now (telling_of telling.now) places.now rows))) }
+        ensures status { IfOk result.2 (λ status. status ≡ rows_status (judging_of reporter.now.judge) (run_rows
+            self.now.asked.now.stop_after (judging_of reporter.now.judge) reporter.now.plan.now places.now)) }
+        ensures outputs_of { OnOk result.2 (IsRunPut self.now.asked.now (reporter_of reporter.now) places.now frame.shard frame.old
+            (run_rows self.now.asked.now.stop_after (judging_of reporter.now.judge) reporter.now.plan.now places.now)
+            (outputs_of F.placed O.taken E.taken E.failed to) (outputs_of F.placed O.taken E.taken E.failed result.0)) }
+        ensures part { (rows : List ARow) → rows ≡ run_rows self.now.asked.now.stop_after (judging_of reporter.now.judge)
+            reporter.now.plan.now places.now → OnErr result.2 (AreFilesPartlyCommitted (F.placed to.files) (F.placed result.0.files)
+            (Some (junit_file self.now.asked.now (reporter_of reporter.now) places.now rows))) }
         ensures stopped { IfErr result.2 (IsRowsPutStop self.now.asked.now) }
     {
         let (alloc, asked) = (self.host.alloc, self.asked);
@@ -142,9 +142,9 @@ impl<'x, R: Threads + Wait + Sync + Clock, D: Inputs> ListRun<'x, R, D> {
             Ok(outlets) => outlets,
             Err(stop) => return (to, 0, Err(stop)),
         };
-        let kept = Mutex::new(KeptLines::<J>::new(alloc));
+        let kept = Mutex::new(RecordedLines::<J>::new(alloc));
         let planned = PlannedRun {
-            telling,
+            reporter,
             places,
             kept: &kept,
         };
@@ -169,7 +169,7 @@ impl<'x, R: Threads + Wait + Sync + Clock, D: Inputs> ListRun<'x, R, D> {
     // where their rows are put into another report.
     fn run_into_outlets<
         'o,
-        J: RowLines + Send + Sync,
+        J: LinesSpec + Send + Sync,
         F: Outputs + Drop,
         O: Sink + Drop + Send,
         E: Sink + Drop + Send,
@@ -189,17 +189,17 @@ impl<'x, R: Threads + Wait + Sync + Clock, D: Inputs> ListRun<'x, R, D> {
     where
         F::File: Send,
         ensures rows { IfOk result.2 (λ rows. rows ≡ run_rows self.now.asked.now.stop_after
-            (judging_of planned.now.telling.now.judge) planned.now.telling.now.plan.now planned.now.places.now) }
+            (judging_of planned.now.reporter.now.judge) planned.now.reporter.now.plan.now planned.now.places.now) }
         ensures few { IfOk result.2 (λ rows. length rows ≤ length planned.now.places.now) }
         ensures files { result.0.files ≡ to.files }
         ensures shown { OnOk result.2 (IsShown (uses_run_stdout self.now.asked.now) (run_output_text
-            (row_lines_at (telling_of planned.now.telling.now)) (judging_of planned.now.telling.now.judge)
+            (row_lines_at (reporter_of planned.now.reporter.now)) (judging_of planned.now.reporter.now.judge)
             planned.now.places.now (run_rows self.now.asked.now.stop_after
-            (judging_of planned.now.telling.now.judge) planned.now.telling.now.plan.now planned.now.places.now))
-            (said F.placed O.taken E.taken E.failed to) (said F.placed O.taken E.taken E.failed result.0)) }
+            (judging_of planned.now.reporter.now.judge) planned.now.reporter.now.plan.now planned.now.places.now))
+            (outputs_of F.placed O.taken E.taken E.failed to) (outputs_of F.placed O.taken E.taken E.failed result.0)) }
         ensures report { OnOk result.2 (IsPutInto F.File.taken F.File.failed outlets.entry.report result.1.report
             (rows_ahead frame.now.old planned.now.places.now (run_rows self.now.asked.now.stop_after
-            (judging_of planned.now.telling.now.judge) planned.now.telling.now.plan.now planned.now.places.now))) }
+            (judging_of planned.now.reporter.now.judge) planned.now.reporter.now.plan.now planned.now.places.now))) }
         ensures report_path { outlet_path result.1.report ≡ outlet_path outlets.entry.report }
         ensures junit { result.1.junit ≡ outlets.entry.junit }
         ensures stopped { IfErr result.2 (IsRowsStop (outlet_path outlets.entry.report)) }
@@ -232,7 +232,7 @@ impl<'x, R: Threads + Wait + Sync + Clock, D: Inputs> ListRun<'x, R, D> {
     }
 
     // Puts the two files of the rows of the jobs at some places, and gives the status of the rows.
-    fn put_run_files<J: RowLines, F: Outputs + Drop, O: Sink + Drop, E: Sink + Drop>(
+    fn put_run_files<J: LinesSpec, F: Outputs + Drop, O: Sink + Drop, E: Sink + Drop>(
         &self,
         planned: &PlannedRun<'_, J>,
         frame: ReportFrame,
@@ -241,54 +241,54 @@ impl<'x, R: Threads + Wait + Sync + Clock, D: Inputs> ListRun<'x, R, D> {
         to: &mut Destinations<F, O, E>,
     ) -> Result<u8, Stop>
         requires counted { length rows ≡ length planned.now.places.now }
-        requires whole { ForSome frame.old (λ rows. length rows ≡ length planned.now.telling.now.plan.now.jobs) }
+        requires whole { ForSome frame.old (λ rows. length rows ≡ length planned.now.reporter.now.plan.now.jobs) }
         requires report { has_no_failure F.File.failed outlets.report }
         requires junit { has_no_failure F.File.failed outlets.junit }
-        ensures status { IfOk result (λ status. status ≡ rows_status (judging_of planned.now.telling.now.judge) rows) }
+        ensures status { IfOk result (λ status. status ≡ rows_status (judging_of planned.now.reporter.now.judge) rows) }
         ensures errors { to.new.errors ≡ to.old.errors }
         ensures put { (report_path junit_path : Option (List ℕ))
-            → HasTaken F.place_path F.File.taken F.File.failed (F.placed to.old.files) report_path
+            → HasTaken F.pending_path F.File.taken F.File.failed (F.placed to.old.files) report_path
             (rows_ahead frame.old planned.now.places.now rows) outlets.entry.report
-            → HasTaken F.place_path F.File.taken F.File.failed (F.placed to.old.files) junit_path [] outlets.entry.junit
+            → HasTaken F.pending_path F.File.taken F.File.failed (F.placed to.old.files) junit_path [] outlets.entry.junit
             → OnOk result (Appends (O.taken to.old.out) (O.taken to.new.out)
-            (stdout_at junit_path (run_junit self.now.asked.now (telling_of planned.now.telling.now)
+            (stdout_at junit_path (run_junit self.now.asked.now (reporter_of planned.now.reporter.now)
             planned.now.places.now rows) ++ stdout_at report_path (run_report_text frame.old
-            (length planned.now.telling.now.plan.now.jobs) planned.now.places.now frame.shard rows))) }
+            (length planned.now.reporter.now.plan.now.jobs) planned.now.places.now frame.shard rows))) }
         ensures placed { (report_path junit_path : Option (List ℕ))
-            → HasTaken F.place_path F.File.taken F.File.failed (F.placed to.old.files) report_path
+            → HasTaken F.pending_path F.File.taken F.File.failed (F.placed to.old.files) report_path
             (rows_ahead frame.old planned.now.places.now rows) outlets.entry.report
-            → HasTaken F.place_path F.File.taken F.File.failed (F.placed to.old.files) junit_path [] outlets.entry.junit
-            → OnOk result (AreFilesPlaced (F.placed to.old.files) (F.placed to.new.files)
-            (Some (file_at junit_path (run_junit self.now.asked.now (telling_of planned.now.telling.now)
+            → HasTaken F.pending_path F.File.taken F.File.failed (F.placed to.old.files) junit_path [] outlets.entry.junit
+            → OnOk result (AreFilesCommitted (F.placed to.old.files) (F.placed to.new.files)
+            (Some (file_at junit_path (run_junit self.now.asked.now (reporter_of planned.now.reporter.now)
             planned.now.places.now rows) ++ file_at report_path (run_report_text frame.old
-            (length planned.now.telling.now.plan.now.jobs) planned.now.places.now frame.shard rows)))) }
+            (length planned.now.reporter.now.plan.now.jobs) planned.now.places.now frame.shard rows)))) }
         ensures part { (junit_path : Option (List ℕ))
-            → HasTaken F.place_path F.File.taken F.File.failed (F.placed to.old.files) junit_path [] outlets.entry.junit
-            → OnErr result (AreFilesPlacedInPart (F.placed to.old.files) (F.placed to.new.files)
-            (Some (file_at junit_path (run_junit self.now.asked.now (telling_of planned.now.telling.now)
+            → HasTaken F.pending_path F.File.taken F.File.failed (F.placed to.old.files) junit_path [] outlets.entry.junit
+            → OnErr result (AreFilesPartlyCommitted (F.placed to.old.files) (F.placed to.new.files)
+            (Some (file_at junit_path (run_junit self.now.asked.now (reporter_of planned.now.reporter.now)
             planned.now.places.now rows)))) }
         ensures stopped { IfErr result
             (IsPutStop (outlet_path outlets.entry.report) (outlet_path outlets.entry.junit)) }
     {
-        let (telling, places) = (planned.telling, planned.places);
-        let status = rows_status(&telling.judge, rows.as_slice());
-        let told = RowTelling {
+        let (reporter, places) = (planned.reporter, planned.places);
+        let status = rows_status(&reporter.judge, rows.as_slice());
+        let told = TextReporter {
             verbosity: Verbosity::Failures,
-            ..*telling
+            ..*reporter
         };
         let kept = planned.kept.lock(self.host.rt);
-        let recalling = RecallingTelling::new(&told, &kept);
+        let recalling = ReplayingReporter::new(&told, &kept);
         let chosen = ChosenRows {
-            jobs: telling.plan.jobs(),
+            jobs: reporter.plan.jobs(),
             places,
             rows,
         };
         let texts = FileTexts {
             suite: Suite {
                 name: suite_name(self.asked.suite, self.asked.list).as_bytes(),
-                judge: telling.judge,
+                judge: reporter.judge,
             },
-            telling: &recalling,
+            reporter: &recalling,
             places,
             report: framed_report(chosen, frame),
         };

@@ -15,13 +15,14 @@ ghost use Rattle.rvtest_app.specs.RunOutput.{run_output_text};
 ghost use Rattle.rvtest_app.specs.RunStops.{IsBothStop, IsRowsStop, IsStreamStop};
 
 use crate::outlets::unwritten_stop;
-use crate::report_telling::ReportTelling;
+use crate::report_row_reporter::ReportRowReporter;
 use rv_command::Stop;
 use rv_expect::Judge;
 use rv_fleet::{Batch, Crew, Row, Rows, Sink, put_all};
 use rv_job_text::push_run_totals_line;
 use rv_stream::{
-    BothError, FailureLimit, StreamError, Telling, ToldTo, stream_rows, stream_rows_to_both,
+    BothError, FailureLimit, ReporterOutput, RowReporter, StreamError, stream_rows,
+    stream_rows_to_both,
 };
 use std::alloc::Global;
 use std::io::ErrorKind;
@@ -40,7 +41,7 @@ pub(crate) struct RowsFile<N: Drop, V: Drop> {
 /// put failed, and with an error a beginning.
 pub(crate) fn put_run_output<
     R: Threads + Wait + Sync,
-    T: Telling + Sync,
+    T: RowReporter + Sync,
     N: Drop,
     V: Sink + Drop + Send,
     W: Sink + Drop + Send,
@@ -48,24 +49,24 @@ pub(crate) fn put_run_output<
     crew: &Crew<'_, R>,
     batch: &Batch<'_>,
     limit: &FailureLimit<'_>,
-    telling: &T,
+    reporter: &T,
     out: W,
     file: Option<RowsFile<N, V>>,
 ) -> (W, Option<RowsFile<N, V>>, Result<Rows, BothError>)
     ensures rows { IfOk result.2 (λ rows. rows ≡ rows_within limit.now (batch_rows batch.now)) }
     ensures few { IfOk result.2 (λ rows. length rows ≤ length batch.now.places.now) }
     ensures all { OnOk result.2 (Appends (W.taken out) (W.taken result.0)
-        (run_output_text (T.line telling.now) (judging_of limit.now.judge) batch.now.places.now
+        (run_output_text (T.line reporter.now) (judging_of limit.now.judge) batch.now.places.now
         (rows_within limit.now (batch_rows batch.now)))) }
     ensures counted { OnOk result.2 (W.failed result.0 ≡ W.failed out) }
     ensures part { OnErr result.2 (AppendsBeginning (W.taken out) (W.taken result.0)
-        (run_output_text (T.line telling.now) (judging_of limit.now.judge) batch.now.places.now
+        (run_output_text (T.line reporter.now) (judging_of limit.now.judge) batch.now.places.now
         (rows_within limit.now (batch_rows batch.now)))) }
     ensures report { OnOk result.2 (AreRowsPut V.taken V.failed file result.1
         (joined_row_texts row_text batch.now.places.now (rows_within limit.now (batch_rows batch.now)))) }
     ensures name { file_name result.1 ≡ file_name file }
 {
-    let (mut out, file, ran) = stream_with_file(crew, batch, limit, telling, out, file);
+    let (mut out, file, ran) = stream_with_file(crew, batch, limit, reporter, out, file);
     let rows = match ran {
         Ok(rows) => rows,
         Err(error) => return (out, file, Err(error)),
@@ -81,7 +82,7 @@ pub(crate) fn put_run_output<
 // Sends what is told of each job, without the last line, and what the report says of each to the file, if there is one.
 fn stream_with_file<
     R: Threads + Wait + Sync,
-    T: Telling + Sync,
+    T: RowReporter + Sync,
     N: Drop,
     V: Sink + Drop + Send,
     W: Sink + Drop + Send,
@@ -89,33 +90,33 @@ fn stream_with_file<
     crew: &Crew<'_, R>,
     batch: &Batch<'_>,
     limit: &FailureLimit<'_>,
-    telling: &T,
+    reporter: &T,
     out: W,
     file: Option<RowsFile<N, V>>,
 ) -> (W, Option<RowsFile<N, V>>, Result<Rows, BothError>)
     ensures rows { IfOk result.2 (λ rows. rows ≡ rows_within limit.now (batch_rows batch.now)) }
     ensures few { IfOk result.2 (λ rows. length rows ≤ length batch.now.places.now) }
     ensures all { OnOk result.2 (Appends (W.taken out) (W.taken result.0)
-        (joined_row_texts (T.line telling.now) batch.now.places.now (rows_within limit.now (batch_rows batch.now)))) }
+        (joined_row_texts (T.line reporter.now) batch.now.places.now (rows_within limit.now (batch_rows batch.now)))) }
     ensures counted { OnOk result.2 (W.failed result.0 ≡ W.failed out) }
     ensures part { OnErr result.2 (AppendsBeginning (W.taken out) (W.taken result.0)
-        (joined_row_texts (T.line telling.now) batch.now.places.now (rows_within limit.now (batch_rows batch.now)))) }
+        (joined_row_texts (T.line reporter.now) batch.now.places.now (rows_within limit.now (batch_rows batch.now)))) }
     ensures report { OnOk result.2 (AreRowsPut V.taken V.failed file result.1
         (joined_row_texts row_text batch.now.places.now (rows_within limit.now (batch_rows batch.now)))) }
     ensures name { file_name result.1 ≡ file_name file }
 {
     match file {
         Some(RowsFile { name, sink }) => {
-            let shown = ToldTo { telling, out };
-            let rows = ToldTo {
-                telling: &ReportTelling,
+            let shown = ReporterOutput { reporter, out };
+            let rows = ReporterOutput {
+                reporter: &ReportRowReporter,
                 out: sink,
             };
             let (out, sink, ran) = stream_rows_to_both(crew, batch, limit, shown, rows);
             (out, Some(RowsFile { name, sink }), ran)
         }
         None => {
-            let (out, ran) = stream_rows(crew, batch, limit, telling, out);
+            let (out, ran) = stream_rows(crew, batch, limit, reporter, out);
             match ran {
                 Ok(rows) => (out, None, Ok(rows)),
                 Err(error) => (out, None, Err(BothError::First(error))),

@@ -10,10 +10,10 @@ ghost use Rattle.rvtest_app.specs.PutStops.{IsOutputStop};
 ghost use Rattle.rvtest_app.specs.Commands.{report_judging};
 ghost use Rattle.rvtest_app.specs.RunOutput.{rows_status};
 ghost use Rattle.rvtest_app.specs.ReportSummary.{summary_text};
-ghost use Rattle.rvtest_app.specs.Outlets.{AreFilesPlacedInPart, file_at};
+ghost use Rattle.rvtest_app.specs.Outlets.{AreFilesPartlyCommitted, file_at};
 ghost use Rattle.rvtest_app.specs.Overwrites.{IsPlacedApart, IsShowFileApart, IsShowOverwriteStop};
 ghost use Rattle.rvtest_app.specs.Shows.{IsShownAt, IsUndoneShowAt, shown_junit};
-ghost use Rattle.rvtest_app.specs.Said.{said};
+ghost use Rattle.rvtest_app.specs.CommandOutputs.{outputs_of};
 
 use crate::destinations::Destinations;
 use crate::junit_class::suite_name;
@@ -29,7 +29,7 @@ use rv_files::{Inputs, Outputs};
 use rv_junit::Suite;
 use rv_report::SavedReport;
 use rv_rows::{Row, Sink};
-use rvtest_cli::ShowAsked;
+use rvtest_cli::ShowArgs;
 use std::alloc::{AllocError, Global};
 
 // A report that was read, with its summary and its status.
@@ -44,12 +44,12 @@ struct SummarizedReport {
 pub(crate) fn show_report<D: Inputs, F: Outputs + Drop, O: Sink + Drop, E: Sink + Drop>(
     inputs: &D,
     alloc: Global,
-    asked: ShowAsked<'_>,
+    asked: ShowArgs<'_>,
     to: &mut Destinations<F, O, E>,
 ) -> Result<u8, Stop>
     ensures low { IfOk result (λ status. status ≤ 1) }
     ensures shown { IfOk result (λ status. IsShownAt (D.contents inputs.now) asked.entry status
-        (said F.placed O.taken E.taken E.failed to.old) (said F.placed O.taken E.taken E.failed to.new)) }
+        (outputs_of F.placed O.taken E.taken E.failed to.old) (outputs_of F.placed O.taken E.taken E.failed to.new)) }
     ensures undone { OnErr result (IsUndoneShowAt (D.contents inputs.now) asked.entry
         (F.placed to.old.files) (F.placed to.new.files)) }
     ensures stopped { IfErr result (IsShowStop (D.contents inputs.now) asked.entry) }
@@ -74,7 +74,7 @@ pub(crate) fn show_report<D: Inputs, F: Outputs + Drop, O: Sink + Drop, E: Sink 
 fn refuse_show_overwrite<F: Outputs>(
     files: &F,
     alloc: Global,
-    asked: &ShowAsked<'_>,
+    asked: &ShowArgs<'_>,
 ) -> Result<(), Stop>
     ensures apart { OnOk result (IfSome (F.placed files.now) (λ _. IsShowFileApart asked.now)) }
     ensures stopped { IfErr result (IsShowOverwriteStop asked.now) }
@@ -90,7 +90,7 @@ fn refuse_show_overwrite<F: Outputs>(
 // A report with its summary and its status.
 fn summarize_report(
     alloc: Global,
-    asked: ShowAsked<'_>,
+    asked: ShowArgs<'_>,
     report: SavedReport,
 ) -> Result<SummarizedReport, AllocError>
     requires { length report.rows < 2 ^ 32 }
@@ -114,15 +114,15 @@ fn summarize_report(
 // Puts the summary, and the rows as JUnit's XML where that is asked for.
 fn put_summarized_report<F: Outputs + Drop, O: Sink + Drop, E: Sink + Drop>(
     alloc: Global,
-    asked: ShowAsked<'_>,
+    asked: ShowArgs<'_>,
     summarized: SummarizedReport,
     to: &mut Destinations<F, O, E>,
 ) -> Result<(), Stop>
     ensures put { OnOk result (WentOut None (optional_text asked.entry.junit) summarized.summary.items
         (report_text summarized.report.rows)
         (shown_junit asked.entry summarized.report.rows)
-        (said F.placed O.taken E.taken E.failed to.old) (said F.placed O.taken E.taken E.failed to.new)) }
-    ensures part { OnErr result (AreFilesPlacedInPart (F.placed to.old.files) (F.placed to.new.files)
+        (outputs_of F.placed O.taken E.taken E.failed to.old) (outputs_of F.placed O.taken E.taken E.failed to.new)) }
+    ensures part { OnErr result (AreFilesPartlyCommitted (F.placed to.old.files) (F.placed to.new.files)
         (Some (file_at (optional_text asked.entry.junit) (shown_junit asked.entry summarized.report.rows)))) }
     ensures stopped { IfErr result (IsOutputStop None (optional_text asked.entry.junit)) }
 {

@@ -5,13 +5,13 @@ ghost use Rattle.std.specs.List.{list_any};
 ghost use Rattle.rv_accept.specs.Runs.{row_or_none};
 ghost use Rattle.rv_command.specs.Texts.{optional_text};
 ghost use Rattle.rv_expect.specs.Comparisons.{sides_of};
-ghost use Rattle.rv_expect.specs.Telling.{is_same};
+ghost use Rattle.rv_expect.specs.RowReporter.{is_same};
 ghost use Rattle.rv_files.specs.UnreadPaths.{resolved_path};
 ghost use Rattle.rvtest_app.specs.Standings.{AreCandidates, IsCandidateAt, IsGoldenText, IsStanding, IsWholeText, compared_row, is_marked, is_none_unmet, path_to_read};
 ghost use Rattle.rvtest_app.specs.Standings.{sides_over, standing_by, standing_of};
 
 use crate::accepted_files::place_of_path;
-use rv_accept::{Acceptance, Candidate, Standing, console_path, is_accepted_end};
+use rv_accept::{Acceptance, Candidate, CurrentVerdict, console_path, is_accepted_end};
 use rv_expect::{Comparison, Unmet, unmet_expectations};
 use rv_files::{InputError, Inputs, read_whole_up_to};
 use rv_jobs::Job;
@@ -21,7 +21,7 @@ use std::alloc::{AllocError, Global};
 
 /// What runs without expectations are compared with.
 #[derive(Drop)]
-pub(crate) struct Standpoint<'x, D> {
+pub(crate) struct CurrentFiles<'x, D> {
     /// Golden files as they are.
     pub inputs: &'x D,
     pub alloc: Global,
@@ -31,7 +31,7 @@ pub(crate) struct Standpoint<'x, D> {
     pub rows: &'x [Option<Row>],
 }
 
-impl<'x, D: Inputs> Standpoint<'x, D> {
+impl<'x, D: Inputs> CurrentFiles<'x, D> {
     /// The jobs of the list, of which some are chosen, and how each stands.
     pub(crate) fn candidates(
         &self,
@@ -71,12 +71,12 @@ impl<'x, D: Inputs> Standpoint<'x, D> {
             }
             None => Ok(Candidate {
                 is_chosen,
-                standing: Standing::Fails,
+                standing: CurrentVerdict::Fails,
             }),
         }
     }
 
-    fn standing(&self, job: &Job, row: &Row) -> Result<Standing, AllocError>
+    fn standing(&self, job: &Job, row: &Row) -> Result<CurrentVerdict, AllocError>
         ensures { IfOk result (IsStanding (D.contents self.now.inputs.now) (optional_text self.now.folder)
             self.now.rows.now job.now row.now) }
     {
@@ -92,7 +92,7 @@ impl<'x, D: Inputs> Standpoint<'x, D> {
         row: &'r Row,
         console: Option<&'r [u8]>,
         signature: Option<&'r [u8]>,
-    ) -> Result<Standing, AllocError>
+    ) -> Result<CurrentVerdict, AllocError>
         ensures { IfOk result (λ standing. standing ≡ standing_of (sides_over self.now.rows.now job.now row.now
             (option_map (λ bytes. bytes.now) console.entry) (option_map (λ bytes. bytes.now) signature.entry))) }
     {
@@ -213,15 +213,15 @@ fn row_if_run(row: Option<&Option<Row>>) -> Option<&Row>
 }
 
 // How a job stands by whether it ran, and the expectations that its run does not meet.
-fn standing_by(ran: bool, unmet: &[Unmet]) -> Standing
+fn standing_by(ran: bool, unmet: &[Unmet]) -> CurrentVerdict
     ensures { result ≡ standing_by ran unmet.now }
 {
     if ran && is_none_unmet(unmet) {
-        Standing::Passes
+        CurrentVerdict::Passes
     } else if is_any_difference(unmet) {
-        Standing::Differs
+        CurrentVerdict::Differs
     } else {
-        Standing::Fails
+        CurrentVerdict::Fails
     }
 }
 

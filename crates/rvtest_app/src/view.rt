@@ -4,9 +4,9 @@ ghost use Rattle.std.specs.Prelude.{◌≡◌, ◌⊎◌, ◌≤◌, IfErr, IfOk
 ghost use Rattle.std.specs.List.Sorted.{IsStrictlyIncreasing};
 ghost use Rattle.rv_count_tables.specs.Table.{IsTable};
 ghost use Rattle.rv_cover_view.specs.JobImages.{AreSmall, images_of_files};
-ghost use Rattle.rv_fleet.specs.Choices.{AreJobPlaces};
+ghost use Rattle.rv_fleet.specs.Choices.{AreJobIndices};
 ghost use Rattle.rvtest_app.specs.Runs.{places_of_marks};
-ghost use Rattle.rvtest_app.specs.Said.{said};
+ghost use Rattle.rvtest_app.specs.CommandOutputs.{outputs_of};
 ghost use Rattle.rvtest_app.specs.ViewStops.{IsTextlessStop, IsUnshownStop, IsUnviewedStop, IsViewStop, counts_source};
 ghost use Rattle.rvtest_app.specs.Views.{IsViewOfPlaces, IsViewOfPlan, IsViewPut, IsViewText};
 
@@ -19,12 +19,12 @@ use crate::rules::failure_rule;
 use crate::run::{ListRun, gather_jobs_at};
 use rv_command::{DONE, Stop, put_message, put_results};
 use rv_count_tables::CountTable;
-use rv_cover_view::{ImageFile, cover_text, images_of_places};
-use rv_files::{Inputs, NotingStore, Outputs};
-use rv_jobs::{JobList, Plan, marked_places};
+use rv_cover_view::{ImageFile, cover_text, images_of_jobs};
+use rv_files::{Inputs, Outputs, RecordingStore};
+use rv_jobs::{JobList, Plan, selected_indices};
 use rv_profile::ProfileFormat;
 use rv_rows::Sink;
-use rvtest_cli::{ChoosingCommand, RunAsked};
+use rvtest_cli::{ChoosingCommand, RunArgs};
 use std::sync::Wait;
 use std::thread::Threads;
 
@@ -44,7 +44,7 @@ pub(crate) enum View {
 #[derive(Drop)]
 pub(crate) struct JobsView<'x, R, D> {
     pub(crate) host: &'x Host<'x, R, D>,
-    pub(crate) asked: &'x RunAsked<'x>,
+    pub(crate) asked: &'x RunArgs<'x>,
     pub(crate) view: View,
 }
 
@@ -57,7 +57,7 @@ impl<'x, R: Threads + Wait + Sync, D: Inputs> JobsView<'x, R, D> {
     ) -> Result<u8, Stop>
         ensures put { IfOk result (λ status. IsViewPut (D.contents self.now.host.now.inputs.now) self.now.asked.now
             self.now.view status
-            (said F.placed O.taken E.taken E.failed to.old) (said F.placed O.taken E.taken E.failed to.new)) }
+            (outputs_of F.placed O.taken E.taken E.failed to.old) (outputs_of F.placed O.taken E.taken E.failed to.new)) }
         ensures low { IfOk result (λ status. status ≤ 1) }
         ensures stopped { IfErr result (λ why. (why ≡ Stop.WriteFailed)
             ⊎ IsViewStop (D.contents self.now.host.now.inputs.now) self.now.asked.now self.now.view why) }
@@ -86,14 +86,14 @@ impl<'x, R: Threads + Wait + Sync, D: Inputs> JobsView<'x, R, D> {
         requires { length marks.now ≡ length jobs }
         ensures put { IfOk result (λ status. (status ≡ 0) × IsViewOfPlaces (D.contents self.now.host.now.inputs.now)
             self.now.asked.now self.now.view jobs (places_of_marks marks.now)
-            (said F.placed O.taken E.taken E.failed to.old) (said F.placed O.taken E.taken E.failed to.new)) }
+            (outputs_of F.placed O.taken E.taken E.failed to.old) (outputs_of F.placed O.taken E.taken E.failed to.new)) }
         ensures stopped { IfErr result (IsUnviewedStop (D.contents self.now.host.now.inputs.now) self.now.asked.now
             self.now.view jobs (places_of_marks marks.now)) }
     {
         let (alloc, inputs) = (self.host.alloc, self.host.inputs);
-        let marked = marked_places(alloc, marks)?;
+        let marked = selected_indices(alloc, marks)?;
         let places = marked.as_slice();
-        let mut store = NotingStore::new(inputs, alloc, self.asked.root);
+        let mut store = RecordingStore::new(inputs, alloc, self.asked.root);
         let plan = gather_jobs_at(alloc, jobs, places, &mut store)?;
         let note = refused_note(alloc, self.asked, &plan, store.unread_paths(), places)?;
         put_message(&mut to.errors, note.as_slice());
@@ -104,7 +104,7 @@ impl<'x, R: Threads + Wait + Sync, D: Inputs> JobsView<'x, R, D> {
 
     // What is shown of the images of the jobs at some places of a plan.
     fn text_of_places(&self, plan: &Plan, places: &[usize]) -> Result<Vec<u8>, Stop>
-        requires within { AreJobPlaces plan.now places.now }
+        requires within { AreJobIndices plan.now places.now }
         requires rising { IsStrictlyIncreasing places.now }
         requires small { AreSmall plan.now.answers }
         ensures shown { IfOk result (λ text. IsViewOfPlan (D.contents self.now.host.now.inputs.now) self.now.asked.now
@@ -112,7 +112,7 @@ impl<'x, R: Threads + Wait + Sync, D: Inputs> JobsView<'x, R, D> {
         ensures stopped { IfErr result (IsUnshownStop (D.contents self.now.host.now.inputs.now) self.now.asked.now
             self.now.view plan.now places.now) }
     {
-        let files = images_of_places(self.host.alloc, plan, places)?;
+        let files = images_of_jobs(self.host.alloc, plan, places)?;
         let images = files.as_slice();
         let table = self.table_for_images(plan, places, images)?;
         self.text_of_table(&table, images)
@@ -138,7 +138,7 @@ impl<'x, R, D> JobsView<'x, R, D> {
 }
 
 // Where counts come from: the table that words name, or the list.
-fn counts_source<'a>(asked: &RunAsked<'a>) -> &'a str
+fn counts_source<'a>(asked: &RunArgs<'a>) -> &'a str
     ensures { result.now ≡ counts_source asked.now }
 {
     match asked.counts {

@@ -6,7 +6,7 @@ ghost use Rattle.rv_command.specs.Texts.{optional_text};
 ghost use Rattle.rv_cover_view.specs.ImageCounts.{other_image};
 ghost use Rattle.rv_cover_view.specs.JobImages.{images_of, images_of_files};
 ghost use Rattle.rv_counting.specs.JobTables.{IsTableOfPlaces, jobs_at};
-ghost use Rattle.rv_fleet.specs.Choices.{AreJobPlaces};
+ghost use Rattle.rv_fleet.specs.Choices.{AreJobIndices};
 ghost use Rattle.rv_stacks.specs.StackTables.{IsTableWithStacks};
 ghost use Rattle.rvtest_app.specs.CountSums.{IsTableAt};
 ghost use Rattle.rvtest_app.specs.ViewStops.{IsNoTableStop, IsUncountedStop, IsUnfitTableStop, IsUnstackedJobsStop, IsUntabledStop, no_stacks_message, other_image_message};
@@ -18,15 +18,15 @@ use crate::host::Host;
 use crate::view::{JobsView, View};
 use rv_command::{Stop, path_message, read_result_file};
 use rv_count_tables::CountTable;
-use rv_counting::count_places;
+use rv_counting::count_batch;
 use rv_cover_view::{ImageFile, other_image};
 use rv_files::Inputs;
 use rv_fleet::Batch;
 use rv_jobs::Plan;
 use rv_profile::has_stacks;
-use rv_stacks::count_places_with_stacks;
+use rv_stacks::count_batch_with_stacks;
 use rv_text::{Span, text_of_spans};
-use rvtest_cli::RunAsked;
+use rvtest_cli::RunArgs;
 use std::alloc::{AllocError, Global};
 use std::sync::Wait;
 use std::thread::Threads;
@@ -39,7 +39,7 @@ impl<'x, R: Threads + Wait + Sync, D: Inputs> JobsView<'x, R, D> {
         places: &[usize],
         images: &[ImageFile<'_>],
     ) -> Result<CountTable, Stop>
-        requires within { AreJobPlaces plan.now places.now }
+        requires within { AreJobIndices plan.now places.now }
         requires rising { IsStrictlyIncreasing places.now }
         requires images { images_of_files images.now ≡ images_of plan.now.answers (jobs_at plan.now places.now) }
         ensures table { IfOk result (IsTableFor (D.contents self.now.host.now.inputs.now) self.now.view
@@ -55,7 +55,7 @@ impl<'x, R: Threads + Wait + Sync, D: Inputs> JobsView<'x, R, D> {
 
     // The counts of a run of the jobs at some places.
     fn count_jobs(&self, plan: &Plan, places: &[usize]) -> Result<CountTable, Stop>
-        requires within { AreJobPlaces plan.now places.now }
+        requires within { AreJobIndices plan.now places.now }
         requires rising { IsStrictlyIncreasing places.now }
         ensures counted { IfOk result (IsCountedFor self.now.view plan.now places.now) }
         ensures stopped { IfErr result (IsUncountedStop self.now.view plan.now places.now self.now.asked.now.list.now) }
@@ -86,32 +86,32 @@ impl<'x, R: Threads + Wait + Sync, D: Inputs> JobsView<'x, R, D> {
 // How often the instructions of the jobs at some places ran.
 fn counts_of_jobs<R: Threads + Wait + Sync, D>(
     host: &Host<'_, R, D>,
-    asked: &RunAsked<'_>,
+    asked: &RunArgs<'_>,
     plan: &Plan,
     places: &[usize],
 ) -> Result<CountTable, AllocError>
-    requires within { AreJobPlaces plan.now places.now }
+    requires within { AreJobIndices plan.now places.now }
     requires rising { IsStrictlyIncreasing places.now }
     ensures { IfOk result (IsTableOfPlaces plan.now places.now) }
 {
     let crew = requested_crew(host.rt, host.alloc, asked);
-    count_places(&crew, &Batch::new(plan, places))
+    count_batch(&crew, &Batch::new(plan, places))
 }
 
 // The counts of the jobs at some places, with their stacks.
 fn counts_with_stacks_of_jobs<R: Threads + Wait + Sync, D>(
     host: &Host<'_, R, D>,
-    asked: &RunAsked<'_>,
+    asked: &RunArgs<'_>,
     plan: &Plan,
     places: &[usize],
 ) -> Result<CountTable, Stop>
-    requires within { AreJobPlaces plan.now places.now }
+    requires within { AreJobIndices plan.now places.now }
     requires rising { IsStrictlyIncreasing places.now }
     ensures stacks { IfOk result (IsTableWithStacks plan.now places.now) }
     ensures stopped { IfErr result (IsUnstackedJobsStop plan.now places.now asked.now.list.now) }
 {
     let crew = requested_crew(host.rt, host.alloc, asked);
-    match count_places_with_stacks(&crew, &Batch::new(plan, places)) {
+    match count_batch_with_stacks(&crew, &Batch::new(plan, places)) {
         Ok(table) => Ok(table),
         Err(error) => Err(sum_error_stop(host.alloc, asked.list, error)),
     }
@@ -160,7 +160,7 @@ fn other_image_message<'a>(
             Span::Shown(table.as_bytes()),
             Span::Text(": "),
             Span::Shown(path.as_bytes()),
-            Span::Text(": another image than that of the chosen jobs\n"),
+            Span::Text(": the image differs from that of the selected jobs\n"),
         ],
     )
 }
@@ -168,7 +168,6 @@ fn other_image_message<'a>(
 fn no_stacks_message(alloc: Global, path: &str) -> Result<Vec<u8>, AllocError>
     ensures { IfOk result (λ text. text.items ≡ no_stacks_message path.now) }
 {
-    let what =
-        "a table without stacks: rvtest run LIST --counts FILE --stacks writes one with them";
+    let what = "the table has no stacks: write one with rvtest run LIST --counts FILE --stacks";
     path_message(alloc, path, what)
 }

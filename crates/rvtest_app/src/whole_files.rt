@@ -4,7 +4,7 @@ ghost use Rattle.std.specs.Prelude.{◌≡◌, ◌++◌, [], ℕ, List, Option, 
 ghost use Rattle.std.specs.Io.KnownBytes.{Appends};
 ghost use Rattle.rv_expect.specs.Judgement.{judging_of};
 ghost use Rattle.rv_report.specs.Report.{report_text};
-ghost use Rattle.rvtest_app.specs.Outlets.{AreFilesPlaced, AreFilesPlacedInPart, HasTaken, file_at, has_no_failure, outlet_path, stdout_at};
+ghost use Rattle.rvtest_app.specs.Outlets.{AreFilesCommitted, AreFilesPartlyCommitted, HasTaken, file_at, has_no_failure, outlet_path, stdout_at};
 ghost use Rattle.rvtest_app.specs.PutStops.{IsPutStop};
 ghost use Rattle.rvtest_app.specs.JunitTexts.{failures_junit};
 
@@ -33,20 +33,20 @@ pub(crate) fn put_whole_files<F: Outputs + Drop, O: Sink + Drop, E: Sink + Drop>
     requires junit { has_no_failure F.File.failed outlets.junit }
     ensures errors { to.new.errors ≡ to.old.errors }
     ensures put { (report_path junit_path : Option (List ℕ))
-        → HasTaken F.place_path F.File.taken F.File.failed (F.placed to.old.files) report_path [] outlets.entry.report
-        → HasTaken F.place_path F.File.taken F.File.failed (F.placed to.old.files) junit_path [] outlets.entry.junit
+        → HasTaken F.pending_path F.File.taken F.File.failed (F.placed to.old.files) report_path [] outlets.entry.report
+        → HasTaken F.pending_path F.File.taken F.File.failed (F.placed to.old.files) junit_path [] outlets.entry.junit
         → OnOk result (Appends (O.taken to.old.out) (O.taken to.new.out)
         (stdout_at junit_path (failures_junit suite.entry.name.now (judging_of suite.entry.judge) rows)
         ++ stdout_at report_path (report_text rows))) }
     ensures placed { (report_path junit_path : Option (List ℕ))
-        → HasTaken F.place_path F.File.taken F.File.failed (F.placed to.old.files) report_path [] outlets.entry.report
-        → HasTaken F.place_path F.File.taken F.File.failed (F.placed to.old.files) junit_path [] outlets.entry.junit
-        → OnOk result (AreFilesPlaced (F.placed to.old.files) (F.placed to.new.files)
+        → HasTaken F.pending_path F.File.taken F.File.failed (F.placed to.old.files) report_path [] outlets.entry.report
+        → HasTaken F.pending_path F.File.taken F.File.failed (F.placed to.old.files) junit_path [] outlets.entry.junit
+        → OnOk result (AreFilesCommitted (F.placed to.old.files) (F.placed to.new.files)
         (Some (file_at junit_path (failures_junit suite.entry.name.now (judging_of suite.entry.judge) rows)
         ++ file_at report_path (report_text rows)))) }
     ensures part { (junit_path : Option (List ℕ))
-        → HasTaken F.place_path F.File.taken F.File.failed (F.placed to.old.files) junit_path [] outlets.entry.junit
-        → OnErr result (AreFilesPlacedInPart (F.placed to.old.files) (F.placed to.new.files)
+        → HasTaken F.pending_path F.File.taken F.File.failed (F.placed to.old.files) junit_path [] outlets.entry.junit
+        → OnErr result (AreFilesPartlyCommitted (F.placed to.old.files) (F.placed to.new.files)
         (Some (file_at junit_path (failures_junit suite.entry.name.now (judging_of suite.entry.judge) rows)))) }
     ensures stopped { IfErr result
         (IsPutStop (outlet_path outlets.entry.report) (outlet_path outlets.entry.junit)) }
@@ -61,7 +61,7 @@ pub(crate) fn put_whole_files<F: Outputs + Drop, O: Sink + Drop, E: Sink + Drop>
     let lines = FailedLines { judge: suite.judge };
     let texts = FileTexts {
         suite,
-        telling: &lines,
+        reporter: &lines,
         places: places.as_slice(),
         report: ReportText::Whole(rows),
     };

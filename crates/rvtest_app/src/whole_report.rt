@@ -35,7 +35,7 @@ pub(crate) struct OtherName<'a> {
     pub(crate) listed: &'a str,
 }
 
-const WANTED: &str = ": --into takes the whole report of the list\n";
+const WANTED: &str = ": --into expects a report of the whole list\n";
 
 /// The rows of the report at a path, which has one of each job of the list at another, in their order.
 pub(crate) fn read_whole_report<D: Inputs>(
@@ -160,7 +160,7 @@ fn count_refusal<'a>(
             Span::Shown(path.as_bytes()),
             Span::Text(": "),
             Span::Number(rows as u64),
-            Span::Text(" rows, and "),
+            Span::Text(" rows, but "),
             Span::Shown(list.as_bytes()),
             Span::Text(" has "),
             Span::Number(jobs as u64),
@@ -188,7 +188,7 @@ fn name_refusal<'a>(
             Span::Number(name.number as u64),
             Span::Text(" is \""),
             Span::Text(name.met),
-            Span::Text("\", and \""),
+            Span::Text("\", but \""),
             Span::Text(name.listed),
             Span::Text("\" in "),
             Span::Shown(list.as_bytes()),

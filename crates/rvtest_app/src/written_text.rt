@@ -2,11 +2,11 @@
 
 ghost use Rattle.std.specs.Prelude.{◌≡◌, ◌⊎◌, ◌∷◌, [], ℕ, List, None, Option, IfErr, IfSome, OnErr, OnOk, Some, true};
 ghost use Rattle.rv_command.specs.Texts.{optional_text};
-ghost use Rattle.rv_files.specs.Placed.{PlacedFile, placed_file};
+ghost use Rattle.rv_files.specs.Placed.{CommittedFile, placed_file};
 ghost use Rattle.rvtest_app.specs.AcceptStops.{IsUnmadeStop};
-ghost use Rattle.rvtest_app.specs.Outlets.{AreFilesPlaced, HasTaken, is_stdout, outlet_path};
+ghost use Rattle.rvtest_app.specs.Outlets.{AreFilesCommitted, HasTaken, is_stdout, outlet_path};
 ghost use Rattle.rvtest_app.specs.PutStops.{IsFileStop};
-ghost use Rattle.rvtest_app.specs.Said.{said, where_told};
+ghost use Rattle.rvtest_app.specs.CommandOutputs.{outputs_of, where_told};
 ghost use Rattle.rvtest_app.specs.WrittenTexts.{IsUnwrittenAtStop, IsWrittenAt, written_path};
 
 use crate::destinations::Destinations;
@@ -24,7 +24,7 @@ pub(crate) fn write_text<F: Outputs + Drop, O: Sink + Drop, E: Sink + Drop>(
     bytes: &[u8],
 ) -> Result<(), Stop>
     ensures written { OnOk result (IsWrittenAt (Some (written_path (optional_text path.entry))) bytes.now
-        (said F.placed O.taken E.taken E.failed to.old) (said F.placed O.taken E.taken E.failed to.new)) }
+        (outputs_of F.placed O.taken E.taken E.failed to.old) (outputs_of F.placed O.taken E.taken E.failed to.new)) }
     ensures errors { to.new.errors ≡ to.old.errors }
     ensures untouched { (is_stdout (written_path (optional_text path.entry)) ≡ true) ⊎ (to.new.out ≡ to.old.out) }
     ensures same { OnErr result (F.placed to.new.files ≡ F.placed to.old.files) }
@@ -40,7 +40,7 @@ fn write_text_at<F: Outputs + Drop, O: Sink + Drop, E: Sink + Drop>(
     bytes: &[u8],
 ) -> Result<(), Stop>
     ensures written { OnOk result (IsWrittenAt (Some path.now) bytes.now
-        (said F.placed O.taken E.taken E.failed to.old) (said F.placed O.taken E.taken E.failed to.new)) }
+        (outputs_of F.placed O.taken E.taken E.failed to.old) (outputs_of F.placed O.taken E.taken E.failed to.new)) }
     ensures errors { to.new.errors ≡ to.old.errors }
     ensures untouched { (is_stdout path.now ≡ true) ⊎ (to.new.out ≡ to.old.out) }
     ensures same { OnErr result (F.placed to.new.files ≡ F.placed to.old.files) }
@@ -60,7 +60,7 @@ pub(crate) fn write_file<F: Outputs>(
     path: &str,
     bytes: &[u8],
 ) -> Result<(), Stop>
-    ensures placed { OnOk result (AreFilesPlaced (F.placed files.old) (F.placed files.new)
+    ensures placed { OnOk result (AreFilesCommitted (F.placed files.old) (F.placed files.new)
         (Some (placed_file path.now bytes.now ∷ []))) }
     ensures same { OnErr result (F.placed files.new ≡ F.placed files.old) }
     ensures stopped { IfErr result (IsUnmadeStop path.now) }
@@ -79,9 +79,9 @@ pub(crate) fn finish_file<F: Outputs>(
     bytes: &[u8],
 ) -> Result<(), Stop>
     requires unfailed { F.File.failed file.sink ≡ 0 }
-    requires named { file.path.now ≡ F.place_path file.place }
+    requires named { file.path.now ≡ F.pending_path file.place }
     ensures placed { IfSome (F.placed files.old) (λ _. F.File.taken file.entry.sink ≡ Some [])
-        → OnOk result (AreFilesPlaced (F.placed files.old) (F.placed files.new)
+        → OnOk result (AreFilesCommitted (F.placed files.old) (F.placed files.new)
         (Some (placed_file file.entry.path.now bytes.now ∷ []))) }
     ensures same { OnErr result (F.placed files.new ≡ F.placed files.old) }
     ensures stopped { IfErr result (IsUnmadeStop file.entry.path.now) }
@@ -116,11 +116,11 @@ pub(crate) fn put_into_outlet<F: Outputs + Drop, O: Sink + Drop, E: Sink + Drop>
     outlet: Outlet<'_, F::Place, F::File>,
     bytes: &[u8],
 ) -> Result<(), Stop>
-    requires { (path : Option (List ℕ)) × HasTaken F.place_path F.File.taken F.File.failed None path [] outlet }
-    ensures written { (path : Option (List ℕ)) (earlier : Option (List PlacedFile))
-        → HasTaken F.place_path F.File.taken F.File.failed earlier path [] outlet.entry → OnOk result (IsWrittenAt path bytes.now
-        (where_told earlier (said F.placed O.taken E.taken E.failed to.old))
-        (said F.placed O.taken E.taken E.failed to.new)) }
+    requires { (path : Option (List ℕ)) × HasTaken F.pending_path F.File.taken F.File.failed None path [] outlet }
+    ensures written { (path : Option (List ℕ)) (earlier : Option (List CommittedFile))
+        → HasTaken F.pending_path F.File.taken F.File.failed earlier path [] outlet.entry → OnOk result (IsWrittenAt path bytes.now
+        (where_told earlier (outputs_of F.placed O.taken E.taken E.failed to.old))
+        (outputs_of F.placed O.taken E.taken E.failed to.new)) }
     ensures errors { to.new.errors ≡ to.old.errors }
     ensures same { OnErr result (F.placed to.new.files ≡ F.placed to.old.files) }
     ensures stopped { IfErr result (λ why. (why ≡ Stop.WriteFailed) ⊎ IsFileStop (outlet_path outlet.entry) why) }

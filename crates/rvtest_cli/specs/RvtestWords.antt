@@ -18,15 +18,15 @@ use Rattle.rvtest_cli.specs.declared.words_error.WordsError.TheVariants as error
 use Rattle.rv_cli.specs.Values.{argument_values, is_flag_set, is_option_given, number_value}
 use Rattle.rvtest_cli.specs.declared.requests.Asked.{Asked}
 use Rattle.rvtest_cli.specs.declared.requests.Asked.TheVariants as asked
-use Rattle.rvtest_cli.specs.declared.run.RunAsked.{RunAsked}
-use Rattle.rvtest_cli.specs.declared.accept.AcceptAsked.{AcceptAsked}
-use Rattle.rvtest_cli.specs.declared.counts.CountsAsked.{CountsAsked}
-use Rattle.rvtest_cli.specs.declared.cover.CoverAsked.{CoverAsked}
-use Rattle.rvtest_cli.specs.declared.explain.ExplainAsked.{ExplainAsked}
-use Rattle.rvtest_cli.specs.declared.merge.MergeAsked.{MergeAsked}
-use Rattle.rvtest_cli.specs.declared.profile.ProfileAsked.{ProfileAsked}
-use Rattle.rvtest_cli.specs.declared.show.ShowAsked.{ShowAsked}
-use Rattle.rvtest_cli.specs.declared.diff.DiffAsked.{DiffAsked}
+use Rattle.rvtest_cli.specs.declared.run.RunArgs.{RunArgs}
+use Rattle.rvtest_cli.specs.declared.accept.AcceptArgs.{AcceptArgs}
+use Rattle.rvtest_cli.specs.declared.counts.CountsArgs.{CountsArgs}
+use Rattle.rvtest_cli.specs.declared.cover.CoverArgs.{CoverArgs}
+use Rattle.rvtest_cli.specs.declared.explain.ExplainArgs.{ExplainArgs}
+use Rattle.rvtest_cli.specs.declared.merge.MergeArgs.{MergeArgs}
+use Rattle.rvtest_cli.specs.declared.profile.ProfileArgs.{ProfileArgs}
+use Rattle.rvtest_cli.specs.declared.show.ShowArgs.{ShowArgs}
+use Rattle.rvtest_cli.specs.declared.diff.DiffArgs.{DiffArgs}
 use Rattle.std.specs.Borrow.{Bor}
 
 -- ---- what words ask for
@@ -471,30 +471,30 @@ misuse_text misuse.VerboseAndQuiet = codes "the argument '--verbose' cannot be u
 misuse_text misuse.ShardAndChoice =
     codes "the argument '--shard <K/N>' cannot be used with '--only <NAME>', '--match <REGEX>', '--exclude <REGEX>' or '--failed <REPORT>'"
 misuse_text misuse.NameAndChoice =
-    codes "the argument '[NAME]' cannot be used with '--only <NAME>', '--match <REGEX>', '--exclude <REGEX>', '--failed <REPORT>' or '--shard <K/N>': it is one job"
+    codes "the argument '[NAME]' cannot be used with '--only <NAME>', '--match <REGEX>', '--exclude <REGEX>', '--failed <REPORT>' or '--shard <K/N>': it already selects one job"
 misuse_text misuse.StampAlone = codes "the argument '--stamp <TEXT>' cannot be used without '--shard <K/N>'"
 misuse_text misuse.BudgetAndRows =
-    codes "the argument '--budget <N>' cannot be used with '--into <FILE>', '--report <FILE>', '--junit <FILE>' or '--shard <K/N>': such rows are not the list's"
+    codes "the argument '--budget <N>' cannot be used with '--into <FILE>', '--report <FILE>', '--junit <FILE>' or '--shard <K/N>': results with an overridden budget are not saved"
 misuse_text misuse.StopAfterAndShard =
-    codes "the argument '--stop-after <N>' cannot be used with '--shard <K/N>': a part has a row of each of its jobs"
+    codes "the argument '--stop-after <N>' cannot be used with '--shard <K/N>': a part has a row for each of its jobs"
 misuse_text misuse.IntoAndReport =
-    codes "the argument '--into <FILE>' cannot be used with '--report <FILE>' or '--shard <K/N>': it is the report that is written"
+    codes "the argument '--into <FILE>' cannot be used with '--report <FILE>' or '--shard <K/N>': it already names the report to write"
 misuse_text misuse.IntoStdout =
-    codes "the value of '--into <FILE>' is a file, and not '-': the report is read there before it is written"
+    codes "invalid value '-' for '--into <FILE>': expected a file, since the report is read before it is written"
 misuse_text misuse.FailedIsReport =
-    codes "the argument '--report <FILE>' cannot be used with '--failed <REPORT>' of the same name: the rows of the other jobs would be lost; '--into <FILE>' keeps them"
+    codes "the argument '--report <FILE>' cannot name the same file as '--failed <REPORT>': the rows of the other jobs would be lost; use '--into <FILE>' to keep them"
 misuse_text misuse.PartialAlone = codes "the argument '--partial' cannot be used without '--failed <REPORT>'"
 misuse_text misuse.StepsAndSlower = codes "the argument '--steps' cannot be used with '--slower <N>'"
 misuse_text misuse.StacksAlone = codes "the argument '--stacks' cannot be used without '--counts <FILE>'"
 misuse_text misuse.SuiteAlone = codes "the argument '--suite <NAME>' cannot be used without '--junit <FILE>'"
 misuse_text misuse.NamelessSuite = codes "a value is required for '--suite <NAME>' but none was supplied"
-misuse_text misuse.UnknownColor = codes "the value of '--color <WHEN>' is always, never or auto"
+misuse_text misuse.UnknownColor = codes "invalid value for '--color <WHEN>': expected always, never or auto"
 misuse_text misuse.OneFile =
-    codes "the argument '--report <FILE>' cannot be used with '--junit <FILE>' of the same name: it is one file"
+    codes "the argument '--report <FILE>' cannot name the same file as '--junit <FILE>'"
 misuse_text misuse.IntoOneFile =
-    codes "the argument '--into <FILE>' cannot be used with '--junit <FILE>' of the same name: it is one file"
+    codes "the argument '--into <FILE>' cannot name the same file as '--junit <FILE>'"
 misuse_text misuse.CountsOneFile =
-    codes "the argument '--counts <FILE>' cannot be used with '--report <FILE>', '--into <FILE>', '--junit <FILE>' or '--failed <REPORT>' of the same name: it is one file"
+    codes "the argument '--counts <FILE>' cannot name the same file as '--report <FILE>', '--into <FILE>', '--junit <FILE>' or '--failed <REPORT>'"
 
 -- which options of a subcommand with these values do not go together, if any
 abbrev pub subcommand_misuse : Text → List Row → Option Misuse
@@ -538,7 +538,7 @@ FailsByMisuse misuse result = MatchResult result (λ _. misuse ≡ None) (IsMisu
 abbrev pub borrowed_text : Option (Bor Text) → Option Text
 borrowed_text text = option_map (λ t. t.now) text
 
-abbrev pub run_asked_words : RunAsked → RunWords
+abbrev pub run_asked_words : RunArgs → RunWords
 run_asked_words value = record {
   list = value.list.now;
   only = map (λ name. name.now) value.only.items;
@@ -567,7 +567,7 @@ run_asked_words value = record {
   color = borrowed_text value.color;
 }
 
-abbrev pub explain_asked_words : ExplainAsked → ExplainWords
+abbrev pub explain_asked_words : ExplainArgs → ExplainWords
 explain_asked_words value = record {
   list = value.list.now;
   name = value.name.now;
@@ -577,7 +577,7 @@ explain_asked_words value = record {
   color = borrowed_text value.color;
 }
 
-abbrev pub merge_asked_words : MergeAsked → MergeWords
+abbrev pub merge_asked_words : MergeArgs → MergeWords
 merge_asked_words value = record {
   parts = map (λ path. path.now) value.parts.items;
   report = borrowed_text value.report;
@@ -586,7 +586,7 @@ merge_asked_words value = record {
   lenient = value.lenient;
 }
 
-abbrev pub show_asked_words : ShowAsked → ShowWords
+abbrev pub show_asked_words : ShowArgs → ShowWords
 show_asked_words value = record {
   report = value.report.now;
   partial = value.partial;
@@ -596,7 +596,7 @@ show_asked_words value = record {
   color = borrowed_text value.color;
 }
 
-abbrev pub diff_asked_words : DiffAsked → DiffWords
+abbrev pub diff_asked_words : DiffArgs → DiffWords
 diff_asked_words value = record {
   old = value.old.now;
   new = value.new.now;
@@ -606,13 +606,13 @@ diff_asked_words value = record {
   color = borrowed_text value.color;
 }
 
-abbrev pub counts_asked_words : CountsAsked → CountsWords
+abbrev pub counts_asked_words : CountsArgs → CountsWords
 counts_asked_words value = record {
   tables = map (λ path. path.now) value.tables.items;
   out = borrowed_text value.out;
 }
 
-abbrev pub accept_asked_words : AcceptAsked → AcceptWords
+abbrev pub accept_asked_words : AcceptArgs → AcceptWords
 accept_asked_words value = record {
   run = run_asked_words value.run;
   ends = value.ends;
@@ -620,10 +620,10 @@ accept_asked_words value = record {
   outside = value.outside;
 }
 
-abbrev pub cover_asked_words : CoverAsked → CoverWords
+abbrev pub cover_asked_words : CoverArgs → CoverWords
 cover_asked_words value = record { run = run_asked_words value.run; csv = value.csv }
 
-abbrev pub profile_asked_words : ProfileAsked → ProfileWords
+abbrev pub profile_asked_words : ProfileArgs → ProfileWords
 profile_asked_words value = record { run = run_asked_words value.run; top = value.top; csv = value.csv }
 
 abbrev pub asked_words : Asked → Words
@@ -647,7 +647,7 @@ abbrev pub IsBudgetInRange : Option ℕ → Type 0
 IsBudgetInRange budget = IfSome budget (λ steps. (1 ≤ steps) × (steps ≤ most_budget))
 
 -- each number is within the range of its argument
-abbrev pub IsRunAskedInRange : RunAsked → Type 0
+abbrev pub IsRunAskedInRange : RunArgs → Type 0
 IsRunAskedInRange value = IfSome value.workers (λ number. (1 ≤ number) × (number ≤ most_workers))
     × (1 ≤ value.group) × (value.group ≤ most_group) × IfSome value.last (λ number. number ≤ most_last_instructions)
     × IsBudgetInRange value.budget × IfSome value.stop_after (λ number. (1 ≤ number) × (number ≤ most_jobs))

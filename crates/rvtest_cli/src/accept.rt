@@ -7,7 +7,7 @@ ghost use Rattle.rvtest_cli.specs.RvtestWords.{ReadsRequest, accept_request, cho
 use crate::command::accept_command;
 use crate::refusals::choice_misuse;
 use crate::requests::Asked;
-use crate::run::{RunAsked, run_asked};
+use crate::run::{RunArgs, run_asked};
 use crate::words_error::WordsError;
 use clap::ArgMatches;
 use rv_base::limits::MOST_GROUP;
@@ -16,9 +16,9 @@ use std::alloc::Global;
 
 /// The jobs of a list whose runs are accepted, and how.
 #[derive(Drop)]
-pub struct AcceptAsked<'a> {
+pub struct AcceptArgs<'a> {
     /// The jobs, and how they run. What `accept` has no option for is as in a run without options.
-    pub run: RunAsked<'a>,
+    pub run: RunArgs<'a>,
     /// Whether another exit code, or another kind of fault, is accepted too.
     pub ends: bool,
     /// Whether changes are told alone, and nothing is written.
@@ -54,7 +54,7 @@ fn valid_accept_request<'a>(
         return Ok(None);
     };
     let run = run_asked(alloc, values, list, group)?;
-    Ok(Some(Asked::Accept(AcceptAsked {
+    Ok(Some(Asked::Accept(AcceptArgs {
         run,
         ends: is_flag_set(values, "ends"),
         check: is_flag_set(values, "check"),

@@ -9,7 +9,7 @@ use rv_cli::values::text_value;
 
 /// The list of which all that is wrong is to be said.
 #[derive(Clone, Copy)]
-pub struct CheckAsked<'a> {
+pub struct CheckArgs<'a> {
     /// Path of the job list.
     pub list: &'a str,
     /// The folder from which the paths in the list are taken.
@@ -22,5 +22,5 @@ pub(crate) fn check_request<'a>(values: &ArgMatches<'a>) -> Option<Asked<'a>>
 {
     let list = text_value(values, "list")?;
     let root = text_value(values, "root");
-    Some(Asked::Check(CheckAsked { list, root }))
+    Some(Asked::Check(CheckArgs { list, root }))
 }

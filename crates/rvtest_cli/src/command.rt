@@ -37,7 +37,7 @@ fn top_command<'a>(alloc: Global) -> Built<'a>
     Command::new(alloc, "rvtest")
         .subcommand_required(true)
         .disable_help_subcommand(true)
-        .about("Runs lists of firmware tests, and says what failed and why")
+        .about("Run lists of firmware tests and show what failed and why")
         .version("1.0.0")
         .bin_name("rvtest")
 }

@@ -9,7 +9,7 @@ use rv_cli::values::text_value;
 
 /// The job whose console is asked for.
 #[derive(Clone, Copy)]
-pub struct ConsoleAsked<'a> {
+pub struct ConsoleArgs<'a> {
     /// Path of the job list.
     pub list: &'a str,
     /// The job's name.
@@ -25,5 +25,5 @@ pub(crate) fn console_request<'a>(values: &ArgMatches<'a>) -> Option<Asked<'a>>
     let list = text_value(values, "list")?;
     let name = text_value(values, "name")?;
     let root = text_value(values, "root");
-    Some(Asked::Console(ConsoleAsked { list, name, root }))
+    Some(Asked::Console(ConsoleArgs { list, name, root }))
 }

@@ -12,7 +12,7 @@ use std::alloc::Global;
 
 /// The tables of counts that are to be added up.
 #[derive(Drop)]
-pub struct CountsAsked<'a> {
+pub struct CountsArgs<'a> {
     /// Paths of the tables.
     pub tables: Vec<&'a str>,
     /// Path of the sum that is written; absent, or `-`: standard output.
@@ -28,5 +28,5 @@ pub(crate) fn counts_request<'a>(
 {
     let out = text_value(values, "out");
     let tables = argument_values(alloc, values, "table")?;
-    Ok(Some(Asked::Counts(CountsAsked { tables, out })))
+    Ok(Some(Asked::Counts(CountsArgs { tables, out })))
 }

@@ -7,7 +7,7 @@ ghost use Rattle.rvtest_cli.specs.RvtestWords.{ReadsRequest, cover_misuse, cover
 use crate::command::cover_command;
 use crate::refusals::{Misuse, choice_misuse};
 use crate::requests::Asked;
-use crate::run::{RunAsked, is_choice_given, run_asked};
+use crate::run::{RunArgs, is_choice_given, run_asked};
 use crate::words_error::WordsError;
 use clap::ArgMatches;
 use rv_base::limits::MOST_GROUP;
@@ -16,10 +16,10 @@ use std::alloc::Global;
 
 /// The jobs of a list of whose images it is shown what ran, and how.
 #[derive(Drop)]
-pub struct CoverAsked<'a> {
+pub struct CoverArgs<'a> {
     /// The jobs, and how they run; where there are counts, they are the path of a table that is read in place of a run. What `cover`
     /// has no option for is as in a run without options.
-    pub run: RunAsked<'a>,
+    pub run: RunArgs<'a>,
     /// Whether it is written for tools.
     pub csv: bool,
 }
@@ -52,7 +52,7 @@ fn valid_cover_request<'a>(
     };
     let run = run_asked(alloc, values, list, group)?;
     let csv = is_flag_set(values, "csv");
-    Ok(Some(Asked::Cover(CoverAsked { run, csv })))
+    Ok(Some(Asked::Cover(CoverArgs { run, csv })))
 }
 
 /// The first rule that the options of `cover` break.

@@ -14,7 +14,7 @@ use std::alloc::Global;
 
 /// Two reports that are to be compared.
 #[derive(Clone, Copy)]
-pub struct DiffAsked<'a> {
+pub struct DiffArgs<'a> {
     /// Path of the report that is compared with.
     pub old: &'a str,
     /// Path of the report that is compared.
@@ -52,7 +52,7 @@ fn valid_diff_request<'a>(values: &ArgMatches<'a>) -> Option<Asked<'a>>
     let steps = is_flag_set(values, "steps");
     let slower = number_value(values, "slower", 0, 1_000);
     let color = text_value(values, "color");
-    Some(Asked::Diff(DiffAsked {
+    Some(Asked::Diff(DiffArgs {
         old,
         new,
         partial,

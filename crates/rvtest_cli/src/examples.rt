@@ -9,8 +9,8 @@ Examples:
 Status:
   0  No job failed
   1  A job failed
-  2  The words, the list or a report is refused
-  3  The system failed: memory, a thread or a file";
+  2  Invalid arguments, list or report
+  3  System error: memory, a thread or a file";
 
 pub(crate) const LIST: &str = "\
 Examples:
@@ -19,8 +19,8 @@ Examples:
 
 Status:
   0  The names were printed, or no job failed in the report
-  2  The words, the list or a report is refused
-  3  The system failed: memory or a file";
+  2  Invalid arguments, list or report
+  3  System error: memory or a file";
 
 pub(crate) const EXPLAIN: &str = "\
 Examples:
@@ -30,8 +30,8 @@ Examples:
 Status:
   0  The job passes by the strict rule
   1  The job fails by the strict rule
-  2  The words, the list or the name is refused
-  3  The system failed: memory or a file";
+  2  Invalid arguments or list, or unknown job name
+  3  System error: memory or a file";
 
 pub(crate) const CONSOLE: &str = "\
 Examples:
@@ -41,17 +41,17 @@ Examples:
 Status:
   0  The job passes by the strict rule
   1  The job fails by the strict rule
-  2  The words, the list or the name is refused
-  3  The system failed: memory or a file";
+  2  Invalid arguments or list, or unknown job name
+  3  System error: memory or a file";
 
 pub(crate) const GDB: &str = "\
 Examples:
   gdb-multiarch -ex 'target remote | rvtest gdb tests.toml uart-echo'
 
 Status:
-  0  gdb ended the session, or sends no more
-  2  The words, the list or the name is refused, or the job is
-  3  The system failed: memory, a file or a stream";
+  0  gdb ended the session or closed the connection
+  2  Invalid arguments or list, unknown job name, or the job is refused
+  3  System error: memory, a file or a stream";
 
 pub(crate) const CHECK: &str = "\
 Examples:
@@ -59,9 +59,9 @@ Examples:
   rvtest check tests.toml --root build
 
 Status:
-  0  No fault, and no job is refused
-  2  The words are refused, or the list has a fault, or a job is refused
-  3  The system failed: memory or a file";
+  0  No errors, and no job is refused
+  2  Invalid arguments, an error in the list, or a job is refused
+  3  System error: memory or a file";
 
 pub(crate) const ACCEPT: &str = "\
 Examples:
@@ -69,10 +69,10 @@ Examples:
   rvtest accept tests.toml --match uart --ends
 
 Status:
-  0  Nothing is left; with --check nothing would change either
-  1  A job or a file is left; with --check a file would change
-  2  The words, the list or a report is refused
-  3  The system failed: memory, a thread or a file";
+  0  Nothing is left; with --check, nothing would change either
+  1  A job or a file is left; with --check, a file would change
+  2  Invalid arguments, list or report
+  3  System error: memory, a thread or a file";
 
 pub(crate) const MERGE: &str = "\
 Examples:
@@ -82,8 +82,8 @@ Examples:
 Status:
   0  No job failed
   1  A job failed
-  2  The words or a part is refused, or a part is missing
-  3  The system failed: memory or a file";
+  2  Invalid arguments or part, or a part is missing
+  3  System error: memory or a file";
 
 pub(crate) const DIFF: &str = "\
 Examples:
@@ -93,8 +93,8 @@ Examples:
 Status:
   0  No job differs
   1  A job differs
-  2  The words or a report is refused
-  3  The system failed: memory or a file";
+  2  Invalid arguments or report
+  3  System error: memory or a file";
 
 pub(crate) const SHOW: &str = "\
 Examples:
@@ -104,8 +104,8 @@ Examples:
 Status:
   0  No job failed
   1  A job failed
-  2  The words or the report is refused
-  3  The system failed: memory or a file";
+  2  Invalid arguments or report
+  3  System error: memory or a file";
 
 pub(crate) const COUNTS: &str = "\
 Examples:
@@ -114,8 +114,8 @@ Examples:
 
 Status:
   0  The sum was written
-  2  The words or a table is refused, or a sum is 2^64 or more
-  3  The system failed: memory or a file";
+  2  Invalid arguments or table, or a sum is 2^64 or more
+  3  System error: memory or a file";
 
 pub(crate) const COVER: &str = "\
 Examples:
@@ -123,9 +123,9 @@ Examples:
   rvtest cover tests.toml --counts whole.counts --csv >cover.csv
 
 Status:
-  0  What ran was shown, whatever the verdicts
-  2  The words, the list, a report or the table is refused
-  3  The system failed: memory, a thread or a file";
+  0  Coverage was shown, whatever the verdicts
+  2  Invalid arguments, list, report or table
+  3  System error: memory, a thread or a file";
 
 pub(crate) const PROFILE: &str = "\
 Examples:
@@ -133,15 +133,15 @@ Examples:
   rvtest profile tests.toml --counts whole.counts --top 10
 
 Status:
-  0  The functions were shown, whatever the verdicts
-  2  The words, the list, a report or the table is refused
-  3  The system failed: memory, a thread or a file";
+  0  The profile was shown, whatever the verdicts
+  2  Invalid arguments, list, report or table
+  3  System error: memory, a thread or a file";
 
 pub(crate) const HELP: &str = "\
 Examples:
   rvtest help list
 
 Status:
-  0  The keys were told
-  2  The words are refused, or nothing is told of the topic
-  3  The system failed: memory";
+  0  The keys were described
+  2  Invalid arguments, or unknown topic
+  3  System error: memory";

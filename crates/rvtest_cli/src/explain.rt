@@ -14,7 +14,7 @@ use std::alloc::Global;
 
 /// The job whose end is to be explained.
 #[derive(Clone, Copy)]
-pub struct ExplainAsked<'a> {
+pub struct ExplainArgs<'a> {
     /// Path of the job list.
     pub list: &'a str,
     /// The job's name.
@@ -52,7 +52,7 @@ fn valid_explain_request<'a>(values: &ArgMatches<'a>) -> Option<Asked<'a>>
     let budget = number_value(values, "budget", 1, MOST_BUDGET);
     let root = text_value(values, "root");
     let color = text_value(values, "color");
-    Some(Asked::Explain(ExplainAsked {
+    Some(Asked::Explain(ExplainArgs {
         list,
         name,
         last,

@@ -9,7 +9,7 @@ use rv_cli::values::{number_value, text_value};
 
 /// The job whose run is to be shown to gdb.
 #[derive(Clone, Copy)]
-pub struct GdbAsked<'a> {
+pub struct GdbArgs<'a> {
     /// Path of the job list.
     pub list: &'a str,
     /// The job's name.
@@ -28,7 +28,7 @@ pub(crate) fn gdb_request<'a>(values: &ArgMatches<'a>) -> Option<Asked<'a>>
     let name = text_value(values, "name")?;
     let root = text_value(values, "root");
     let memory = number_value(values, "memory", 64, 4_096);
-    Some(Asked::Gdb(GdbAsked {
+    Some(Asked::Gdb(GdbArgs {
         list,
         name,
         root,

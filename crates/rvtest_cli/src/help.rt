@@ -9,7 +9,7 @@ use rv_cli::values::text_value;
 
 /// What a person wants to read about, beside the commands.
 #[derive(Clone, Copy)]
-pub struct HelpAsked<'a> {
+pub struct HelpArgs<'a> {
     pub topic: &'a str,
 }
 
@@ -18,5 +18,5 @@ pub(crate) fn help_request<'a>(values: &ArgMatches<'a>) -> Option<Asked<'a>>
     ensures { AsksFor (help_request (rows_of (found_of values.now))) result }
 {
     let topic = text_value(values, "topic")?;
-    Some(Asked::Help(HelpAsked { topic }))
+    Some(Asked::Help(HelpArgs { topic }))
 }

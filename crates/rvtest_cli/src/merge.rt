@@ -14,7 +14,7 @@ use std::alloc::Global;
 
 /// The parts of one run whose whole report is to be made.
 #[derive(Drop)]
-pub struct MergeAsked<'a> {
+pub struct MergeArgs<'a> {
     /// Paths of the parts.
     pub parts: Vec<&'a str>,
     /// Path of the report that is written; `-` is standard output.
@@ -52,7 +52,7 @@ fn valid_merge_request<'a>(
     let suite = text_value(values, "suite");
     let lenient = is_flag_set(values, "lenient");
     let parts = argument_values(alloc, values, "part")?;
-    Ok(Some(Asked::Merge(MergeAsked {
+    Ok(Some(Asked::Merge(MergeArgs {
         parts,
         report,
         junit,

@@ -10,7 +10,7 @@ use crate::command::profile_command;
 use crate::cover::cover_misuse;
 use crate::refusals::Misuse;
 use crate::requests::Asked;
-use crate::run::{RunAsked, is_choice_given, run_asked};
+use crate::run::{RunArgs, is_choice_given, run_asked};
 use crate::words_error::WordsError;
 use clap::ArgMatches;
 use rv_base::limits::MOST_GROUP;
@@ -22,10 +22,10 @@ pub(crate) const MOST_FUNCTIONS: u32 = 1_000_000;
 
 /// The jobs of a list in whose images it is shown where their steps were, and how.
 #[derive(Drop)]
-pub struct ProfileAsked<'a> {
+pub struct ProfileArgs<'a> {
     /// The jobs, of which a name may be one, and how they run; where there are counts, they are the path of a table that is read in place
     /// of a run. What `profile` has no option for is as in a run without options.
-    pub run: RunAsked<'a>,
+    pub run: RunArgs<'a>,
     /// How many functions of each image are shown, from 1 to 1,000,000; absent: all.
     pub top: Option<u32>,
     /// Whether it is written for tools.
@@ -61,7 +61,7 @@ fn valid_profile_request<'a>(
     let run = named_run(alloc, values, list, group)?;
     let top = number_value(values, "top", 1, MOST_FUNCTIONS);
     let csv = is_flag_set(values, "csv");
-    Ok(Some(Asked::Profile(ProfileAsked { run, top, csv })))
+    Ok(Some(Asked::Profile(ProfileArgs { run, top, csv })))
 }
 
 // What is asked of a list as of `run`, with the job that is named.
@@ -70,7 +70,7 @@ fn named_run<'a>(
     values: &ArgMatches<'a>,
     list: &'a str,
     group: u32,
-) -> Result<RunAsked<'a>, AllocError>
+) -> Result<RunArgs<'a>, AllocError>
     requires { (1 ≤ group) × (group ≤ most_group) }
     ensures { IfOk result (λ asked. (run_asked_words asked ≡ named_run_words list.entry.now group (rows_of (found_of values.now)))
         × IsRunAskedInRange asked) }

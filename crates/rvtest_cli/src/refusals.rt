@@ -97,25 +97,25 @@ impl Misuse {
                 "the argument '--shard <K/N>' cannot be used with '--only <NAME>', '--match <REGEX>', '--exclude <REGEX>' or '--failed <REPORT>'"
             }
             Misuse::NameAndChoice => {
-                "the argument '[NAME]' cannot be used with '--only <NAME>', '--match <REGEX>', '--exclude <REGEX>', '--failed <REPORT>' or '--shard <K/N>': it is one job"
+                "the argument '[NAME]' cannot be used with '--only <NAME>', '--match <REGEX>', '--exclude <REGEX>', '--failed <REPORT>' or '--shard <K/N>': it already selects one job"
             }
             Misuse::StampAlone => {
                 "the argument '--stamp <TEXT>' cannot be used without '--shard <K/N>'"
             }
             Misuse::BudgetAndRows => {
-                "the argument '--budget <N>' cannot be used with '--into <FILE>', '--report <FILE>', '--junit <FILE>' or '--shard <K/N>': such rows are not the list's"
+                "the argument '--budget <N>' cannot be used with '--into <FILE>', '--report <FILE>', '--junit <FILE>' or '--shard <K/N>': results with an overridden budget are not saved"
             }
             Misuse::StopAfterAndShard => {
-                "the argument '--stop-after <N>' cannot be used with '--shard <K/N>': a part has a row of each of its jobs"
+                "the argument '--stop-after <N>' cannot be used with '--shard <K/N>': a part has a row for each of its jobs"
             }
             Misuse::IntoAndReport => {
-                "the argument '--into <FILE>' cannot be used with '--report <FILE>' or '--shard <K/N>': it is the report that is written"
+                "the argument '--into <FILE>' cannot be used with '--report <FILE>' or '--shard <K/N>': it already names the report to write"
             }
             Misuse::IntoStdout => {
-                "the value of '--into <FILE>' is a file, and not '-': the report is read there before it is written"
+                "invalid value '-' for '--into <FILE>': expected a file, since the report is read before it is written"
             }
             Misuse::FailedIsReport => {
-                "the argument '--report <FILE>' cannot be used with '--failed <REPORT>' of the same name: the rows of the other jobs would be lost; '--into <FILE>' keeps them"
+                "the argument '--report <FILE>' cannot name the same file as '--failed <REPORT>': the rows of the other jobs would be lost; use '--into <FILE>' to keep them"
             }
             Misuse::PartialAlone => {
                 "the argument '--partial' cannot be used without '--failed <REPORT>'"
@@ -132,15 +132,17 @@ impl Misuse {
             Misuse::NamelessSuite => {
                 "a value is required for '--suite <NAME>' but none was supplied"
             }
-            Misuse::UnknownColor => "the value of '--color <WHEN>' is always, never or auto",
+            Misuse::UnknownColor => {
+                "invalid value for '--color <WHEN>': expected always, never or auto"
+            }
             Misuse::OneFile => {
-                "the argument '--report <FILE>' cannot be used with '--junit <FILE>' of the same name: it is one file"
+                "the argument '--report <FILE>' cannot name the same file as '--junit <FILE>'"
             }
             Misuse::IntoOneFile => {
-                "the argument '--into <FILE>' cannot be used with '--junit <FILE>' of the same name: it is one file"
+                "the argument '--into <FILE>' cannot name the same file as '--junit <FILE>'"
             }
             Misuse::CountsOneFile => {
-                "the argument '--counts <FILE>' cannot be used with '--report <FILE>', '--into <FILE>', '--junit <FILE>' or '--failed <REPORT>' of the same name: it is one file"
+                "the argument '--counts <FILE>' cannot name the same file as '--report <FILE>', '--into <FILE>', '--junit <FILE>' or '--failed <REPORT>'"
             }
         }
     }

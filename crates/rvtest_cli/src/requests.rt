@@ -7,21 +7,21 @@ ghost use Rattle.rvtest_cli.specs.RvtestWords.{IsAskedInRange, IsMisuseTold, Rea
 ghost use Rattle.rvtest_cli.specs.RvtestWords.{asked_words, matched_words, subcommand_words, words_fault_kinds, words_misuse, words_request};
 ghost use Rattle.rvtest_cli.specs.WordsErrors.{FailsByKinds};
 
-use crate::accept::{AcceptAsked, accept_request};
-use crate::check::{CheckAsked, check_request};
+use crate::accept::{AcceptArgs, accept_request};
+use crate::check::{CheckArgs, check_request};
 use crate::command::test_command;
-use crate::console::{ConsoleAsked, console_request};
-use crate::counts::{CountsAsked, counts_request};
-use crate::cover::{CoverAsked, cover_request};
-use crate::diff::{DiffAsked, diff_request};
-use crate::explain::{ExplainAsked, explain_request};
-use crate::gdb::{GdbAsked, gdb_request};
-use crate::help::{HelpAsked, help_request};
+use crate::console::{ConsoleArgs, console_request};
+use crate::counts::{CountsArgs, counts_request};
+use crate::cover::{CoverArgs, cover_request};
+use crate::diff::{DiffArgs, diff_request};
+use crate::explain::{ExplainArgs, explain_request};
+use crate::gdb::{GdbArgs, gdb_request};
+use crate::help::{HelpArgs, help_request};
 use crate::list::list_request;
-use crate::merge::{MergeAsked, merge_request};
-use crate::profile::{ProfileAsked, profile_request};
-use crate::run::{RunAsked, test_run_request};
-use crate::show::{ShowAsked, show_request};
+use crate::merge::{MergeArgs, merge_request};
+use crate::profile::{ProfileArgs, profile_request};
+use crate::run::{RunArgs, test_run_request};
+use crate::show::{ShowArgs, show_request};
 use crate::words_error::WordsError;
 use clap::ArgMatches;
 use std::alloc::Global;
@@ -31,33 +31,33 @@ use std::convert::AsStr;
 #[derive(Drop)]
 pub enum Asked<'a> {
     /// To run jobs of a list.
-    Run(RunAsked<'a>),
+    Run(RunArgs<'a>),
     /// To say which jobs a run of these words would run. What `list` has no option for is as in a run without options.
-    List(RunAsked<'a>),
+    List(RunArgs<'a>),
     /// To run one job, and to show how it ended and came there.
-    Explain(ExplainAsked<'a>),
+    Explain(ExplainArgs<'a>),
     /// To run one job, and to write its console.
-    Console(ConsoleAsked<'a>),
+    Console(ConsoleArgs<'a>),
     /// To show the run of one job to gdb.
-    Gdb(GdbAsked<'a>),
+    Gdb(GdbArgs<'a>),
     /// To say all that is wrong with a list, and to run nothing.
-    Check(CheckAsked<'a>),
+    Check(CheckArgs<'a>),
     /// To make what runs came to what is expected of them.
-    Accept(AcceptAsked<'a>),
+    Accept(AcceptArgs<'a>),
     /// To make the whole report of the parts of one run.
-    Merge(MergeAsked<'a>),
+    Merge(MergeArgs<'a>),
     /// To say in which jobs two reports differ.
-    Diff(DiffAsked<'a>),
+    Diff(DiffArgs<'a>),
     /// To show what failed in a report.
-    Show(ShowAsked<'a>),
+    Show(ShowArgs<'a>),
     /// To add up tables of counts.
-    Counts(CountsAsked<'a>),
+    Counts(CountsArgs<'a>),
     /// To show what of the images of jobs ran.
-    Cover(CoverAsked<'a>),
+    Cover(CoverArgs<'a>),
     /// To show in which functions the steps of jobs were.
-    Profile(ProfileAsked<'a>),
+    Profile(ProfileArgs<'a>),
     /// To tell of something that is no command.
-    Help(HelpAsked<'a>),
+    Help(HelpArgs<'a>),
 }
 
 /// Reads words, the first of which is the program's name. `None` stands where words ask for nothing. An error is `clap`'s

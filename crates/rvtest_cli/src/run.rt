@@ -20,7 +20,7 @@ use std::alloc::{AllocError, Global};
 
 /// The jobs of a list that are to run, and how.
 #[derive(Drop)]
-pub struct RunAsked<'a> {
+pub struct RunArgs<'a> {
     /// Path of the job list.
     pub list: &'a str,
     /// The exact names of jobs that are chosen.
@@ -109,12 +109,12 @@ pub(crate) fn run_asked<'a>(
     values: &ArgMatches<'a>,
     list: &'a str,
     group: u32,
-) -> Result<RunAsked<'a>, AllocError>
+) -> Result<RunArgs<'a>, AllocError>
     requires { (1 ≤ group) × (group ≤ most_group) }
     ensures { IfOk result (λ asked. (run_asked_words asked ≡ run_words list.entry.now group (rows_of (found_of values.now)))
         × IsRunAskedInRange asked) }
 {
-    Ok(RunAsked {
+    Ok(RunArgs {
         list,
         pattern: text_value(values, "match"),
         exclude: text_value(values, "exclude"),

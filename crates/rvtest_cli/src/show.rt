@@ -13,7 +13,7 @@ use std::alloc::Global;
 
 /// A report that is to be shown.
 #[derive(Clone, Copy)]
-pub struct ShowAsked<'a> {
+pub struct ShowArgs<'a> {
     /// Path of the report.
     pub report: &'a str,
     /// Whether the report may be cut off.
@@ -51,7 +51,7 @@ fn valid_show_request<'a>(values: &ArgMatches<'a>) -> Option<Asked<'a>>
     let suite = text_value(values, "suite");
     let lenient = is_flag_set(values, "lenient");
     let color = text_value(values, "color");
-    Some(Asked::Show(ShowAsked {
+    Some(Asked::Show(ShowArgs {
         report,
         partial,
         junit,

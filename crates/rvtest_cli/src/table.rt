@@ -14,7 +14,7 @@ pub(crate) const COMMANDS: [Subcommand<'static>; 14] = [
 
 pub(crate) const RUN: Subcommand<'static> = Subcommand {
     name: "run",
-    about: "Runs the jobs of a list, and shows each that fails",
+    about: "Run the jobs of a list and show each failure",
     after: examples::RUN,
     arguments: &[
         Argument::Word("list", "LIST", LIST_PATH),
@@ -27,7 +27,7 @@ pub(crate) const RUN: Subcommand<'static> = Subcommand {
         Argument::Option(
             "stamp",
             "TEXT",
-            "Says which run the part is of; else a digest of the list",
+            "Identify the run that the part belongs to [default: a digest of the list]",
         ),
         Argument::Number("workers", Some('j'), THREADS, WORKERS, &[]),
         Argument::Group,
@@ -45,12 +45,12 @@ pub(crate) const RUN: Subcommand<'static> = Subcommand {
         Argument::Flag(
             "verbose",
             Some('v'),
-            "Shows the jobs that pass, too; not beside --quiet",
+            "Also show the jobs that pass; cannot be used with --quiet",
         ),
         Argument::Flag(
             "quiet",
             Some('q'),
-            "Shows the last line alone; not beside --verbose",
+            "Show only the last line; cannot be used with --verbose",
         ),
         Argument::Number("last", None, LAST, LAST_BOUNDS, &[]),
         Argument::Option("color", "WHEN", COLOR),
@@ -59,7 +59,7 @@ pub(crate) const RUN: Subcommand<'static> = Subcommand {
 
 pub(crate) const LIST: Subcommand<'static> = Subcommand {
     name: "list",
-    about: "Prints the names of the jobs that a run would run, one a line",
+    about: "List the jobs that a run would execute, one per line",
     after: examples::LIST,
     arguments: &[
         Argument::Word("list", "LIST", LIST_PATH),
@@ -74,7 +74,7 @@ pub(crate) const LIST: Subcommand<'static> = Subcommand {
 
 pub(crate) const EXPLAIN: Subcommand<'static> = Subcommand {
     name: "explain",
-    about: "Runs one job, and shows how it ended and came there",
+    about: "Run one job and show how it ended and how it got there",
     after: examples::EXPLAIN,
     arguments: &[
         Argument::Word("list", "LIST", LIST_PATH),
@@ -88,7 +88,7 @@ pub(crate) const EXPLAIN: Subcommand<'static> = Subcommand {
 
 const CONSOLE: Subcommand<'static> = Subcommand {
     name: "console",
-    about: "Runs one job, and writes its console's bytes to standard output",
+    about: "Run one job and write its console output to standard output",
     after: examples::CONSOLE,
     arguments: &[
         Argument::Word("list", "LIST", LIST_PATH),
@@ -99,7 +99,7 @@ const CONSOLE: Subcommand<'static> = Subcommand {
 
 const GDB: Subcommand<'static> = Subcommand {
     name: "gdb",
-    about: "Shows the run of one job to gdb, forwards and backwards",
+    about: "Debug the run of one job in gdb, forwards and backwards",
     after: examples::GDB,
     arguments: &[
         Argument::Word("list", "LIST", LIST_PATH),
@@ -111,7 +111,7 @@ const GDB: Subcommand<'static> = Subcommand {
 
 const CHECK: Subcommand<'static> = Subcommand {
     name: "check",
-    about: "Says all that is wrong with a list and its files, and runs nothing",
+    about: "Report everything that is wrong with a list and its files, without running anything",
     after: examples::CHECK,
     arguments: &[
         Argument::Word("list", "LIST", LIST_PATH),
@@ -121,7 +121,7 @@ const CHECK: Subcommand<'static> = Subcommand {
 
 pub(crate) const ACCEPT: Subcommand<'static> = Subcommand {
     name: "accept",
-    about: "Runs jobs, and makes what they came to what is expected",
+    about: "Run jobs and update their expectations to the actual results",
     after: examples::ACCEPT,
     arguments: &[
         Argument::Word("list", "LIST", LIST_PATH),
@@ -133,13 +133,17 @@ pub(crate) const ACCEPT: Subcommand<'static> = Subcommand {
         Argument::Flag(
             "ends",
             None,
-            "Accepts another exit code too, and another kind of fault",
+            "Also accept a different exit code or kind of fault",
         ),
-        Argument::Flag("check", None, "Tells what would change, and writes nothing"),
+        Argument::Flag(
+            "check",
+            None,
+            "Show what would change without writing anything",
+        ),
         Argument::Flag(
             "outside",
             None,
-            "Also writes golden files outside of the list's directory, or of DIR",
+            "Also write golden files outside the list's directory or DIR",
         ),
         Argument::Number("workers", Some('j'), THREADS, WORKERS, &[]),
         Argument::Group,
@@ -149,7 +153,7 @@ pub(crate) const ACCEPT: Subcommand<'static> = Subcommand {
 
 pub(crate) const MERGE: Subcommand<'static> = Subcommand {
     name: "merge",
-    about: "Makes the whole report of the parts of one run",
+    about: "Merge the parts of one run into the report of the whole list",
     after: examples::MERGE,
     arguments: &[
         Argument::Words(
@@ -166,17 +170,21 @@ pub(crate) const MERGE: Subcommand<'static> = Subcommand {
 
 pub(crate) const DIFF: Subcommand<'static> = Subcommand {
     name: "diff",
-    about: "Says in which jobs two reports differ",
+    about: "Show which jobs differ between two reports",
     after: examples::DIFF,
     arguments: &[
-        Argument::Word("old", "OLD", "Path of the report that is compared with"),
-        Argument::Word("new", "NEW", "Path of the report that is compared"),
+        Argument::Word("old", "OLD", "Path of the old report"),
+        Argument::Word("new", "NEW", "Path of the new report"),
         Argument::Flag("partial", None, PARTIAL),
-        Argument::Flag("steps", None, "Compares steps too, and where faults were"),
+        Argument::Flag(
+            "steps",
+            None,
+            "Also compare steps and the addresses of faults",
+        ),
         Argument::Number(
             "slower",
             None,
-            "Says which jobs take over N percent more steps, from 0 to 1000",
+            "Report jobs that take over N percent more steps, from 0 to 1000",
             SLOWER,
             &[],
         ),
@@ -186,10 +194,10 @@ pub(crate) const DIFF: Subcommand<'static> = Subcommand {
 
 pub(crate) const SHOW: Subcommand<'static> = Subcommand {
     name: "show",
-    about: "Shows what failed in a report",
+    about: "Show the failures in a report",
     after: examples::SHOW,
     arguments: &[
-        Argument::Word("report", "REPORT", "Path of a report"),
+        Argument::Word("report", "REPORT", "Path of the report"),
         Argument::Flag("partial", None, PARTIAL),
         Argument::File("junit", JUNIT),
         Argument::Option("suite", "NAME", SUITE),
@@ -200,20 +208,20 @@ pub(crate) const SHOW: Subcommand<'static> = Subcommand {
 
 const COUNTS: Subcommand<'static> = Subcommand {
     name: "counts",
-    about: "Adds up tables of counts, as run --counts writes them",
+    about: "Add up tables of counts written by run --counts",
     after: examples::COUNTS,
     arguments: &[
         Argument::Words("table", "TABLE", "Paths of the tables, in any order"),
         Argument::File(
             "out",
-            "Writes the sum to this file; else to standard output",
+            "Write the sum to this file [default: standard output]",
         ),
     ],
 };
 
 pub(crate) const COVER: Subcommand<'static> = Subcommand {
     name: "cover",
-    about: "Runs jobs, and shows what of their images ran",
+    about: "Run jobs and show how much of their images was executed",
     after: examples::COVER,
     arguments: &[
         Argument::Word("list", "LIST", LIST_PATH),
@@ -228,20 +236,20 @@ pub(crate) const COVER: Subcommand<'static> = Subcommand {
         Argument::Group,
         Argument::Option("root", "DIR", ROOT),
         Argument::Option("counts", "TABLE", COUNTS_TABLE),
-        Argument::Flag("csv", None, "Writes a row of CSV for each image"),
+        Argument::Flag("csv", None, "Write one CSV row per image"),
     ],
 };
 
 pub(crate) const PROFILE: Subcommand<'static> = Subcommand {
     name: "profile",
-    about: "Runs jobs, and shows in which functions their steps were",
+    about: "Run jobs and show in which functions they spent their steps",
     after: examples::PROFILE,
     arguments: &[
         Argument::Word("list", "LIST", LIST_PATH),
         Argument::OptionalWord(
             "name",
             "NAME",
-            "Name of the job; else of all that are chosen",
+            "Name of the job [default: all selected jobs]",
         ),
         Argument::Again("only", "NAME", ONLY),
         Argument::Option("match", "REGEX", MATCH),
@@ -255,62 +263,63 @@ pub(crate) const PROFILE: Subcommand<'static> = Subcommand {
         Argument::Option("root", "DIR", ROOT),
         Argument::Option("counts", "TABLE", COUNTS_TABLE),
         Argument::Number("top", None, TOP, TOP_BOUNDS, &[]),
-        Argument::Flag("csv", None, "Writes a row of CSV for each function"),
+        Argument::Flag("csv", None, "Write one CSV row per function"),
     ],
 };
 
 const HELP: Subcommand<'static> = Subcommand {
     name: "help",
-    about: "Tells the keys of a list",
+    about: "Describe the keys of a job list",
     after: examples::HELP,
-    arguments: &[Argument::Word("topic", "TOPIC", "What is told of: list")],
+    arguments: &[Argument::Word("topic", "TOPIC", "Topic to describe: list")],
 };
 
 const LIST_PATH: &str = "Path of the job list";
 
 const NAME: &str = "Name of the job";
 
-const ONLY: &str = "Chooses the job of this name; may come again";
+const ONLY: &str = "Select this job (repeatable)";
 
-const MATCH: &str = "Chooses the jobs in whose names it is found";
+const MATCH: &str = "Select jobs whose name matches this regex";
 
-const EXCLUDE: &str = "Leaves out the jobs in whose names it is found";
+const EXCLUDE: &str = "Leave out jobs whose name matches this regex";
 
-const FAILED: &str = "Chooses the jobs that failed in a report";
+const FAILED: &str = "Select the jobs that failed in this report";
 
-const PARTIAL: &str = "Takes a report that is cut off by its whole rows";
+const PARTIAL: &str = "Accept a truncated report and use its complete rows";
 
-const SHARD: &str = "Runs the K-th of N parts of the list";
+const SHARD: &str = "Run the Kth of N shards of the list";
 
-const THREADS: &str = "Threads, from 1 to 64; else one a processor";
+const THREADS: &str = "Use at most N threads, from 1 to 64 [default: one per processor]";
 
-const ROOT: &str = "Takes the paths in the list from this folder";
+const ROOT: &str = "Resolve relative paths in the list against this directory";
 
-const INTO: &str = "Puts the rows into this file, the whole report of the list";
+const INTO: &str = "Update the rows of this file, a report of the whole list";
 
-const REPORT: &str = "Writes the report to this file; - is standard output";
+const REPORT: &str = "Write the report to this file, or - for standard output";
 
-const JUNIT: &str = "Writes JUnit XML to this file; - is standard output";
+const JUNIT: &str = "Write JUnit XML to this file, or - for standard output";
 
-const SUITE: &str = "Names the suite in JUnit XML, in place of the file";
+const SUITE: &str = "Set the name of the test suite in JUnit XML";
 
-const COLOR: &str = "Colors: always, never, or auto, which is on a terminal";
+const COLOR: &str = "Color the output: always, never or auto (on a terminal)";
 
-const COUNTS_FILE: &str = "Writes counts of instructions to this file; - is standard output";
+const COUNTS_FILE: &str = "Write instruction counts to this file, or - for standard output";
 
-const STACKS: &str = "Counts the stacks of functions, too; beside --counts";
+const STACKS: &str = "Also count call stacks; requires --counts";
 
-const COUNTS_TABLE: &str = "Reads the counts in this table, and runs nothing";
+const COUNTS_TABLE: &str = "Read counts from this table instead of running jobs";
 
-const KNOWN: &str = "Names jobs that are known to fail, one a line, # REASON behind";
+const KNOWN: &str =
+    "Read the jobs that are known to fail from this file, one NAME [# REASON] per line";
 
-const STOP_AFTER: &str = "Ends behind the N-th failure, from 1 to 4096";
+const STOP_AFTER: &str = "Stop after the Nth failure, from 1 to 4096";
 
-const LENIENT: &str = "Counts as failed only what misses an expectation";
+const LENIENT: &str = "Count only unmet expectations as failures";
 
-const LAST: &str = "Shows the last N instructions of a job, from 0 to 100000";
+const LAST: &str = "Show the last N instructions of a job, from 0 to 100000";
 
-const BUDGET: &str = "Steps at most of every job, from 1 to 1000000000; else its own";
+const BUDGET: &str = "Override every job's step budget, from 1 to 1000000000";
 
 const BUDGET_BOUNDS: Bounds = Bounds {
     least: 1,
@@ -332,14 +341,14 @@ const STOP_AFTER_BOUNDS: Bounds = Bounds {
     most: MOST_JOBS as i64,
 };
 
-const TOP: &str = "Shows the first N functions of each image; else all";
+const TOP: &str = "Show only the first N functions of each image";
 
 const TOP_BOUNDS: Bounds = Bounds {
     least: 1,
     most: MOST_FUNCTIONS as i64,
 };
 
-const MEMORY: &str = "Megabytes at most, from 64 to 4096; else 256";
+const MEMORY: &str = "Use at most N megabytes, from 64 to 4096 [default: 256]";
 
 const MEMORY_BOUNDS: Bounds = Bounds {
     least: 64,

@@ -1,6 +1,6 @@
 //! Fleets of small jobs, and runs of a choice of them, behind a gate that shows which pieces were under way at the same time.
 ghost use Rattle.std.specs.List.Sorted.{IsStrictlyIncreasing};
-ghost use Rattle.rv_fleet.specs.Choices.{AreJobPlaces};
+ghost use Rattle.rv_fleet.specs.Choices.{AreJobIndices};
 
 use super::gate::NotingGate;
 use super::{chosen, crew_of, push_rows};
@@ -37,7 +37,7 @@ fn ran<R: Threads + Wait + Sync>(
     line: &str,
     gate: &NotingGate,
 ) -> Result<Rows, Fail>
-    requires within { AreJobPlaces plan.now places.now }
+    requires within { AreJobIndices plan.now places.now }
     requires rising { IsStrictlyIncreasing places.now }
 {
     let (workers, group) = crew_of(line);

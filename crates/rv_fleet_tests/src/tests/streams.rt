@@ -4,7 +4,7 @@ ghost use Rattle.std.specs.Prelude.{None};
 use super::{chosen, crew_of, number_in};
 use rv_expect::{Judge, Rule};
 use rv_fleet::{Batch, Crew, Row, Rows, Sink, SinkFailed};
-use rv_stream::{FailureLimit, StreamError, Telling, stream_rows};
+use rv_stream::{FailureLimit, RowReporter, StreamError, stream_rows};
 use samples::{agree, cell_of, has_lines};
 use std::alloc::{AllocError, Global};
 use std::sync::Wait;
@@ -18,7 +18,7 @@ struct Names<'a> {
     asked: &'a AtomicU64,
 }
 
-impl<'a> Telling for Names<'a> {
+impl<'a> RowReporter for Names<'a> {
     ghost use Rattle.std.specs.Prelude.{if◌then◌else◌, nat_lt, ◌++◌, ◌∷◌, []};
 
     ghost line = { λ _ _ row. if nat_lt row.steps 2 then [] else (row.name ++ (59 ∷ [])) };

@@ -1,8 +1,8 @@
 use Rattle.rv_accept_text.proofs.LeftRuns.{left_once, left_twice}
 use Rattle.rv_accept_text.proofs.new_list.accept_values.Goals as goal
 
-pub returns-then-are_meant_jobs-clause-left : goal.returns-then-are_meant_jobs-clause-left
-returns-then-are_meant_jobs-clause-left c = left_once c.args.runs.items c.as_slice-2.result.now _ c.in_ok-runs.ensures
+pub returns-then-are_intended_jobs-clause-left : goal.returns-then-are_intended_jobs-clause-left
+returns-then-are_intended_jobs-clause-left c = left_once c.args.runs.items c.as_slice-2.result.now _ c.in_ok-runs.ensures
 
 pub returns-in-Some-clause-left : goal.returns-in-Some-clause-left
 returns-in-Some-clause-left c = left_once c.args.runs.items c.as_slice-2.result.now _ c.in_ok-runs.ensures

@@ -3,7 +3,7 @@ use Rattle.std.proofs.lemmas.Bool.{and_from, and_left, and_right}
 use Rattle.rv_elf.specs.Sections.{symbol_entry}
 use Rattle.rv_elf.specs.SymbolSearch.{is_candidate, nearest_candidate}
 use Rattle.rv_elf.proofs.Ranking.{one_more}
-use Rattle.rv_elf.proofs.Standing.{candidate_below}
+use Rattle.rv_elf.proofs.CurrentVerdict.{candidate_below}
 use Rattle.rv_elf.proofs.symbol_search.nearest_candidate.Goals as goal
 use Rattle.rv_elf.proofs.symbol_search.nearest_candidate.Goals.{then-is_nearer_than_best+then-is_candidate, else-is_nearer_than_best}
 use Rattle.rv_elf.proofs.symbol_search.nearest_candidate.Goals.{else-is_nearer_than_best-via-then-is_nearer_than_best+else-is_candidate}

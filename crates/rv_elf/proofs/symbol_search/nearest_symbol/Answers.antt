@@ -1,6 +1,6 @@
 use Rattle.std.proofs.Common.{Some, None}
 use Rattle.rv_elf.proofs.Naming.{header_there}
-use Rattle.rv_elf.proofs.Standing.{no_tables, by_nearest, by_name}
+use Rattle.rv_elf.proofs.CurrentVerdict.{no_tables, by_nearest, by_name}
 use Rattle.rv_elf.proofs.symbol_search.nearest_symbol.Goals as goal
 
 pub symbol_and_string_bytes-requires : goal.symbol_and_string_bytes-requires

@@ -3,4 +3,4 @@ use Rattle.std.specs.Prelude.{slice_index_or}
 use Rattle.rv_engine.proofs.in_order.no_results.Given as goal
 
 abbrev pub invariant-loop : goal.invariant-loop
-invariant-loop g l = (k : ℕ) → slice_index_or l.early.items k None ≡ None
+invariant-loop g l = (k : ℕ) → slice_index_or l.pending.items k None ≡ None

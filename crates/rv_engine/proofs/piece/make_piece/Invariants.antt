@@ -4,7 +4,7 @@ use Rattle.rv_engine.proofs.piece.make_piece.Given as goal
 
 abbrev pub invariant-loop-number : goal.invariant-loop-number
 invariant-loop-number g l = record {
-  bench : g.W.Work.is_bench l.work l.bench;
+  worker_state : g.W.Work.is_worker_state l.work l.worker_state;
   each : AreResults (λ k. g.W.Work.is_made l.work (l.start + k)) l.made.items;
   count : l.start + length l.made.items ≡ l.number;
 }

@@ -6,5 +6,5 @@ use Rattle.rv_fleet.proofs.piece.rows_of_piece.Given as goal
 abbrev pub invariant-loop-i : goal.invariant-loop-i
 invariant-loop-i l = record {
   rows : l.rows.items ≡ take (l.i - l.start) (drop l.start (batch_rows l.pieces.batch));
-  recent : AreOutcomes l.pieces.batch.plan.now l.bench.recent;
+  recent : AreOutcomes l.pieces.batch.plan.now l.worker_state.recent;
 }

@@ -9,7 +9,7 @@ abbrev pub invariant-loop-number : goal.invariant-loop-number
 invariant-loop-number g l =
     (l.pass.draw ≡ l.claims) × Grew l.initial.pass l.pass
     × (l.drawn.items ≡ map (numbered_piece l.pieces) (new_pieces l.initial.pass l.pass))
-    × AreOutcomes l.pieces.batch.plan.now l.bench.recent
+    × AreOutcomes l.pieces.batch.plan.now l.worker_state.recent
 
 abbrev pub decreases-loop-number : goal.decreases-loop-number
 decreases-loop-number g l = l.claims.pieces - above l.pass.draws

@@ -1,5 +1,5 @@
 use Rattle.std.proofs.Common.{rules, true}
-use Rattle.rv_session.specs.Heard.{is_interrupted}
+use Rattle.rv_session.specs.Incoming.{is_interrupted}
 use Rattle.rv_gdb.proofs.Joining.{put_more}
 use Rattle.rv_gdb.proofs.conversation.move_beside_reader.Goals as goal
 

@@ -12,12 +12,12 @@ use Rattle.rv_history.proofs.breaks.next_break.Goals as goal
 pub places-init : goal.places-init
 places-init g c = record { way = c.requires.way; leg = refl; same = refl }
 
-pub keep_and_ask-requires-clause-there : goal.keep_and_ask-requires-clause-there
-keep_and_ask-requires-clause-there g c =
+pub store_and_poll-requires-clause-there : goal.store_and_poll-requires-clause-there
+store_and_poll-requires-clause-there g c =
     subst (λ (s : State). IsAt s c.places.leg.at) (sym c.places.invariant.same) c.places.invariant.way.there
 
-pub keep_and_ask-requires-clause-order : goal.keep_and_ask-requires-clause-order
-keep_and_ask-requires-clause-order g c = c.places.invariant.way.order
+pub store_and_poll-requires-clause-order : goal.store_and_poll-requires-clause-order
+store_and_poll-requires-clause-order g c = c.places.invariant.way.order
 
 pub returns-then-is_halted-clause-stop : goal.returns-then-is_halted-clause-stop
 returns-then-is_halted-clause-stop g c =
@@ -63,7 +63,7 @@ places-preserved g c =
         quiet = later.0;
       };
       leg = still_on c.args.leg leg _ c.places.invariant.leg refl;
-      same = c.keep_and_ask.ensures.same ∙ c.places.invariant.same;
+      same = c.store_and_poll.ensures.same ∙ c.places.invariant.same;
     }
 
 pub returns-clause-stop : goal.returns-clause-stop

@@ -1,6 +1,6 @@
 use Rattle.std.proofs.Common.{ℕ, ◌≡◌, ◌∙◌, ◌+◌, ◌<◌, ◌≤◌, Option, ap, arith, subst, sym}
 use Rattle.rv_machine.specs.Machine.{state_of}
-use Rattle.rv_history.specs.declared.found.Arrival.{Arrival}
+use Rattle.rv_history.specs.declared.found.StopInfo.{StopInfo}
 use Rattle.rv_history.specs.declared.stepping.Stepped.TheVariants as stepped
 use Rattle.rv_history.specs.LastStop.{IsLastOn}
 use Rattle.rv_history.specs.Places.{IsReached, last_place}
@@ -27,16 +27,16 @@ places-preserved g c =
     let goes : place < last_place end start = omega (arith, c.requires.comes, c.places-test.true) in
     let e = step_completes c.step.result end place start s t reached goes c.step.ensures in
     let next = next_place start s t place reached e in
-    let Later : ℕ → Type 0 = λ budget. IsLastOn stops budget start begin (place + 1 + n) c.last_behind-last.result
+    let Later : ℕ → Type 0 = λ budget. IsLastOn stops budget start begin (place + 1 + n) c.last_stop_after-last.result
     × IsReached start (place + 1 + n) (state_of c.run_between.new.machine) in
     let later : (budget : ℕ) → end ≤ budget → Later budget = λ budget within.
     let far : end ≤ last_place budget start = comes_within budget end start c.requires.comes within in
     let more = last_more stops budget begin place start s t c.places.last c.has_break-is_break.result stepped.Quiet reached
     (omega (arith, far, c.places-test.true)) (c.has_break-is_break.ensures ∙ ap (is_break stops) c.pc.ensures)
     (e, is_unset stops s t none) (omega (arith, within, c.places-test.true)) (c.places.invariant.last budget within) in
-    last_run stops budget begin (place + 1) n start t (state_of c.run_between.new.machine) c.last_behind-last.result none next
+    last_run stops budget begin (place + 1) n start t (state_of c.run_between.new.machine) c.last_stop_after-last.result none next
     (omega (arith, far, few, c.places-test.true)) (within_budget budget start) c.run_between.ensures.ran c.run_between.ensures.no_break
-    (subst (λ (last : Option Arrival). IsLastOn stops budget start begin (place + 1) last) (sym c.last_behind-last.ensures) more) in
+    (subst (λ (last : Option StopInfo). IsLastOn stops budget start begin (place + 1) last) (sym c.last_stop_after-last.ensures) more) in
     let order = c.places.invariant.low in
     let here = c.places-test.true in record {
       reached = (later end (omega arith)).1;

@@ -2,7 +2,7 @@ use Rattle.std.proofs.Common.{◌∙◌, ◌≤◌, ap, arith, refl, subst, sym}
 use Rattle.rv_machine.specs.Machine.{state_of}
 use Rattle.rv_machine.specs.State.{State}
 use Rattle.rv_history.specs.Kept.{IsAt}
-use Rattle.rv_history.specs.declared.leg.Leg.{Leg}
+use Rattle.rv_history.specs.declared.leg.ForwardMove.{ForwardMove}
 use Rattle.rv_history.proofs.Reaching.{ran_to, within_budget}
 use Rattle.rv_history.proofs.Unstopped.{ends_at, ends_before, never_halted, under_way}
 use Rattle.rv_history.proofs.Ways.{all_addresses, arrives_broken, still_on}
@@ -19,8 +19,8 @@ places-init g c =
       same = refl;
     }
 
-pub keep_and_ask-requires-clause-there : goal.keep_and_ask-requires-clause-there
-keep_and_ask-requires-clause-there g c =
+pub store_and_poll-requires-clause-there : goal.store_and_poll-requires-clause-there
+store_and_poll-requires-clause-there g c =
     subst (λ (s : State). IsAt s c.places.way.at) (sym c.places.invariant.same) c.places.invariant.there
 
 pub returns-then-branch-clause-stop : goal.returns-then-branch-clause-stop
@@ -38,8 +38,8 @@ returns-then-way-end-clause-stop g c = λ stops none.
     let at = c.go_to-ending.new.self in
     let ran = c.go_to-ending.ensures.ran start c.places.invariant.there in
     let begun = c.places.invariant.order in
-    let from = ap (λ (l : Leg). l.from) c.places.invariant.way in
-    let budget = ap (λ (l : Leg). l.budget) c.places.invariant.way in
+    let from = ap (λ (l : ForwardMove). l.from) c.places.invariant.way in
+    let budget = ap (λ (l : ForwardMove). l.budget) c.places.invariant.way in
     let end = c.slice_end-end.ensures.within in
     let onward : c.places.way.at.place ≤ at.place = c.go_to-ending.ensures.onward in
     ends_before stops start c.args.leg at c.arrived-then-way-end.result c.slice_end-end.result c.go_to-ending.result none c.requires.unbounded
@@ -60,7 +60,7 @@ places-preserved g c =
       order = omega (arith, begun, onward);
       within = omega (arith, count, few, within);
       way = still_on c.args.leg c.places.way _ c.places.invariant.way refl;
-      same = c.keep_and_ask.ensures.same ∙ c.places.invariant.same;
+      same = c.store_and_poll.ensures.same ∙ c.places.invariant.same;
     }
 
 pub places-smaller : goal.places-smaller
@@ -71,7 +71,7 @@ pub returns-clause-stop : goal.returns-clause-stop
 returns-clause-stop g c = λ stops none.
     let begun = c.places.invariant.order in
     let within = c.places.invariant.within in
-    let from = ap (λ (l : Leg). l.from) c.places.invariant.way in
-    let budget = ap (λ (l : Leg). l.budget) c.places.invariant.way in
+    let from = ap (λ (l : ForwardMove). l.from) c.places.invariant.way in
+    let budget = ap (λ (l : ForwardMove). l.budget) c.places.invariant.way in
     ends_at stops c.args.track.now c.args.leg c.places.way.at c.arrived-2.result none c.requires.unbounded
     (omega (arith, begun, from)) c.arrived-2.ensures c.places.invariant.there (omega (arith, within, budget, c.places-test.false))

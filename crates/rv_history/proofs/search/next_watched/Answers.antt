@@ -17,17 +17,17 @@ places-init g c = record {
   same = refl;
 }
 
-pub keep_and_ask-requires-clause-there : goal.keep_and_ask-requires-clause-there
-keep_and_ask-requires-clause-there g c =
+pub store_and_poll-requires-clause-there : goal.store_and_poll-requires-clause-there
+store_and_poll-requires-clause-there g c =
     subst (λ (s : State). IsAt s c.places.leg.at) (sym c.places.invariant.same) c.places.invariant.way.there
 
-pub keep_and_ask-requires-clause-order : goal.keep_and_ask-requires-clause-order
-keep_and_ask-requires-clause-order g c = c.places.invariant.way.order
+pub store_and_poll-requires-clause-order : goal.store_and_poll-requires-clause-order
+store_and_poll-requires-clause-order g c = c.places.invariant.way.order
 
 pub come_to-requires : goal.come_to-requires
 come_to-requires g c =
     subst (λ (s : State). (run_of c.places.leg.at.place s).steps ≡ c.places.leg.at.place)
-    (sym (c.keep_and_ask.ensures.same ∙ c.places.invariant.same)) c.places.invariant.way.there.completed
+    (sym (c.store_and_poll.ensures.same ∙ c.places.invariant.same)) c.places.invariant.way.there.completed
 
 pub returns-then-is_halted-clause-stop : goal.returns-then-is_halted-clause-stop
 returns-then-is_halted-clause-stop g c =
@@ -49,7 +49,7 @@ returns-in-Ended-clause-stop g c =
 pub returns-in-Changed-clause-stop : goal.returns-in-Changed-clause-stop
 returns-in-Changed-clause-stop g c =
     let did = rw c.in-Changed.is at c.in_ok-ending.ensures.step in
-    let same = c.keep_and_ask.ensures.same ∙ c.places.invariant.same in
+    let same = c.store_and_poll.ensures.same ∙ c.places.invariant.same in
     arrives_changed c.args.stops.now c.args.track.now c.args.leg c.places.leg _ c.places.invariant.way c.places.invariant.leg
     c.in_ok-at-in-Changed.at (state_of c.step_beside.new.machine) refl (subst (λ (s : State). IsAt s c.in_ok-at-in-Changed.at) same c.in_ok-at-in-Changed.ensures.there)
     c.in_ok-at-in-Changed.ensures.place c.places-test.true did.0 did.1 (sym c.is_halted.ensures ∙ c.if-is_halted.false)
@@ -74,7 +74,7 @@ places-preserved g c =
       };
       leg = still_on c.args.leg leg _ c.places.invariant.leg refl;
       watched = c.in_ok-ending.ensures.known;
-      same = c.keep_and_ask.ensures.same ∙ c.places.invariant.same;
+      same = c.store_and_poll.ensures.same ∙ c.places.invariant.same;
     }
 
 pub returns-clause-stop : goal.returns-clause-stop

@@ -1,6 +1,6 @@
 use Rattle.std.proofs.Common.{ℕ, ◌≡◌, ◌∙◌, ◌+◌, ◌<◌, ◌≤◌, Option, ap, arith, subst, sym}
 use Rattle.rv_machine.specs.Machine.{state_of}
-use Rattle.rv_history.specs.declared.found.Arrival.{Arrival}
+use Rattle.rv_history.specs.declared.found.StopInfo.{StopInfo}
 use Rattle.rv_history.specs.LastStop.{IsLastOn}
 use Rattle.rv_history.specs.Places.{last_place}
 use Rattle.rv_history.specs.Stops.{is_break, watched_bytes}
@@ -31,8 +31,8 @@ loop-place-preserved g c =
           let more = last_more stops budget c.in_ok-at.at.place place start s t c.loop-place.last c.has_break-is_break.result
           c.in_ok-stepped.stepped reached (omega arith) (c.has_break-is_break.ensures ∙ ap (is_break stops) c.pc.ensures)
           c.in_ok-stepped.ensures.step (omega arith) (c.loop-place.invariant.last budget within) in
-          subst (λ (last : Option Arrival). IsLastOn stops budget start c.in_ok-at.at.place (place + 1) last)
-          (sym c.last_behind-last.ensures) more;
+          subst (λ (last : Option StopInfo). IsLastOn stops budget start c.in_ok-at.at.place (place + 1) last)
+          (sym c.last_stop_after-last.ensures) more;
     }
 
 pub returns-clause-part : goal.returns-clause-part

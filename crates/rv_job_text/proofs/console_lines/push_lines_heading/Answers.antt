@@ -7,5 +7,5 @@ use Rattle.rv_job_text.proofs.console_lines.push_lines_heading.Goals as goal
 
 pub returns : goal.returns
 returns c =
-    told _ _ _ _ _ (heading_told (codes "     the console differs from ") (span_text c.args.source) (codes " in line ")
+    told _ _ _ _ _ (heading_told (codes "     console differs from ") (span_text c.args.source) (codes " at line ")
     (decimal c.args.number) (codes " of ") (decimal c.args.count) (codes ":\n")) c.push_spans.ensures

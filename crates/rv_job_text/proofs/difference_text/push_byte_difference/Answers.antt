@@ -9,7 +9,7 @@ use Rattle.rv_job_text.proofs.difference_text.push_byte_difference.Goals as goal
 pub returns : goal.returns
 unfolding byte_difference_text
 returns c =
-    rw (← c.met_and_expected_from.ensures.met, ← c.met_and_expected_from.ensures.expected)
+    rw (← c.actual_and_expected_from.ensures.met, ← c.actual_and_expected_from.ensures.expected)
     (told _ _ _ _ _ (byte_told (codes "byte ") (decimal c.args.place) (codes " is ") (codes "\"")
-    (printable_value c.met_and_expected_from.result.0.now) (codes ", expected ") (printable_value c.met_and_expected_from.result.1.now))
+    (printable_value c.actual_and_expected_from.result.0.now) (codes ", expected ") (printable_value c.actual_and_expected_from.result.1.now))
     c.push_spans.ensures)

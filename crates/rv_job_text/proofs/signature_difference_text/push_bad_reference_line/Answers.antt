@@ -12,4 +12,4 @@ returns c =
     let path = c.as_bytes.result.now in
     rw (← c.as_bytes.ensures.value)
     (told _ _ _ _ _ (five_told (codes "line ") (decimal c.args.number) (codes " of ") (printable_text path)
-    (codes " is not eight lower-case digits and a line feed")) c.push_spans.ensures)
+    (codes " is not eight lower-case hexadecimal digits and a newline")) c.push_spans.ensures)

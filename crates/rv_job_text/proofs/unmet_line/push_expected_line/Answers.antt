@@ -6,7 +6,7 @@ use Rattle.rv_job_text.proofs.unmet_line.push_expected_line.Goals as goal
 
 pub returns : goal.returns
 returns c =
-    let margin : List ℕ = codes "     expected " in
+    let margin : List ℕ = codes "     expected: " in
     let text : List ℕ = unmet_expectation_text c.args.address (sides_of c.args.comparison.now) c.args.unmet in
     ended _ _ _ _ (margin ++ text) (codes "\n")
     (more _ _ _ margin text c.in_ok-push_text.ensures c.in_ok-push_unmet_expectation.ensures)

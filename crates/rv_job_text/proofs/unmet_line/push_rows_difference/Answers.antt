@@ -8,7 +8,7 @@ unfolding rows_difference_text
 returns-in_ok-push_row_end-in-Ending c =
     let other = codes "it ended with " ++ row_end_text c.args.other.now.ending in
     rw c.in-Ending.is
-    (told _ _ _ _ _ (sym (append_assoc other (codes ", this with ") (row_end_text c.args.row.now.ending)))
+    (told _ _ _ _ _ (sym (append_assoc other (codes ", this job with ") (row_end_text c.args.row.now.ending)))
     (ended _ _ _ _ _ _ c.in_ok-push_row_end-in-Ending.ensures c.push_row_end-in-Ending.ensures))
 
 pub returns-in_ok-push_text-in-Console : goal.returns-in_ok-push_text-in-Console

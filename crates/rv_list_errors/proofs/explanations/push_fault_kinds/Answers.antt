@@ -1,4 +1,4 @@
-use Rattle.rv_list_errors.specs.Told.{first_kinds_text}
+use Rattle.rv_list_errors.specs.Explanation.{first_kinds_text}
 use Rattle.rv_list_errors.proofs.FaultKinds.{one_kind_more}
 use Rattle.rv_list_errors.proofs.NamesTold.{adds_nothing}
 use Rattle.rv_list_errors.proofs.explanations.push_fault_kinds.Goals as goal

@@ -1,5 +1,5 @@
 use Rattle.rv_list_errors.specs.NearNames.{Adds}
-use Rattle.rv_list_errors.specs.Told.{first_kinds_text}
+use Rattle.rv_list_errors.specs.Explanation.{first_kinds_text}
 use Rattle.rv_list_errors.proofs.explanations.push_fault_kinds.Given as goal
 
 abbrev pub invariant-loop-place : goal.invariant-loop-place

@@ -3,7 +3,7 @@ use Rattle.std.specs.Prelude.{codes}
 use Rattle.toml.specs.Data.{get_member}
 use Rattle.toml.specs.View.{table_view}
 use Rattle.rv_list_errors.specs.JobFaults.{TellsWanted, bytes_text, wanted_words}
-use Rattle.rv_list_errors.specs.Told.{IsKeyAndValue}
+use Rattle.rv_list_errors.specs.Explanation.{IsKeyAndValue}
 use Rattle.rv_list_errors.proofs.Messages.{some_then}
 use Rattle.rv_list_errors.proofs.explanations.push_wanted.Goals as goal
 

@@ -1,7 +1,7 @@
 use Rattle.std.proofs.Common.{not, string_bytes, rules, tests}
 use Rattle.std.proofs.lemmas.Iterator.Consumers.{YieldsList-from_rest}
 use Rattle.std.proofs.lemmas.Iterator.Search.{find_from_yields_List}
-use Rattle.rv_list_errors.specs.Told.{is_key_of_owner}
+use Rattle.rv_list_errors.specs.Explanation.{is_key_of_owner}
 use Rattle.rv_list_errors.proofs.UnknownKeys.{unknown_found}
 use Rattle.rv_list_errors.proofs.keys.first_unknown_key.Goals as goal
 

@@ -1,6 +1,6 @@
 use Rattle.std.proofs.Common.{[], append-nil, refl, sym}
 use Rattle.rv_list_errors.specs.Lines.{BeginsWith}
-use Rattle.rv_list_errors.specs.Told.{unknown_key_text}
+use Rattle.rv_list_errors.specs.Explanation.{unknown_key_text}
 use Rattle.rv_list_errors.proofs.Messages.{adds_some, then_some}
 use Rattle.rv_list_errors.proofs.keys.push_unknown_job_key_of.Goals as goal
 

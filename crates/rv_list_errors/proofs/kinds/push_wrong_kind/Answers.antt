@@ -14,6 +14,6 @@ returns-in-Some c =
 pub returns-in-None : goal.returns-in-None
 returns-in-None c =
     let ms = table_view c.args.table.now in
-    let words = codes "a value of another kind" in
+    let words = codes "invalid type" in
     adds_some c.args.message.now c.push.new.self words (TellsWrongKind ms) c.push.ensures
     (subst (λ found. TellsWrongKey ms found words) c.in-None.ensures refl)

@@ -4,7 +4,7 @@ use Rattle.toml.specs.Data.{get_member}
 use Rattle.toml.specs.View.{table_view}
 use Rattle.rv_list_errors.specs.FaultHeads.{borrowed_names}
 use Rattle.rv_list_errors.specs.JobFaults.{TellsName, job_of_name_text, number_of_name}
-use Rattle.rv_list_errors.specs.Told.{IsKeyAndValue}
+use Rattle.rv_list_errors.specs.Explanation.{IsKeyAndValue}
 use Rattle.rv_list_errors.proofs.Messages.{adds_then, some_then}
 use Rattle.rv_list_errors.proofs.names.push_name_fault.Goals as goal
 

@@ -1,7 +1,7 @@
 use Rattle.std.specs.Prelude.{codes, None, Some}
 use Rattle.rv_list_errors.specs.FaultHeads.{borrowed_names}
 use Rattle.rv_list_errors.specs.NearNames.{IsNearName, names_text, present, quoted}
-use Rattle.rv_list_errors.specs.Told.{IsNearestJob}
+use Rattle.rv_list_errors.specs.Explanation.{IsNearestJob}
 use Rattle.std.proofs.Common.{refl, ◌++◌}
 use Rattle.rv_list_errors.proofs.Messages.{adds_then, look_then}
 use Rattle.rv_list_errors.proofs.names.push_nearest_name.Goals as goal
@@ -12,9 +12,9 @@ returns-in-Some c =
     let wanted = c.args.wanted.now in
     let name = c.in-Some.name.now in
     look_then c.args.message.now c.near_name.new.message c.push_quoted.new.self (IsNearName names wanted (Some name))
-    (IsNearestJob names wanted) (codes "; the nearest is " ++ quoted name) (rw c.in-Some.is at c.near_name.ensures.near)
+    (IsNearestJob names wanted) (codes "; a similar name exists: " ++ quoted name) (rw c.in-Some.is at c.near_name.ensures.near)
     c.near_name.ensures.unwritten (adds_then c.near_name.new.message c.push.new.self c.push_quoted.new.self
-    (codes "; the nearest is ") (quoted name) c.push.ensures c.push_quoted.ensures) (λ near. (Some name, near, refl))
+    (codes "; a similar name exists: ") (quoted name) c.push.ensures c.push_quoted.ensures) (λ near. (Some name, near, refl))
 
 pub returns-in-None : goal.returns-in-None
 returns-in-None c =

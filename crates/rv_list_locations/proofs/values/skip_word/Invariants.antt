@@ -1,12 +1,12 @@
 use Rattle.std.proofs.Common.{◌≡◌, ◌≤◌, length}
 use denote.Shadow.{shadow}
 use denote.Text.{Utf8}
-use Rattle.rv_list_locations.specs.JobPlaces.{behind_letters}
+use Rattle.rv_list_locations.specs.JobPlaces.{after_letters}
 use Rattle.rv_list_locations.proofs.values.skip_word.Given as goal
 
 abbrev pub invariant-letters : goal.invariant-letters
 invariant-letters l =
-    shadow (Utf8 l.rest) × (length l.rest ≤ length l.text) × (behind_letters l.rest ≡ behind_letters l.text)
+    shadow (Utf8 l.rest) × (length l.rest ≤ length l.text) × (after_letters l.rest ≡ after_letters l.text)
     × (length l.rest ≡ length l.text → l.rest ≡ l.text)
 
 abbrev pub decreases-letters : goal.decreases-letters

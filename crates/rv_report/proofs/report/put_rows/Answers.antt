@@ -2,8 +2,8 @@ use Rattle.std.proofs.Common.{◌∙◌, refl, arith, add-one, suc}
 use Rattle.std.proofs.lemmas.Result.{err_from_is_err_and}
 use Rattle.rv_report.specs.Report.{row_text, rows_text}
 use Rattle.rv_base.proofs.Public.{beginning_of_longer, failed_under_way, more_under_way, nothing_under_way}
-use Rattle.rv_report.proofs.RowTexts.{rows_more}
-use Rattle.rv_report.proofs.RowTexts.{rows_split}
+use Rattle.rv_report.proofs.RowSender.{rows_more}
+use Rattle.rv_report.proofs.RowSender.{rows_split}
 use Rattle.rv_base.proofs.Public.{stopped_under_way}
 use Rattle.rv_report.proofs.report.put_rows.Goals as goal
 

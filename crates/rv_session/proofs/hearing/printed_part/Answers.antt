@@ -1,5 +1,5 @@
 use Rattle.std.proofs.Common.{◌*◌, ◌≤◌, arith, length}
-use Rattle.rv_session.specs.Heard.{most_printed}
+use Rattle.rv_session.specs.Incoming.{most_printed}
 use Rattle.rv_session.proofs.Looking.{part_is}
 use Rattle.rv_session.proofs.hearing.printed_part.Goals as goal
 

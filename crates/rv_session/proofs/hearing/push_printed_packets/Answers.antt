@@ -1,4 +1,4 @@
-use Rattle.rv_session.specs.Heard.{printed_packet}
+use Rattle.rv_session.specs.Incoming.{printed_packet}
 use Rattle.rv_session.proofs.Looking.{packets_more}
 use Rattle.rv_session.proofs.hearing.push_printed_packets.Goals as goal
 

@@ -1,6 +1,6 @@
 use Rattle.std.proofs.Common.{◌≡◌, ◌++◌}
 use Rattle.std.specs.List.{flat_map, range_with_len}
-use Rattle.rv_session.specs.Heard.{printed_packet}
+use Rattle.rv_session.specs.Incoming.{printed_packet}
 use Rattle.rv_session.proofs.hearing.push_printed_packets.Given as goal
 
 abbrev pub invariant-loop-number : goal.invariant-loop-number

@@ -1,5 +1,5 @@
 use Rattle.std.proofs.Common.{◌∙◌, refl, rules, sym}
-use Rattle.rv_gdb_protocol.specs.declared.request.Trap.TheVariants as trap
+use Rattle.rv_gdb_protocol.specs.declared.request.Stoppoint.TheVariants as trap
 use Rattle.rv_session.proofs.Trapping.{set_already, set_now, too_many}
 use Rattle.rv_session.proofs.traps.with_break.Goals as goal
 

@@ -1,7 +1,7 @@
 use Rattle.std.proofs.Common.{ap, ◌≡◌, ◌+◌, ◌∙◌, arith, leb, refl, sym, true}
 use Rattle.std.proofs.lemmas.Bool.{and_from, le-leb}
 use Rattle.rv_history.specs.declared.stops.Stops.{Stops}
-use Rattle.rv_gdb_protocol.specs.declared.request.Trap.TheVariants as trap
+use Rattle.rv_gdb_protocol.specs.declared.request.Stoppoint.TheVariants as trap
 use Rattle.rv_session.specs.Traps.{can_be_set, has_byte, with_watches}
 use Rattle.rv_session.proofs.Trapping.{set_already, set_now, too_many, watch_added}
 use Rattle.rv_session.proofs.traps.with_watch.Goals as goal

@@ -12,7 +12,7 @@ use Rattle.rv_stream.proofs.row_text_puts.put_row_texts.Goals as goal
 
 pub loop-i-init : goal.loop-i-init
 loop-i-init g c =
-    let line = g.T.Telling.line c.args.telling.now in
+    let line = g.T.RowReporter.line c.args.reporter.now in
     let text = c.args.text.now.items in
     let places = c.args.placed.now.places.now in
     let rows = c.args.placed.now.rows.now in
@@ -25,7 +25,7 @@ loop-i-init g c =
 pub returns-in_err-push_row_text-clause-part : goal.returns-in_err-push_row_text-clause-part
 returns-in_err-push_row_text-clause-part g c =
     let error = err_from_is_err_and c.from_residual.result c.from_residual.ensures.1 in
-    let line = g.T.Telling.line c.args.telling.now in
+    let line = g.T.RowReporter.line c.args.reporter.now in
     let text = c.args.text.now.items in
     let places = c.args.placed.now.places.now in
     let rows = c.args.placed.now.rows.now in
@@ -38,7 +38,7 @@ pub returns-in_err-put_bytes_if_enough-clause-part : goal.returns-in_err-put_byt
 returns-in_err-put_bytes_if_enough-clause-part g c =
     let error = err_from_is_err_and c.from_residual-in_err-put_bytes_if_enough.result
     c.from_residual-in_err-put_bytes_if_enough.ensures.1 in
-    let line = g.T.Telling.line c.args.telling.now in
+    let line = g.T.RowReporter.line c.args.reporter.now in
     let text = c.args.text.now.items in
     let places = c.args.placed.now.places.now in
     let rows = c.args.placed.now.rows.now in
@@ -58,7 +58,7 @@ returns-in_err-put_bytes_if_enough-clause-part g c =
 
 pub loop-i-preserved : goal.loop-i-preserved
 loop-i-preserved g c =
-    let line = g.T.Telling.line c.args.telling.now in
+    let line = g.T.RowReporter.line c.args.reporter.now in
     let text = c.args.text.now.items in
     let places = c.args.placed.now.places.now in
     let rows = c.args.placed.now.rows.now in
@@ -76,7 +76,7 @@ loop-i-preserved g c =
 
 pub returns-clause-under_way : goal.returns-clause-under_way
 returns-clause-under_way g c =
-    let line = g.T.Telling.line c.args.telling.now in
+    let line = g.T.RowReporter.line c.args.reporter.now in
     let text = c.args.text.now.items in
     subst (λ (rows : List Row). IsPartlySent (g.W.Sink.taken c.args.out.now) (g.W.Sink.taken c.loop-i.out)
     c.loop-i.text.items (text ++ joined_row_texts line c.args.placed.now.places.now rows))

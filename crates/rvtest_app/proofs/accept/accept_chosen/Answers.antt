@@ -1,6 +1,6 @@
 use Rattle.std.proofs.Common.{inr, refl}
 use Rattle.std.proofs.lemmas.Result.{err_from_is_err_and}
-use Rattle.rvtest_app.specs.Said.{said}
+use Rattle.rvtest_app.specs.CommandOutputs.{outputs_of}
 use Rattle.rvtest_app.proofs.AcceptStops.{files_unput, stop_of_unread}
 use Rattle.rvtest_app.proofs.Acceptances.{outcome_told}
 use Rattle.rvtest_app.proofs.Results.{IfOk-map}
@@ -20,10 +20,10 @@ returns-clause-accepted g c =
     let outcomes = c.in_ok-outcomes.outcomes in
     IfOk-map c.put_accepted.result _ _
     (λ status put. record {
-      first = said g.F.Outputs.placed g.O.Sink.taken g.E.Sink.taken g.E.Sink.failed c.guarded_jobs.new.to;
+      first = outputs_of g.F.Outputs.placed g.O.Sink.taken g.E.Sink.taken g.E.Sink.failed c.guarded_jobs.new.to;
       outside = c.in_ok-marked.ensures.outside;
       rows = c.in_ok-rows.rows.items;
-      middle = said g.F.Outputs.placed g.O.Sink.taken g.E.Sink.taken g.E.Sink.failed c.run_marked.new.to;
+      middle = outputs_of g.F.Outputs.placed g.O.Sink.taken g.E.Sink.taken g.E.Sink.failed c.run_marked.new.to;
       ran = rw (c.in_ok-marked.ensures.jobs, c.in_ok-marked.ensures.marks) at c.in_ok-rows.ensures.rows;
       judged = c.in_ok-runs.runs.items;
       judging = rw c.as_slice-2.ensures.value at c.in_ok-runs.ensures;

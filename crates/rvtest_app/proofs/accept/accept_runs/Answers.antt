@@ -1,6 +1,6 @@
 use Rattle.std.proofs.Common.{None, Some, inl, inr, refl, ⊎_elim}
 use Rattle.std.proofs.lemmas.Result.{err_from_is_err_and}
-use Rattle.rvtest_app.specs.Said.{said}
+use Rattle.rvtest_app.specs.CommandOutputs.{outputs_of}
 use Rattle.rvtest_app.proofs.Results.{IfOk-map}
 use Rattle.rvtest_app.proofs.StopLemmas.{IfErr-map}
 use Rattle.rvtest_app.proofs.accept.accept_runs.Goals as goal
@@ -21,9 +21,9 @@ returns-in-Some-clause-accepted g c =
       chosen = Some c.in-Some.chosen.items;
       notes = c.in_ok-list.list.notes.items;
       choice = rw c.in-Some.is at c.in_ok-list.ensures.chosen;
-      middle = said g.F.Outputs.placed g.O.Sink.taken g.E.Sink.taken g.E.Sink.failed
+      middle = outputs_of g.F.Outputs.placed g.O.Sink.taken g.E.Sink.taken g.E.Sink.failed
           (record c.args.to.now { errors = c.put_message.new.errors });
-      said = (refl, rw c.as_slice.ensures.value at c.put_message.ensures, refl);
+      outputs_of = (refl, rw c.as_slice.ensures.value at c.put_message.ensures, refl);
       accepted = accepted;
     })
     (rw c.as_slice-in-Some.ensures.value at c.accept_chosen.ensures.accepted)
@@ -46,9 +46,9 @@ returns-clause-accepted g c = record {
   chosen = None;
   notes = c.in_ok-list.list.notes.items;
   choice = rw c.in-None.is at c.in_ok-list.ensures.chosen;
-  middle = said g.F.Outputs.placed g.O.Sink.taken g.E.Sink.taken g.E.Sink.failed
+  middle = outputs_of g.F.Outputs.placed g.O.Sink.taken g.E.Sink.taken g.E.Sink.failed
       (record c.args.to.now { errors = c.put_message.new.errors });
-  said = (refl, rw c.as_slice.ensures.value at c.put_message.ensures, refl);
+  outputs_of = (refl, rw c.as_slice.ensures.value at c.put_message.ensures, refl);
   accepted = (refl, refl);
 }
 

@@ -24,7 +24,7 @@ returns-in-Ok-clause-rows g c =
           c.as_slice-4.ensures.value,
           c.in_ok-places.ensures.value,
           c.as_slice.ensures.value,
-        ) at c.in_ok-placed_rows-in-Ok.ensures;
+        ) at c.in_ok-indexed_rows-in-Ok.ensures;
         noted = rw (c.as_slice-count.ensures.value, c.in_ok-places.ensures.value, c.as_slice.ensures.value) at c.in_ok-note.ensures;
       };
       told = (refl, rw c.as_slice-3.ensures.value at c.put_message.ensures, refl);

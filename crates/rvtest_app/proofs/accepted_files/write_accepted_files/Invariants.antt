@@ -2,9 +2,9 @@ use Rattle.std.proofs.Common.{Some, take}
 use Rattle.std.specs.List.{flat_map}
 use Rattle.rv_accept_text.specs.GoldenFiles.{new_text}
 use Rattle.rvtest_app.specs.Accepts.{file_if}
-use Rattle.rvtest_app.specs.Outlets.{AreFilesPlaced}
+use Rattle.rvtest_app.specs.Outlets.{AreFilesCommitted}
 use Rattle.rvtest_app.proofs.accepted_files.write_accepted_files.Given as goal
 
 abbrev pub invariant-loop-file : goal.invariant-loop-file
-invariant-loop-file g l = AreFilesPlaced (g.F.Outputs.placed l.fn.files) (g.F.Outputs.placed l.files)
+invariant-loop-file g l = AreFilesCommitted (g.F.Outputs.placed l.fn.files) (g.F.Outputs.placed l.files)
     (Some (flat_map (λ file. file_if file.place (new_text l.accepting.list file)) (take l.file-index l.accepting.files.now)))

@@ -24,7 +24,7 @@ returns-in-Some-clause-opened g c =
       unread = c.into_unread_paths-unread.result.items;
       noted = ap length c.into_unread_paths-unread.ensures ∙ (rw c.new-store.ensures.nothing at gathered.faults);
       over = λ d. rw c.in-Some.is at (c.in_ok-session.ensures d);
-      said = refl;
+      outputs_of = refl;
     }
 
 pub returns-in-None-clause-stopped : goal.returns-in-None-clause-stopped

@@ -5,15 +5,15 @@ use Rattle.rv_session.specs.declared.session.Session.{Session}
 use Rattle.rvtest_app.specs.Debugging.{job_end_text}
 use Rattle.rvtest_app.proofs.gdb.show_job_to_gdb.Goals as goal
 
-pub converse-requires-clause-asked : goal.converse-requires-clause-asked
-converse-requires-clause-asked g c =
+pub serve-requires-clause-asked : goal.serve-requires-clause-asked
+serve-requires-clause-asked g c =
     let opened = c.in_ok-opened.ensures.opened in λ lifetimes outlive.
     ap (λ (s : Session). s.asked) c.set_memory.ensures
     ∙ ap (λ (s : Session). s.asked) (opened.of_list.of_job.over (single_job [] 0 [])).session_is
 
 pub returns-in-Ok-clause-answered : goal.returns-in-Ok-clause-answered
 returns-in-Ok-clause-answered g c =
-    let heard = rw (c.in-Ok.is, c.set_memory.ensures) at c.converse.ensures.heard in record {
+    let heard = rw (c.in-Ok.is, c.set_memory.ensures) at c.serve.ensures.heard in record {
       spoken = c.if-is_terminal.false;
       end_text = job_end_text c.in_ok-opened.opened.job.plan c.in_ok-opened.opened.job.unread.items c.in_ok-opened.opened.job.place;
       first = c.in_ok-opened.opened.session;
@@ -22,12 +22,12 @@ returns-in-Ok-clause-answered g c =
       read = heard.read;
       while_open = heard.while_open;
       told = heard.told;
-      last = c.converse.new.session;
+      last = c.serve.new.session;
       may_end = heard.may_end;
       at_end = heard.ended;
       fed = heard.fed;
       made = heard.made;
-      ended = rw c.in-Ok.is at c.converse.ensures.ended;
+      ended = rw c.in-Ok.is at c.serve.ensures.ended;
       put = (heard.put, refl, refl, refl);
       done = refl;
     }
@@ -44,7 +44,7 @@ returns-clause-stopped g c = inr (
     c.in-Err.broken,
     (
       c.broken_stop.ensures,
-      (rw c.in-Err.is at c.converse.ensures.failed, rw c.in-Err.is at c.converse.ensures.unfailed),
+      (rw c.in-Err.is at c.serve.ensures.failed, rw c.in-Err.is at c.serve.ensures.unfailed),
     ),
   ),
 )

@@ -4,12 +4,12 @@ use Rattle.rvtest_app.specs.Merges.{merged_report_path}
 use Rattle.rvtest_app.proofs.PutStops.{output_of_put}
 use Rattle.rvtest_app.proofs.PutTexts.{out_told}
 use Rattle.rvtest_app.proofs.Results.{OnOk-both}
-use Rattle.rvtest_app.specs.Said.{said}
+use Rattle.rvtest_app.specs.CommandOutputs.{outputs_of}
 use Rattle.rvtest_app.proofs.merge.put_merged.Goals as goal
 
 pub returns-in-Ok-clause-put : goal.returns-in-Ok-clause-put
 returns-in-Ok-clause-put g c =
-    let path = g.F.Outputs.place_path in
+    let path = g.F.Outputs.pending_path in
     let taken = g.F.File.Sink.taken in
     let failed = g.F.File.Sink.failed in
     let outlets = c.in_ok-outlets.outlets in
@@ -32,7 +32,7 @@ returns-in-Ok-clause-put g c =
     let errors = c.put_whole_files.ensures.errors in
     OnOk-both c.put_whole_files.result _ _ _
     (λ p q. record {
-      middle = said g.F.Outputs.placed g.O.Sink.taken g.E.Sink.taken g.E.Sink.failed c.put_shown.new.to;
+      middle = outputs_of g.F.Outputs.placed g.O.Sink.taken g.E.Sink.taken g.E.Sink.failed c.put_shown.new.to;
       seen = seen;
       out = p;
       quiet = (ap g.E.Sink.taken errors, ap g.E.Sink.failed errors);
@@ -50,6 +50,6 @@ pub returns-in-Ok-clause-stopped : goal.returns-in-Ok-clause-stopped
 returns-in-Ok-clause-stopped g c =
     let junit_path = optional_text c.args.asked.now.junit in
     let report = rw c.merged_report_path.ensures at c.in_ok-outlets.ensures.report in
-    output_of_put g.F.Outputs.place_path g.F.File.Sink.taken g.F.File.Sink.failed _
+    output_of_put g.F.Outputs.pending_path g.F.File.Sink.taken g.F.File.Sink.failed _
     (merged_report_path (optional_text c.args.asked.now.report) junit_path) junit_path _ _ c.put_whole_files.result report
     c.in_ok-outlets.ensures.junit c.put_whole_files.ensures.stopped

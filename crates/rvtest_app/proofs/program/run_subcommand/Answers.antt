@@ -1,5 +1,5 @@
 use Rattle.std.proofs.Common.{inl, inr, refl}
-use Rattle.rv_gdb.specs.declared.conversation.Broken.TheVariants as cause
+use Rattle.rv_gdb.specs.declared.conversation.SessionError.TheVariants as cause
 use Rattle.rvtest_app.proofs.Results.{IfOk-from, IfOk-map}
 use Rattle.rvtest_app.proofs.StopLemmas.{IfErr-map, gdb_stop, put_or_found, unshown_accept, unshown_merge, unshown_report, unshown_run, unshown_sum}
 use Rattle.rvtest_app.proofs.program.run_subcommand.Goals as goal

@@ -8,14 +8,14 @@ use Rattle.rvtest_app.proofs.refused_note.push_refused_lines.Goals as goal
 
 pub loop-place-preserved : goal.loop-place-preserved
 loop-place-preserved c =
-    let telling = c.args.telling.now in
-    let judging = judging_of telling.judge in
+    let reporter = c.args.reporter.now in
+    let judging = judging_of reporter.judge in
     let places = c.args.places.now in
     let i = c.loop-place.place-index in
     let place = get_or places i 0 in
-    let line = refused_line judging telling.plan.now telling.unread.now (slice_index_or telling.plan.now.jobs place (single_job [] 0 [])) in
+    let line = refused_line judging reporter.plan.now reporter.unread.now (slice_index_or reporter.plan.now.jobs place (single_job [] 0 [])) in
     c.in_ok-push_refused_line.ensures (single_job [] 0 [])
     ∙ ap (λ text. text ++ line) c.loop-place.invariant
-    ∙ append_assoc _ (refused_lines judging telling.plan.now telling.unread.now (take i places)) line
-    ∙ ap (λ lines. c.args.text.now.items ++ lines) (sym (refused_more judging telling.plan.now telling.unread.now places i place
+    ∙ append_assoc _ (refused_lines judging reporter.plan.now reporter.unread.now (take i places)) line
+    ∙ ap (λ lines. c.args.text.now.items ++ lines) (sym (refused_more judging reporter.plan.now reporter.unread.now places i place
     c.loop-place-test.true (get_or_default places i 0 place c.loop-place-test.true)))

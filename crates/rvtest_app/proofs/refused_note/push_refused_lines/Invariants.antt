@@ -5,4 +5,4 @@ use Rattle.rvtest_app.proofs.refused_note.push_refused_lines.Given as goal
 
 abbrev pub invariant-loop-place : goal.invariant-loop-place
 invariant-loop-place l = l.text.items ≡ l.fn.text.items
-    ++ refused_lines (judging_of l.telling.judge) l.telling.plan.now l.telling.unread.now (take l.place-index l.places)
+    ++ refused_lines (judging_of l.reporter.judge) l.reporter.plan.now l.reporter.unread.now (take l.place-index l.places)

@@ -2,8 +2,8 @@ use Rattle.std.proofs.Common.{◌∙◌, ◌++◌, ap, append-nil, sym}
 use Rattle.rv_calls.specs.CallsLine.{calls_text}
 use Rattle.rv_jobs.specs.declared_job.Job.{Job}
 use Rattle.rv_trace.specs.Trace.{image_bytes, job_at}
-use Rattle.rv_job_text.specs.Telling.{calls_lines}
-use Rattle.rv_job_text.specs.WayToEnd.{optional_calls_text}
+use Rattle.rv_job_text.specs.RowReporter.{calls_lines}
+use Rattle.rv_job_text.specs.TraceOptions.{optional_calls_text}
 use Rattle.rv_job_text.proofs.Chains.{told_of_each}
 use Rattle.rv_job_text.proofs.ReadImages.{no_calls_text, read_for, text_in_read_file}
 use Rattle.rv_job_text.proofs.job_row.JobRow.push_calls.Goals as goal

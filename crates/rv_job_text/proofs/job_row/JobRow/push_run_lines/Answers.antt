@@ -2,7 +2,7 @@ use Rattle.std.proofs.Common.{◌++◌, append-nil}
 use Rattle.rv_job_text.specs.ConsoleTail.{console_tail}
 use Rattle.rv_text.proofs.Public.{more}
 use Rattle.rv_job_text.specs.declared.verbosity.Detail.TheVariants as detail
-use Rattle.rv_job_text.specs.Telling.{expectation_lines, run_lines, way_to_end_lines}
+use Rattle.rv_job_text.specs.RowReporter.{expectation_lines, run_lines, way_to_end_lines}
 use Rattle.rv_trace.specs.Trace.{job_at}
 use Rattle.rv_job_text.proofs.Chains.{ended}
 use Rattle.rv_job_text.proofs.job_row.JobRow.push_run_lines.Goals as goal
@@ -20,7 +20,7 @@ returns-in-Some c =
     (λ d. tail ++ way_to_end_lines plan (job_at plan place d) row c.in-Some.last)
     c.in_ok-push_expectation_lines.ensures
     (ended _ _ _ _ (λ d. tail) (λ d. way_to_end_lines plan (job_at plan place d) row c.in-Some.last)
-    (λ d. tail_told) c.push_way_to_end.ensures))
+    (λ d. tail_told) c.push_end_trace.ensures))
 
 pub returns-in-None : goal.returns-in-None
 unfolding run_lines

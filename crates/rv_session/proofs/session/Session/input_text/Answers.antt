@@ -9,7 +9,7 @@ four a b c d = sym (append_assoc a b (c ++ d)) ∙ sym (append_assoc (a ++ b) c 
 pub returns : goal.returns
 returns c =
     let script = decimal c.args.self.now.script in
-    let last = script ++ codes " bytes are taken\n" in
+    let last = script ++ codes " bytes read\n" in
     let told : c.into_bytes.result.items ≡ decimal c.taken-taken.result ++ (codes " of " ++ last) = search rules in
     told ∙ ap (λ (taken : ℕ). decimal taken ++ (codes " of " ++ last)) c.taken-taken.ensures
-    ∙ four (decimal (taken_here c.args.self.now)) (codes " of ") script (codes " bytes are taken\n")
+    ∙ four (decimal (taken_here c.args.self.now)) (codes " of ") script (codes " bytes read\n")

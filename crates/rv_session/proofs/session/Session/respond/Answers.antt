@@ -1,6 +1,6 @@
 use Rattle.std.proofs.Common.{◌∙◌, [], ℕ, List, refl, subst, sym}
 use Rattle.std.proofs.lemmas.Result.{on_ok_weaker}
-use Rattle.rv_session.specs.Heard.{IsTaken}
+use Rattle.rv_session.specs.Incoming.{IsTaken}
 use Rattle.rv_session.proofs.Appending.{both_ok, named_otherwise, not_over, nothing_more, over, these_more}
 use Rattle.rv_session.proofs.session.Session.respond.Goals as goal
 

@@ -1,7 +1,7 @@
 use Rattle.std.proofs.Common.{◌≡◌, ◌∙◌, ◌++◌, ℕ, List, Some, ap, rules, subst}
 use Rattle.std.specs.Prelude.{Option}
 use Rattle.rv_gdb_protocol.specs.declared.request.Move.{Move}
-use Rattle.rv_session.specs.Heard.{packets_of}
+use Rattle.rv_session.specs.Incoming.{packets_of}
 use Rattle.rv_session.specs.Moved.{IsMoved}
 use Rattle.rv_session.proofs.session.Session.work.Goals as goal
 

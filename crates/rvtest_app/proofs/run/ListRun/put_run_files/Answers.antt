@@ -1,6 +1,6 @@
 use Rattle.std.proofs.Common.{◌∙◌, ◌++◌, ap}
 use Rattle.rv_expect.specs.Judgement.{judging_of}
-use Rattle.rv_job_text.specs.Telling.{row_lines_at, telling_of}
+use Rattle.rv_job_text.specs.RowReporter.{row_lines_at, reporter_of}
 use Rattle.rvtest_app.specs.IntoReports.{rows_ahead, run_report_rest, run_report_text}
 use Rattle.rvtest_app.proofs.ChosenTexts.{run_report_split}
 use Rattle.rvtest_app.proofs.PutTexts.{out_same, part_same, placed_same, same_junit}
@@ -13,9 +13,9 @@ returns-clause-put g c = λ report_path junit_path report junit.
     let ahead = rows_ahead c.args.frame.old planned.places.now c.args.rows in
     out_same _ _ junit_path report_path _ _ _ _
     (rw c.framed_report.ensures.rows at (c.in_ok-put_files.ensures.put ahead report_path junit_path report junit))
-    (same_junit _ _ (judging_of planned.telling.now.judge) _ _ planned.places.now c.args.rows
+    (same_junit _ _ (judging_of planned.reporter.now.judge) _ _ planned.places.now c.args.rows
     (c.as_bytes.ensures.value ∙ c.suite_name.ensures)
-    (ap (λ telling. row_lines_at (telling_of telling)) c.new-recalling.ensures))
+    (ap (λ reporter. row_lines_at (reporter_of reporter)) c.new-recalling.ensures))
     (c.framed_report.ensures.text
     ∙ ap (λ jobs. run_report_text c.args.frame.old jobs planned.places.now c.args.frame.shard c.args.rows) c.jobs.ensures.value)
 
@@ -25,9 +25,9 @@ returns-clause-placed g c = λ report_path junit_path report junit.
     let ahead = rows_ahead c.args.frame.old planned.places.now c.args.rows in
     placed_same _ _ junit_path report_path _ _ _ _
     (rw c.framed_report.ensures.rows at (c.in_ok-put_files.ensures.placed ahead report_path junit_path report junit))
-    (same_junit _ _ (judging_of planned.telling.now.judge) _ _ planned.places.now c.args.rows
+    (same_junit _ _ (judging_of planned.reporter.now.judge) _ _ planned.places.now c.args.rows
     (c.as_bytes.ensures.value ∙ c.suite_name.ensures)
-    (ap (λ telling. row_lines_at (telling_of telling)) c.new-recalling.ensures))
+    (ap (λ reporter. row_lines_at (reporter_of reporter)) c.new-recalling.ensures))
     (ap (λ rest. ahead ++ rest) (c.framed_report.ensures.rest
     ∙ ap (λ jobs. run_report_rest c.args.frame.old jobs planned.places.now c.args.frame.shard c.args.rows) c.jobs.ensures.value)
     ∙ run_report_split c.args.frame.old _ planned.places.now c.args.frame.shard c.args.rows planned.rising planned.within
@@ -38,6 +38,6 @@ returns-in_err-put_files-clause-part g c = λ junit_path junit.
     let planned = c.args.planned.now in
     OnErr-from c.from_residual.result _
     (part_same _ _ junit_path _ _ (rw c.framed_report.ensures.rows at (c.in_err-put_files.ensures.part junit_path junit))
-    (same_junit _ _ (judging_of planned.telling.now.judge) _ _ planned.places.now c.args.rows
+    (same_junit _ _ (judging_of planned.reporter.now.judge) _ _ planned.places.now c.args.rows
     (c.as_bytes.ensures.value ∙ c.suite_name.ensures)
-    (ap (λ telling. row_lines_at (telling_of telling)) c.new-recalling.ensures)))
+    (ap (λ reporter. row_lines_at (reporter_of reporter)) c.new-recalling.ensures)))

@@ -10,7 +10,7 @@ use Rattle.rvtest_app.proofs.Results.{OnOk-both, OnOk-from}
 use Rattle.rvtest_app.proofs.StopLemmas.{IfErr-map}
 use Rattle.rvtest_app.specs.IntoReports.{run_report_path}
 use Rattle.rvtest_app.specs.Runs.{run_rows}
-use Rattle.rvtest_app.specs.Said.{said}
+use Rattle.rvtest_app.specs.CommandOutputs.{outputs_of}
 use Rattle.rvtest_app.proofs.run.ListRun.run_into_files.Goals as goal
 
 pub put_run_files-put-requires-clause-counted : goal.put_run_files-put-requires-clause-counted
@@ -24,9 +24,9 @@ put_run_files-put-requires-clause-counted g c κs within =
       length-take (length c.as_slice-shown.result.now) c.args.places.now,
     )
 
-pub returns-in-Ok-ran-clause-said : goal.returns-in-Ok-ran-clause-said
-returns-in-Ok-ran-clause-said g c =
-    let path = g.F.Outputs.place_path in
+pub returns-in-Ok-ran-clause-outputs_of : goal.returns-in-Ok-ran-clause-outputs_of
+returns-in-Ok-ran-clause-outputs_of g c =
+    let path = g.F.Outputs.pending_path in
     let taken = g.F.File.Sink.taken in
     let failed = g.F.File.Sink.failed in
     let outlets = c.in-Ok.outlets in
@@ -40,17 +40,17 @@ returns-in-Ok-ran-clause-said g c =
     let junit = rw (sym ran.junit) at c.in-Ok.ensures.junit in
     let places = c.first_jobs-first.ensures.places
     ∙ ap (λ (r : List Row). take (length r) c.args.places.now) (c.as_slice-shown.ensures ∙ rows) in
-    let telling = c.first_jobs-first.ensures.telling in
+    let reporter = c.first_jobs-first.ensures.reporter in
     let ahead = ahead_of_shown c.args.frame.old c.args.places.now
-    (run_rows c.args.self.now.asked.now.stop_after (judging_of c.args.telling.now.judge) c.args.telling.now.plan.now c.args.places.now) in
+    (run_rows c.args.self.now.asked.now.stop_after (judging_of c.args.reporter.now.judge) c.args.reporter.now.plan.now c.args.places.now) in
     let seen = rw c.in-Ok.ensures.same at (rw c.in-Ok-ran.is at ran.shown) in
-    let out = rw (telling, places, rows) at (c.put_run_files-put.ensures.put report_path junit_path (rw (same, places, rows, ahead) more) (rw same junit)) in
-    let placed = rw (telling, places, rows)
+    let out = rw (reporter, places, rows) at (c.put_run_files-put.ensures.put report_path junit_path (rw (same, places, rows, ahead) more) (rw same junit)) in
+    let placed = rw (reporter, places, rows)
     at (c.put_run_files-put.ensures.placed report_path junit_path (rw (same, places, rows, ahead) more) (rw same junit)) in
     let errors = c.put_run_files-put.ensures.errors in
     OnOk-both c.put_run_files-put.result _ _ _
     (λ p q. record {
-      middle = said g.F.Outputs.placed g.O.Sink.taken g.E.Sink.taken g.E.Sink.failed (c.run_into_outlets-to.result.0);
+      middle = outputs_of g.F.Outputs.placed g.O.Sink.taken g.E.Sink.taken g.E.Sink.failed (c.run_into_outlets-to.result.0);
       seen = seen;
       out = p;
       quiet = (ap g.E.Sink.taken errors, ap g.E.Sink.failed errors);
@@ -66,7 +66,7 @@ returns-in-Ok-ran-clause-part g c =
     let are = (rw c.in-Ok-ran.is at c.run_into_outlets-to.ensures.rows) ∙ sym is in
     let places = c.first_jobs-first.ensures.places
     ∙ ap (λ (r : List Row). take (length r) c.args.places.now) (c.as_slice-shown.ensures ∙ are) in
-    rw same at (rw (c.first_jobs-first.ensures.telling, places, are)
+    rw same at (rw (c.first_jobs-first.ensures.reporter, places, are)
     at (c.put_run_files-put.ensures.part (optional_text c.args.self.now.asked.now.junit) (rw same junit)))
 
 pub returns-in-Err-clause-stopped : goal.returns-in-Err-clause-stopped
@@ -79,7 +79,7 @@ returns-in-Ok-ran-clause-stopped g c =
     let junit_path = optional_text c.args.self.now.asked.now.junit in
     let report = rw c.run_report_path-report.ensures at c.in-Ok.ensures.report in
     IfErr-map c.put_run_files-put.result _ _ (λ why is. inr is)
-    (output_of_put g.F.Outputs.place_path g.F.File.Sink.taken g.F.File.Sink.failed _ report_path junit_path _ _
+    (output_of_put g.F.Outputs.pending_path g.F.File.Sink.taken g.F.File.Sink.failed _ report_path junit_path _ _
     c.put_run_files-put.result report c.in-Ok.ensures.junit
     (rw (c.run_into_outlets-to.ensures.report_path, c.run_into_outlets-to.ensures.junit) at c.put_run_files-put.ensures.stopped))
 

@@ -1,10 +1,10 @@
 use Rattle.std.proofs.Common.{◌≡◌, ◌∙◌, ap, inl, inr, length, refl, ⊎_elim}
 use Rattle.std.specs.Borrow.{Bor}
 use Rattle.std.specs.Prelude.{option_map}
-use Rattle.rv_job_text.specs.Telling.{Telling}
+use Rattle.rv_job_text.specs.RowReporter.{RowReporter}
 use Rattle.rv_expect.specs.declared.known_jobs.KnownJobs.{KnownJobs}
 use Rattle.rvtest_app.specs.Runs.{places_of_marks, run_judging, run_rows, run_telling}
-use Rattle.rvtest_app.specs.Said.{said}
+use Rattle.rvtest_app.specs.CommandOutputs.{outputs_of}
 use Rattle.rvtest_app.proofs.RunTellings.{known_behind, same_part, same_rows, told_as_asked, told_by}
 use Rattle.rvtest_app.proofs.Results.{IfOk-beside, OnErr-map}
 use Rattle.rvtest_app.proofs.run.ListRun.run_marked_jobs.Goals as goal
@@ -38,7 +38,7 @@ returns-clause-run g c =
       rows = _;
       shown = refl;
       judged = judged;
-      middle = said g.F.Outputs.placed g.O.Sink.taken g.E.Sink.taken g.E.Sink.failed
+      middle = outputs_of g.F.Outputs.placed g.O.Sink.taken g.E.Sink.taken g.E.Sink.failed
           (record c.args.to { errors = c.put_message.new.errors });
       noted = (refl, noted, refl);
       put = put;
@@ -52,7 +52,7 @@ returns-clause-run g c =
       c.requires,
       known,
       c.requested_verbosity.ensures,
-    ) at c.run_planned_jobs.ensures.said)
+    ) at c.run_planned_jobs.ensures.outputs_of)
 
 pub returns-clause-undone : goal.returns-clause-undone
 returns-clause-undone g c =
@@ -72,7 +72,7 @@ returns-clause-undone g c =
     rw (c.as_slice-4.ensures.value, c.in-Ok.ensures.value, c.as_slice.ensures.value) refl in
     let rows = run_rows asked.stop_after (run_judging asked failures) plan places in
     let rows_are = same_rows asked.stop_after told.judging (run_judging asked failures) plan c.as_slice-4.result.now places
-    (ap (λ (t : Telling). t.judging) told_is) places_are in
+    (ap (λ (t : RowReporter). t.judging) told_is) places_are in
     OnErr-map c.run_planned_jobs.result.1 _ _
     (⊎_elim inl (λ part. inr (record {
       plan = plan;

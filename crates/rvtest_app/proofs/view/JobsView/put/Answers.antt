@@ -1,6 +1,6 @@
 use Rattle.std.proofs.Common.{None, Some, arith, inl, inr, refl}
 use Rattle.std.proofs.lemmas.Result.{err_from_is_err_and}
-use Rattle.rvtest_app.specs.Said.{said}
+use Rattle.rvtest_app.specs.CommandOutputs.{outputs_of}
 use Rattle.rvtest_app.proofs.Results.{IfOk-map}
 use Rattle.rvtest_app.proofs.StopLemmas.{IfErr-map}
 use Rattle.rvtest_app.proofs.view.JobsView.put.Goals as goal
@@ -20,7 +20,7 @@ returns-in-Some-clause-put g c =
       old = c.in_ok-requested.requested.frame.old;
       notes = c.in_ok-requested.requested.notes.items;
       asked = rw c.in-Some.is at c.in_ok-requested.ensures.asked;
-      middle = said g.F.Outputs.placed g.O.Sink.taken g.E.Sink.taken g.E.Sink.failed
+      middle = outputs_of g.F.Outputs.placed g.O.Sink.taken g.E.Sink.taken g.E.Sink.failed
           (record c.args.to.now { errors = c.put_message.new.errors });
       told = (refl, rw c.as_slice.ensures.value at c.put_message.ensures, refl);
       viewed = put.1;
@@ -54,7 +54,7 @@ returns-clause-put g c = record {
   old = c.in_ok-requested.requested.frame.old;
   notes = c.in_ok-requested.requested.notes.items;
   asked = rw c.in-None.is at c.in_ok-requested.ensures.asked;
-  middle = said g.F.Outputs.placed g.O.Sink.taken g.E.Sink.taken g.E.Sink.failed
+  middle = outputs_of g.F.Outputs.placed g.O.Sink.taken g.E.Sink.taken g.E.Sink.failed
       (record c.args.to.now { errors = c.put_message.new.errors });
   told = (refl, rw c.as_slice.ensures.value at c.put_message.ensures, refl);
   viewed = refl;

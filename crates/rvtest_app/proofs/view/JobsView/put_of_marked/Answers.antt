@@ -1,6 +1,6 @@
 use Rattle.std.proofs.Common.{◌∙◌, ap, inr, length, refl}
 use Rattle.std.proofs.lemmas.Result.{err_from_is_err_and}
-use Rattle.rvtest_app.specs.Said.{said}
+use Rattle.rvtest_app.specs.CommandOutputs.{outputs_of}
 use Rattle.rvtest_app.proofs.ViewAnswers.{all_small}
 use Rattle.rvtest_app.proofs.view.JobsView.put_of_marked.Goals as goal
 
@@ -37,7 +37,7 @@ returns-clause-put g c =
           kept = rw (c.new-store.ensures.inputs, c.new-store.ensures.folder) at found.kept;
           noted = ap length c.unread_paths.ensures ∙ rw c.new-store.ensures.nothing at found.faults;
         };
-        middle = said g.F.Outputs.placed g.O.Sink.taken g.E.Sink.taken g.E.Sink.failed
+        middle = outputs_of g.F.Outputs.placed g.O.Sink.taken g.E.Sink.taken g.E.Sink.failed
             (record c.args.to.now { errors = c.put_message.new.errors });
         told = (
           refl,

@@ -1,0 +1,26 @@
+//! What a worker has at hand from one job to the next.
+
+ghost use Rattle.rv_jobs.specs.Plans.{Planned};
+ghost use Rattle.rv_rows.specs.Recent.{AreOutcomes};
+
+use rv_rows::{Recent, Spare};
+use std::alloc::Global;
+
+/// The memory of a worker's last run, and the outcomes of its last jobs.
+#[derive(Drop)]
+pub struct WorkerState {
+    pub spare: Spare,
+    pub recent: Recent,
+}
+
+impl WorkerState {
+    /// Takes no memory.
+    pub fn new(alloc: Global) -> WorkerState
+        ensures { (plan : Planned) → AreOutcomes plan result.recent }
+    {
+        WorkerState {
+            spare: Spare::new(),
+            recent: Recent::new(alloc),
+        }
+    }
+}

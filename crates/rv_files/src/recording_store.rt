@@ -1,0 +1,134 @@
+//! A store that notes why a path was unreadable.
+
+ghost use Rattle.std.specs.Prelude.{◌≡◌, ◌≤◌, ◌<◌, ◌++◌, ◌∷◌, [], Some, length};
+ghost use Rattle.std.specs.Prelude.{IfErr, IfOk, IfSome, IsSomeAnd, MatchResult, OnErr, OnOk};
+ghost use Rattle.std.specs.Option.{option_copied};
+ghost use Rattle.rv_base.specs.Limits.{most_bytes};
+ghost use Rattle.rv_files.specs.UnreadPaths.{HoldsNothingIfUnreadable, contents_below, unread_entry, unread_entries};
+
+use crate::file_store::WholeError;
+use crate::inputs::{Inputs, read_whole_up_to};
+use crate::roots::resolved_path;
+use rv_base::limits::MOST_BYTES;
+use rv_base::{ReadError, Store, Text};
+use std::alloc::{AllocError, Global};
+use std::io::ErrorKind;
+
+/// A path that was unreadable, and why.
+#[derive(Debug, Drop)]
+pub struct UnreadPath {
+    /// The path as it was asked for.
+    pub path: Text,
+    /// What the system said when the file was opened or read.
+    pub reason: ErrorKind,
+}
+
+/// A store over inputs that notes each path that was unreadable, and why: as often as it counts a fault. Where a folder
+/// is given, paths are taken from there, as std's `Path::join` does: one that begins with `/` stays as it is.
+#[derive(Drop)]
+pub struct RecordingStore<'a, D: Inputs> {
+    inputs: &'a D,
+    folder: Option<&'a str>,
+    unread: Vec<UnreadPath>,
+}
+
+impl<'a, D: Inputs> RecordingStore<'a, D> {
+    /// Takes no memory.
+    pub fn new(inputs: &'a D, alloc: Global, folder: Option<&'a str>) -> RecordingStore<'a, D>
+        ensures inputs { result.inputs ≡ inputs.entry }
+        ensures folder { result.folder ≡ folder.entry }
+        ensures nothing { result.unread.items ≡ [] }
+    {
+        RecordingStore {
+            inputs,
+            folder,
+            unread: Vec::new(alloc),
+        }
+    }
+
+    /// The paths that were unreadable, in the order in which they were asked for.
+    pub fn unread_paths(&self) -> &[UnreadPath]
+        ensures { result.now ≡ self.now.unread.items }
+    {
+        &self.unread
+    }
+
+    /// The same, for good.
+    pub fn into_unread_paths(self) -> Vec<UnreadPath>
+        ensures { result.items ≡ self.entry.unread.items }
+    {
+        self.unread
+    }
+
+    // What stands at the path's place; a path that is unreadable is noted.
+    fn read_noting_failure(&mut self, alloc: Global, path: &str) -> Result<Vec<u8>, WholeError>
+        ensures same { (self.new.inputs ≡ self.old.inputs) × (self.new.folder ≡ self.old.folder) }
+        ensures known { IfOk result (λ bytes.
+            IfSome (contents_below (option_copied self.old.folder) (D.contents self.old.inputs.now))
+            (λ files. files path.now ≡ Some bytes.items)) }
+        ensures within { IfOk result (λ bytes. length bytes.items ≤ most_bytes) }
+        ensures long { IfErr result (λ error. error ≡ WholeError.TooLong →
+            IfSome (contents_below (option_copied self.old.folder) (D.contents self.old.inputs.now))
+            (λ files. IsSomeAnd (files path.now) (λ bytes. most_bytes < length bytes))) }
+        ensures missing { IfErr result (HoldsNothingIfUnreadable
+            (contents_below (option_copied self.old.folder) (D.contents self.old.inputs.now)) path.now) }
+        ensures noted { MatchResult result (λ _. self.new.unread.items ≡ self.old.unread.items)
+            (λ error. self.new.unread.items
+            ≡ self.old.unread.items ++ unread_entries path.now error) }
+    {
+        let answer = self.read_place(alloc, path);
+        if let Err(WholeError::Failed(reason)) = answer {
+            self.note_unread(alloc, path, reason)?;
+        }
+        answer
+    }
+
+    // What stands at the path's place.
+    fn read_place(&self, alloc: Global, path: &str) -> Result<Vec<u8>, WholeError>
+        ensures known { IfOk result (λ bytes.
+            IfSome (contents_below (option_copied self.now.folder) (D.contents self.now.inputs.now))
+            (λ files. files path.now ≡ Some bytes.items)) }
+        ensures within { IfOk result (λ bytes. length bytes.items ≤ most_bytes) }
+        ensures long { IfErr result (λ error. error ≡ WholeError.TooLong →
+            IfSome (contents_below (option_copied self.now.folder) (D.contents self.now.inputs.now))
+            (λ files. IsSomeAnd (files path.now) (λ bytes. most_bytes < length bytes))) }
+        ensures missing { IfErr result (HoldsNothingIfUnreadable
+            (contents_below (option_copied self.now.folder) (D.contents self.now.inputs.now)) path.now) }
+    {
+        let place = resolved_path(alloc, self.folder, path)?;
+        match read_whole_up_to(self.inputs, alloc, place.as_str(), MOST_BYTES)? {
+            Some(bytes) => Ok(bytes),
+            None => Err(WholeError::TooLong),
+        }
+    }
+
+    fn note_unread(
+        &mut self,
+        alloc: Global,
+        path: &str,
+        reason: ErrorKind,
+    ) -> Result<(), AllocError>
+        ensures inputs { (self.new.inputs ≡ self.old.inputs) × (self.new.folder ≡ self.old.folder) }
+        ensures noted { OnOk result
+            (self.new.unread.items ≡ self.old.unread.items ++ unread_entry path.now reason ∷ []) }
+        ensures same { OnErr result (self.new.unread.items ≡ self.old.unread.items) }
+    {
+        let path = Text::new(String::from_str(alloc, path)?);
+        self.unread.push(UnreadPath { path, reason })?;
+        Ok(())
+    }
+}
+
+impl<'a, D: Inputs> Store for RecordingStore<'a, D> {
+    ghost contents = { λ store. contents_below (option_copied store.folder) (D.contents store.inputs.now) };
+
+    ghost faulted = { λ store. length store.unread.items };
+
+    fn read(&mut self, alloc: Global, path: &str) -> Result<Vec<u8>, ReadError> {
+        Ok(self.read_noting_failure(alloc, path)?)
+    }
+
+    fn faults(&self) -> u64 {
+        self.unread.len() as u64
+    }
+}

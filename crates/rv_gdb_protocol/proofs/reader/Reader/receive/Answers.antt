@@ -1,0 +1,24 @@
+use Rattle.std.proofs.Common.{◌<◌, ap, length, refl, rules, ◌∙◌}
+use Rattle.rv_gdb_protocol.specs.Frames.{option_list}
+use Rattle.rv_gdb_protocol.proofs.Hearing.{frame_at_last, heard_at_last, incoming_in-empty}
+use Rattle.rv_gdb_protocol.proofs.reader.Reader.receive.Goals as goal
+
+pub loop-at-init : goal.loop-at-init
+loop-at-init c = (incoming_in-empty c.args.self.now, refl)
+
+pub returns-in-Some-clause-heard : goal.returns-in-Some-clause-heard
+returns-in-Some-clause-heard c =
+    let within : c.loop-at.at < length c.args.bytes.now = search rules in
+    heard_at_last c.args.self.now c.loop-at.self c.args.bytes.now c.loop-at.at c.in_ok-heard.field-0 within
+    c.loop-at.invariant.0 c.loop-at.invariant.1 c.in_ok-heard.ensures.heard
+    ∙ ap option_list c.in-Some.is
+
+pub loop-at-preserved : goal.loop-at-preserved
+loop-at-preserved c =
+    let within : c.loop-at.at < length c.args.bytes.now = search rules in (
+      heard_at_last c.args.self.now c.loop-at.self c.args.bytes.now c.loop-at.at c.in_ok-heard.field-0 within
+          c.loop-at.invariant.0 c.loop-at.invariant.1 c.in_ok-heard.ensures.heard
+          ∙ ap option_list c.in_default.is,
+      frame_at_last c.args.self.now c.loop-at.self c.take.new.self c.args.bytes.now c.loop-at.at within
+          c.loop-at.invariant.1 c.in_ok-heard.ensures.frame,
+    )

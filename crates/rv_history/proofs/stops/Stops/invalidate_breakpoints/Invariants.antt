@@ -1,0 +1,12 @@
+use Rattle.std.proofs.Common.{◌≡◌, ℕ, true, take}
+use Rattle.std.specs.List.{list_any}
+use Rattle.std.specs.Prelude.{◌==◌}
+use Rattle.rv_machine.specs.Machine.{state_of}
+use Rattle.rv_machine.specs.Waking.{IsCached}
+use Rattle.rv_history.proofs.stops.Stops.invalidate_breakpoints.Given as goal
+
+abbrev pub invariant-loop-address : goal.invariant-loop-address
+invariant-loop-address l = record {
+  state : state_of l.machine ≡ state_of l.fn.machine;
+  asleep : (pc : ℕ) → list_any (λ address. address == pc) (take l.address-index l.address-items) ≡ true → IsCached l.machine.kept pc → ⊥;
+}

@@ -1,0 +1,141 @@
+-- What a person is told of a job's row.
+use Rattle.std.specs.Prelude.{ℕ, List, [], ◌++◌, Option, Some, None, Bool, true, false}
+use Rattle.std.specs.Prelude.{if◌then◌else◌, slice_get}
+use Rattle.rv_calls.specs.Calls.{calls_in}
+use Rattle.rv_expect.specs.declared.unmet.Unmet.{Unmet}
+use Rattle.rv_expect.specs.Comparisons.{Sides}
+use Rattle.rv_expect.specs.UnmetInPlan.{sides_in, unmet_in}
+use Rattle.rv_files.specs.declared.recording_store.UnreadPath.{UnreadPath}
+use Rattle.rv_jobs.specs.declared_job.Job.{Job}
+use Rattle.rv_jobs.specs.Plans.{Planned}
+use Rattle.rv_expect.specs.Judgement.{Judging, fails, is_unknown_failure, judgement, judging_of}
+use Rattle.rv_job_text.specs.ConsoleTail.{console_tail}
+use Rattle.rv_job_text.specs.ResultLine.{result_line}
+use Rattle.rv_job_text.specs.MetLines.{met_lines}
+use Rattle.rv_job_text.specs.UnmetLines.{unmet_lines}
+use Rattle.rv_rows.specs.declared_row.Row.{Row}
+use Rattle.rv_rows.specs.Verdict.{did_run}
+use Rattle.rv_job_text.specs.declared.text_reporter.TextReporter.{TextReporter}
+use Rattle.rv_job_text.specs.declared.verbosity.Detail.{Detail}
+use Rattle.rv_job_text.specs.declared.verbosity.Detail.TheVariants as detail
+use Rattle.rv_job_text.specs.declared.verbosity.Verbosity.{Verbosity}
+use Rattle.rv_job_text.specs.declared.verbosity.Verbosity.TheVariants.{Quiet, Failures, All}
+use Rattle.rv_job_text.specs.ImageSymbols.{signature_begin, fault_symbol}
+use Rattle.rv_job_text.specs.RefusalReasons.{ending_reason}
+use Rattle.rv_job_text.specs.BudgetUseLine.{budget_use_line}
+use Rattle.rv_job_text.specs.TraceOptions.{optional_calls_text, optional_trace_text}
+use Rattle.rv_job_text.specs.declared.way_to_end.TraceOptions.{TraceOptions}
+use Rattle.rv_trace.specs.Trace.{image_bytes, trace_in}
+
+-- the rows of which plan are told, with what was noted of its paths, how they are counted, how much of them,
+-- and how many of the last instructions of a job that failed, where they are
+pub record RowReporter : Type 0 where
+  pub plan : Planned
+  pub unread : List UnreadPath
+  pub judging : Judging
+  pub verbosity : Verbosity
+  pub last : Option ℕ
+
+abbrev pub reporter_of : TextReporter → RowReporter
+reporter_of reporter = record {
+  plan = reporter.plan.now;
+  unread = reporter.unread.now;
+  judging = judging_of reporter.judge;
+  verbosity = reporter.verbosity;
+  last = reporter.last;
+}
+
+-- the address of the first word of a job's signature, where it is known
+abbrev pub signature_address : Planned → Job → Option ℕ
+signature_address plan job = signature_begin job.isa (image_bytes plan.answers job) job.signature
+
+-- the line of a row: a fault's place by its symbol too, a refusal with its reason
+unfoldable pub row_line : Planned → List UnreadPath → Judging → Job → Row → List ℕ
+row_line plan unread judging job row =
+    result_line (judgement judging row) row (fault_symbol job.isa (image_bytes plan.answers job) row.ending)
+    (ending_reason plan.answers unread job row.ending)
+
+-- how a run came to its end, with so many of its last instructions
+unfoldable pub way_to_end_lines : Planned → Job → Row → ℕ → List ℕ
+way_to_end_lines plan job row last = optional_trace_text job.isa (image_bytes plan.answers job) row.ending
+    (trace_in plan job row.steps last)
+
+abbrev pub way_to_end_if_asked : Planned → Job → Row → Option ℕ → List ℕ
+way_to_end_if_asked plan job row None = []
+way_to_end_if_asked plan job row (Some last) = way_to_end_lines plan job row last
+
+-- the expectations that a run does not meet, and behind them, where all are told, those that it does
+abbrev pub compared_lines : Detail → Option ℕ → Sides → List Unmet → List ℕ
+compared_lines detail.Unmet address sides unmet = unmet_lines address sides unmet
+compared_lines detail.All address sides unmet =
+    unmet_lines address sides unmet ++ met_lines sides unmet
+
+abbrev pub expectation_lines : Detail → Planned → Job → Row → List ℕ
+expectation_lines which plan job row =
+    compared_lines which (signature_address plan job) (sides_in plan job row)
+    (unmet_in plan job row)
+
+-- the expectations that a run does not meet, the end of its console, and how it came to its end where
+-- that is asked for
+unfoldable pub run_lines : Planned → Job → Row → Option ℕ → List ℕ
+run_lines plan job row last =
+    expectation_lines detail.Unmet plan job row ++ (console_tail row.console
+    ++ way_to_end_if_asked plan job row last)
+
+-- what stands behind the line of a row that failed, and is not known to: nothing where the job did not run
+abbrev pub lines_below_failure : Planned → Job → Row → Option ℕ → List ℕ
+lines_below_failure plan job row last = if did_run row.ending then run_lines plan job row last else []
+
+-- whether anything is told of a row that counts as a failure, or does not
+abbrev pub shows_row : Verbosity → Bool → Bool
+shows_row Quiet is_failing = false
+shows_row Failures is_failing = is_failing
+shows_row All is_failing = true
+
+unfoldable pub row_lines : RowReporter → Job → Row → List ℕ
+row_lines reporter job row =
+    if shows_row reporter.verbosity (fails reporter.judging row)
+    then row_line reporter.plan reporter.unread reporter.judging job row
+    ++ (if is_unknown_failure (judgement reporter.judging row)
+    then lines_below_failure reporter.plan job row reporter.last else [])
+    else []
+
+-- of the row of the job at a place; nothing where there is no job
+abbrev pub row_lines_of_job : RowReporter → Row → Option Job → List ℕ
+row_lines_of_job reporter row None = []
+row_lines_of_job reporter row (Some job) = row_lines reporter job row
+
+unfoldable pub row_lines_at : RowReporter → ℕ → Row → List ℕ
+row_lines_at reporter place row = row_lines_of_job reporter row (slice_get reporter.plan.jobs place)
+
+-- ---- what a job came to
+
+-- the expectations that the run of a row does not meet
+abbrev pub unmet_if_run : Planned → Job → Row → List ℕ
+unmet_if_run plan job row = if did_run row.ending then expectation_lines detail.Unmet plan job row else []
+
+-- the line of a row, and behind it the expectations that its run does not meet
+unfoldable pub outcome_text : Planned → List UnreadPath → Judging → Job → Row → List ℕ
+outcome_text plan unread judging job row = row_line plan unread judging job row ++ unmet_if_run plan job row
+
+-- ---- a job that is explained
+
+-- the calls that have not returned where the run of a job ended, in a line, where there are any
+unfoldable pub calls_lines : Planned → Job → List ℕ
+calls_lines plan job = optional_calls_text job.isa (image_bytes plan.answers job) (calls_in plan job)
+
+-- every expectation, the end of the console, what is found of a used-up budget, how the run came to its end, and the calls
+-- that have not returned there
+unfoldable pub run_explanation : Planned → Job → Row → TraceOptions → List ℕ
+run_explanation plan job row way =
+    expectation_lines detail.All plan job row ++ (console_tail row.console
+    ++ (budget_use_line row.steps way.budget_use
+    ++ (way_to_end_lines plan job row way.last ++ calls_lines plan job)))
+
+abbrev pub explanation_if_run : Planned → Job → Row → TraceOptions → List ℕ
+explanation_if_run plan job row way =
+    if did_run row.ending then run_explanation plan job row way else []
+
+unfoldable pub explanation_text : Planned → List UnreadPath → Judging → Job → Row → TraceOptions → List ℕ
+explanation_text plan unread judging job row way =
+    row_line plan unread judging job row ++ explanation_if_run plan job row way

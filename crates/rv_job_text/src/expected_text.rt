@@ -1,0 +1,75 @@
+//! The text that a console is expected to be, where a difference from it is told by lines.
+
+ghost use Rattle.std.specs.Prelude.{◌≡◌, ◌&&◌, option_map};
+ghost use Rattle.rv_expect.specs.Comparisons.{sides_of};
+ghost use Rattle.rv_job_text.specs.ConsoleLines.{is_told_by_lines, told_by_lines, expected_by_lines, wanted_console, wanted_of};
+
+use crate::difference_text::bytes_or_empty;
+use rv_expect::{Comparison, Difference, Unmet};
+use rv_jobs::ExpectedConsole;
+use rv_text::{Span, is_utf8};
+
+/// A text, and what it is called.
+#[derive(Clone, Copy)]
+pub(crate) struct ExpectedText<'a> {
+    pub(crate) source: Span<'a>,
+    pub(crate) text: &'a [u8],
+}
+
+/// The text from which an expectation that is not met differs, where that is told by lines.
+pub(crate) fn expected_by_lines<'a>(
+    comparison: &Comparison<'a, '_>,
+    unmet: Unmet,
+) -> Option<ExpectedText<'a>>
+    ensures { option_map wanted_of result ≡ expected_by_lines (sides_of comparison.now) unmet }
+{
+    match unmet {
+        Unmet::Console(difference) => {
+            let wanted = wanted_console(&comparison.job.expect_console, comparison.console);
+            told_by_lines(difference, comparison.row.console.as_slice(), wanted)
+        }
+        Unmet::Exit | Unmet::End | Unmet::Signature(_) | Unmet::Same(_) | Unmet::Nothing => None,
+    }
+}
+
+fn wanted_console<'a>(
+    expected: &'a Option<ExpectedConsole>,
+    file: Option<&'a [u8]>,
+) -> Option<ExpectedText<'a>>
+    ensures { option_map wanted_of result
+        ≡ wanted_console expected.now (option_map (λ bytes. bytes.now) file.entry) }
+{
+    match expected {
+        None => None,
+        Some(ExpectedConsole::Text(text)) => Some(ExpectedText {
+            source: Span::Text("the expected text"),
+            text: text.as_slice(),
+        }),
+        Some(ExpectedConsole::File(path)) => Some(ExpectedText {
+            source: Span::Shown(path.as_str().as_bytes()),
+            text: bytes_or_empty(file),
+        }),
+    }
+}
+
+fn told_by_lines<'a>(
+    difference: Difference,
+    met: &[u8],
+    wanted: Option<ExpectedText<'a>>,
+) -> Option<ExpectedText<'a>>
+    ensures { option_map wanted_of result ≡ told_by_lines difference met.now (option_map wanted_of wanted.entry) }
+{
+    match wanted {
+        Some(wanted) if is_told_by_lines(difference, met, wanted.text) => Some(wanted),
+        _ => None,
+    }
+}
+
+fn is_told_by_lines(difference: Difference, met: &[u8], wanted: &[u8]) -> bool
+    ensures { result ≡ is_told_by_lines difference met.now wanted.now }
+{
+    match difference {
+        Difference::Absent => false,
+        Difference::At(_) | Difference::Lengths => is_utf8(met) && is_utf8(wanted),
+    }
+}

@@ -1,0 +1,321 @@
+//! What is told of rows, over a plan and what was noted of its paths.
+
+ghost use Rattle.std.specs.Prelude.{◌≡◌, ◌<◌, ◌++◌, OnOk, length, option_map};
+ghost use Rattle.rv_expect.specs.Comparisons.{sides_of};
+ghost use Rattle.rv_expect.specs.Judgement.{judging_of};
+ghost use Rattle.rv_expect.specs.UnmetInPlan.{row_of_same_as_job};
+ghost use Rattle.rv_jobs.specs.declared_job.Job.{Job as AJob};
+ghost use Rattle.rv_trace.specs.Trace.{image_bytes, job_at};
+ghost use Rattle.rv_job_text.specs.ImageSymbols.{fault_symbol};
+ghost use Rattle.rv_job_text.specs.RowReporter.{compared_lines, expectation_lines, explanation_text, row_line};
+ghost use Rattle.rv_job_text.specs.RowReporter.{outcome_text, run_explanation, run_lines, reporter_of, row_lines};
+
+use crate::budget_use_line::push_budget_use_line;
+use crate::console_tail::push_console_tail;
+use crate::job_file::JobFile;
+use crate::job_row::JobRow;
+use crate::met_line::push_met_lines;
+use crate::refusal_reasons::ending_reason;
+use crate::result_line::{EndDetail, push_result_line};
+use crate::unmet_line::push_unmet_lines;
+use crate::verbosity::{Detail, Verbosity};
+use crate::way_to_end::TraceOptions;
+use rv_elf::SymbolAt;
+use rv_expect::{Comparison, Judge, Unmet, row_of_same_as_job, unmet_expectations};
+use rv_files::UnreadPath;
+use rv_jobs::Plan;
+use rv_rows::{
+    Row, RowEnd, RowReporter, did_run, expected_console_bytes, signature_reference_bytes,
+};
+use std::alloc::{AllocError, Global};
+
+/// Tells of the rows of a plan.
+#[derive(Clone, Copy)]
+pub struct TextReporter<'a> {
+    pub plan: &'a Plan,
+    /// What a store noted of the paths that it could not read.
+    pub unread: &'a [UnreadPath],
+    /// How rows are counted.
+    pub judge: Judge<'a>,
+    pub verbosity: Verbosity,
+    /// How many of the last instructions of a job that failed are told, where they are.
+    pub last: Option<u32>,
+}
+
+impl<'a> RowReporter for TextReporter<'a> {
+    ghost use Rattle.rv_job_text.specs.RowReporter.{reporter_of, row_lines_at};
+
+    ghost line = { λ reporter place row. row_lines_at (reporter_of reporter) place row };
+
+    #[tactic(auto, unfolding(crate::specs::RowReporter::row_lines_at))]
+    fn push_row_text(
+        &self,
+        alloc: Global,
+        place: usize,
+        row: &Row,
+        text: &mut Vec<u8>,
+    ) -> Result<(), AllocError> {
+        if place < self.plan.jobs() {
+            return self.push_row_lines(alloc, place, row, text);
+        }
+        Ok(())
+    }
+}
+
+impl<'a> TextReporter<'a> {
+    #[tactic(auto, unfolding(crate::specs::RowReporter::row_lines))]
+    fn push_row_lines(
+        &self,
+        alloc: Global,
+        place: usize,
+        row: &Row,
+        text: &mut Vec<u8>,
+    ) -> Result<(), AllocError>
+        requires { place < length self.now.plan.now.jobs }
+        ensures { OnOk result ((d : AJob) → text.new.items ≡ text.old.items
+            ++ row_lines (reporter_of self.now) (job_at self.now.plan.now place d) row.now) }
+    {
+        let judgement = self.judge.judgement(row);
+        if !self.verbosity.shows_row(judgement) {
+            return Ok(());
+        }
+        if !judgement.is_unknown_failure() || !did_run(row.ending) {
+            return self.push_lone_row_line(alloc, place, row, text);
+        }
+        let plan = self.plan;
+        let file = &JobFile::read(alloc, plan, place)?;
+        self.push_row_line(alloc, place, row, file.fault_symbol(row.ending), text)?;
+        JobRow {
+            plan,
+            place,
+            row,
+            file,
+        }
+        .push_run_lines(alloc, self.last, text)
+    }
+
+    /// Appends what explains the row of the job at a place, whatever the verbosity: its line, and where the job ran every
+    /// expectation, those that it does not meet first, the end of its console, what is found of a used-up budget, how it came to
+    /// its end, with the registers there and so many of its last instructions, and the calls that have not returned there.
+    #[tactic(auto, unfolding(crate::specs::RowReporter::explanation_text))]
+    pub fn push_job_explanation(
+        &self,
+        alloc: Global,
+        place: usize,
+        row: &Row,
+        way: &TraceOptions,
+        text: &mut Vec<u8>,
+    ) -> Result<(), AllocError>
+        requires { place < length self.now.plan.now.jobs }
+        ensures { OnOk result ((d : AJob) → text.new.items ≡ text.old.items
+            ++ explanation_text self.now.plan.now self.now.unread.now (judging_of self.now.judge)
+            (job_at self.now.plan.now place d) row.now way.now) }
+    {
+        if !did_run(row.ending) {
+            return self.push_lone_row_line(alloc, place, row, text);
+        }
+        let plan = self.plan;
+        let file = &JobFile::read(alloc, plan, place)?;
+        self.push_row_line(alloc, place, row, file.fault_symbol(row.ending), text)?;
+        JobRow {
+            plan,
+            place,
+            row,
+            file,
+        }
+        .push_run_explanation(alloc, way, text)
+    }
+
+    /// Appends what the job at a place came to, whatever the verbosity: the line of its row, and where it ran the expectations that it
+    /// does not meet.
+    #[tactic(auto, unfolding(crate::specs::RowReporter::outcome_text))]
+    pub fn push_outcome(
+        &self,
+        alloc: Global,
+        place: usize,
+        row: &Row,
+        text: &mut Vec<u8>,
+    ) -> Result<(), AllocError>
+        requires { place < length self.now.plan.now.jobs }
+        ensures { OnOk result ((d : AJob) → text.new.items ≡ text.old.items
+            ++ outcome_text self.now.plan.now self.now.unread.now (judging_of self.now.judge)
+            (job_at self.now.plan.now place d) row.now) }
+    {
+        if !did_run(row.ending) {
+            return self.push_lone_row_line(alloc, place, row, text);
+        }
+        let plan = self.plan;
+        let file = &JobFile::read(alloc, plan, place)?;
+        self.push_row_line(alloc, place, row, file.fault_symbol(row.ending), text)?;
+        JobRow {
+            plan,
+            place,
+            row,
+            file,
+        }
+        .push_expectation_lines(alloc, Detail::Unmet, text)
+    }
+
+    /// Appends the line of the row of the job at a place, and nothing behind it, whatever the verbosity. The image is read for the
+    /// place of a fault alone.
+    #[tactic(auto, unfolding(crate::specs::ImageSymbols::fault_symbol))]
+    pub fn push_lone_row_line(
+        &self,
+        alloc: Global,
+        place: usize,
+        row: &Row,
+        text: &mut Vec<u8>,
+    ) -> Result<(), AllocError>
+        requires { place < length self.now.plan.now.jobs }
+        ensures { OnOk result ((d : AJob) → text.new.items ≡ text.old.items
+            ++ row_line self.now.plan.now self.now.unread.now (judging_of self.now.judge)
+            (job_at self.now.plan.now place d) row.now) }
+    {
+        match row.ending {
+            RowEnd::Fault(_, _, _) => {
+                let file = JobFile::read(alloc, self.plan, place)?;
+                self.push_row_line(alloc, place, row, file.fault_symbol(row.ending), text)
+            }
+            RowEnd::Exit(_) | RowEnd::Budget | RowEnd::Refused(_) => {
+                self.push_row_line(alloc, place, row, None, text)
+            }
+        }
+    }
+
+    // Appends the line of the row of the job at a place, with the symbol of a fault's place.
+    #[tactic(auto, unfolding(crate::specs::RowReporter::row_line))]
+    fn push_row_line(
+        &self,
+        alloc: Global,
+        place: usize,
+        row: &Row,
+        symbol: Option<SymbolAt<'_>>,
+        text: &mut Vec<u8>,
+    ) -> Result<(), AllocError>
+        requires place { place < length self.now.plan.now.jobs }
+        requires symbol { (d : AJob) → option_map (λ s. (s.name.now, s.offset)) symbol
+            ≡ fault_symbol (job_at self.now.plan.now place d).isa
+            (image_bytes self.now.plan.now.answers (job_at self.now.plan.now place d)) row.now.ending }
+        ensures { OnOk result ((d : AJob) → text.new.items ≡ text.old.items
+            ++ row_line self.now.plan.now self.now.unread.now (judging_of self.now.judge)
+            (job_at self.now.plan.now place d) row.now) }
+    {
+        let reason = ending_reason(alloc, self.plan, self.unread, place, row.ending)?;
+        let detail = EndDetail {
+            symbol,
+            reason: reason_bytes(&reason),
+        };
+        push_result_line(alloc, text, self.judge.judgement(row), row, &detail)
+    }
+}
+
+fn reason_bytes(reason: &Option<Vec<u8>>) -> Option<&[u8]>
+    ensures { option_map (λ bytes. bytes.now) result ≡ option_map (λ text. text.items) reason.now }
+{
+    match reason {
+        Some(text) => Some(text.as_slice()),
+        None => None,
+    }
+}
+
+impl<'a> JobRow<'a> {
+    // Appends the expectations that the run doesn't meet, the end of its console, and how it came to its end.
+    #[tactic(auto, unfolding(crate::specs::RowReporter::run_lines))]
+    fn push_run_lines(
+        &self,
+        alloc: Global,
+        last: Option<u32>,
+        text: &mut Vec<u8>,
+    ) -> Result<(), AllocError>
+        ensures { OnOk result ((d : AJob) → text.new.items ≡ text.old.items
+            ++ run_lines self.now.plan.now (job_at self.now.plan.now self.now.place d)
+            self.now.row.now last) }
+    {
+        self.push_expectation_lines(alloc, Detail::Unmet, text)?;
+        push_console_tail(text, self.row.console.as_slice())?;
+        match last {
+            Some(last) => self.push_end_trace(alloc, last, text),
+            None => Ok(()),
+        }
+    }
+
+    // Appends every expectation, the end of the console, what is found of a used-up budget, how the run came to its end, and
+    // the calls that have not returned there.
+    #[tactic(auto, unfolding(crate::specs::RowReporter::run_explanation))]
+    fn push_run_explanation(
+        &self,
+        alloc: Global,
+        way: &TraceOptions,
+        text: &mut Vec<u8>,
+    ) -> Result<(), AllocError>
+        ensures { OnOk result ((d : AJob) → text.new.items ≡ text.old.items
+            ++ run_explanation self.now.plan.now (job_at self.now.plan.now self.now.place d)
+            self.now.row.now way.now) }
+    {
+        self.push_expectation_lines(alloc, Detail::All, text)?;
+        push_console_tail(text, self.row.console.as_slice())?;
+        push_budget_use_line(text, self.row.steps, way.budget_use)?;
+        self.push_end_trace(alloc, way.last, text)?;
+        self.push_calls(alloc, text)
+    }
+
+    // Appends the expectations that are told of the run.
+    fn push_expectation_lines(
+        &self,
+        alloc: Global,
+        detail: Detail,
+        text: &mut Vec<u8>,
+    ) -> Result<(), AllocError>
+        ensures { OnOk result ((d : AJob) → text.new.items ≡ text.old.items
+            ++ expectation_lines detail self.now.plan.now
+            (job_at self.now.plan.now self.now.place d) self.now.row.now) }
+    {
+        let named = row_of_same_as_job(alloc, self.plan, self.plan.job(self.place))?;
+        self.push_compared_expectations(alloc, named.as_ref(), detail, text)
+    }
+
+    // The same, beside the row of the named job.
+    fn push_compared_expectations(
+        &self,
+        alloc: Global,
+        other: Option<&Row>,
+        detail: Detail,
+        text: &mut Vec<u8>,
+    ) -> Result<(), AllocError>
+        requires { (d : AJob) → option_map (λ row. row.now) other
+            ≡ row_of_same_as_job self.now.plan.now (job_at self.now.plan.now self.now.place d) }
+        ensures { OnOk result ((d : AJob) → text.new.items ≡ text.old.items
+            ++ expectation_lines detail self.now.plan.now
+            (job_at self.now.plan.now self.now.place d) self.now.row.now) }
+    {
+        let (plan, place) = (self.plan, self.place);
+        let job = plan.job(place);
+        let comparison = Comparison {
+            job,
+            row: self.row,
+            console: expected_console_bytes(plan, place),
+            reference: signature_reference_bytes(plan, place),
+            other,
+        };
+        let address = self.file.signature_begin(&job.signature);
+        let unmet = unmet_expectations(alloc, &comparison)?;
+        push_compared_lines(&comparison, address, unmet.as_slice(), detail, text)
+    }
+}
+
+fn push_compared_lines(
+    comparison: &Comparison<'_, '_>,
+    address: Option<u32>,
+    unmet: &[Unmet],
+    detail: Detail,
+    text: &mut Vec<u8>,
+) -> Result<(), AllocError>
+    ensures { OnOk result (text.new.items ≡ text.old.items
+        ++ compared_lines detail address (sides_of comparison.now) unmet.now) }
+{
+    push_unmet_lines(text, comparison, address, unmet)?;
+    match detail {
+        Detail::Unmet => Ok(()),
+        Detail::All => push_met_lines(text, comparison, unmet),
+    }
+}

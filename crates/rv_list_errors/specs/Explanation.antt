@@ -1,0 +1,145 @@
+-- What is told of a fault behind the place where it stands.
+use Rattle.std.specs.Prelude.{◌≡◌, ◌+◌, ◌++◌, ℕ, Bool, List, [], Option, Some, None, IsOk, MatchOption, OnOk, codes, if◌then◌else◌}
+use Rattle.std.specs.Prelude.{◌==◌, ◌||◌, zero, suc, false, length, not, slice_index_or}
+use Rattle.std.specs.Fmt.{decimal}
+use Rattle.std.specs.List.{find}
+use Rattle.toml.specs.Data.{Data, Members, no_members, member, as_str}
+use Rattle.toml.specs.Text.{IsValueText}
+use Rattle.rv_lists.specs.Keys.{is_job_key, is_list_key, is_region_key}
+use Rattle.rv_lists.specs.Limits.{most_budget, most_jobs, most_name, most_path, most_symbol}
+use Rattle.rv_lists.specs.declared.error.What.{What}
+use Rattle.rv_lists.specs.declared.error.What.TheVariants as what
+use Rattle.rv_machine.specs.Faults.{fault_kinds, fault_name}
+use Rattle.rv_machine.specs.declared.ending.FaultKind.TheVariants as fault
+use Rattle.rv_text.specs.Printable.{printable_value}
+use Rattle.rv_list_errors.specs.NearNames.{IsNearName, names_text, present, quoted}
+use Rattle.rv_list_locations.specs.Places.{column_at, line_at}
+use Rattle.rv_list_errors.specs.declared.explanations.Rest.{Rest}
+use Rattle.rv_list_errors.specs.declared.explanations.Rest.TheVariants as rest
+use Rattle.rv_list_errors.specs.declared.explanations.Explanation.{Explanation}
+use Rattle.rv_list_errors.specs.declared.explanations.Explanation.TheVariants as told
+use Rattle.rv_list_errors.specs.declared.keys.Owner.{Owner}
+use Rattle.rv_list_errors.specs.declared.keys.Owner.TheVariants as owner
+use Rattle.rv_list_errors.specs.declared.message.Message.{Message}
+
+-- ---- a message that grows by a text of which only some things are known
+
+-- unless a growth was refused, it has a text behind what it had of which this is so
+abbrev pub AddsSome : Message → Message → (List ℕ → Type 0) → Type 0
+AddsSome before after IsSo = OnOk after.grown
+    (IsOk before.grown × ((text : List ℕ) × IsSo text × (after.bytes.items ≡ before.bytes.items ++ text)))
+
+-- ---- values that were met
+
+-- a text stands in quotes, and another value as TOML writes it
+abbrev pub IsShownValue : Data → List ℕ → Type 0
+IsShownValue value shown = MatchOption (as_str value)
+    ((text : List ℕ) × IsValueText false value text × (shown ≡ printable_value text)) (λ text. shown ≡ quoted text)
+
+-- a key, and its value or that it is absent
+abbrev pub IsKeyAndValue : List ℕ → Option Data → List ℕ → Type 0
+IsKeyAndValue key None told = told ≡ key ++ codes " is missing"
+IsKeyAndValue key (Some value) told = (shown : List ℕ) × IsShownValue value shown × (told ≡ key ++ codes " = " ++ shown)
+
+-- the same, and what is wanted of the value
+abbrev pub IsWantedValue : List ℕ → Option Data → List ℕ → List ℕ → Type 0
+IsWantedValue key value wanted told =
+    (met : List ℕ) × IsKeyAndValue key value met × (told ≡ met ++ (codes ": " ++ wanted))
+
+-- ---- faults of the whole list
+
+-- of a text that is no TOML: the line and the column of the error, and then a reason
+abbrev pub IsNotToml : List ℕ → ℕ → List ℕ → Type 0
+IsNotToml text place told = (reason : List ℕ) × (told
+    ≡ codes ":" ++ (decimal (line_at place text) ++ (codes ":" ++ (decimal (column_at place text)
+    ++ (codes ": error: invalid TOML: " ++ reason)))))
+
+abbrev pub too_many_jobs_text : ℕ → List ℕ
+too_many_jobs_text count = decimal count ++ (codes " jobs: at most " ++ (decimal most_jobs ++ codes " are allowed"))
+
+-- ---- keys
+
+abbrev pub is_key_of_owner : Owner → List ℕ → Bool
+is_key_of_owner owner.List key = is_list_key key
+is_key_of_owner owner.Job key = is_job_key key
+is_key_of_owner owner.Region key = is_region_key key
+
+-- the first key that is not known
+unfoldable pub first_unknown_key : (List ℕ → Bool) → Members → Option (List ℕ)
+first_unknown_key known no_members = None
+first_unknown_key known (member key value members) =
+    if known key then first_unknown_key known members else Some key
+
+abbrev pub unknown_key_text : List ℕ → List ℕ
+unknown_key_text key = codes "unknown key " ++ quoted key
+
+-- which region, counted from 1
+abbrev pub region_number_text : ℕ → List ℕ
+region_number_text place = codes "region " ++ decimal (place + 1)
+
+-- ---- names
+
+-- the name that is probably meant, or else all of these names
+abbrev pub nearest_job_text : List (Option (List ℕ)) → Option (List ℕ) → List ℕ
+nearest_job_text names (Some name) = codes "; a similar name exists: " ++ quoted name
+nearest_job_text names None = codes "; the earlier jobs are " ++ names_text (present names)
+
+-- it tells which of these names is probably meant by one that no job has
+abbrev pub IsNearestJob : List (Option (List ℕ)) → List ℕ → List ℕ → Type 0
+IsNearestJob names wanted told =
+    (near : Option (List ℕ)) × IsNearName names wanted near × (told ≡ nearest_job_text names near)
+
+-- ---- what is wanted
+
+-- the name of the kind of faults at a place, in quotes, behind what parts it from the kind before
+abbrev pub kind_text : ℕ → List ℕ
+kind_text place =
+    (if place == 0 then [] else if place + 1 == length fault_kinds then codes " or " else codes ", ")
+    ++ quoted (fault_name (slice_index_or fault_kinds place fault.FetchAccess))
+
+-- the first so many kinds of faults, as a sentence lists them
+unfoldable pub first_kinds_text : ℕ → List ℕ
+first_kinds_text zero = []
+first_kinds_text (suc count) = first_kinds_text count ++ kind_text count
+
+-- the most that is taken, or all kinds of faults
+abbrev pub rest_words : Rest → List ℕ
+rest_words rest.Nothing = []
+rest_words (rest.Most most) = decimal most
+rest_words rest.FaultKinds = first_kinds_text (length fault_kinds)
+
+abbrev pub told_words : Explanation → List ℕ
+told_words (told.Text text) = text.now
+told_words (told.Expected wanted) = wanted.now.before.now ++ (rest_words wanted.now.rest ++ wanted.now.behind.now)
+
+-- of the values of keys, by what is wrong, where this alone says it
+abbrev pub key_words : What → Option (List ℕ)
+key_words what.Name =
+    Some (codes "expected 1 to " ++ (decimal most_name ++ codes " ASCII letters, digits, \".\", \"_\" or \"-\""))
+key_words what.Image = Some (codes "expected a path of 1 to " ++ (decimal most_path ++ codes " bytes"))
+key_words what.Budget = Some (codes "expected an integer from 1 to " ++ (decimal most_budget ++ codes ""))
+key_words what.Load = Some (codes "expected \"physical\" or \"virtual\"")
+key_words what.Signature =
+    Some (codes "expected two symbol names of 1 to " ++ (decimal most_symbol ++ codes " bytes each, without NUL bytes"))
+key_words what.Misaligned = Some (codes "expected \"fault\" or \"allow\"")
+key_words _ = None
+
+-- ---- sets of instructions
+
+abbrev pub sets_words : List ℕ
+sets_words = codes "expected \"rv32i\", \"rv32im\", \"rv32ic\" or \"rv32imc\""
+
+-- a letter that stands for none of I, M and C
+abbrev pub is_unsimulated : ℕ → Bool
+is_unsimulated letter = not (letter == 105 || letter == 109 || letter == 99)
+
+-- of the first such letter: A, or F and D, are not simulated
+abbrev pub letter_words : Option ℕ → List ℕ
+letter_words None = sets_words
+letter_words (Some letter) =
+    if letter == 97 then codes "A is not simulated: " ++ sets_words
+    else if letter == 102 || letter == 100 then codes "F and D are not simulated: " ++ sets_words else sets_words
+
+-- of the letters behind rv32
+abbrev pub letters_words : List ℕ → List ℕ
+letters_words letters = letter_words (find is_unsimulated letters)

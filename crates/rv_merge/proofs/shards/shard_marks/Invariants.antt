@@ -1,6 +1,0 @@
-use Rattle.std.proofs.Common.{◌≡◌}
-use Rattle.rv_merge.specs.Shards.{shard_marks}
-use Rattle.rv_merge.proofs.shards.shard_marks.Given as goal
-
-abbrev pub invariant-loop-place : goal.invariant-loop-place
-invariant-loop-place l = l.marks.items ≡ shard_marks l.shards l.number l.place

@@ -1,0 +1,30 @@
+use Rattle.std.proofs.Common.{◌≡◌, ◌∙◌, ◌+◌, ◌∷◌, ◌++◌, [], Bool, List, ap, sym, arith, length}
+use Rattle.std.specs.List.{range_with_len}
+use Rattle.std.proofs.lemmas.List.{length-map}
+use Rattle.std.proofs.lemmas.List.FromFn.{length-range_with_len, map-range_with_len_more}
+use Rattle.rv_jobs.specs.Choices.{selected_indices}
+use Rattle.rv_merge.specs.Shards.{is_in_shard, shard_selection}
+use Rattle.rv_merge.proofs.Sharded.{marked_by}
+use Rattle.rv_merge.proofs.shards.shard_selection.Goals as goal
+
+pub loop-place-preserved : goal.loop-place-preserved
+loop-place-preserved c =
+    let place = c.loop-place.place in
+    let f = is_in_shard c.args.shards c.args.number in
+    let zero : 0 + place ≡ place = omega arith in
+    c.in_ok-push.ensures.items ∙ ap (λ (l : List Bool). l ++ f place ∷ []) c.loop-place.invariant
+    ∙ sym (map-range_with_len_more f 0 place place zero)
+
+pub returns-clause-counted : goal.returns-clause-counted
+returns-clause-counted c =
+    let last : c.loop-place.place ≡ c.args.jobs = omega arith in
+    ap length c.loop-place.invariant
+    ∙ length-map (range_with_len 0 c.loop-place.place) (is_in_shard c.args.shards c.args.number)
+    ∙ length-range_with_len 0 c.loop-place.place ∙ last
+
+pub returns-clause-places : goal.returns-clause-places
+returns-clause-places c =
+    let last : c.loop-place.place ≡ c.args.jobs = omega arith in
+    ap (λ (l : List Bool). selected_indices l c.args.jobs)
+    (c.loop-place.invariant ∙ ap (shard_selection c.args.shards c.args.number) last)
+    ∙ marked_by (is_in_shard c.args.shards c.args.number) c.args.jobs

@@ -1,0 +1,22 @@
+use Rattle.rv_session.specs.Incoming.{IsByteFed}
+use Rattle.rv_session.proofs.Appending.{to_nothing}
+use Rattle.rv_session.proofs.Asking.{byte_may}
+use Rattle.rv_session.proofs.Same.{byte_same}
+use Rattle.rv_session.proofs.session.Session.receive.Goals as goal
+
+pub returns-clause-heard : goal.returns-clause-heard
+returns-clause-heard c =
+    to_nothing _ c.hear_byte.new.out.items (λ out. IsByteFed c.args.self.now c.args.byte out c.hear_byte.new.self)
+    c.new-out.ensures.items c.in_ok-hear_byte.ensures
+
+pub returns-clause-run : goal.returns-clause-run
+returns-clause-run c =
+    byte_same c.args.self.now c.hear_byte.new.self c.args.byte c.hear_byte.new.out.items
+    (to_nothing _ c.hear_byte.new.out.items (λ out. IsByteFed c.args.self.now c.args.byte out c.hear_byte.new.self)
+    c.new-out.ensures.items c.in_ok-hear_byte.ensures)
+
+pub returns-clause-not_over : goal.returns-clause-not_over
+returns-clause-not_over c =
+    byte_may c.args.self.now c.hear_byte.new.self c.args.byte c.hear_byte.new.out.items c.requires
+    (to_nothing _ c.hear_byte.new.out.items (λ out. IsByteFed c.args.self.now c.args.byte out c.hear_byte.new.self)
+    c.new-out.ensures.items c.in_ok-hear_byte.ensures)

@@ -1,0 +1,45 @@
+-- One row more is kept.
+use Rattle.std.proofs.Common.{◌∙◌, ◌-◌, ◌∷◌, [], ℕ, Bool, List, sym, ap, subst, inl, inr}
+use Rattle.std.specs.Prelude.{if◌then◌else◌, option_map}
+use Rattle.std.proofs.lemmas.Bool.{false_from_ne_true}
+use Rattle.std.proofs.lemmas.List.{map-append}
+use Rattle.rv_expect.specs.Judgement.{Judging, fails}
+use Rattle.rv_rows.specs.declared_row.Row.{Row}
+use Rattle.rv_stream.specs.declared.reported_row.ReportedRow.{ReportedRow}
+use Rattle.rv_stream.specs.Told.{rows_of_reported, AreRowsUpToFailure}
+use Rattle.rv_stream.proofs.Limits.{one_row_more}
+use Rattle.rv_stream.proofs.rows_up_to_failure.RowsUpToFailureListenerReportedRow.receive.Goals as goal
+
+pub returns-then-eq-clause-received : goal.returns-then-eq-clause-received
+returns-then-eq-clause-received g c = λ results received.
+    let s = c.args.self.now in
+    let row = c.args.made.row in
+    let most = g.J.StreamSpec.most in
+    let judging = g.J.StreamSpec.judging in (
+      received.0,
+      subst (λ (rows : List Row). AreRowsUpToFailure most judging c.failures_left-self.result c.keep_row-self.result c.keep_row-self.new.rows.items rows)
+          (sym (map-append (λ (t : ReportedRow). t.row) results (c.args.made ∷ [])))
+          (one_row_more most judging s.left c.failures_left-self.result s.refused c.keep_row-self.result s.rows.items c.keep_row-self.new.rows.items
+          (rows_of_reported results) row received.1 (λ none. c.requires.goes (inl none)) (false_from_ne_true _ (λ yes. c.requires.goes (inr yes)))
+          (c.failures_left-self.ensures
+          ∙ ap (λ (b : Bool). if b then option_map (λ (n : ℕ). n - 1) s.left else s.left)
+          (c.fails-failed.ensures ∙ ap (λ (j : Judging). fails j row) received.0))
+          c.keep_row-self.ensures),
+    )
+
+pub returns-clause-received : goal.returns-clause-received
+returns-clause-received g c = λ results received.
+    let s = c.args.self.now in
+    let row = c.args.made.row in
+    let most = g.J.StreamSpec.most in
+    let judging = g.J.StreamSpec.judging in (
+      received.0,
+      subst (λ (rows : List Row). AreRowsUpToFailure most judging c.failures_left-self.result c.keep_row-self.result c.keep_row-self.new.rows.items rows)
+          (sym (map-append (λ (t : ReportedRow). t.row) results (c.args.made ∷ [])))
+          (one_row_more most judging s.left c.failures_left-self.result s.refused c.keep_row-self.result s.rows.items c.keep_row-self.new.rows.items
+          (rows_of_reported results) row received.1 (λ none. c.requires.goes (inl none)) (false_from_ne_true _ (λ yes. c.requires.goes (inr yes)))
+          (c.failures_left-self.ensures
+          ∙ ap (λ (b : Bool). if b then option_map (λ (n : ℕ). n - 1) s.left else s.left)
+          (c.fails-failed.ensures ∙ ap (λ (j : Judging). fails j row) received.0))
+          c.keep_row-self.ensures),
+    )

@@ -1,0 +1,61 @@
+//! The rows of a batch, with what is told of them.
+
+ghost use Rattle.std.specs.Prelude.{◌≡◌};
+
+use rv_engine::{Work, WorkerState};
+use rv_fleet::Batch;
+use rv_rows::{Row, RowReporter, row_at_with_recent};
+use std::alloc::{AllocError, Global};
+
+/// A row, and what is told of it.
+#[derive(Drop)]
+pub struct ReportedRow {
+    pub row: Row,
+    pub text: Vec<u8>,
+}
+
+/// Makes the rows of a batch, and tells of them.
+#[derive(Drop)]
+pub(crate) struct ReportedRowWork<'b, 't, T: RowReporter> {
+    pub(crate) batch: &'b Batch<'b>,
+    pub(crate) reporter: &'t T,
+}
+
+impl<T: RowReporter> Work<ReportedRow> for ReportedRowWork<'_, '_, T> {
+    ghost use Rattle.std.specs.Prelude.{length};
+    ghost use Rattle.rv_rows.specs.Recent.{AreOutcomes};
+    ghost use Rattle.rv_stream.specs.Told.{IsToldRow};
+
+    ghost jobs = { λ s. length s.batch.now.places.now };
+
+    ghost is_made = { λ s number told. IsToldRow (T.line s.reporter.now) s.batch.now number told };
+
+    ghost is_worker_state = { λ s worker_state. AreOutcomes s.batch.now.plan.now worker_state.recent };
+
+    fn jobs(&self) -> usize {
+        self.batch.places.len()
+    }
+
+    fn new_worker_state(&self, alloc: Global) -> WorkerState {
+        WorkerState::new(alloc)
+    }
+
+    fn make(
+        &self,
+        alloc: Global,
+        number: usize,
+        worker_state: &mut WorkerState,
+    ) -> Result<ReportedRow, AllocError> {
+        let place = self.batch.places[number];
+        let row = row_at_with_recent(
+            alloc,
+            self.batch.plan,
+            place,
+            &mut worker_state.spare,
+            &mut worker_state.recent,
+        )?;
+        let mut text = Vec::new(alloc);
+        self.reporter.push_row_text(alloc, place, &row, &mut text)?;
+        Ok(ReportedRow { row, text })
+    }
+}

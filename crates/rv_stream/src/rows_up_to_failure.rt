@@ -1,0 +1,92 @@
+//! A listener that keeps rows up to a failure.
+
+ghost use Rattle.std.specs.Prelude.{◌≡◌, ◌-◌, ◌++◌, ◌∷◌, [], false, if◌then◌else◌, option_map};
+ghost use Rattle.rv_expect.specs.Judgement.{judging_of};
+ghost use Rattle.rv_stream.specs.Told.{AreRowsUpToFailure};
+
+use crate::failure_limit::FailureLimit;
+use crate::reported_row::ReportedRow;
+use crate::streamed::StreamSpec;
+use rv_engine::{Flow, Listener};
+use rv_expect::Judge;
+use rv_rows::Row;
+use std::alloc::Global;
+use std::marker::PhantomData;
+
+/// Keeps the rows that it hears, and says stop at the failure that ends the run.
+#[derive(Drop)]
+pub(crate) struct RowsUpToFailure<'k, J: StreamSpec> {
+    // What counts as a failure.
+    judge: Judge<'k>,
+    /// How many failures are left before the run ends.
+    pub(crate) left: Option<u32>,
+    pub(crate) rows: Vec<Row>,
+    /// Whether a growth was refused.
+    pub(crate) refused: bool,
+    of: PhantomData<J>,
+}
+
+impl<'k, J: StreamSpec> RowsUpToFailure<'k, J> {
+    /// It has heard nothing yet.
+    pub(crate) fn new(alloc: Global, limit: &FailureLimit<'k>) -> RowsUpToFailure<'k, J>
+        requires most { J.most ≡ limit.now.failures }
+        requires judging { J.judging ≡ judging_of limit.now.judge }
+        ensures judging { judging_of result.judge ≡ J.judging }
+        ensures first { AreRowsUpToFailure J.most J.judging result.left result.refused result.rows.items [] }
+        ensures left { result.left ≡ J.most }
+        ensures refused { result.refused ≡ false }
+    {
+        RowsUpToFailure {
+            judge: limit.judge,
+            left: limit.failures,
+            rows: Vec::new(alloc),
+            refused: false,
+            of: PhantomData,
+        }
+    }
+}
+
+impl<J: StreamSpec> Listener<ReportedRow> for RowsUpToFailure<'_, J> {
+    ghost use Rattle.std.specs.Prelude.{◌≡◌, ◌⊎◌, Some, true};
+    ghost use Rattle.rv_expect.specs.Judgement.{judging_of};
+    ghost use Rattle.rv_stream.specs.Told.{rows_of_reported, AreRowsUpToFailure};
+
+    ghost has_received = { λ s told. (judging_of s.judge ≡ J.judging)
+        × AreRowsUpToFailure J.most J.judging s.left s.refused s.rows.items (rows_of_reported told) };
+
+    ghost stops = { λ s. (s.left ≡ Some 0) ⊎ (s.refused ≡ true) };
+
+    fn receive(&mut self, made: ReportedRow) -> Flow {
+        let failed = self.judge.fails(&made.row);
+        self.left = failures_left(self.left, failed);
+        self.refused = keep_row(&mut self.rows, made.row);
+        if self.refused || self.left == Some(0) {
+            Flow::Stop
+        } else {
+            Flow::GoOn
+        }
+    }
+
+    fn pause(&mut self) -> Flow {
+        Flow::GoOn
+    }
+}
+
+// Keeps a row, and answers whether a growth was refused.
+fn keep_row(rows: &mut Vec<Row>, row: Row) -> bool
+    ensures { result ≡ false → rows.new.items ≡ rows.old.items ++ row ∷ [] }
+{
+    // `push` fails by want of memory alone.
+    rows.push(row).is_err()
+}
+
+// How many failures are left after a row, where they are counted.
+fn failures_left(left: Option<u32>, failed: bool) -> Option<u32>
+    ensures { result ≡ (if failed then option_map (λ n. n - 1) left else left) }
+{
+    if failed {
+        left.map(|n| n.saturating_sub(1))
+    } else {
+        left
+    }
+}

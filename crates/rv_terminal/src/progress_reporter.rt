@@ -1,0 +1,59 @@
+//! A reporter that counts.
+
+ghost use Rattle.std.specs.Prelude.{◌≡◌};
+
+use crate::progress::Progress;
+use rv_rows::{Row, RowReporter};
+use std::alloc::{AllocError, Global};
+use std::io::Write;
+use std::sync::Wait;
+use std::time::Clock;
+
+/// Tells what another reporter tells, and counts each row that is told.
+#[derive(Drop)]
+pub struct ProgressReporter<'r, 't, 'p, 'k, R: Clock + Wait, T: RowReporter, W: Drop> {
+    rt: &'r R,
+    reporter: &'t T,
+    progress: &'p Progress<'k, W>,
+}
+
+impl<'r, 't, 'p, 'k, R: Clock + Wait, T: RowReporter, W: Write + Drop> ProgressReporter<
+    'r,
+    't,
+    'p,
+    'k,
+    R,
+    T,
+    W,
+> {
+    pub fn new(
+        rt: &'r R,
+        reporter: &'t T,
+        progress: &'p Progress<'k, W>,
+    ) -> ProgressReporter<'r, 't, 'p, 'k, R, T, W>
+        ensures { result.reporter.now ≡ reporter.now }
+    {
+        ProgressReporter {
+            rt,
+            reporter,
+            progress,
+        }
+    }
+}
+
+impl<'r, 't, 'p, 'k, R: Clock + Wait, T: RowReporter, W: Write + Drop> RowReporter
+    for ProgressReporter<'r, 't, 'p, 'k, R, T, W> {
+    ghost line = { λ counting place row. T.line counting.reporter.now place row };
+
+    fn push_row_text(
+        &self,
+        alloc: Global,
+        place: usize,
+        row: &Row,
+        text: &mut Vec<u8>,
+    ) -> Result<(), AllocError> {
+        self.reporter.push_row_text(alloc, place, row, text)?;
+        self.progress.count_row(self.rt, alloc, row);
+        Ok(())
+    }
+}
