@@ -1,4 +1,4 @@
-//! A text that should be a report, or a part of one, and has a line that none has there.
+//! A text that should be a report, or a shard's report, and has a line that is invalid there.
 
 ghost use Rattle.std.specs.Prelude.{◌≡◌, ◌<◌, IfOk, IfSome, length, position};
 ghost use Rattle.rv_list_errors.specs.Places.{is_feed};
@@ -10,8 +10,8 @@ use rv_lists::{JobError, What, read_faults};
 use rv_text::{Span, text_of_spans};
 use std::alloc::{AllocError, Global};
 
-/// A message that the text at a path is no report, or what else it should be, by the line of a number that none has there: the line is
-/// shown, and what is wanted in its place. Of a job list it is told that it is one.
+/// Returns the message that the text at a path is not a report, or what `noun` names, because of the numbered line, which is invalid there:
+/// it shows the line and what was expected instead. If the text is a job list, the message says so.
 pub fn refused_line_message<'a>(
     alloc: Global,
     noun: &'a str,
@@ -70,7 +70,7 @@ fn line_message<'a>(
     )
 }
 
-// Whether a text is a document with jobs, be they good or bad.
+// Whether a text is a document with jobs, valid or not.
 fn is_job_list(alloc: Global, text: &[u8]) -> Result<bool, AllocError>
     ensures { IfOk result (λ is_list. is_list ≡ is_job_list text.now) }
 {
@@ -87,7 +87,7 @@ fn are_faults_of_list(faults: &[JobError]) -> bool
     }
 }
 
-// The line of a number, counted from 1, without its line feed; nothing where there is none.
+// Returns the line with a number, counted from 1, without its line feed; empty if there is no such line.
 fn numbered_line(text: &[u8], number: usize) -> &[u8]
     ensures { result.now ≡ numbered_line text.now number }
 {
@@ -140,7 +140,7 @@ fn line_feed_place(text: &[u8]) -> Option<usize>
     text.iter().position(|byte| *byte == b'\n')
 }
 
-// What a report has behind a line, and at its beginning.
+// Returns what a report has after a line, and at its beginning.
 #[tactic(auto, unfolding(crate::specs::RefusedLines::wanted_behind))]
 fn wanted_behind(line: &[u8]) -> &'static str
     ensures { result.now ≡ wanted_behind line.now }

@@ -7,7 +7,7 @@ ghost use Rattle.rv_count_tables.specs.Table.{begun_at, rise_from, taken_at};
 
 use crate::table::AddressCounts;
 
-/// How often the instruction at an address began, and how often it was a branch that was taken.
+/// Returns how often the instruction at an address was executed, and how often it was a taken branch.
 pub fn counts_at(counts: &[AddressCounts], address: u32) -> AddressCounts
     requires { rise_from 0 counts.now ≡ true }
     ensures { result ≡ record { address = address; begun = begun_at address counts.now; taken = taken_at address counts.now } }
@@ -23,7 +23,7 @@ pub fn counts_at(counts: &[AddressCounts], address: u32) -> AddressCounts
     }
 }
 
-/// Whether an instruction began at one of the addresses from one on, in front of another.
+/// Whether an instruction was executed at an address from `from` on and below `behind`.
 pub fn has_begun_within(counts: &[AddressCounts], from: u32, behind: u64) -> bool
     requires { rise_from 0 counts.now ≡ true }
     ensures { result ≡ list_any (λ c. nat_le from c.address && nat_lt c.address behind) counts.now }
@@ -32,7 +32,7 @@ pub fn has_begun_within(counts: &[AddressCounts], from: u32, behind: u64) -> boo
     place < counts.len() && u64::from(counts[place].address) < behind
 }
 
-/// How many entries have lower addresses: these stand first.
+/// Returns the number of entries with lower addresses, which come first.
 pub fn place_of_address(counts: &[AddressCounts], address: u32) -> usize
     requires { rise_from 0 counts.now ≡ true }
     ensures within { result ≤ length counts.now }

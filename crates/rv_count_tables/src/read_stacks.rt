@@ -1,4 +1,4 @@
-//! Lines of spots, read as far as they can stand there, as those of addresses are.
+//! Parses the lines of call-tree nodes as far as they are valid, in the manner of address lines.
 
 ghost use Rattle.std.specs.Prelude.{◌≡◌, ◌≤◌, ◌<◌, ◌^◌, ℕ, List, IfOk, IfSome, IfNone, IsTrue, ◌↔◌};
 ghost use Rattle.std.specs.Str.{bytes_eq, IsUtf8};
@@ -21,7 +21,7 @@ use rv_call_tree::{Spot, Spots};
 use rv_text::tail_from;
 use std::alloc::{AllocError, Global};
 
-/// Spots that were read, the names of their functions, and how many bytes their lines have.
+/// Parsed nodes, the names of their functions, and the number of bytes in their lines.
 #[derive(Drop)]
 pub(crate) struct SpotLines {
     pub(crate) spots: Spots,
@@ -29,7 +29,7 @@ pub(crate) struct SpotLines {
     pub(crate) length: usize,
 }
 
-/// The spots of the first lines, as many as there are.
+/// Parses the nodes of the first lines, as many as there are.
 pub(crate) fn read_spots(alloc: Global, text: &[u8]) -> Result<SpotLines, AllocError>
     ensures { IfOk result (λ read. AreSpotLines text.now read) }
 {
@@ -67,7 +67,7 @@ fn function_name(named: NamedSpot) -> FunctionName
     }
 }
 
-// The spot of a line, if it is of one that can stand behind these functions, by a name that these names allow.
+// Returns the node of a line if it can follow the path `front` and its name agrees with `names`.
 fn next_spot(
     alloc: Global,
     line: &[u8],
@@ -88,7 +88,7 @@ fn next_spot(
     }
 }
 
-// Whether a table can have the spot behind these functions.
+// Whether a table can have the node after this path.
 fn can_stand(spot: Spot, front: &[u32]) -> bool
     ensures { IsTrue result ↔ (IsSpot spot × StandsBehind front.now spot) }
 {

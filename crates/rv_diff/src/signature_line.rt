@@ -1,4 +1,4 @@
-//! The line that says in what two signatures differ.
+//! The line that describes how two signatures differ.
 
 ghost use Rattle.std.specs.Prelude.{◌≡◌, ◌++◌, OnOk, codes, slice_index};
 ghost use Rattle.rv_rows.specs.Report.{line};
@@ -9,7 +9,7 @@ use rv_rows::{Row, Words, are_same_signatures};
 use rv_text::{Span, push_spans};
 use std::alloc::AllocError;
 
-/// Appends the line of two rows whose signatures differ: in which word they do first, or their sizes where they do in those.
+/// Appends the line for two rows whose signatures differ: the first word that differs, or the sizes if these differ.
 pub(crate) fn push_signature_change(
     text: &mut Vec<u8>,
     old: &Row,

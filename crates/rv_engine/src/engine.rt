@@ -1,4 +1,4 @@
-//! A run of jobs.
+//! Runs jobs in threads.
 
 ghost use Rattle.std.specs.Prelude.{◌≡◌, [], IfOk};
 ghost use Rattle.rv_engine.specs.Results.{ArePending, AreMade, IsRunDelivered, HasReceivedUpTo, IsInOrder, piece_count};
@@ -22,10 +22,10 @@ use thiserror::Error;
 /// Why a run ended before its last job.
 #[derive(Clone, Copy, Debug, Error, PartialEq, Eq)]
 pub enum RunError {
-    /// A growth was refused.
+    /// An allocation failed.
     #[error("out of memory")]
     OutOfMemory,
-    /// The start of a thread was refused.
+    /// A thread could not be started.
     #[error("no worker")]
     NoWorker,
 }
@@ -38,10 +38,11 @@ impl From<AllocError> for RunError {
     }
 }
 
-/// Makes the result of each job, by as many threads as the crew has, or as there are pieces if these are fewer. The listener hears each
-/// result as soon as it has heard those of all jobs before it, and comes back: with `GoOn` it has heard of all jobs, each once
-/// and in order, and with `Stop` of the jobs up to the one where it said so; after an error it has heard of the first jobs. Each
-/// thread draws the next piece when it is free, and ends with the piece that it makes where the run ends. All threads are waited for.
+/// Makes the result of each job, with as many threads as the crew has, or one per chunk if there are fewer chunks. The listener receives
+/// each result as soon as it has received those of all earlier jobs, and is returned. With `GoOn` it has received the results of all jobs,
+/// each once and in order; with `Stop`, those up to the job at which it stopped the run; after an error, those of the first jobs. Each
+/// thread draws the next chunk when it is free; once the run ends, it finishes its current chunk only. All threads are joined before the
+/// function returns.
 pub fn run_jobs<
     H: Drop + Send,
     R: Threads + Wait + Sync,
@@ -55,7 +56,7 @@ pub fn run_jobs<
     run_in_order::<Brand, H, R, W, L>(crew, work, listener)
 }
 
-// The same, where a run of its own says which results are heard.
+// Like [`run_jobs`], with a run specification that defines the results to deliver.
 fn run_in_order<
     J: RunSpec<H> + Send + Sync,
     H: Drop + Send,
@@ -90,7 +91,7 @@ fn run_in_order<
     }
 }
 
-// Has all heard that no worker had heard. A run that ends well has made and heard all, and then this is nothing.
+// Delivers everything that no worker delivered. After a run that ends normally nothing is left.
 fn deliver_rest<J: RunSpec<H>, H: Drop, R, W: Work<H>, L: Listener<H>>(
     crew: &Crew<'_, R>,
     work: &W,
@@ -119,7 +120,7 @@ fn deliver_rest<J: RunSpec<H>, H: Drop, R, W: Work<H>, L: Listener<H>>(
     }
 }
 
-// Has the pieces heard from one on: those that have come, and the others when they are made.
+// Delivers the chunks from `next` on: those that are pending, and the others once they are made here.
 fn deliver_from<J: RunSpec<H>, H: Drop, R, W: Work<H>, L: Listener<H>>(
     crew: &Crew<'_, R>,
     work: &W,

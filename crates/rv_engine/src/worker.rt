@@ -1,4 +1,4 @@
-//! What a worker does: it draws pieces, makes them, and hands them on.
+//! The loop of a worker: draws chunks, makes their results and delivers them.
 
 ghost use Rattle.rv_jobs.specs.Limits.{most_group};
 ghost use Rattle.std.specs.Prelude.{◌≡◌, ◌<◌, ◌≤◌, OnOk};
@@ -14,7 +14,7 @@ use rv_claims::{Claims, Pass};
 use std::alloc::{AllocError, Global};
 use std::sync::{Mutex, Wait};
 
-/// What all workers of a run have before them.
+/// What all workers of a run share.
 #[derive(Drop)]
 pub(crate) struct WorkerContext<'a, J: RunSpec<H>, H: Drop, R, W: Work<H>, L: Listener<H> + Drop> {
     pub(crate) rt: &'a R,
@@ -64,7 +64,7 @@ impl<'a, J: RunSpec<H>, H: Drop, R: Wait, W: Work<H>, L: Listener<H> + Drop> Wor
     W,
     L,
 > {
-    // Makes a piece, and hands it on. After a refusal of memory the other workers end, too.
+    // Makes a chunk's results and delivers them. If an allocation fails, the other workers end, too.
     fn work_on_piece(&self, piece: u64, worker_state: &mut WorkerState) -> Result<Flow, AllocError>
         requires piece { piece < piece_count (W.jobs self.now.work.now) self.now.group }
         requires results { AreMade (W.is_made self.now.work.now) J.is_result }

@@ -1,4 +1,4 @@
-//! A store that notes why a path was unreadable.
+//! A store that records why a path was unreadable.
 
 ghost use Rattle.std.specs.Prelude.{◌≡◌, ◌≤◌, ◌<◌, ◌++◌, ◌∷◌, [], Some, length};
 ghost use Rattle.std.specs.Prelude.{IfErr, IfOk, IfSome, IsSomeAnd, MatchResult, OnErr, OnOk};
@@ -17,14 +17,14 @@ use std::io::ErrorKind;
 /// A path that was unreadable, and why.
 #[derive(Debug, Drop)]
 pub struct UnreadPath {
-    /// The path as it was asked for.
+    /// The path as requested.
     pub path: Text,
-    /// What the system said when the file was opened or read.
+    /// The system's error when the file was opened or read.
     pub reason: ErrorKind,
 }
 
-/// A store over inputs that notes each path that was unreadable, and why: as often as it counts a fault. Where a folder
-/// is given, paths are taken from there, as std's `Path::join` does: one that begins with `/` stays as it is.
+/// A store over inputs that records each unreadable path and its reason, one entry per counted fault. If a directory is given, paths are
+/// relative to it, as with std's `Path::join`: one that begins with `/` is unchanged.
 #[derive(Drop)]
 pub struct RecordingStore<'a, D: Inputs> {
     inputs: &'a D,
@@ -33,7 +33,7 @@ pub struct RecordingStore<'a, D: Inputs> {
 }
 
 impl<'a, D: Inputs> RecordingStore<'a, D> {
-    /// Takes no memory.
+    /// Creates the store without allocating.
     pub fn new(inputs: &'a D, alloc: Global, folder: Option<&'a str>) -> RecordingStore<'a, D>
         ensures inputs { result.inputs ≡ inputs.entry }
         ensures folder { result.folder ≡ folder.entry }
@@ -46,21 +46,21 @@ impl<'a, D: Inputs> RecordingStore<'a, D> {
         }
     }
 
-    /// The paths that were unreadable, in the order in which they were asked for.
+    /// Returns the unreadable paths, in the order in which they were requested.
     pub fn unread_paths(&self) -> &[UnreadPath]
         ensures { result.now ≡ self.now.unread.items }
     {
         &self.unread
     }
 
-    /// The same, for good.
+    /// Returns the unreadable paths and consumes the store.
     pub fn into_unread_paths(self) -> Vec<UnreadPath>
         ensures { result.items ≡ self.entry.unread.items }
     {
         self.unread
     }
 
-    // What stands at the path's place; a path that is unreadable is noted.
+    // Reads the file that the path denotes, recording the path if it is unreadable.
     fn read_noting_failure(&mut self, alloc: Global, path: &str) -> Result<Vec<u8>, WholeError>
         ensures same { (self.new.inputs ≡ self.old.inputs) × (self.new.folder ≡ self.old.folder) }
         ensures known { IfOk result (λ bytes.
@@ -83,7 +83,7 @@ impl<'a, D: Inputs> RecordingStore<'a, D> {
         answer
     }
 
-    // What stands at the path's place.
+    // Reads the file that the path denotes.
     fn read_place(&self, alloc: Global, path: &str) -> Result<Vec<u8>, WholeError>
         ensures known { IfOk result (λ bytes.
             IfSome (contents_below (option_copied self.now.folder) (D.contents self.now.inputs.now))
@@ -102,6 +102,7 @@ impl<'a, D: Inputs> RecordingStore<'a, D> {
         }
     }
 
+    // Records that a path was unreadable for this reason.
     fn note_unread(
         &mut self,
         alloc: Global,

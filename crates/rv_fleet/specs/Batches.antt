@@ -5,11 +5,11 @@ use Rattle.rv_jobs.specs.Jobs.{single_job}
 use Rattle.rv_rows.specs.declared_row.Row.{Row}
 use Rattle.rv_rows.specs.Rows.{row_of, rows_at}
 
--- the rows of its jobs, in order
+-- the rows of the batch's jobs, in order
 abbrev pub batch_rows : Batch → List Row
 batch_rows batch = rows_at batch.plan.now batch.places.now
 
--- the place of its job of a number, counted from 0, and the row of that job
+-- the index in the plan of a batch's job with a number, counted from 0, and the row of that job
 abbrev pub place_of_number : Batch → ℕ → ℕ
 place_of_number batch number = slice_index_or batch.places.now number 0
 

@@ -1,4 +1,4 @@
-//! What gdb sends, and what it is answered.
+//! What gdb sends, and the replies to it.
 
 ghost use Rattle.std.specs.Prelude.{◌≡◌, ◌≢◌, ◌<◌, ◌==◌, IfErr, IfOk, None, OnOk, is_some, length, option_map, true};
 ghost use Rattle.std.specs.Io.KnownBytes.{Appends};
@@ -18,14 +18,14 @@ use std::io::{ErrorKind, Read};
 use std::sync::atomic::AtomicBool;
 use std::thread::{Threads, join_mut};
 
-/// Why a session was broken off.
+/// Why a session was aborted.
 #[derive(Clone, Copy, Debug, PartialEq, Eq)]
 pub enum SessionError {
-    /// A growth was refused.
+    /// An allocation failed.
     OutOfMemory,
     /// A read failed, for this reason.
     UnreadPath(ErrorKind),
-    /// A put failed.
+    /// A write failed.
     Unput,
 }
 
@@ -39,21 +39,21 @@ impl From<AllocError> for SessionError {
     }
 }
 
-// The answer to a move for which there is no memory.
+// The reply to a move for which there is not enough memory.
 const NO_MEMORY: &str = "$E.out of memory#79";
 
-/// The means of a conversation.
+/// What a conversation needs besides its session.
 #[derive(Drop)]
 pub struct SessionContext<'a, R, E> {
     pub rt: &'a R,
     pub alloc: Global,
-    /// What is said at the end of the session's run.
+    /// The text about the end of the session's run.
     pub end: &'a E,
 }
 
-/// Hears the bytes of a reader, and puts what the session answers to them, until gdb ends the session or the reader has no more. No
-/// read begins once the session is over. While a move is under way that nothing waits behind, another thread reads on: only 0x03 breaks
-/// the move off, or the end of the bytes.
+/// Receives the bytes of a reader, and writes the session's replies to them, until gdb ends the session or the reader is at its end. No
+/// read begins once the session is over. During a move after which no byte is pending, another thread reads ahead: only 0x03 or the end of
+/// the bytes interrupts the move.
 pub fn serve<R: Threads, E: EndText, I: Read + Send, O: Sink>(
     means: &SessionContext<'_, R, E>,
     session: &mut Session,
@@ -82,7 +82,7 @@ pub fn serve<R: Threads, E: EndText, I: Read + Send, O: Sink>(
             None => return Ok(()),
         }
     }
-    // So many reads are never done.
+    // No program performs this many reads.
     Err(SessionError::UnreadPath(ErrorKind::TimedOut))
 }
 
@@ -115,7 +115,7 @@ fn answer_chunk<R: Threads, E: EndText, I: Read + Send, O: Sink>(
     Ok(Some(read_chunk(means.alloc, input)?))
 }
 
-// Answers a byte of a chunk, and makes the move that it asks for if another byte waits behind it. It says whether a move waits.
+// Answers a byte of a chunk, and makes the move that it requests if another byte follows. Returns whether a move is pending.
 fn answer_byte<R, E: EndText, O: Sink>(
     means: &SessionContext<'_, R, E>,
     session: &mut Session,
@@ -145,7 +145,7 @@ fn answer_byte<R, E: EndText, O: Sink>(
     Ok(false)
 }
 
-// Makes the move behind which a byte waits: 0x03 breaks it off.
+// Makes the move after which a byte is pending. If that is 0x03, it interrupts the move.
 fn put_move_before<R, E: EndText, O: Sink>(
     means: &SessionContext<'_, R, E>,
     session: &mut Session,
@@ -168,7 +168,7 @@ fn put_move_before<R, E: EndText, O: Sink>(
     }
 }
 
-// Puts what the session answers to a byte.
+// Writes the session's reply to a byte.
 fn put_answer<O: Sink>(
     alloc: Global,
     session: &mut Session,
@@ -187,7 +187,7 @@ fn put_answer<O: Sink>(
     put_told(out, told.as_slice())
 }
 
-// Makes the move that is asked for, and puts what the session says of it.
+// Makes the requested move, and writes the session's reply to it.
 fn put_move<R, E: EndText, J: Interrupt, O: Sink>(
     means: &SessionContext<'_, R, E>,
     session: &mut Session,
@@ -206,7 +206,7 @@ fn put_move<R, E: EndText, J: Interrupt, O: Sink>(
     match session.work(means.alloc, means.end, interrupt) {
         Ok(told) => put_told(out, told.as_slice()),
         Err(error) => {
-            // gdb waits for an answer, and a read for gdb.
+            // gdb is waiting for a reply, and a read for gdb.
             put_told(out, NO_MEMORY.as_bytes())?;
             Err(error.into())
         }
@@ -246,7 +246,7 @@ fn move_while_reading<R: Threads, E: EndText, I: Read + Send, O: Sink>(
     move_beside_reader(means, session, input, out, &raised)
 }
 
-// Makes the move while another thread reads once, which raises an interrupt where the move is to be broken off.
+// Makes the move while another thread reads once, and raises an interrupt if the move is to be interrupted.
 fn move_beside_reader<R: Threads, E: EndText, I: Read + Send, O: Sink>(
     means: &SessionContext<'_, R, E>,
     session: &mut Session,

@@ -1,4 +1,4 @@
--- What the bodies of gdb's packets ask: a packet has a name, and arguments behind it.
+-- The requests of gdb's packets: a packet has a name, followed by arguments.
 use Rattle.std.specs.Prelude.{ℕ, List, ◌==◌, ◌||◌, Bool, Option, Some, None, codes, if◌then◌else◌, length, nat_eq, option_map, unwrap_or}
 use Rattle.std.specs.List.{starts_with}
 use Rattle.std.specs.Option.{option_or}
@@ -11,12 +11,12 @@ use Rattle.rv_gdb_protocol.specs.declared.request.Refusal.TheVariants as refusal
 use Rattle.rv_gdb_protocol.specs.declared.request.Request.{Request}
 use Rattle.rv_gdb_protocol.specs.declared.request.Request.TheVariants as ask
 
--- the first of several that is there
+-- the first of several that is present
 infixl 5 ◌<|>◌
 abbrev pub ◌<|>◌ : {A : Type 0} → Option A → Option A → Option A
 one <|> other = option_or one other
 
--- a packet by its name: what its arguments ask
+-- a packet by its name: the request that its arguments make
 abbrev pub named : List ℕ → (List ℕ → Request) → List ℕ → Option Request
 named name asked body = option_map asked (behind name body)
 
@@ -82,7 +82,7 @@ unfoldable pub action_of : List ℕ → Option Move
 action_of text = bare_action text <|> signal_action (codes "C") move.Continue text <|> signal_action (codes "S") move.Step text
     <|> range_action text
 
--- the first action is the one that counts, since there is one thread
+-- only the first action counts, since there is one thread
 unfoldable pub first_action : List ℕ → Request
 first_action args = or_refused refusal.Malformed (option_map ask.Move (action_of (until colon (until semicolon args))))
 
@@ -98,7 +98,7 @@ moving body =
 unfoldable pub detach : List ℕ → Request
 detach args = if length args == 0 || starts_with nat_eq args (codes ";") then ask.Detach else ask.Refused refusal.Unknown
 
--- whatever stands behind its name
+-- accepted whatever follows the name
 unfoldable pub granted : List ℕ → Option Request
 granted body =
     if starts_with nat_eq body (codes "H") then Some ask.Accepted
@@ -115,7 +115,7 @@ is_file_call body =
     starts_with nat_eq body (codes "vFile:pread:") || starts_with nat_eq body (codes "vFile:fstat:")
     || starts_with nat_eq body (codes "vFile:close:") || starts_with nat_eq body (codes "vFile:setfs:")
 
--- descriptor 5 is the one that there is
+-- 5 is the only file descriptor
 abbrev pub file_reading : List ℕ → Option Request
 file_reading body = named (codes "vFile:pread:5,") read_file body
 
@@ -140,6 +140,6 @@ light_request body =
     bare_query body <|> bare_order body <|> query body <|> describing body <|> image_naming body <|> reading body <|> trapping body
     <|> moving body <|> granted body <|> detaching body <|> file_reading body <|> other_file body
 
--- what a body asks; other packets are not known
+-- the request that a body makes; all other packets are unknown
 unfoldable pub request_of : List ℕ → Request
 request_of body = unwrap_or (light_request body <|> carrying body) (ask.Refused refusal.Unknown)

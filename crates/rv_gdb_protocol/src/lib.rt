@@ -1,7 +1,7 @@
-//! gdb's remote protocol, as bytes that come and bytes that go. Nothing here runs, reads a file or waits.
+//! gdb's remote protocol, as bytes received and bytes to send. Nothing here runs a machine, reads a file or blocks.
 //!
-//! A [`Reader`] takes bytes in any cuts and says what it heard ([`Incoming`]): bodies with their sums, acknowledgements, Ctrl-C.
-//! [`push_frame`] frames a body. The other functions `push_..` append the bodies of replies.
+//! A [`Reader`] takes bytes, however they are split, and returns what it received ([`Incoming`]): bodies with their checksums,
+//! acknowledgements, Ctrl-C. [`push_frame`] frames a body. The other `push_..` functions append the bodies of replies.
 #![tactic(auto)]
 
 mod arguments;

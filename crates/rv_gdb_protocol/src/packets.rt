@@ -1,4 +1,4 @@
-//! What the bodies of packets ask: those that carry no bytes.
+//! Parsers for the packets that carry no bytes.
 
 ghost use Rattle.std.specs.Prelude.{◌≡◌};
 ghost use Rattle.std.specs.Str.{bytes_eq};
@@ -13,7 +13,7 @@ use crate::arguments::{
 use crate::number::{behind, until};
 use crate::request::{Move, Refusal, Request};
 
-/// What a body asks, if it is no packet that carries bytes.
+/// Returns the request of a body, unless it is a packet that carries bytes.
 #[tactic(auto, unfolding(crate::specs::Packets::light_request))]
 pub(crate) fn light_request(body: &[u8]) -> Option<Request>
     ensures { result ≡ light_request body.now }
@@ -178,7 +178,7 @@ fn moving(body: &[u8]) -> Option<Request>
     Some(signal_move(Move::Step, args))
 }
 
-// The first action is the one that counts, since there is one thread.
+// Only the first action counts, since there is one thread.
 #[tactic(auto, unfolding(crate::specs::Packets::first_action))]
 fn first_action(args: &[u8]) -> Request
     ensures { result ≡ first_action args.now }
@@ -189,7 +189,7 @@ fn first_action(args: &[u8]) -> Request
     }
 }
 
-// An action without its thread.
+// Parses an action without its thread.
 #[tactic(auto, unfolding(crate::specs::Packets::action_of))]
 fn action_of(text: &[u8]) -> Option<Move>
     ensures { result ≡ action_of text.now }
@@ -225,7 +225,7 @@ fn range_action(text: &[u8]) -> Option<Move>
     move_within(behind(b"r", text)?)
 }
 
-// What is granted whatever stands behind its name.
+// Parses the packets that are accepted whatever follows their name.
 #[tactic(auto, unfolding(crate::specs::Packets::granted))]
 fn granted(body: &[u8]) -> Option<Request>
     ensures { result ≡ granted body.now }
@@ -246,7 +246,7 @@ fn detaching(body: &[u8]) -> Option<Request>
     Some(detach(args))
 }
 
-// Nothing, or `;` and a process.
+// Parses nothing, or `;` and a process.
 #[tactic(auto, unfolding(crate::specs::Packets::detach))]
 fn detach(args: &[u8]) -> Request
     ensures { result ≡ detach args.now }
@@ -258,7 +258,7 @@ fn detach(args: &[u8]) -> Request
     }
 }
 
-// Descriptor 5 is the one that there is.
+// 5 is the only file descriptor.
 fn file_reading(body: &[u8]) -> Option<Request>
     ensures { result ≡ file_reading body.now }
 {
@@ -276,7 +276,7 @@ fn other_file(body: &[u8]) -> Option<Request>
     }
 }
 
-// A call on a file whose descriptor is the first argument.
+// Whether a packet is a call on a file whose descriptor is the first argument.
 #[tactic(auto, unfolding(crate::specs::Packets::is_file_call))]
 fn is_file_call(body: &[u8]) -> bool
     ensures { result ≡ is_file_call body.now }

@@ -1,4 +1,4 @@
-//! Sums of bodies, and the digits that tell them.
+//! Checksums of bodies, and their digits.
 
 ghost use Rattle.std.specs.Prelude.{◌≡◌, ◌<◌, IfSome};
 ghost use Rattle.hex.specs.Hex.{hex_digit_value};
@@ -6,7 +6,7 @@ ghost use Rattle.rv_gdb_protocol.specs.Sums.{judged_sum, sum_of, sum_told};
 
 use crate::frame::Sum;
 
-/// The sum of a text in its frame.
+/// Returns the checksum of a text in its frame.
 #[tactic(auto, unfolding(crate::specs::Sums::sum_of))]
 pub(crate) fn sum_of(text: &[u8]) -> u8
     ensures { result ≡ sum_of text.now }
@@ -18,7 +18,7 @@ pub(crate) fn sum_of(text: &[u8]) -> u8
     sum
 }
 
-/// Whether two digits are the sum of a text.
+/// Whether two digits are the checksum of a text.
 pub(crate) fn judged_sum(text: &[u8], high: u8, low: u8) -> Sum
     ensures { result ≡ judged_sum (sum_of text.now) (sum_told (hex_digit_value high) (hex_digit_value low)) }
 {
@@ -37,7 +37,7 @@ fn told_sum(high: u8, low: u8) -> Option<u8>
     }
 }
 
-/// The value of a hexadecimal digit in either case.
+/// Returns the value of a hexadecimal digit, in either case.
 pub(crate) fn digit_value(digit: u8) -> Option<u8>
     ensures value { result ≡ hex_digit_value digit }
     ensures least { IfSome result (λ value. value < 16) }

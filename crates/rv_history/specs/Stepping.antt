@@ -1,4 +1,4 @@
--- A step, and whether it sets off a watch.
+-- A step, and whether it triggers a watchpoint.
 use Rattle.std.specs.Prelude.{◌≡◌, Ok, Err}
 use Rattle.rv_machine.specs.Run.{step_of}
 use Rattle.rv_machine.specs.State.{State}

@@ -1,4 +1,4 @@
-//! Watches that a step sets off.
+//! The watchpoints that a step triggers.
 
 ghost use Rattle.std.specs.Prelude.{◌≡◌, IfOk, option_map};
 ghost use Rattle.std.specs.List.{find};
@@ -12,12 +12,12 @@ use rv_machine::Machine;
 use std::alloc::{AllocError, Global};
 
 impl Stops {
-    /// The watch that the instruction at a machine's pc sets off by what it reads or writes, if it does: the first of reads, else of
-    /// accesses.
+    /// Returns the watchpoint that the instruction at a machine's pc triggers by what it reads or writes, if any: the first for reads, else
+    /// the first for accesses.
     pub(crate) fn touched(&self, machine: &Machine) -> Option<WatchHit>
         ensures { result ≡ touched self.now (state_of machine.now) }
     {
-        // An instruction is decoded only where it matters.
+        // An instruction is decoded only if it matters.
         if self.have_no_access() {
             return None;
         }
@@ -29,8 +29,8 @@ impl Stops {
         Some(WatchHit::Access(address))
     }
 
-    /// The first watch of changes that differs between two machines, of which the second is behind the step of the first, else the one
-    /// that the step touches.
+    /// Returns the first watchpoint for changes whose bytes differ between two machines, the second of which is one step after the first;
+    /// else the one that the step triggers by an access.
     pub(crate) fn first_set_off(
         &self,
         alloc: Global,
@@ -46,7 +46,7 @@ impl Stops {
     }
 }
 
-// The first of the watches that an access hits, if it reads.
+// Returns the first of the watchpoints that an access hits, if it is a read.
 fn first_read(access: Access, watches: &[Watch]) -> Option<u32>
     ensures { result ≡ first_read access watches.now }
 {
@@ -57,7 +57,7 @@ fn first_read(access: Access, watches: &[Watch]) -> Option<u32>
     }
 }
 
-// The first of the watches that an access hits.
+// Returns the first of the watchpoints that an access hits.
 fn first_hit(access: Access, watches: &[Watch]) -> Option<u32>
     ensures { result ≡ first_hit access watches.now }
 {

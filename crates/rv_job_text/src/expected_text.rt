@@ -1,4 +1,4 @@
-//! The text that a console is expected to be, where a difference from it is told by lines.
+//! The expected text of a console, if the difference is shown by lines.
 
 ghost use Rattle.std.specs.Prelude.{◌≡◌, ◌&&◌, option_map};
 ghost use Rattle.rv_expect.specs.Comparisons.{sides_of};
@@ -9,14 +9,14 @@ use rv_expect::{Comparison, Difference, Unmet};
 use rv_jobs::ExpectedConsole;
 use rv_text::{Span, is_utf8};
 
-/// A text, and what it is called.
+/// An expected text and its name.
 #[derive(Clone, Copy)]
 pub(crate) struct ExpectedText<'a> {
     pub(crate) source: Span<'a>,
     pub(crate) text: &'a [u8],
 }
 
-/// The text from which an expectation that is not met differs, where that is told by lines.
+/// Returns the expected text of an unmet expectation, if the difference is shown by lines.
 pub(crate) fn expected_by_lines<'a>(
     comparison: &Comparison<'a, '_>,
     unmet: Unmet,

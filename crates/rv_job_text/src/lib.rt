@@ -1,12 +1,12 @@
-//! The lines that a person reads of a job: the line of its row, and behind that of a job that failed the expectations that
-//! its run does not meet and the end of its console. Of an expectation it is told what was expected and what was met, and of
-//! a refused image why, with the addresses of segments beside the regions and the names of symbols.
+//! The lines that a person reads of a job: the line of its row, and for a failed job the unmet expectations and the end of its console. An
+//! unmet expectation shows what was expected and what was found; a refused image shows the reason, with the addresses of segments beside
+//! the regions and the names of symbols.
 //!
-//! [`TextReporter`] is a [`RowReporter`](rv_rows::RowReporter) over a plan, and over what a store noted of the paths that it
-//! could not read. How much is told is a [`Verbosity`], and which rows pass a [`Rule`](rv_expect::Rule).
+//! [`TextReporter`] is a [`RowReporter`](rv_rows::RowReporter) for a plan and a store's notes on the paths that it could not read.
+//! [`Verbosity`] defines how much is shown, and [`Rule`](rv_expect::Rule) which rows pass.
 //!
-//! [`push_result_line`] appends the line of a row alone, [`push_console_tail`] the end of its console, and [`push_totals_line`] the
-//! counts of all rows, [`push_console_lines`] where a console differs from a text.
+//! [`push_result_line`] appends only the line of a row, [`push_console_tail`] the end of its console, [`push_totals_line`] the counts of
+//! all rows, and [`push_console_lines`] the first difference between a console and a text.
 #![tactic(auto)]
 
 mod budget_use_line;

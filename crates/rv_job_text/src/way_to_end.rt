@@ -1,4 +1,4 @@
-//! How a run came to its end.
+//! How a run reached its end.
 
 ghost use Rattle.std.specs.Prelude.{◌≡◌, ◌<◌, ◌++◌, IfOk, OnOk, length};
 ghost use Rattle.rv_hang.specs.BudgetUse.{IsBudgetUseIn};
@@ -16,17 +16,17 @@ use rv_rows::{Row, RowEnd};
 use rv_trace::{JobImage, push_trace, trace_job};
 use std::alloc::{AllocError, Global};
 
-/// What is told of how a run came to its end.
+/// Options for showing how a run reached its end.
 #[derive(Clone, Copy)]
 pub struct TraceOptions {
-    /// How many of its last instructions.
+    /// How many of its last instructions to show.
     pub last: u32,
-    /// What is found of a used-up budget.
+    /// The analysis of a used-up budget.
     pub budget_use: Option<BudgetUse>,
 }
 
-/// What is found of the run of the job at a place whose row says that it used up its budget, which takes the time of two more
-/// runs. A run that ended otherwise is not looked into.
+/// Analyses the run of the job at an index if its row states that it used up its budget, which takes the time of two more runs. A run with
+/// another end is not analysed.
 pub fn budget_use_at(
     alloc: Global,
     plan: &Plan,
@@ -52,7 +52,7 @@ pub fn budget_use_at(
 }
 
 impl<'a> JobRow<'a> {
-    /// Appends how the run came to its end, with so many of its last instructions. It is run once more.
+    /// Appends how the run reached its end, with its last `last` instructions. The job is run once more.
     #[tactic(auto, unfolding(crate::specs::RowReporter::way_to_end_lines))]
     pub(crate) fn push_end_trace(
         &self,
@@ -78,8 +78,7 @@ impl<'a> JobRow<'a> {
         }
     }
 
-    /// Appends the calls that have not returned where the run ended, if there are any. It is run once more, an instruction
-    /// at a time.
+    /// Appends the calls that have not returned when the run ended, if there are any. The job is run once more, one instruction at a time.
     #[tactic(auto, unfolding(crate::specs::RowReporter::calls_lines))]
     pub(crate) fn push_calls(&self, alloc: Global, text: &mut Vec<u8>) -> Result<(), AllocError>
         ensures { OnOk result ((d : AJob) → text.new.items ≡ text.old.items
@@ -99,7 +98,7 @@ impl<'a> JobRow<'a> {
         }
     }
 
-    // What is found of the run, if it used up its budget with the steps of the row.
+    // Analyses the run if it used up its budget after the row's number of steps.
     fn used_budget(&self, alloc: Global) -> Result<Option<BudgetUse>, AllocError>
         ensures { IfOk result (λ found. (d : AJob) → IsBudgetUseIn self.now.plan.now
             (job_at self.now.plan.now self.now.place d) self.now.row.now.steps found) }

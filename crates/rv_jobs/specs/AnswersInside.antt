@@ -1,4 +1,4 @@
--- How the answers so far stand beside the places of their paths.
+-- How the results so far relate to the indices of their paths.
 use Rattle.std.specs.Prelude.{◌≡◌, ℕ, List, map, length}
 use Rattle.std.specs.HashMap.{get_by}
 use Rattle.std.specs.Str.{bytes_eq}
@@ -7,7 +7,7 @@ use Rattle.rv_jobs.specs.declared.answers.Answers.TheInside.{Inside}
 use Rattle.rv_base.specs.Names.{place_in}
 use Rattle.rv_jobs.specs.Plans.{answers_with}
 
--- the paths that were asked for, in order
+-- the paths that were requested, in order
 abbrev pub paths_in : Inside → List (List ℕ)
 paths_in a = map (λ p. p.now) a.paths.items
 

@@ -1,4 +1,4 @@
-//! Rows as JUnit's XML, sent in few large puts.
+//! Rows as JUnit XML, written in few large writes.
 
 ghost use Rattle.std.specs.Prelude.{◌≡◌, IfErr, OnErr, OnOk};
 ghost use Rattle.std.specs.Io.KnownBytes.{Appends};
@@ -15,10 +15,10 @@ use rv_stream::{IndexedRows, RowReporter, put_row_texts};
 use rv_text::push_text;
 use std::alloc::{AllocError, Global};
 
-/// Writes rows as JUnit's XML: one suite, and in order one case a row, with its steps and its console. A failed
-/// row is a failure, or an error where the job was refused, with the lines that are told of the job at its place. A failure
-/// that is known is skipped, with its reason.
-/// After an error a beginning of the text is out.
+/// Writes rows as JUnit XML: one suite, and one test case per row, in order, with its steps and its console. A failed row is a failure, or
+/// an error if the job was refused, with the lines that are reported for the job at its index. A known failure is skipped, with its reason.
+///
+/// After an error a prefix of the text has been written.
 pub fn write_junit<T: RowReporter, W: Sink>(
     alloc: Global,
     suite: &Suite<'_>,
@@ -49,7 +49,7 @@ pub fn write_junit<T: RowReporter, W: Sink>(
     Ok(())
 }
 
-// Tells the case of a row, in which stand the lines that another reporter tells of it.
+// Reports the test case of a row, which contains the lines that another reporter makes for it.
 #[derive(Drop)]
 struct Cases<'a, 'b, T: RowReporter> {
     suite: Suite<'a>,

@@ -1,5 +1,5 @@
-//! Expectations that are none: of the keys `expect_exit`, `expect_signature`, `expect_console`, `expect_console_file` and
-//! `expect_end` the first that is bad.
+//! Invalid expectations: the first bad one of the keys `expect_exit`, `expect_signature`, `expect_console`, `expect_console_file` and
+//! `expect_end`.
 
 ghost use Rattle.std.specs.Prelude.{◌≡◌, codes};
 ghost use Rattle.toml.specs.View.{table_view};
@@ -18,7 +18,7 @@ use crate::values::{text_at_key, value_at_key, word_at_key};
 use rv_lists::limits::{MOST_CONSOLE, MOST_PATH};
 use toml::Table;
 
-/// What is told of the expectation of a job that is bad.
+/// Returns the explanation of a job's bad expectation.
 pub(crate) fn expectation_explanation(table: &Table) -> Explanation
     ensures { IsExpectationTold (table_view table.now) (told_key result, told_words result) }
 {
@@ -29,7 +29,7 @@ pub(crate) fn expectation_explanation(table: &Table) -> Explanation
     }
 }
 
-// Of the expectations beside an exit.
+// Returns the explanation of a bad expectation other than the exit.
 fn reference_or_console_explanation(table: &Table) -> Explanation
     ensures { (told_key result, told_words result) ≡ reference_told_of (table_view table.now) }
 {
@@ -40,7 +40,7 @@ fn reference_or_console_explanation(table: &Table) -> Explanation
     )
 }
 
-// Of a reference, where a signature is asked for or not; else what is told of the rest.
+// Returns the explanation of a bad reference, depending on whether there is a signature, or else that of the rest.
 fn reference_explanation(is_asked: bool, path: Option<&str>, rest: Explanation) -> Explanation
     ensures { (told_key result, told_words result)
         ≡ reference_told is_asked (borrowed_name path.entry) (told_key rest, told_words rest) }
@@ -80,11 +80,11 @@ fn console_explanation(text: Option<&str>, path: Option<&str>, end: Option<&str>
     }
 }
 
-/// What is told of a console that is expected twice.
+/// The explanation of a console that is expected twice.
 pub(crate) const BOTH_CONSOLES: &str =
     "\"expect_console\" and \"expect_console_file\" cannot both be set";
 
-/// Of an end that is none: an exit is expected by a key of its own.
+/// Returns the explanation of an invalid end. An exit is expected by a separate key.
 pub(crate) fn end_explanation(table: &Table) -> Explanation
     ensures { (told_key result, told_words result) ≡ end_told (text_at_key (codes "expect_end") (table_view table.now)) }
 {

@@ -1,4 +1,4 @@
-//! Faults of a job.
+//! Errors of a job.
 
 ghost use Rattle.std.specs.Prelude.{◌≡◌, IfSome, None, Some, codes, option_map};
 ghost use Rattle.std.specs.Char.{is_ascii_hexdigit};
@@ -27,7 +27,7 @@ use crate::values::text_at_key;
 use rv_lists::What;
 use toml::{Table, Value};
 
-/// Appends a fault of the job at a place. The nearest name of a job is told where it may be meant and is asked for.
+/// Appends an error of the job at an index. The nearest job name is suggested if one may be meant and it is requested.
 pub(crate) fn push_job_fault(
     message: &mut Message,
     list: &List<'_>,
@@ -61,7 +61,7 @@ fn element_at(elements: &[Value], place: usize) -> Option<&Value>
     elements.get(place)
 }
 
-// Appends that an element is no table.
+// Appends that an element is not a table.
 fn push_no_table(message: &mut Message, element: &Value)
     ensures { AddsSome message.old message.new (TellsNoTable (view element.now)) }
 {
@@ -69,7 +69,7 @@ fn push_no_table(message: &mut Message, element: &Value)
     message.push(": expected a table");
 }
 
-// Appends a fault of a job that is a table.
+// Appends an error of a job that is a table.
 fn push_fault_of_table(message: &mut Message, job: FaultyJob<'_>, what: What)
     ensures { AddsSome message.old message.new (TellsFaultOfTable
         (borrowed_names job.entry.list.now.names.items) (table_view job.entry.table.now) what) }
@@ -87,7 +87,7 @@ fn push_fault_of_table(message: &mut Message, job: FaultyJob<'_>, what: What)
     }
 }
 
-/// Appends that an earlier job has the name of a job.
+/// Appends that an earlier job has the same name.
 pub(crate) fn push_taken_name(message: &mut Message, list: &List<'_>, table: &Table)
     ensures { AddsSome message.old message.new
         (TellsName (borrowed_names list.now.names.items) (codes "name") free_words (table_view table.now)) }
@@ -97,7 +97,7 @@ pub(crate) fn push_taken_name(message: &mut Message, list: &List<'_>, table: &Ta
 
 const FREE: &str = "expected a unique name";
 
-// Appends a fault that a job has whatever the other jobs are.
+// Appends an error that does not depend on the other jobs.
 fn push_fault_within_job(message: &mut Message, table: &Table, what: What)
     ensures { AddsSome message.old message.new (TellsOwnFault what (table_view table.now)) }
 {
@@ -109,7 +109,7 @@ fn push_fault_within_job(message: &mut Message, table: &Table, what: What)
     }
 }
 
-// What is told of a fault that one value has.
+// Returns the explanation of an error of a single value.
 fn key_explanation(table: &Table, what: What) -> Explanation
     ensures words { IfSome (key_words what) (λ words. told_words result ≡ words) }
     ensures key { IfSome (key_of what) (λ key. told_key result ≡ Some key) }
@@ -131,7 +131,7 @@ fn key_explanation(table: &Table, what: What) -> Explanation
     }
 }
 
-/// Of the sets that people ask for most, which part is not simulated.
+/// Returns which part of an instruction set is not simulated, for the sets requested most often.
 pub(crate) fn isa_explanation(table: &Table) -> Explanation
     ensures { (told_key result, told_words result) ≡ isa_told (table_view table.now) }
 {
@@ -141,7 +141,7 @@ pub(crate) fn isa_explanation(table: &Table) -> Explanation
     }
 }
 
-// Of the name of a set.
+// Returns the explanation of the name of an instruction set.
 fn set_explanation(isa: &[u8]) -> Explanation
     ensures key { told_key result ≡ Some (codes "isa") }
     ensures words { told_words result ≡ set_words isa.now }
@@ -155,7 +155,7 @@ fn set_explanation(isa: &[u8]) -> Explanation
     }
 }
 
-// Of the letters of a set of 32 bits.
+// Returns the explanation of the letters of a 32-bit instruction set.
 fn letters_explanation(letters: &[u8]) -> Explanation
     ensures key { told_key result ≡ Some (codes "isa") }
     ensures words { told_words result ≡ letters_words letters.now }
@@ -167,7 +167,7 @@ fn letters_explanation(letters: &[u8]) -> Explanation
     }
 }
 
-// The first letter that stands for none of I, M and C.
+// Returns the first letter that is none of I, M and C.
 fn unsimulated_letter(letters: &[u8]) -> Option<&u8>
     ensures { option_map (λ letter. letter.now) result ≡ find is_unsimulated letters.now }
 {
@@ -180,7 +180,7 @@ fn is_unsimulated(letter: u8) -> bool
     !(letter == b'i' || letter == b'm' || letter == b'c')
 }
 
-// Of a script, by the texts of both of its keys.
+// Returns the explanation of a bad script, given the texts of both its keys.
 fn input_explanation(table: &Table) -> Explanation
     ensures { (told_key result, told_words result) ≡ script_told_of (table_view table.now) }
 {
@@ -208,10 +208,10 @@ fn digits_explanation(digits: &str) -> Explanation
     }
 }
 
-/// What is told of a script that stands twice.
+/// The explanation of a script that is set twice.
 pub(crate) const BOTH_INPUTS: &str = "\"input\" and \"input_hex\" cannot both be set";
 
-/// Whether digits stand for bytes.
+/// Whether digits represent bytes.
 pub(crate) fn are_hex_digit_pairs(digits: &str) -> bool
     ensures { result ≡ are_digit_pairs digits.now }
 {

@@ -1,4 +1,4 @@
-//! What stands behind a value.
+//! Skipping values.
 
 ghost use Rattle.std.specs.Prelude.{◌≡◌, ◌-◌, ◌^◌, ◌<◌, ◌≤◌, IfOk, length, min, slice_index, suc};
 ghost use Rattle.rv_list_locations.specs.JobPlaces.{after_brackets, after_string_or_word, after_token, after_value};
@@ -11,7 +11,7 @@ use toml_parser::bytes::is_word;
 use toml_parser::text::{byte_at, first, skip, skip_blank};
 use toml_parser::{ErrorKind, ParseError, quoted, starts_string};
 
-/// The text behind a value.
+/// Returns the text after a value.
 #[tactic(auto, unfolding(crate::specs::JobPlaces::after_value))]
 pub(crate) fn skip_value(alloc: Global, text: &str) -> Result<&str, ParseError>
     ensures value { GivesText result (after_value text.now) }
@@ -24,7 +24,7 @@ pub(crate) fn skip_value(alloc: Global, text: &str) -> Result<&str, ParseError>
     }
 }
 
-// The text behind an array or an inline table: behind the bracket that leaves none open.
+// Returns the text after an array or an inline table, that is after the bracket that closes the last open one.
 fn skip_brackets(alloc: Global, text: &str) -> Result<&str, ParseError>
     ensures value { GivesText result (after_brackets (suc (length text.now)) 0 text.now) }
     ensures shorter { IfOk result (λ rest. length rest.now < length text.now) }
@@ -41,7 +41,7 @@ fn skip_brackets(alloc: Global, text: &str) -> Result<&str, ParseError>
     }
 }
 
-// The text behind blanks, line ends and comments.
+// Returns the text after blanks, line ends and comments.
 pub(crate) fn skip_blank_lines(text: &str) -> &str
     ensures rest { result.now ≡ behind_blank text.now }
     ensures within { length result.now ≤ length text.now }
@@ -49,7 +49,7 @@ pub(crate) fn skip_blank_lines(text: &str) -> &str
     skip_blank(text, true)
 }
 
-// How many brackets are open behind a byte.
+// Returns the number of open brackets after a byte.
 fn bracket_depth_after(depth: usize, byte: u8) -> usize
     ensures { result ≡ min (depth_after depth byte) (2 ^ 64 - 1) }
 {
@@ -60,7 +60,7 @@ fn bracket_depth_after(depth: usize, byte: u8) -> usize
     }
 }
 
-/// The text behind a sign, a string or a word.
+/// Returns the text after a punctuation sign, a string or a word.
 #[tactic(auto, unfolding(crate::specs::JobPlaces::after_token))]
 pub(crate) fn skip_token(alloc: Global, text: &str) -> Result<&str, ParseError>
     ensures value { GivesText result (after_token text.now) }
@@ -73,7 +73,7 @@ pub(crate) fn skip_token(alloc: Global, text: &str) -> Result<&str, ParseError>
     }
 }
 
-// The text behind a string or a word.
+// Returns the text after a string or a word.
 #[tactic(auto, unfolding(crate::specs::JobPlaces::after_string_or_word))]
 fn skip_string_or_word(alloc: Global, text: &str) -> Result<&str, ParseError>
     ensures value { GivesText result (after_string_or_word text.now) }
@@ -87,7 +87,7 @@ fn skip_string_or_word(alloc: Global, text: &str) -> Result<&str, ParseError>
     }
 }
 
-// The text behind a key without quotes, or a value that is no text.
+// Returns the text after an unquoted key, or a value that is not a text.
 fn skip_word(text: &str) -> Result<&str, ParseError>
     ensures value { GivesText result (after_word text.now) }
     ensures shorter { IfOk result (λ rest. length rest.now < length text.now) }
@@ -102,7 +102,7 @@ fn skip_word(text: &str) -> Result<&str, ParseError>
     Ok(rest)
 }
 
-// Whether a word begins or goes on: in that of a date and a time a space may part the two.
+// Whether a word begins or continues here; a space may separate date and time.
 fn bare_word_goes_on(text: &str) -> bool
     ensures { result ≡ is_in_word (slice_index text.now 0) (slice_index text.now 1) }
 {

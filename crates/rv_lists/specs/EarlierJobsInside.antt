@@ -1,4 +1,4 @@
--- How the jobs that are read so far stand beside the places of their names.
+-- How the jobs read so far relate to the indices of their names.
 use Rattle.std.specs.Prelude.{◌≡◌, ℕ, List}
 use Rattle.std.specs.BTreeMap.{get_by_text}
 use Rattle.rv_lists.specs.declared.earlier_jobs.EarlierJobs.TheInside.{Inside}

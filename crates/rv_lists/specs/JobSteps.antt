@@ -1,4 +1,4 @@
--- What a job's reading goes through behind its name, its image and its budget.
+-- The steps of reading a job after its name, its image and its budget.
 use Rattle.std.specs.Prelude.{ℕ, List, Result, Ok, is_some}
 use Rattle.toml.specs.Data.{Members}
 use Rattle.rv_lists.specs.declared.error.What.{What}
@@ -11,7 +11,7 @@ use Rattle.rv_lists.specs.JobList.{reference_from_table, console_from_table}
 use Rattle.rv_lists.specs.JobList.{end_from_table, same_as_from_table, isa_from_table, misaligned_from_table}
 use Rattle.rv_lists.specs.Reading.{◌>>=◌}
 
--- how a job runs and is to end, behind jobs of these names
+-- how a job runs and should end, given the names of the earlier jobs
 unfoldable pub manner_from_table : List (List ℕ) → Members → Result Manner What
 manner_from_table earlier ms = do
   expect_end ← end_from_table ms
@@ -20,7 +20,7 @@ manner_from_table earlier ms = do
   choice ← misaligned_from_table ms
   Ok (record { expect_end = expect_end; same_as = same_as; isa = set; misaligned = choice })
 
--- what a job starts with
+-- the initial state of a job
 unfoldable pub setup_from_table : Members → Result Setup What
 setup_from_table ms = do
   script ← script_from_table ms
@@ -28,7 +28,7 @@ setup_from_table ms = do
   load ← load_from_table ms
   Ok (record { script = script; regions = regions; load = load })
 
--- what is taken of a job's run, and what it is expected to be
+-- what is collected from a job's run, and what is expected of it
 unfoldable pub results_from_table : Members → Result Results What
 results_from_table ms = do
   signature ← signature_from_table ms
@@ -37,7 +37,7 @@ results_from_table ms = do
   console ← console_from_table ms
   Ok (record { signature = signature; exit = exit; reference = reference; console = console })
 
--- the job of this name, image and budget
+-- the job with this name, image and budget
 unfoldable pub job_from_remaining_keys : List (List ℕ) → List ℕ → List ℕ → ℕ → Members → Result Job What
 job_from_remaining_keys earlier name image budget ms = do
   setup ← setup_from_table ms

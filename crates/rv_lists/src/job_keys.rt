@@ -1,4 +1,4 @@
-//! A job of a list: its keys in the order of their faults, a function each.
+//! A job of a list: its keys in the order in which their errors are checked, one function each.
 
 ghost use Rattle.std.specs.Prelude.{◌≡◌, IfOk, None, length};
 ghost use Rattle.toml.specs.View.{view, table_view};
@@ -23,7 +23,7 @@ use rv_base::{Text, is_name};
 use std::alloc::Global;
 use toml::{Table, Value};
 
-/// The job of an element of a list, behind the jobs that are read so far.
+/// Parses an element of a list as a job, given the jobs read so far.
 #[tactic(auto, unfolding(crate::specs::JobList::job_from_element))]
 pub(crate) fn job_from_element(
     alloc: Global,
@@ -62,7 +62,7 @@ fn job_from_table(alloc: Global, earlier: &EarlierJobs, table: &Table) -> Result
 }
 
 impl EarlierJobs {
-    /// The job of a name that no earlier job has, of an image and a budget.
+    /// Parses the remaining keys of a job with a name that no earlier job has, an image and a budget.
     #[tactic(auto, unfolding(crate::specs::JobSteps::job_from_remaining_keys))]
     fn job_from_remaining_keys(
         &self,
@@ -88,7 +88,7 @@ impl EarlierJobs {
 }
 
 impl Setup {
-    // The job of all that its keys say.
+    // Assembles a job from the values of its keys.
     fn into_job(self, name: Text, image: Text, budget: u32, results: Results, manner: Manner) -> Job
         ensures { result ≡ record {
           name = name;

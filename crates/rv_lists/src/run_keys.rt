@@ -1,4 +1,4 @@
-//! How a job runs and is to end: the last four keys of a job, in the order of their faults.
+//! How a job runs and should end: the last four keys of a job, in the order in which their errors are checked.
 
 ghost use Rattle.std.specs.Prelude.{◌≡◌, ◌<◌, IfOk, IfSome, length};
 ghost use Rattle.toml.specs.View.{table_view};
@@ -14,7 +14,7 @@ use rv_isa::Isa;
 use rv_memory::Misaligned;
 use toml::Table;
 
-/// How a job runs and is to end.
+/// How a job runs and should end.
 #[derive(Clone, Copy)]
 pub(crate) struct Manner {
     pub(crate) expect_end: Option<ExpectedEnd>,
@@ -23,7 +23,7 @@ pub(crate) struct Manner {
     pub(crate) misaligned: Misaligned,
 }
 
-/// The last four keys of a job, behind the jobs that are read so far.
+/// Parses the last four keys of a job, given the jobs read so far.
 #[tactic(auto, unfolding(crate::specs::JobSteps::manner_from_table))]
 pub(crate) fn manner_from_table(earlier: &EarlierJobs, table: &Table) -> Result<Manner, What>
     ensures value { result ≡ manner_from_table (names_of_jobs earlier.now) (table_view table.now) }

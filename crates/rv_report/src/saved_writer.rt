@@ -1,4 +1,4 @@
-//! The text of a saved report, sent in few large puts.
+//! The text of a saved report, sent in few large writes.
 
 ghost use Rattle.std.specs.Prelude.{◌≡◌, ◌++◌, ◌≤◌, ◌<◌, ◌^◌, [], true, IfErr, OnErr, OnOk, string_bytes, length};
 ghost use Rattle.std.specs.Io.KnownBytes.{Appends};
@@ -15,8 +15,8 @@ use crate::saved_report_text::push_extent_line;
 use rv_base::Sink;
 use std::alloc::Global;
 
-/// Appends the text of a report to the sink, or a beginning of it: the text that
-/// [`read_report`](crate::read_report) reads, of a whole report, of a choice's and of a shard's.
+/// Appends the text of a report to the sink, or on failure a prefix of it: the text that [`read_report`](crate::read_report) reads, whether
+/// of a whole list, of selected jobs or of a shard.
 pub fn write_saved_report<W: Sink>(
     alloc: Global,
     report: &SavedReport,
@@ -40,7 +40,7 @@ pub fn write_saved_report<W: Sink>(
     Ok(())
 }
 
-// The rows' text: the first part of it goes out, the rest stands in `text`.
+// Writes the rows' text: the first part is sent, the rest remains buffered in `text`.
 fn put_numbered_rows<W: Sink>(
     alloc: Global,
     numbers: &[u32],

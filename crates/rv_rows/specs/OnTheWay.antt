@@ -1,10 +1,10 @@
--- A state on the way of a run within a budget.
+-- An intermediate state of a run within a budget.
 use Rattle.std.specs.Prelude.{◌≡◌, ◌≤◌, ℕ, Result, Ok}
 use Rattle.rv_machine.specs.Run.{run_of}
 use Rattle.rv_machine.specs.State.{State}
 use Rattle.rv_report.specs.declared.row.Refusal.{Refusal}
 
--- The run starts, and so many of its steps complete, no more than the budget: the state is the one behind them.
+-- The run starts and completes this many steps, at most the budget; the state is the one after them.
 pub record IsOnTheWay (start : Result State Refusal) (budget steps : ℕ) (state : State) : Type 0 where
   pub first : State
   pub starts : start ≡ Ok first

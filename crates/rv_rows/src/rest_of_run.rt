@@ -1,4 +1,4 @@
-//! The row of a job whose machine has come some way in its run.
+//! The row of a job whose machine has already run some steps.
 
 ghost use Rattle.std.specs.Prelude.{◌≡◌, ◌<◌, ◌≤◌, IfOk, IfSome, Ok, length, slice_index_or};
 ghost use Rattle.rv_elf.specs.Rows.{accepted};
@@ -23,8 +23,8 @@ use rv_machine::Machine;
 use rv_report::{Refusal, Row};
 use std::alloc::{AllocError, Global};
 
-/// The row of the job at a place, counted from 0, whose machine stands behind so many steps of its run: the same as that of
-/// [`crate::row_at`], and only what is left of the run is run. A job that it names is run whole.
+/// Returns the row of the job at an index, counted from 0, whose machine has completed `steps` steps of its run. The row equals that of
+/// [`crate::row_at`], but only the rest of the run is run. A job that it names is run completely.
 pub fn row_from(
     alloc: Global,
     plan: &Plan,
@@ -46,7 +46,7 @@ pub fn row_from(
     judged_row(alloc, plan, i, outcome, same)
 }
 
-// What the job comes to.
+// Computes the result of the job.
 #[tactic(auto, unfolding(crate::specs::Outcome::outcome_of))]
 fn attempt_on_way(
     alloc: Global,
@@ -68,7 +68,7 @@ fn attempt_on_way(
     }
 }
 
-// The same over its image's bytes.
+// Computes the result of the job, given its image's bytes.
 #[tactic(auto, unfolding(crate::specs::Outcome::file_outcome_of))]
 fn attempt_over_file(
     alloc: Global,
@@ -95,7 +95,7 @@ fn attempt_over_file(
     }
 }
 
-// What a run within a budget comes to, of which so many steps have been run.
+// Completes a run within a budget, of which `steps` steps have been run.
 fn rest_of_run(machine: Machine, steps: u32, budget: u32, range: Option<SignatureRange>) -> EndedRun
     requires within { steps ≤ budget }
     requires range { IfSome range

@@ -1,4 +1,4 @@
-//! The memory of a run, kept for the next.
+//! The memory of a run, reused for the next.
 
 ghost use Rattle.std.specs.Prelude.{◌≡◌, ◌≤◌, IfOk, vec_len};
 ghost use Rattle.rv_memory.specs.Bus.{new_bus};
@@ -7,19 +7,20 @@ use crate::outcome::Attempt;
 use rv_memory::{Bus, Map, Misaligned};
 use std::alloc::{AllocError, Global};
 
-/// The bus of the last run, if there was one. A worker makes the bus of its next run in the memory of the last where
-/// the maps have as many bytes: to take memory afresh for each run costs more than a small run does.
+/// The bus of the last run, if any. A worker creates the bus of its next run in the memory of the last one if the maps have the same size:
+/// allocating memory anew for each run costs more than a small run does.
 #[derive(Drop)]
 pub struct Spare {
     bus: Option<Bus>,
 }
 
 impl Spare {
+    /// Creates an empty `Spare`.
     pub fn new() -> Spare {
         Spare { bus: None }
     }
 
-    /// A new bus.
+    /// Creates a bus.
     pub(crate) fn new_bus(
         &mut self,
         alloc: Global,
@@ -36,7 +37,7 @@ impl Spare {
         }
     }
 
-    /// Keeps the bus of a run whose outcome is no longer asked.
+    /// Keeps the bus of a run whose outcome is no longer needed.
     pub(crate) fn keep(&mut self, attempt: Attempt) {
         if let Attempt::Ran(run) = attempt {
             self.bus = Some(run.bus);

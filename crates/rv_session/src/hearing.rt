@@ -1,4 +1,4 @@
-//! What is heard from gdb, and the packets that go out.
+//! Received bytes, and the packets to send.
 
 ghost use Rattle.std.specs.Prelude.{◌≡◌, ◌++◌, ◌∷◌, ◌&&◌, [], IfOk, None, OnOk, Some};
 ghost use Rattle.rv_gdb_protocol.specs.Sums.{framed};
@@ -13,12 +13,12 @@ use rv_base::Bytes;
 use rv_gdb_protocol::{Incoming, Refusal, Sum, parse_request, push_frame, push_printed};
 use std::alloc::{AllocError, Global};
 
-/// The most printed bytes of a packet, two digits each.
+/// The maximum number of output bytes in a packet, two digits each.
 const MOST_PRINTED: usize = 8184;
 
 impl Session {
-    /// Hears a byte of gdb, and gives the bytes that go out. Where a move is asked for then, [`Session::work`] makes it before another
-    /// byte is heard. After an error the session is to be given up.
+    /// Receives a byte from gdb and returns the bytes to send. If a move is requested then, [`Session::work`] makes it before another byte
+    /// is received. After an error the session must be abandoned.
     pub fn receive(&mut self, alloc: Global, byte: u8) -> Result<Vec<u8>, AllocError>
         requires { self.old.asked ≡ None }
         ensures heard { IfOk result (λ out. IsByteFed self.old byte out.items self.new) }
@@ -30,7 +30,7 @@ impl Session {
         Ok(out)
     }
 
-    // Appends what goes out for a byte.
+    // Appends what to send for a byte.
     fn hear_byte(&mut self, alloc: Global, out: &mut Vec<u8>, byte: u8) -> Result<(), AllocError>
         ensures { OnOk result (IsAppended out.old.items out.new.items
             (λ told. IsByteFed self.old byte told self.new)) }
@@ -41,7 +41,7 @@ impl Session {
         }
     }
 
-    // Appends what goes out for what is heard. Ctrl-C finds no move under way.
+    // Appends what to send for a received item. At Ctrl-C no move is in progress.
     fn respond(
         &mut self,
         alloc: Global,
@@ -88,14 +88,14 @@ impl Session {
         self.send(alloc, out, &reply)
     }
 
-    // Whether a packet is to be sent again. Without acknowledgements its sum is not looked at.
+    // Whether to request a packet again. Without acknowledgements its checksum is not checked.
     fn is_refused(&self, sum: Sum) -> bool
         ensures { result ≡ (self.now.acknowledges && is_wrong sum) }
     {
         self.acknowledges && is_wrong(sum)
     }
 
-    // A packet that is acknowledged.
+    // Handles an acknowledged packet.
     fn take_body(&mut self, alloc: Global, out: &mut Vec<u8>, body: &[u8]) -> Result<(), AllocError>
         ensures { OnOk result (IsAppended out.old.items out.new.items
             (λ told. IsTaken self.old body.now told self.new)) }
@@ -146,7 +146,6 @@ impl Session {
     }
 }
 
-// Asks for a packet again.
 fn ask_again(out: &mut Vec<u8>) -> Result<(), AllocError>
     ensures { OnOk result (out.new.items ≡ out.old.items ++ 45 ∷ []) }
 {
@@ -174,7 +173,7 @@ fn push_printed_packets(alloc: Global, out: &mut Vec<u8>, printed: &[u8]) -> Res
     Ok(())
 }
 
-// Appends the packet of a number.
+// Appends the packet with this number.
 fn push_printed_packet(
     alloc: Global,
     out: &mut Vec<u8>,

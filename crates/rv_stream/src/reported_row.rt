@@ -1,4 +1,4 @@
-//! The rows of a batch, with what is told of them.
+//! The rows of a batch, with their reported texts.
 
 ghost use Rattle.std.specs.Prelude.{◌≡◌};
 
@@ -7,14 +7,14 @@ use rv_fleet::Batch;
 use rv_rows::{Row, RowReporter, row_at_with_recent};
 use std::alloc::{AllocError, Global};
 
-/// A row, and what is told of it.
+/// A row and its reported text.
 #[derive(Drop)]
 pub struct ReportedRow {
     pub row: Row,
     pub text: Vec<u8>,
 }
 
-/// Makes the rows of a batch, and tells of them.
+/// Makes the rows of a batch and their reported texts.
 #[derive(Drop)]
 pub(crate) struct ReportedRowWork<'b, 't, T: RowReporter> {
     pub(crate) batch: &'b Batch<'b>,

@@ -1,4 +1,4 @@
-//! An observer that tells of rows, and sends that.
+//! An observer that reports rows and writes the texts.
 
 ghost use Rattle.std.specs.Prelude.{◌≡◌, [], None};
 ghost use Rattle.rv_stream.specs.Texts.{IsSent};
@@ -11,19 +11,19 @@ use rv_fleet::Sink;
 use rv_rows::{RowReporter, WriteError};
 use std::alloc::Global;
 
-/// Tells of each row with the place of its job, and sends that: what comes together in one put.
+/// Reports each row with the index of its job and writes the text. Rows that arrive together are written at once.
 #[derive(Drop)]
 pub(crate) struct RowSender<'t, 'p, J: StreamSpec, T: RowReporter, W: Sink + Drop> {
     pub(crate) alloc: Global,
     pub(crate) reporter: &'t T,
     pub(crate) places: &'p [usize],
-    /// How many rows it has told of.
+    /// The number of rows reported so far.
     pub(crate) told: usize,
     pub(crate) outbox: Outbox<J, W>,
 }
 
 impl<'t, 'p, J: StreamSpec, T: RowReporter, W: Sink + Drop> RowSender<'t, 'p, J, T, W> {
-    /// It has seen nothing yet.
+    /// Creates a sender that has seen no rows.
     pub(crate) fn new(
         alloc: Global,
         reporter: &'t T,

@@ -1,4 +1,4 @@
-//! What is told of rows, sent in few large puts.
+//! Reported texts of rows, written in few large writes.
 
 ghost use Rattle.std.specs.Prelude.{◌≡◌, ◌++◌, IfErr, OnErr, OnOk};
 ghost use Rattle.rv_rows.specs.Counts.{one_more};
@@ -10,11 +10,11 @@ use rv_fleet::{Sink, put_all};
 use rv_rows::{RowReporter, WriteError};
 use std::alloc::Global;
 
-// Gathered text is put once it has this many bytes.
+// The size in bytes from which the buffered text is written.
 const ENOUGH: usize = 32_768;
 
-/// Sends what is told of rows behind the text that is gathered: the first part of all goes out
-/// in few large puts, the rest stands in `text`. After an error a beginning of all is out.
+/// Appends the reported texts of rows to the buffered `text`. The first part of the whole is sent in few large writes, the rest stays in
+/// `text`. After an error a prefix of the whole has been written.
 pub fn put_row_texts<T: RowReporter, W: Sink>(
     alloc: Global,
     text: &mut Vec<u8>,
@@ -31,7 +31,7 @@ pub fn put_row_texts<T: RowReporter, W: Sink>(
         ++ joined_row_texts (T.line reporter.now) placed.now.places.now placed.now.rows.now)) }
     ensures failed { IfErr result (λ error. error ≡ WriteError.Failed
         → W.failed out.new ≡ one_more (W.failed out.old)) }
-    // Where memory was wanting no put failed.
+    // If an allocation failed, no write did.
     ensures refused { IfErr result (λ error. error ≡ WriteError.OutOfMemory
         → W.failed out.new ≡ W.failed out.old) }
 {
@@ -43,7 +43,7 @@ pub fn put_row_texts<T: RowReporter, W: Sink>(
     Ok(())
 }
 
-// Sends the gathered text where it is enough for a large put.
+// Writes the buffered text if it is long enough for a large write.
 fn put_bytes_if_enough<W: Sink>(text: &mut Vec<u8>, out: &mut W) -> Result<(), WriteError>
     ensures under_way { OnOk result (IsPartlySent (W.taken out.old) (W.taken out.new)
         text.new.items text.old.items) }

@@ -1,4 +1,4 @@
-//! Runs whose rows are told of as they come.
+//! Runs whose rows are reported as they complete.
 
 ghost use Rattle.std.specs.Prelude.{◌≡◌, ◌≤◌, IfOk, OnErr, OnOk, Some, false, is_ok, length, true};
 ghost use Rattle.std.specs.Io.KnownBytes.{Appends};
@@ -22,16 +22,16 @@ use std::marker::Brand;
 use std::sync::Wait;
 use std::thread::Threads;
 
-/// A reporter of rows, and the sink that takes what it tells.
+/// A reporter of rows, and the sink for its texts.
 #[derive(Drop)]
 pub struct ReporterOutput<'t, T: RowReporter, W: Sink + Drop> {
     pub reporter: &'t T,
     pub out: W,
 }
 
-/// Runs a batch up to the failure that ends it, if one does, and sends what is told of each of these jobs in list order, as soon as that of
-/// all jobs before it is out. The sink comes back: with the rows it took what is told of them, and no put failed; with an error it took a
-/// beginning of that.
+/// Runs a batch up to the failure that ends it, if one does, and writes the reported text of each job in list order, as soon as those of
+/// all earlier jobs are written. Returns the sink: with the rows, it has received their texts and no write failed; with an error, it has
+/// received a prefix of the texts.
 pub fn stream_rows<R: Threads + Wait + Sync, T: RowReporter + Sync, W: Sink + Drop + Send>(
     crew: &Crew<'_, R>,
     batch: &Batch<'_>,
@@ -53,7 +53,7 @@ pub fn stream_rows<R: Threads + Wait + Sync, T: RowReporter + Sync, W: Sink + Dr
     stream_first_rows::<Brand, R, T, W>(crew, batch, limit, ReporterOutput { reporter, out })
 }
 
-// The same where a failure, if any, ends the run, and a stream of its own says what is told.
+// Like [`stream_rows`], for a limit other than 0 failures; `J` specifies the stream.
 fn stream_first_rows<
     J: StreamSpec + Send,
     R: Threads + Wait + Sync,
@@ -93,7 +93,7 @@ fn stream_first_rows<
     (out, rows_of_run::<J>(ran, received.second))
 }
 
-/// The same for two sinks: what the second takes is told of the rows alone.
+/// Like [`stream_rows`], for two sinks. The texts of the second are made from the rows alone.
 pub fn stream_rows_to_both<
     R: Threads + Wait + Sync,
     T: RowReporter + Sync,
@@ -130,7 +130,7 @@ pub fn stream_rows_to_both<
     stream_first_rows_to_both::<Brand, Brand, R, T, U, W, V>(crew, batch, limit, first, second)
 }
 
-// The same where a failure, if any, ends the run, and two streams of their own say what is told.
+// Like [`stream_rows_to_both`], for a limit other than 0 failures; `J` and `K` specify the streams.
 fn stream_first_rows_to_both<
     J: StreamSpec + Send,
     K: StreamSpec + Send,
@@ -198,7 +198,7 @@ fn stream_first_rows_to_both<
     }
 }
 
-// The rows of a run, if it came to its end and they were kept.
+// Returns the rows of a run if it did not fail and all of them were kept.
 fn rows_of_run<J: StreamSpec>(
     ran: Result<Flow, RunError>,
     first: RowsUpToFailure<'_, J>,

@@ -1,4 +1,4 @@
-//! How results go on, put by put.
+//! The state of a coloured output between writes.
 
 ghost use Rattle.std.specs.Prelude.{◌≡◌, ◌≤◌, ◌<◌, ◌++◌, ℕ, IfErr, IfOk, length, slice_index, take};
 ghost use Rattle.std.specs.Io.KnownBytes.{Appends};
@@ -12,19 +12,19 @@ use crate::colors::Colors;
 use crate::place::Place;
 use rv_base::{Sink, SinkFailed, put_all};
 
-/// How results go on.
+/// How the output continues.
 #[derive(Clone, Copy)]
 pub(crate) enum Course {
-    /// As they are.
+    /// Without colours.
     Plain,
-    /// With colours, from this place of a line on.
+    /// With colours, from this position in a line on.
     Colored(Place),
-    /// Not at all: a put failed, and a part of a mark may be out.
+    /// Not at all: a write failed, and part of an escape sequence may have been written.
     CutOff,
 }
 
 impl Course {
-    /// How results begin, at the beginning of a line.
+    /// Returns how the output begins, at the start of a line.
     pub(crate) fn first(colors: Colors) -> Course
         ensures { result ≡ first_course colors }
     {
@@ -41,8 +41,7 @@ impl Course {
     }
 }
 
-/// Puts bytes from the front, with the marks that they have: how many, and how results go on behind them. Where none went out, a
-/// put failed.
+/// Writes leading bytes, with their marks, and returns how many, and how the output continues. If none were written, a write failed.
 pub(crate) fn put_by_course<S: Sink>(sink: &mut S, course: Course, bytes: &[u8]) -> (usize, Course)
     requires { 0 < length bytes.now }
     ensures within { result.0 ≤ length bytes.now }
@@ -59,7 +58,7 @@ pub(crate) fn put_by_course<S: Sink>(sink: &mut S, course: Course, bytes: &[u8])
     }
 }
 
-// Puts all of the bytes, piece by piece, up to a put that fails.
+// Writes all of the bytes, piece by piece, up to a failed write.
 fn put_colored<S: Sink>(sink: &mut S, place: Place, bytes: &[u8]) -> (usize, Course)
     requires { 0 < length bytes.now }
     ensures within { result.0 ≤ length bytes.now }
@@ -81,7 +80,7 @@ fn put_colored<S: Sink>(sink: &mut S, place: Place, bytes: &[u8]) -> (usize, Cou
     (at, Course::Colored(here))
 }
 
-// Puts the first bytes, with what stands before the first of them.
+// Writes the first bytes, with the mark before the first of them.
 fn put_piece<S: Sink>(sink: &mut S, place: Place, bytes: &[u8]) -> Result<usize, SinkFailed>
     requires { 0 < length bytes.now }
     ensures within { IfOk result (λ count. (1 ≤ count) × (count ≤ length bytes.now)) }
@@ -96,7 +95,7 @@ fn put_piece<S: Sink>(sink: &mut S, place: Place, bytes: &[u8]) -> Result<usize,
     sink.put(&bytes[..marked_len(place, bytes)])
 }
 
-// How many bytes from the front have no mark before them but the first.
+// Returns the number of leading bytes without a mark, except before the first.
 fn marked_len(place: Place, bytes: &[u8]) -> usize
     requires { 0 < length bytes.now }
     ensures within { (1 ≤ result) × (result ≤ length bytes.now) }

@@ -1,4 +1,4 @@
-//! What is told of an instruction: its assembly text, what it wrote, and how it ended the run.
+//! The text for an instruction: its assembly, what it wrote, and how it ended the run.
 
 ghost use Rattle.std.specs.Prelude.{◌≡◌, ◌++◌, OnOk, option_map};
 ghost use Rattle.rv_disasm.specs.Operands.{register_name};
@@ -18,7 +18,7 @@ use rv_rows::RowEnd;
 use rv_text::{Span, push_spans, push_symbol, push_text, push_word_digits};
 use std::alloc::{AllocError, Global};
 
-/// Appends the assembly text of a code at an address, where there is one.
+/// Appends the assembly text of an encoding at an address, if there is one.
 pub(crate) fn push_assembly(
     alloc: Global,
     bytes: &mut Vec<u8>,
@@ -126,7 +126,7 @@ fn push_symbol_and_space(
     push_text(bytes, " ")
 }
 
-/// The name of a register, none where there is no such register.
+/// Returns the name of a register, empty if there is no such register.
 pub(crate) fn register_name_or_empty(number: u8) -> &'static str
     ensures { result.now ≡ register_name number }
 {
@@ -153,7 +153,7 @@ fn push_stored_value(
     }
 }
 
-/// Appends the text of the code at the end of a run, where there is one.
+/// Appends the assembly text of the encoding at the end of a run, if there is one.
 pub(crate) fn push_end_assembly(
     alloc: Global,
     bytes: &mut Vec<u8>,

@@ -1,4 +1,4 @@
-//! What an instruction is about to write.
+//! The targets of an instruction's write, before it is executed.
 
 ghost use Rattle.std.specs.Prelude.{◌≡◌, ◌%◌, ◌^◌, ◌*◌};
 ghost use Rattle.rv_isa.specs.Words.{IsWellFormed};
@@ -14,7 +14,7 @@ use rv_isa::{Instr, Op};
 use rv_machine::Machine;
 use rv_memory::Width;
 
-/// How an instruction reaches memory.
+/// How an instruction accesses memory.
 #[derive(Clone, Copy)]
 pub(crate) enum Access {
     Load,
@@ -22,15 +22,15 @@ pub(crate) enum Access {
     Neither,
 }
 
-/// What an instruction is about to write.
+/// The target of an instruction's write, before it is executed.
 #[derive(Clone, Copy)]
 pub(crate) enum Aim {
     Nothing,
-    /// A register that is not x0.
+    /// A register other than x0.
     Register(u8),
-    /// A register, which may be x0, from an address.
+    /// A register, which may be x0, and the address to load from.
     Load(u8, u32),
-    /// A value of this width, to an address.
+    /// A value, its width, and the address to store it at.
     Store(u32, Width, u32),
 }
 
@@ -46,7 +46,7 @@ pub(crate) fn access_of(op: Op) -> Access
     }
 }
 
-/// What the instruction of a code is about to write.
+/// Returns what the instruction of an encoding is about to write.
 pub(crate) fn write_target(machine: &Machine, code: Option<Code>) -> Aim
     requires { code ≡ code_at (state_of machine.now).bus (state_of machine.now).pc }
     ensures value { result ≡ write_target (instr_at (state_of machine.now)) (state_of machine.now) }
@@ -77,7 +77,7 @@ fn instruction_write_target(access: Access, instr: Instr, machine: &Machine) -> 
     }
 }
 
-/// The address that a load or a store reaches.
+/// Returns the address that a load or a store accesses.
 pub fn accessed_address(machine: &Machine, instr: Instr) -> u32
     requires { IsWellFormed instr }
     ensures { result ≡ address (state_of machine.now) instr }
@@ -87,7 +87,7 @@ pub fn accessed_address(machine: &Machine, instr: Instr) -> u32
         .wrapping_add(instr.imm.cast_unsigned())
 }
 
-// As many of the low bytes as the width has.
+// Returns the low bytes of a value, as many as the width has.
 fn low_bytes(value: u32, width: Width) -> u32
     ensures { result ≡ value % 2 ^ (8 * size_of width) }
 {
@@ -99,7 +99,7 @@ fn low_bytes(value: u32, width: Width) -> u32
 }
 
 impl Aim {
-    /// What was written, by the machine behind the instruction.
+    /// Returns what was written, given the machine after the instruction.
     pub(crate) fn completed_write(self, machine: &Machine) -> Wrote
         requires { HasRegister self }
         ensures { result ≡ completed_write self (state_of machine.now) }

@@ -1,4 +1,4 @@
-//! One ELF image of a store.
+//! Running one ELF image of a store.
 
 ghost use Rattle.rv_jobs.specs.Limits.{most_budget};
 ghost use Rattle.std.specs.Prelude.{List, ◌≡◌, ◌≢◌, ◌<◌, ◌≤◌, ◌⊎◌, Ok, IfErr, IfOk, OnErr, OnOk};
@@ -20,16 +20,16 @@ use rv_jobs::limits::{MOST_PATH, MOST_SCRIPT};
 use rv_jobs::{JobList, Store, gather};
 use std::alloc::Global;
 
-/// Why digits are no script.
+/// Why digits do not represent a console input.
 #[derive(Clone, Copy, Debug, PartialEq, Eq)]
 pub enum ScriptError {
-    /// They aren't hexadecimal, they are odd in number, or they stand for more than 65,536 bytes.
+    /// They are not hexadecimal, their number is odd, or they represent more than 65,536 bytes.
     Refused,
-    /// A growth was refused.
+    /// An allocation failed.
     OutOfMemory,
 }
 
-/// A run of one ELF image: its path in a store, how many steps it may take, and what it reads from its console.
+/// A run of one ELF image: its path in a store, its budget of steps, and its console input.
 #[derive(Drop)]
 pub struct ImageRun<'a> {
     pub path: &'a str,
@@ -48,7 +48,7 @@ pub fn is_bad_path(path: &str) -> bool
     path.is_empty() || MOST_PATH < path.len()
 }
 
-/// The script that hexadecimal digits of either case stand for; it is empty without digits.
+/// Returns the console input that hexadecimal digits of either case represent; it is empty without digits.
 pub fn read_script(alloc: Global, digits: Option<&str>) -> Result<Vec<u8>, ScriptError>
     ensures value { IfOk result
         (λ script. script_bytes (option_map (λ text. text.now) digits.entry) ≡ Ok script.items) }
@@ -67,8 +67,8 @@ pub fn read_script(alloc: Global, digits: Option<&str>) -> Result<Vec<u8>, Scrip
     }
 }
 
-/// Runs an ELF image of the store, whose path is read once, and appends its report to the sink. A path that can't be
-/// read is a row of the report. The answer is the status of the report's verdicts.
+/// Runs an ELF image of the store, whose path is read once, and writes its report to the sink. A path that cannot be read gives a row of
+/// the report. Returns the status of the report's verdicts.
 pub fn run_image<S: Store, O: Sink>(
     alloc: Global,
     run: ImageRun<'_>,

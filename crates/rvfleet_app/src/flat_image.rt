@@ -1,4 +1,4 @@
-//! A flat image from a reader.
+//! Running a flat image from a reader.
 
 ghost use Rattle.std.specs.Prelude.{◌≡◌, ◌⊎◌, List, [], ◌∷◌, IfErr, IfOk, OnErr, OnOk};
 ghost use Rattle.std.specs.Io.KnownBytes.{Appends, Keeps};
@@ -19,8 +19,7 @@ use std::io::Read;
 // One byte more than an image may have.
 const MOST_READ: usize = 1_048_577;
 
-/// Runs the reader's bytes as a flat image, and appends its report to the sink. No more than
-/// 1,048,577 bytes are taken from the reader.
+/// Runs the reader's bytes as a flat image, and writes its report to the sink. Reads at most 1,048,577 bytes from the reader.
 pub fn run_raw<R: Read, O: Sink>(
     alloc: Global,
     input: &mut R,
@@ -47,7 +46,7 @@ pub fn run_raw<R: Read, O: Sink>(
     Ok(())
 }
 
-// The reader's first bytes: so many that a longer image is told from one that fits.
+// Reads the reader's first bytes, one more than the longest image, so that a longer one is detected.
 fn read_flat_image<R: Read>(alloc: Global, input: &mut R) -> Result<Vec<u8>, InputError>
     ensures first { IfOk result (λ bytes. IsInputBeginning (R.remaining input.old) bytes.items) }
     ensures left { OnOk result

@@ -1,4 +1,4 @@
-//! The jobs of a list in a store.
+//! Reading and running the job list of a store.
 
 ghost use Rattle.std.specs.Prelude.{true, List, ◌≡◌, ◌≤◌, ◌⊎◌, IfErr, IfOk, OnErr, OnOk};
 ghost use Rattle.std.specs.Io.KnownBytes.{Keeps};
@@ -44,7 +44,7 @@ fn list_read_failure(error: ReadError) -> Failure
     }
 }
 
-// Want of memory is no fault of the list.
+// Running out of memory is not an error in the list.
 fn job_list_error(error: JobError) -> ListError
     ensures { IsListError error result }
 {
@@ -54,8 +54,8 @@ fn job_list_error(error: JobError) -> ListError
     }
 }
 
-/// Runs jobs by a crew, over the answers of a store for their paths, which are each read once, and appends the report to
-/// the sink. The answer is the status of the report's verdicts.
+/// Runs jobs on the workers of a crew, given what a store returns for their paths, each of which is read once, and writes the report to the
+/// sink. Returns the status of the report's verdicts.
 #[tactic(auto, using(crate::proofs::Failing::fleet_why, crate::proofs::Failing::list_why))]
 pub fn run_jobs<R: Threads + Wait, S: Store, O: Sink, G: Gate>(
     crew: &Crew<'_, R>,

@@ -10,7 +10,7 @@ use crate::status::{DONE, SOME_FAIL};
 use rv_fleet::{Report, Row, Sink, Verdict, write_report};
 use std::alloc::Global;
 
-/// Appends a report to the sink, and gives the status of its verdicts.
+/// Writes a report to the sink, and returns the status of its verdicts.
 #[tactic(auto, using(crate::proofs::Failing::send_why))]
 pub fn send_report<O: Sink>(alloc: Global, report: &Report, out: &mut O) -> Result<u8, Failure>
     ensures reported { IfOk result

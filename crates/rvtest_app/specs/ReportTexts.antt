@@ -12,7 +12,7 @@ report_text_of (report.Whole rows) = report_text rows
 report_text_of (report.Chosen chosen shard) = chosen_report_text chosen.jobs chosen.places.now shard chosen.rows
 report_text_of (report.Into into) = report_text (rows_put into.chosen.places.now into.chosen.rows into.old)
 
--- what of it goes to a file that took the rows as they came, where it is one whose rows do
+-- the part of the report that goes to a file after the rows that were written as they came, if it is such a report
 abbrev pub report_rest_of : ReportText → List ℕ
 report_rest_of (report.Whole rows) = report_text rows
 report_rest_of (report.Chosen chosen shard) = chosen_last_line chosen.jobs chosen.places.now shard chosen.rows

@@ -20,13 +20,13 @@ use Rattle.rvtest_app.specs.CommandOutputs.{IsOnlyErrorOutput, CommandOutputs}
 
 -- ---- the program
 
--- the program ended by a stop of some kind, where the reader of standard output closed it or did not: the status is by both, and
--- the message was put last, to standard error
+-- the program stopped for a reason of some kind, and the reader of standard output had closed it or not: the status follows from both, and
+-- the message is the last output on standard error
 abbrev pub IsStopReported : Bool → (Stop → Type 0) → ℕ → CommandOutputs → Type 0
 IsStopReported closed ended status after = (why : Stop) × ended why × (status ≡ end_status closed why)
     × ((before : CommandOutputs) × IsOnlyErrorOutput (end_message closed why) before after)
 
--- why the process gives no words, and what is told of that with which status
+-- the status and message if the process cannot provide its arguments
 abbrev pub unreadable_words_status : ErrorKind → ℕ
 unreadable_words_status io.OutOfMemory = 3
 unreadable_words_status _ = 2
@@ -37,21 +37,21 @@ unreadable_words_message _ = codes "rvtest: an argument is not valid UTF-8\n"
 
 -- ---- help
 
--- the help or the version is asked for, which `clap` takes as a fault of words
+-- the help or the version is requested, which `clap` treats as an error in the arguments
 abbrev pub IsHelpAsked : WordsFault → Type 0
 IsHelpAsked fault = (fault ≡ words.DisplayHelp) ⊎ (fault ≡ words.DisplayVersion)
 
--- memory was wanting, or a put failed
+-- out of memory, or a write failed
 abbrev pub IsHelpStop : ℕ → ℕ → Stop → Type 0
 IsHelpStop failures_before failures_after why = (why ≡ stop.OutOfMemory)
     ⊎ ((why ≡ stop.WriteFailed) × (failures_after ≡ one_more failures_before))
 
--- the help or the version was asked for, and its text was put
+-- the help or the version was requested, and its text was written
 abbrev pub IsHelpPut : WordsError → Option (List ℕ) → Option (List ℕ) → Type 0
 IsHelpPut error.OutOfMemory before after = ⊥
 IsHelpPut (error.Told fault text) before after = IsHelpAsked fault × Appends before after (string_bytes text)
 
--- words stopped the program: the help that they ask for was not put; or they are refused, as their error says
+-- the arguments stopped the program: the requested help was not written, or they are rejected with the message of their error
 abbrev pub IsWordsErrorStop : WordsError → ℕ → ℕ → Stop → Type 0
 IsWordsErrorStop error.OutOfMemory failures_before failures_after why = why ≡ stop.OutOfMemory
 IsWordsErrorStop (error.Told fault text) failures_before failures_after why =
@@ -60,13 +60,12 @@ IsWordsErrorStop (error.Told fault text) failures_before failures_after why =
 
 -- ---- diff
 
--- what kept the new report from being compared: it was not read, or what was read is no report
+-- why the new report was not compared: it was not read, or its text is not a report
 abbrev pub IsNewReportStop : Bool → List ℕ → Result (Vec ℕ Global) Stop → Stop → Type 0
 IsNewReportStop partial path (Ok bytes) why = IsRequestedFaultStop partial path bytes.items why
 IsNewReportStop partial path (Err unread) why = why ≡ unread
 
--- memory was wanting; or what is wrong with the old report is told; or the old one is a report, and the new one is
--- blamed
+-- out of memory; or the error in the old report is reported; or the old one is a report, and the error is in the new one
 abbrev pub IsDiffStop : DiffArgs → List ℕ → Result (Vec ℕ Global) Stop → Stop → Type 0
 IsDiffStop words old new why = (why ≡ stop.OutOfMemory) ⊎ (IsRequestedFaultStop words.partial words.old.now old why
     ⊎ ((found : PartialReport) × IsReportRead words.partial old found × IsNewReportStop words.partial words.new.now new why))

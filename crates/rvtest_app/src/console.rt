@@ -34,7 +34,7 @@ struct ReportedRow {
     status: u8,
 }
 
-/// Runs the job of a name, and puts its console to standard output and its line to standard error. The status is 1 where it failed.
+/// Runs the job of a name, and writes its console to standard output and its line to standard error. The status is 1 if it failed.
 pub(crate) fn put_job_console<D: Inputs, F: Outputs + Drop, O: Sink + Drop, E: Sink + Drop>(
     inputs: &D,
     alloc: Global,
@@ -53,7 +53,7 @@ pub(crate) fn put_job_console<D: Inputs, F: Outputs + Drop, O: Sink + Drop, E: S
     Ok(status)
 }
 
-// The row of the job of a name, with its line.
+// Runs the job of a name, and returns its row with its line.
 fn run_named_job<D: Inputs>(
     inputs: &D,
     alloc: Global,
@@ -68,7 +68,7 @@ fn run_named_job<D: Inputs>(
     run_job_of_text(inputs, alloc, asked, text.as_slice())
 }
 
-// The same of the list's text.
+// Runs the named job of the list's text.
 fn run_job_of_text<D: Inputs>(
     inputs: &D,
     alloc: Global,
@@ -85,7 +85,7 @@ fn run_job_of_text<D: Inputs>(
     run_job_at(inputs, alloc, asked, jobs, place)
 }
 
-// The same of the job at a place.
+// Runs the job at an index.
 fn run_job_at<D: Inputs>(
     inputs: &D,
     alloc: Global,
@@ -106,7 +106,7 @@ fn run_job_at<D: Inputs>(
     run_planned_job(alloc, &plan, store.unread_paths(), place)
 }
 
-// The same of a plan.
+// Runs the job at an index of a plan.
 fn run_planned_job(
     alloc: Global,
     plan: &Plan,

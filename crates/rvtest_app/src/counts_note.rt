@@ -1,4 +1,4 @@
-//! What is said of a sum of tables of counts.
+//! The summary of a sum of count tables.
 
 ghost use Rattle.std.specs.Prelude.{◌≡◌, ◌+◌, IfOk};
 ghost use Rattle.rvtest_app.specs.CountSums.{begun_of_addresses, begun_of_images, image_word, instruction_word, number_head, run_word, shown_number, sum_note};
@@ -7,7 +7,7 @@ use rv_count_tables::{AddressCounts, CountTable, ImageCounts};
 use rv_text::{Span, text_of_spans};
 use std::alloc::{AllocError, Global};
 
-/// How many runs a table is of, of how many images, and how many instructions began.
+/// Returns the number of runs, of images and of executed instructions in a table, as a line.
 pub(crate) fn sum_note(alloc: Global, table: &CountTable) -> Result<Vec<u8>, AllocError>
     ensures { IfOk result (λ note. note.items ≡ sum_note table.now) }
 {
@@ -56,7 +56,7 @@ fn number_head(number: u64) -> &'static str
     if number == u64::MAX { "at least " } else { "" }
 }
 
-// How often an instruction began in some images, or the greatest number of 64 bits where that is more.
+// Returns the number of executed instructions in some images, or the greatest 64-bit number if there are more.
 fn begun_of_images(images: &[ImageCounts]) -> u64
     ensures { result ≡ shown_number (begun_of_images images.now) }
 {
@@ -67,7 +67,7 @@ fn begun_of_images(images: &[ImageCounts]) -> u64
     total
 }
 
-// The same of addresses, added to a number.
+// Adds the number of executed instructions at some addresses to `before`, saturating.
 fn begun_behind(before: u64, addresses: &[AddressCounts]) -> u64
     ensures { result ≡ shown_number (before + begun_of_addresses addresses.now) }
 {

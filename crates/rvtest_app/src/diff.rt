@@ -24,15 +24,14 @@ use rv_rows::{Row, Sink};
 use rvtest_cli::DiffArgs;
 use std::alloc::{AllocError, Global};
 
-// In which jobs two reports differ, the status of that, and what is said of reports that are cut off.
+// The differences of two reports, the status, and the notes about truncated reports.
 #[derive(Drop)]
 struct NotedDiff {
     found: Found,
     notes: Vec<u8>,
 }
 
-/// Puts in which jobs two reports differ, and before that what is said of those that are cut off. The status is 1 where they do in
-/// any.
+/// Writes the notes about truncated reports, and then which jobs differ between two reports. The status is 1 if any does.
 pub(crate) fn diff_reports<D: Inputs, F: Outputs + Drop, O: Sink + Drop, E: Sink + Drop>(
     inputs: &D,
     alloc: Global,
@@ -51,7 +50,7 @@ pub(crate) fn diff_reports<D: Inputs, F: Outputs + Drop, O: Sink + Drop, E: Sink
     Ok(found.status)
 }
 
-// The same of what stands at the two paths.
+// Compares the files at the two paths.
 fn diff_of_files<D: Inputs>(
     inputs: &D,
     alloc: Global,
@@ -67,7 +66,7 @@ fn diff_of_files<D: Inputs>(
     diff_report_texts(alloc, asked, old.as_slice(), new)
 }
 
-// The same of the texts of the two. What is wrong with the old one comes before what kept the new one from being read.
+// Compares two reports by their texts. An error in the old one takes precedence over a failure to read the new one.
 fn diff_report_texts(
     alloc: Global,
     asked: DiffArgs<'_>,
@@ -85,7 +84,7 @@ fn diff_report_texts(
     diff_read_reports(alloc, asked, old, new)
 }
 
-// The report at one of the two paths.
+// Returns the request for the report at one of the two paths.
 fn requested<'a>(path: &'a str, asked: DiffArgs<'_>) -> RequestedReport<'a>
     ensures path { result.path.now ≡ path.entry.now }
     ensures partial { result.partial ≡ asked.entry.partial }
@@ -96,7 +95,7 @@ fn requested<'a>(path: &'a str, asked: DiffArgs<'_>) -> RequestedReport<'a>
     }
 }
 
-// The same of the two reports that were read.
+// Compares two reports that were read, possibly truncated.
 fn diff_read_reports(
     alloc: Global,
     asked: DiffArgs<'_>,
@@ -119,7 +118,7 @@ fn diff_read_reports(
     Ok(NotedDiff { found, notes })
 }
 
-// The same of the two reports.
+// Compares two complete reports.
 fn diff_saved_reports(
     alloc: Global,
     compare: Compare,
@@ -145,7 +144,7 @@ fn diff_saved_reports(
     diff_rows(alloc, compare, compared)
 }
 
-// The rows that are compared: of a whole report beside that of a choice those of the jobs that this has.
+// Returns the rows to compare: if one report is whole and the other that of a choice, only the rows of the jobs in the choice.
 fn compared_rows(
     alloc: Global,
     old: SavedReport,
@@ -170,7 +169,7 @@ fn compared_rows(
     Ok((old, new))
 }
 
-// Whether the report of a choice stands beside a whole one.
+// Whether `part` is the report of a choice and `other` a whole one.
 fn leaves_out(part: &Extent, other: &Extent) -> bool
     ensures { result ≡ leaves_out part.now other.now }
 {
@@ -180,7 +179,7 @@ fn leaves_out(part: &Extent, other: &Extent) -> bool
     }
 }
 
-// What `--steps` or `--slower` asks for.
+// Returns the comparison that `--steps` or `--slower` requests.
 fn requested_comparison(steps: bool, slower: Option<u32>) -> Compare
     ensures { result ≡ requested_comparison steps slower }
 {
@@ -191,7 +190,7 @@ fn requested_comparison(steps: bool, slower: Option<u32>) -> Compare
     }
 }
 
-// The same of the rows that are compared.
+// Compares the rows.
 fn diff_rows(alloc: Global, compare: Compare, compared: Compared<'_>) -> Result<Found, Stop>
     requires old { length compared.old.now < 2 ^ 32 }
     requires new { length compared.new.now < 2 ^ 32 }

@@ -1,4 +1,4 @@
-//! What is told of a topic that is no command.
+//! What `help` prints for a topic that is not a command.
 
 ghost use Rattle.std.specs.Prelude.{◌≡◌, IfErr, IfOk};
 ghost use Rattle.rv_command.specs.Stops.{IsStop};
@@ -11,7 +11,7 @@ use rv_text::{Span, push_text, text_of_spans};
 use rvtest_cli::HelpArgs;
 use std::alloc::{AllocError, Global};
 
-/// Tells the keys of a list, which are the only topic.
+/// Returns the keys of a list, the only such topic.
 pub(crate) fn tell_topic(alloc: Global, asked: HelpArgs<'_>) -> Result<Found, Stop>
     ensures told { IfOk result (λ found. IsTopicTold asked.entry.topic.now found.text.items found.status) }
     ensures stopped { IfErr result (IsNoTopicStop asked.entry.topic.now) }

@@ -1,4 +1,4 @@
-//! The rows of a run that are put into the whole report of their list.
+//! Merging the rows of a run into the whole report of their list.
 
 ghost use Rattle.std.specs.Prelude.{◌≡◌, ◌<◌, length, vec_len};
 ghost use Rattle.std.specs.List.{All};
@@ -12,16 +12,16 @@ use rv_report::Shard;
 use rv_rows::Row;
 use rvtest_cli::RunArgs;
 
-/// What a run's report has beside the run's rows.
+/// What the report of a run has besides the run's rows.
 #[derive(Drop)]
 pub(crate) struct ReportFrame {
-    /// The shard whose jobs these are of.
+    /// The shard whose jobs these are.
     pub(crate) shard: Option<Shard>,
-    /// The rows of the whole report into which these are put: one of each job of the list.
+    /// The rows of the whole report into which these are merged: one for each job of the list.
     pub(crate) old: Option<Rows>,
 }
 
-/// The rows of chosen jobs, and those of the whole report into which they are put.
+/// The rows of chosen jobs, and those of the whole report into which they are merged.
 #[derive(Drop)]
 pub(crate) struct IntoRows<'a> {
     pub(crate) chosen: ChosenRows<'a>,
@@ -30,7 +30,7 @@ pub(crate) struct IntoRows<'a> {
 }
 
 impl<'a> IntoRows<'a> {
-    /// All rows, with those of the chosen jobs in their places. Takes no memory.
+    /// Returns all rows, with those of the chosen jobs at their indices. Allocates no memory.
     pub(crate) fn into_whole_rows(self) -> Rows
         ensures { result ≡ rows_put self.entry.chosen.places.now self.entry.chosen.rows self.entry.old }
     {
@@ -42,7 +42,7 @@ impl<'a> IntoRows<'a> {
     }
 }
 
-// Puts rows at places, in the place of those that stand there.
+// Replaces the rows at `places` by `rows`.
 fn put_rows_at(whole: &mut Vec<Row>, places: &[usize], rows: Vec<Row>)
     requires within { All (λ place. place < vec_len whole.old) places.now }
     requires counted { length places.now ≡ vec_len rows }
@@ -55,7 +55,7 @@ fn put_rows_at(whole: &mut Vec<Row>, places: &[usize], rows: Vec<Row>)
     }
 }
 
-/// Where the report of a run goes.
+/// Returns the path to which the report of a run is written.
 pub(crate) fn run_report_path<'a>(asked: &RunArgs<'a>) -> Option<&'a str>
     ensures { optional_text result ≡ run_report_path asked.now }
 {

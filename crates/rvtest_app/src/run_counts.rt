@@ -28,7 +28,7 @@ use std::thread::Threads;
 use std::time::Clock;
 
 impl<'x, R: Threads + Wait + Sync + Clock, D: Inputs> ListRun<'x, R, D> {
-    /// Runs the jobs at some places once more, and puts how often each of their instructions began, where that is asked for.
+    /// Runs the jobs at some indices once more, and writes how often each of their instructions was executed, if that is requested.
     pub(crate) fn put_counts<F: Outputs + Drop, O: Sink + Drop, E: Sink + Drop>(
         &self,
         plan: &Plan,
@@ -63,7 +63,7 @@ impl<'x, R: Threads + Wait + Sync + Clock, D: Inputs> ListRun<'x, R, D> {
         }
     }
 
-    // The text of the table of their counts, with their stacks where those are asked for.
+    // Returns the text of the table of their counts, with their stacks if requested.
     fn counts_text(&self, plan: &Plan, places: &[usize]) -> Result<String, Stop>
         requires within { AreJobIndices plan.now places.now }
         requires rising { IsStrictlyIncreasing places.now }

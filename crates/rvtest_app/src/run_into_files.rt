@@ -1,4 +1,4 @@
-//! A run into the files that are asked for.
+//! Running jobs into the requested files.
 
 ghost use Rattle.std.specs.Prelude.{◌≡◌, ◌⊎◌, ◌≤◌, ◌++◌, [], ℕ, List, None, Option, Some, IfErr, IfOk, OnErr, OnOk, length};
 ghost use Rattle.std.specs.Io.KnownBytes.{Appends};
@@ -48,7 +48,7 @@ use std::thread::Threads;
 use std::time::Clock;
 
 impl<'x, R: Threads + Wait + Sync + Clock, D: Inputs> ListRun<'x, R, D> {
-    /// Runs the jobs at some places of a plan. All files are opened before the first of them runs.
+    /// Runs the jobs at some indices of a plan. All files are opened before the first job runs.
     pub(crate) fn run_planned_jobs<
         J: LinesSpec + Send + Sync,
         F: Outputs + Drop,
@@ -101,7 +101,7 @@ impl<'x, R: Threads + Wait + Sync + Clock, D: Inputs> ListRun<'x, R, D> {
         }
     }
 
-    // Runs them, and puts what is shown of them, their report and JUnit's file; and says how many of them were run.
+    // Runs the jobs, writes what is shown of them, their report and the JUnit file, and returns how many of them were run.
     fn run_into_files<
         J: LinesSpec + Send + Sync,
         F: Outputs + Drop,
@@ -165,8 +165,8 @@ impl<'x, R: Threads + Wait + Sync + Clock, D: Inputs> ListRun<'x, R, D> {
         }
     }
 
-    // Runs the jobs at some places, and shows them. What the report says of each goes to the report's file as it comes, but
-    // where their rows are put into another report.
+    // Runs the jobs at some indices, and shows them. The report text of each goes to the report's file as it comes, unless the rows are
+    // merged into another report.
     fn run_into_outlets<
         'o,
         J: LinesSpec + Send + Sync,
@@ -231,7 +231,7 @@ impl<'x, R: Threads + Wait + Sync + Clock, D: Inputs> ListRun<'x, R, D> {
         }
     }
 
-    // Puts the two files of the rows of the jobs at some places, and gives the status of the rows.
+    // Writes the two files of the rows of the jobs at some indices, and returns the status of the rows.
     fn put_run_files<J: LinesSpec, F: Outputs + Drop, O: Sink + Drop, E: Sink + Drop>(
         &self,
         planned: &PlannedRun<'_, J>,
@@ -297,7 +297,7 @@ impl<'x, R: Threads + Wait + Sync + Clock, D: Inputs> ListRun<'x, R, D> {
     }
 }
 
-// The outlet of the file that took the rows.
+// Returns the outlet of the file that received the rows.
 fn outlet_of_rows<'o, P: Drop, V: Drop>(file: Option<RowsFile<(&'o str, P), V>>) -> Outlet<'o, P, V>
     ensures { IsOutletOfRows file.entry result }
 {

@@ -16,7 +16,7 @@ use rv_files::{LastError, Outputs};
 use rv_rows::{Sink, put_all};
 use std::alloc::Global;
 
-/// Writes a text to the file at a path; to standard output where there is none, or where it is `-`.
+/// Writes a text to the file at a path, or to standard output if there is no path or it is `-`.
 pub(crate) fn write_text<F: Outputs + Drop, O: Sink + Drop, E: Sink + Drop>(
     alloc: Global,
     to: &mut Destinations<F, O, E>,
@@ -53,7 +53,7 @@ fn write_text_at<F: Outputs + Drop, O: Sink + Drop, E: Sink + Drop>(
     }
 }
 
-/// Writes a whole file, which is there when all its bytes are, and is as it was after an error.
+/// Writes a file completely: it appears only when all bytes are written, and is unchanged after an error.
 pub(crate) fn write_file<F: Outputs>(
     files: &mut F,
     alloc: Global,
@@ -71,7 +71,7 @@ pub(crate) fn write_file<F: Outputs>(
     }
 }
 
-/// Writes all bytes of an open file, and puts it in its place; after an error it is not there.
+/// Writes all bytes to an open file, and moves it to its path; after an error it is not created.
 pub(crate) fn finish_file<F: Outputs>(
     files: &mut F,
     alloc: Global,
@@ -109,7 +109,7 @@ pub(crate) fn finish_file<F: Outputs>(
     }
 }
 
-/// Puts a text into an outlet that is open and took none, and its file in its place; after an error it is not there.
+/// Writes a text to an open, still empty outlet, and moves its file to its path; after an error it is not created.
 pub(crate) fn put_into_outlet<F: Outputs + Drop, O: Sink + Drop, E: Sink + Drop>(
     alloc: Global,
     to: &mut Destinations<F, O, E>,

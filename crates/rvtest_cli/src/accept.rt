@@ -1,4 +1,4 @@
-//! The words of `accept`.
+//! The arguments of `accept`.
 
 ghost use Rattle.std.specs.Prelude.{None};
 ghost use Rattle.clap.specs.Words.{found_of, rows_of};
@@ -17,17 +17,17 @@ use std::alloc::Global;
 /// The jobs of a list whose runs are accepted, and how.
 #[derive(Drop)]
 pub struct AcceptArgs<'a> {
-    /// The jobs, and how they run. What `accept` has no option for is as in a run without options.
+    /// The jobs, and how they run. Values that `accept` has no option for are as in a run without options.
     pub run: RunArgs<'a>,
-    /// Whether another exit code, or another kind of fault, is accepted too.
+    /// Whether another exit code or another kind of fault is accepted, too.
     pub ends: bool,
-    /// Whether changes are told alone, and nothing is written.
+    /// Whether changes are only reported, and nothing is written.
     pub check: bool,
-    /// Whether golden files outside of the list's directory, or of the one that paths are taken from, are written too.
+    /// Whether golden files outside of the list's directory, or of the root, are written, too.
     pub outside: bool,
 }
 
-/// What the values of `accept` ask for, or which rule its options break.
+/// Returns the request of `accept` with these values, or the rule that its options break.
 pub(crate) fn accept_request<'a>(
     alloc: Global,
     values: &ArgMatches<'a>,

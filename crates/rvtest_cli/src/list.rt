@@ -1,4 +1,4 @@
-//! The words of `list`.
+//! The arguments of `list`.
 
 ghost use Rattle.std.specs.Prelude.{None};
 ghost use Rattle.clap.specs.Words.{found_of, rows_of};
@@ -13,7 +13,7 @@ use clap::ArgMatches;
 use rv_cli::values::text_value;
 use std::alloc::Global;
 
-/// What the values of `list` ask for, or which rule its options break.
+/// Returns the request of `list` with these values, or the rule that its options break.
 pub(crate) fn list_request<'a>(
     alloc: Global,
     values: &ArgMatches<'a>,
