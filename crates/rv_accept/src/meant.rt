@@ -1,7 +1,7 @@
 //! Whether a new list parses as the intended jobs.
 
 ghost use Rattle.std.specs.Prelude.{◌≡◌, IsTrue, option_map};
-ghost use Rattle.rv_accept.specs.Accepted.{console_met, end_met, exit_met};
+ghost use Rattle.rv_accept.specs.Accepted.{actual_console, actual_end, actual_exit};
 ghost use Rattle.rv_accept.specs.Meant.{meant_job, intended_jobs};
 ghost use Rattle.rv_accept.specs.Runs.{accepted_row, row_if_accepted};
 
@@ -69,8 +69,8 @@ fn are_meant_values(job: &Job, accepted: Option<&Row>, other: &Job) -> bool
                 && is_same_console(&job.expect_console, &other.expect_console)
         }
         Some(row) => {
-            exit_met(job.expect_exit, row.ending) == other.expect_exit
-                && end_met(job.expect_end, row.ending) == other.expect_end
+            actual_exit(job.expect_exit, row.ending) == other.expect_exit
+                && actual_end(job.expect_end, row.ending) == other.expect_end
                 && is_met_console(
                     &job.expect_console,
                     row.console.as_slice(),
@@ -80,8 +80,8 @@ fn are_meant_values(job: &Job, accepted: Option<&Row>, other: &Job) -> bool
     }
 }
 
-fn exit_met(expected: Option<u32>, ending: RowEnd) -> Option<u32>
-    ensures { result ≡ exit_met expected ending }
+fn actual_exit(expected: Option<u32>, ending: RowEnd) -> Option<u32>
+    ensures { result ≡ actual_exit expected ending }
 {
     match (expected, ending) {
         (Some(_), RowEnd::Exit(met)) => Some(met),
@@ -89,8 +89,8 @@ fn exit_met(expected: Option<u32>, ending: RowEnd) -> Option<u32>
     }
 }
 
-fn end_met(expected: Option<ExpectedEnd>, ending: RowEnd) -> Option<ExpectedEnd>
-    ensures { result ≡ end_met expected ending }
+fn actual_end(expected: Option<ExpectedEnd>, ending: RowEnd) -> Option<ExpectedEnd>
+    ensures { result ≡ actual_end expected ending }
 {
     match (expected, ending) {
         (Some(ExpectedEnd::Fault(_)), RowEnd::Fault(met, ..)) => Some(ExpectedEnd::Fault(met)),
@@ -103,7 +103,7 @@ fn is_met_console(
     console: &[u8],
     other: &Option<ExpectedConsole>,
 ) -> bool
-    ensures { IsTrue result → other.now ≡ console_met expected.now console.now }
+    ensures { IsTrue result → other.now ≡ actual_console expected.now console.now }
 {
     match (expected, other) {
         (Some(ExpectedConsole::Text(_)), Some(ExpectedConsole::Text(text))) => {

@@ -65,11 +65,11 @@ value_line path value job row = value_head path value job ++ value_change value.
 -- ---- a job that is left
 
 -- how a run ended, with its code or kind
-abbrev pub met_end_text : RowEnd → List ℕ
-met_end_text (ending.Exit code) = codes "exit " ++ decimal code
-met_end_text (ending.Fault kind pc value) = codes "fault " ++ fault_name kind
-met_end_text ending.Budget = codes "budget"
-met_end_text (ending.Refused refusal) = codes "refused " ++ refusal_name refusal
+abbrev pub actual_end_text : RowEnd → List ℕ
+actual_end_text (ending.Exit code) = codes "exit " ++ decimal code
+actual_end_text (ending.Fault kind pc value) = codes "fault " ++ fault_name kind
+actual_end_text ending.Budget = codes "budget"
+actual_end_text (ending.Refused refusal) = codes "refused " ++ refusal_name refusal
 
 -- the end that is expected besides an exit code
 abbrev pub wanted_end_text : Option ExpectedEnd → List ℕ
@@ -84,8 +84,8 @@ expected_text (Some code) how end =
     if has_expected_exit (Some code) end then wanted_end_text how else codes "exit " ++ decimal code
 
 abbrev pub other_end_text : Job → RowEnd → List ℕ
-other_end_text job (ending.Refused refusal) = met_end_text (ending.Refused refusal)
-other_end_text job end = met_end_text end ++ (codes ", expected " ++ expected_text job.expect_exit job.expect_end end)
+other_end_text job (ending.Refused refusal) = actual_end_text (ending.Refused refusal)
+other_end_text job end = actual_end_text end ++ (codes ", expected " ++ expected_text job.expect_exit job.expect_end end)
 
 -- a key with its actual value
 abbrev pub new_entry_text : ValueKey → Row → List ℕ

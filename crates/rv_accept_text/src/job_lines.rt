@@ -3,7 +3,7 @@
 ghost use Rattle.std.specs.Prelude.{◌≡◌, ◌++◌, OnOk, option_map, slice_get, unwrap_or};
 ghost use Rattle.rv_accept_text.specs.FileLines.{job_name};
 ghost use Rattle.rv_accept_text.specs.JobLines.{end_change, exit_change, exit_code, expected_end_word, fault_word, left_job_line, left_line_of};
-ghost use Rattle.rv_accept_text.specs.JobLines.{met_end_text, new_entry_text, other_end_text, text_of_list, value_change, value_head, value_line};
+ghost use Rattle.rv_accept_text.specs.JobLines.{actual_end_text, new_entry_text, other_end_text, text_of_list, value_change, value_head, value_line};
 ghost use Rattle.rv_accept_text.specs.JobLines.{difference_text, name_of_compared, wanted_end_text, expected_text, why_left_text};
 
 use crate::changed_text::push_text_change;
@@ -311,7 +311,7 @@ fn push_wanted_end(out: &mut Vec<u8>, end: Option<ExpectedEnd>) -> Result<(), Al
 
 // Appends how a run ended, with its code or kind.
 fn push_met_end(out: &mut Vec<u8>, ending: RowEnd) -> Result<(), AllocError>
-    ensures { OnOk result (out.new.items ≡ out.old.items ++ met_end_text ending) }
+    ensures { OnOk result (out.new.items ≡ out.old.items ++ actual_end_text ending) }
 {
     match ending {
         RowEnd::Exit(code) => push_spans(out, &[Span::Text("exit "), Span::Number(code as u64)]),

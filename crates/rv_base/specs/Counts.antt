@@ -6,5 +6,5 @@ abbrev pub one_more : ℕ → ℕ
 one_more n = min (n + 1) (2 ^ 64 - 1)
 
 -- the count rose by at least one; a saturated count counts as risen
-abbrev pub HasRisen : ℕ → ℕ → Type 0
-HasRisen old new = one_more old ≤ new
+abbrev pub HasIncreased : ℕ → ℕ → Type 0
+HasIncreased old new = one_more old ≤ new

@@ -14,6 +14,6 @@ unfoldable pub is_name : List ℕ → Bool
 is_name t = is_within 1 most_name (length t) && list_all is_name_byte t
 
 -- the index of the first of these texts that equals t
-unfoldable pub place_in : List (List ℕ) → List ℕ → Option ℕ
-place_in [] t = None
-place_in (x ∷ xs) t = if bytes_eq t x then Some 0 else option_map (λ k. k + 1) (place_in xs t)
+unfoldable pub index_in : List (List ℕ) → List ℕ → Option ℕ
+index_in [] t = None
+index_in (x ∷ xs) t = if bytes_eq t x then Some 0 else option_map (λ k. k + 1) (index_in xs t)

@@ -3,7 +3,7 @@ use Rattle.std.specs.Prelude.{◌≡◌, ◌==◌, ◌+◌, ℕ, Bool, if◌then
 use Rattle.std.specs.List.{list_any}
 use Rattle.rv_call_tree.specs.declared.profile.FunctionSteps.{FunctionSteps}
 use Rattle.rv_call_tree.specs.declared.spot.Spot.{Spot}
-use Rattle.rv_call_tree.specs.Trees.{counted_in_all, once_if, own_in, path_behind, steps_if}
+use Rattle.rv_call_tree.specs.Trees.{counted_in_all, once_if, own_in, path_after, steps_if}
 
 -- the function is in the list
 abbrev pub has_function : ℕ → List ℕ → Bool
@@ -15,14 +15,14 @@ arrivals_in function spots = counted_in_all (λ s. steps_if (s.function == funct
 
 -- steps in the function and in everything it called: the sum over the nodes whose path has the function, each node counted once even if the
 -- function occurs in its path several times
-abbrev pub inclusive_behind : ℕ → List ℕ → List Spot → ℕ
-inclusive_behind function front [] = 0
-inclusive_behind function front (s ∷ ss) = steps_if (has_function function (path_behind front s)) s.steps
-    + inclusive_behind function (path_behind front s) ss
+abbrev pub inclusive_after : ℕ → List ℕ → List Spot → ℕ
+inclusive_after function front [] = 0
+inclusive_after function front (s ∷ ss) = steps_if (has_function function (path_after front s)) s.steps
+    + inclusive_after function (path_after front s) ss
 
 pub record IsStepsOf (function : ℕ) (spots : List Spot) (found : FunctionSteps) : Type 0 where
   pub own : found.own ≡ own_in function spots
-  pub inclusive : found.inclusive ≡ inclusive_behind function [] spots
+  pub inclusive : found.inclusive ≡ inclusive_after function [] spots
   pub arrivals : found.arrivals ≡ arrivals_in function spots
 
 -- ---- the functions of spots

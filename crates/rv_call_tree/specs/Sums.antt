@@ -20,9 +20,9 @@ pub record FitsSpot (s : Spot) : Type 0 where
   pub steps : s.steps < 2 ^ 64
 
 -- a count of some path that ends in the reported function is 2^64 or more
-abbrev pub IsTooGreat : SpotSumError → List Spot → List Spot → Type 0
-IsTooGreat OutOfMemory a b = Unit {0}
-IsTooGreat (Count function) a b = (path : List ℕ) × (ends_with function path ≡ true)
+abbrev pub Overflows : SpotSumError → List Spot → List Spot → Type 0
+Overflows OutOfMemory a b = Unit {0}
+Overflows (Count function) a b = (path : List ℕ) × (ends_with function path ≡ true)
     × ((2 ^ 64 ≤ arrivals_at path a + arrivals_at path b) ⊎ (2 ^ 64 ≤ steps_at path a + steps_at path b))
 
 -- ---- spots from the front

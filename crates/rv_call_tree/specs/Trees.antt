@@ -7,13 +7,13 @@ use Rattle.rv_call_tree.specs.declared.spot.Spot.{Spot}
 -- ---- of which functions a spot is
 
 -- the first functions of the preceding node's path, as many as the node is deep, then its own
-abbrev pub path_behind : List ℕ → Spot → List ℕ
-path_behind front s = take s.depth front ++ s.function ∷ []
+abbrev pub path_after : List ℕ → Spot → List ℕ
+path_after front s = take s.depth front ++ s.function ∷ []
 
 -- the path of the last of some nodes
 abbrev pub last_path : List ℕ → List Spot → List ℕ
 last_path front [] = front
-last_path front (s ∷ ss) = last_path (path_behind front s) ss
+last_path front (s ∷ ss) = last_path (path_after front s) ss
 
 -- the path of the last of the first `count` nodes
 abbrev pub path_of_first : ℕ → List Spot → List ℕ
@@ -25,10 +25,10 @@ abbrev pub once_if : Bool → ℕ
 once_if test = if test then 1 else 0
 
 -- the sum over the nodes with this path
-abbrev pub counted_behind : (Spot → ℕ) → List ℕ → List ℕ → List Spot → ℕ
-counted_behind count path front [] = 0
-counted_behind count path front (s ∷ ss) =
-    (if bytes_eq (path_behind front s) path then count s else 0) + counted_behind count path (path_behind front s) ss
+abbrev pub counted_after : (Spot → ℕ) → List ℕ → List ℕ → List Spot → ℕ
+counted_after count path front [] = 0
+counted_after count path front (s ∷ ss) =
+    (if bytes_eq (path_after front s) path then count s else 0) + counted_after count path (path_after front s) ss
 
 abbrev pub arrivals_of : Spot → ℕ
 arrivals_of s = s.arrivals
@@ -38,10 +38,10 @@ steps_of s = s.steps
 
 -- how often a run entered a path, and how many instructions it executed there
 abbrev pub arrivals_at : List ℕ → List Spot → ℕ
-arrivals_at path spots = counted_behind arrivals_of path [] spots
+arrivals_at path spots = counted_after arrivals_of path [] spots
 
 abbrev pub steps_at : List ℕ → List Spot → ℕ
-steps_at path spots = counted_behind steps_of path [] spots
+steps_at path spots = counted_after steps_of path [] spots
 
 -- the sum over all nodes
 abbrev pub counted_in_all : (Spot → ℕ) → List Spot → ℕ
@@ -70,28 +70,28 @@ ends_with function (f ∷ g ∷ gs) = ends_with function (g ∷ gs)
 
 -- a node is at most one deeper than the preceding one; if that one's path has a function at the node's depth, the node's own function
 -- address is higher
-pub record StandsBehind (front : List ℕ) (s : Spot) : Type 0 where
+pub record FollowsInPreorder (front : List ℕ) (s : Spot) : Type 0 where
   pub within : s.depth ≤ length front
   pub rising : s.depth < length front → slice_index_or front s.depth 0 < s.function
 
-abbrev pub StandBehind : List ℕ → List Spot → Type 0
-StandBehind front [] = Unit {0}
-StandBehind front (s ∷ ss) = StandsBehind front s × StandBehind (path_behind front s) ss
+abbrev pub FollowInPreorder : List ℕ → List Spot → Type 0
+FollowInPreorder front [] = Unit {0}
+FollowInPreorder front (s ∷ ss) = FollowsInPreorder front s × FollowInPreorder (path_after front s) ss
 
 -- each path occurs once, siblings are sorted by function address, and each node comes after its parent
 abbrev pub IsTree : List Spot → Type 0
-IsTree spots = StandBehind [] spots
+IsTree spots = FollowInPreorder [] spots
 
 -- any two proofs of this are equal
-StandsBehind-prop : (front : List ℕ) (s : Spot) → IsProp (StandsBehind front s)
-StandsBehind-prop front s h k = λ i. record {
+FollowsInPreorder-prop : (front : List ℕ) (s : Spot) → IsProp (FollowsInPreorder front s)
+FollowsInPreorder-prop front s h k = λ i. record {
   within = le_prop h.within k.within i;
   rising = λ low. le_prop (h.rising low) (k.rising low) i;
 }
 
-pub StandBehind-prop : (front : List ℕ) (spots : List Spot) → IsProp (StandBehind front spots)
-StandBehind-prop front [] = Unit-prop
-StandBehind-prop front (s ∷ ss) = ×_prop (StandsBehind-prop front s) (StandBehind-prop (path_behind front s) ss)
+pub FollowInPreorder-prop : (front : List ℕ) (spots : List Spot) → IsProp (FollowInPreorder front spots)
+FollowInPreorder-prop front [] = Unit-prop
+FollowInPreorder-prop front (s ∷ ss) = ×_prop (FollowsInPreorder-prop front s) (FollowInPreorder-prop (path_after front s) ss)
 
 -- a run entered each of them
 abbrev pub HasArrivals : List Spot → Type 0

@@ -4,7 +4,7 @@ ghost use Rattle.std.specs.Prelude.{◌≡◌, ◌^◌, ◌<◌, [], IfOk};
 ghost use Rattle.std.specs.List.Sorted.{IsNonDecreasingBy};
 ghost use Rattle.rv_call_tree.specs.Profiles.{IsStepsOf};
 ghost use Rattle.rv_call_tree.specs.Subtrees.{subtrees_of_function, AreSubtreesByFunction};
-ghost use Rattle.rv_call_tree.specs.Trees.{all_arrivals, all_steps, IsTree, StandBehind-prop};
+ghost use Rattle.rv_call_tree.specs.Trees.{all_arrivals, all_steps, IsTree, FollowInPreorder-prop};
 
 use crate::profile::FunctionSteps;
 use crate::spot::Spot;
@@ -17,7 +17,7 @@ pub struct SpotIndex<'s> {
     pub spots: &'s [Spot],
     // The subtrees of each function, in node order.
     subtrees: Vec<Subtree>,
-    ghost tree: { IsTree spots.now } by { StandBehind-prop [] spots.now },
+    ghost tree: { IsTree spots.now } by { FollowInPreorder-prop [] spots.now },
     ghost few_steps: { all_steps spots.now < 2 ^ 64 },
     ghost few_arrivals: { all_arrivals spots.now < 2 ^ 64 },
     ghost rising: { IsNonDecreasingBy (λ s. s.function) subtrees.items },

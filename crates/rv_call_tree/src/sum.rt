@@ -2,7 +2,7 @@
 
 ghost use Rattle.std.specs.Prelude.{◌≡◌, ◌+◌, ◌<◌, ◌++◌, ◌∷◌, [], IfOk, IfErr, OnOk, length};
 ghost use Rattle.std.specs.List.{AllByRecursion};
-ghost use Rattle.rv_call_tree.specs.Sums.{both_of, goes_first, next_of, of_first, of_second, FitsSpot, IsTooGreat, IsTooGreatHere, IsTooGreatOfBoth, IsSumOfSpots};
+ghost use Rattle.rv_call_tree.specs.Sums.{both_of, goes_first, next_of, of_first, of_second, FitsSpot, Overflows, IsTooGreatHere, IsTooGreatOfBoth, IsSumOfSpots};
 ghost use Rattle.rv_call_tree.specs.Trees.{IsTree};
 ghost use Rattle.rv_call_tree.specs.declared.sum.SpotSumError.TheVariants.{OutOfMemory};
 
@@ -32,7 +32,7 @@ pub fn sum_of_spots(alloc: Global, a: &[Spot], b: &[Spot]) -> Result<Spots, Spot
     requires b { IsTree b.now }
     ensures value { IfOk result (λ sum. IsSumOfSpots a.now b.now sum) }
     ensures fits { IfOk result (λ sum. AllByRecursion FitsSpot sum) }
-    ensures refused { IfErr result (λ error. IsTooGreat error a.now b.now) }
+    ensures refused { IfErr result (λ error. Overflows error a.now b.now) }
 {
     let mut sums = Vec::new(alloc);
     let mut from_a = 0;

@@ -117,8 +117,8 @@ request_of words =
     option_and_then (λ found. subcommand_request found.0 found.1) (subcommand_of fleet_app words)
 
 -- whether the command accepts the arguments
-unfoldable pub are_words_taken : List Text → Bool
-are_words_taken words = takes fleet_app words
+unfoldable pub are_arguments_accepted : List Text → Bool
+are_arguments_accepted words = takes fleet_app words
 
 -- the request, unless the arguments have errors
 abbrev pub request_beside_faults : Kinds → Option Request → Option Request
@@ -131,7 +131,7 @@ faultless_request words = request_beside_faults (fault_of fleet_app words) (requ
 
 -- the command accepts the arguments, or finds no error in them and they make a request
 abbrev pub IsToAnswer : List Text → Type 0
-IsToAnswer words = (are_words_taken words ≡ true) ⊎ (is_some (faultless_request words) ≡ true)
+IsToAnswer words = (are_arguments_accepted words ≡ true) ⊎ (is_some (faultless_request words) ≡ true)
 
 -- the arguments request help
 abbrev pub AsksHelp : List Text → Type 0

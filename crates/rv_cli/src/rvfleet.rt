@@ -8,7 +8,7 @@ ghost use Rattle.rv_cli.specs.CommandBuilder.{IsBuilt};
 ghost use Rattle.rv_cli.specs.RvfleetCommand.{budget_rule, workers_rule, raw_app, one_app, run_app};
 ghost use Rattle.rv_cli.specs.RvfleetCommand.{top_app, fleet_app, requested_budget};
 ghost use Rattle.rv_cli.specs.RvfleetCommand.{raw_request, one_request, run_request, subcommand_request};
-ghost use Rattle.rv_cli.specs.RvfleetCommand.{request_of, are_words_taken};
+ghost use Rattle.rv_cli.specs.RvfleetCommand.{request_of, are_arguments_accepted};
 ghost use Rattle.rv_cli.specs.RvfleetRequests.{IsRequestInRange, request};
 
 use crate::arguments::{group_argument, option_argument, word_argument};
@@ -50,10 +50,10 @@ pub fn read_words<'a, T: AsStr>(alloc: Global, words: &'a [T]) -> Result<Option<
     // Each number is within the range of its argument.
     ensures within { IfOk result (λ asked. IfSome asked IsRequestInRange) }
     // Arguments that the command accepts make a request.
-    ensures asked { are_words_taken (map T.text words.entry.now) ≡ true
+    ensures asked { are_arguments_accepted (map T.text words.entry.now) ≡ true
         → IfOk result (λ asked. is_some asked ≡ true) }
     // Arguments that the command accepts fail only if memory runs out.
-    ensures taken { IfErr result (λ error. are_words_taken (map T.text words.entry.now) ≡ true
+    ensures taken { IfErr result (λ error. are_arguments_accepted (map T.text words.entry.now) ≡ true
         → kind_of error ≡ ErrorKind.OutOfMemory) }
     // Arguments fail because of an error that is found in them or because memory runs out; otherwise they have no error.
     ensures kinds { FailsBy (fault_of fleet_app (map T.text words.entry.now)) result }

@@ -10,8 +10,8 @@ use Rattle.rv_command.specs.declared.stop.Stop.{Stop}
 use Rattle.rv_command.specs.declared.stop.Stop.TheVariants as stop
 
 -- the whole message was written and no write failed; or one write failed, and a prefix of the message was written
-abbrev pub IsMessagePut : Option (List ℕ) → Option (List ℕ) → ℕ → ℕ → List ℕ → Type 0
-IsMessagePut before after failures_before failures_after text =
+abbrev pub IsMessageWritten : Option (List ℕ) → Option (List ℕ) → ℕ → ℕ → List ℕ → Type 0
+IsMessageWritten before after failures_before failures_after text =
     (Appends before after text × (failures_after ≡ failures_before))
     ⊎ (AppendsBeginning before after text × (failures_after ≡ one_more failures_before))
 

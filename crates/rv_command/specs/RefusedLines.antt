@@ -30,13 +30,13 @@ abbrev pub after_line : List ℕ → List ℕ
 after_line text = text_behind (position is_feed text) text
 
 -- the text after a number of lines
-unfoldable pub behind_lines : ℕ → List ℕ → List ℕ
-behind_lines zero text = text
-behind_lines (suc count) text = after_line (behind_lines count text)
+unfoldable pub after_lines : ℕ → List ℕ → List ℕ
+after_lines zero text = text
+after_lines (suc count) text = after_line (after_lines count text)
 
 -- the line with a number, counted from 1, without its line feed; empty if there is no such line
 abbrev pub numbered_line : List ℕ → ℕ → List ℕ
-numbered_line text number = first_line (behind_lines (number - 1) text)
+numbered_line text number = first_line (after_lines (number - 1) text)
 
 -- the line before it; empty for the first
 abbrev pub line_before : List ℕ → ℕ → List ℕ
@@ -64,8 +64,8 @@ abbrev begins : List ℕ → List ℕ → Bool
 begins line words = starts_with nat_eq line words
 
 -- what a report has after a line, and at its beginning
-unfoldable pub wanted_behind : List ℕ → List ℕ
-wanted_behind line =
+unfoldable pub expected_after : List ℕ → List ℕ
+expected_after line =
     if begins line (codes "job ") then codes "\"end\" and how the run ended"
     else if begins line (codes "end ") then codes "\"steps\" and a number"
     else if begins line (codes "steps ") then codes "\"console\" and hexadecimal digits or -"
@@ -78,7 +78,7 @@ wanted_behind line =
 abbrev pub line_message : List ℕ → List ℕ → List ℕ → ℕ → List ℕ
 line_message noun path text number =
     codes "rvtest: " ++ printable_text path ++ codes ":" ++ decimal number ++ codes ": invalid " ++ noun ++ codes " line \""
-    ++ printable_value (numbered_line text number) ++ codes "\": expected " ++ wanted_behind (line_before text number) ++ codes "\n"
+    ++ printable_value (numbered_line text number) ++ codes "\": expected " ++ expected_after (line_before text number) ++ codes "\n"
 
 abbrev pub list_message : List ℕ → List ℕ → List ℕ
 list_message noun path = codes "rvtest: " ++ printable_text path ++ codes ": this is a job list, not a " ++ noun ++ codes "\n"

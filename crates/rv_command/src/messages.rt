@@ -5,7 +5,7 @@ ghost use Rattle.std.specs.Io.KnownBytes.{Appends, Keeps};
 ghost use Rattle.rv_base.specs.Counts.{one_more};
 ghost use Rattle.rv_base.specs.Sinks.{AppendsBeginning};
 ghost use Rattle.rv_command.specs.Stops.{end_status, lines_status, stop_status};
-ghost use Rattle.rv_command.specs.Messages.{IsMessagePut, end_message, path_message, path_number_message, stop_message};
+ghost use Rattle.rv_command.specs.Messages.{IsMessageWritten, end_message, path_message, path_number_message, stop_message};
 
 use crate::status::{BROKEN_PIPE, FAILED, REFUSED};
 use crate::stop::{Lines, Stop};
@@ -53,7 +53,7 @@ pub fn path_number_message<'a>(
 
 /// Writes a message. A failure to write it changes nothing else.
 pub fn put_message<E: Sink>(errors: &mut E, text: &[u8])
-    ensures { IsMessagePut (E.taken errors.old) (E.taken errors.new)
+    ensures { IsMessageWritten (E.taken errors.old) (E.taken errors.new)
         (E.failed errors.old) (E.failed errors.new) text.now }
 {
     let _ = put_all(errors, text);
@@ -77,7 +77,7 @@ pub fn put_results<O: Sink>(out: &mut O, text: &[u8]) -> Result<(), Stop>
 /// reported, and the status is 141, like that of a program ended by the signal `SIGPIPE`.
 pub fn put_end_message<E: Sink>(errors: &mut E, stop: Stop, is_out_closed: bool) -> u8
     ensures status { result ≡ end_status is_out_closed stop }
-    ensures told { IsMessagePut (E.taken errors.old) (E.taken errors.new)
+    ensures told { IsMessageWritten (E.taken errors.old) (E.taken errors.new)
         (E.failed errors.old) (E.failed errors.new) (end_message is_out_closed stop) }
     ensures low { is_out_closed ≡ false → result ≤ 3 }
 {
@@ -90,7 +90,7 @@ pub fn put_end_message<E: Sink>(errors: &mut E, stop: Stop, is_out_closed: bool)
 /// Reports why a command stopped before its work was done, and returns the status: 2 or 3.
 pub fn put_stop_message<E: Sink>(errors: &mut E, stop: Stop) -> u8
     ensures status { result ≡ stop_status stop }
-    ensures told { IsMessagePut (E.taken errors.old) (E.taken errors.new)
+    ensures told { IsMessageWritten (E.taken errors.old) (E.taken errors.new)
         (E.failed errors.old) (E.failed errors.new) (stop_message stop) }
     ensures low { result ≤ 3 }
 {
@@ -117,7 +117,7 @@ fn lines_status(lines: Lines) -> u8
 /// Reports how the system failed, and returns the status.
 pub fn put_failure_message<E: Sink>(errors: &mut E, text: &str) -> u8
     ensures status { result ≡ FAILED }
-    ensures told { IsMessagePut (E.taken errors.old) (E.taken errors.new)
+    ensures told { IsMessageWritten (E.taken errors.old) (E.taken errors.new)
         (E.failed errors.old) (E.failed errors.new) text.now }
 {
     put_message(errors, text.as_bytes());

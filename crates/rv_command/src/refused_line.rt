@@ -2,9 +2,9 @@
 
 ghost use Rattle.std.specs.Prelude.{◌≡◌, ◌<◌, IfOk, IfSome, length, position};
 ghost use Rattle.rv_list_errors.specs.Places.{is_feed};
-ghost use Rattle.rv_command.specs.RefusedLines.{are_faults_of_list, after_line, behind_lines, first_line, is_job_list};
+ghost use Rattle.rv_command.specs.RefusedLines.{are_faults_of_list, after_line, after_lines, first_line, is_job_list};
 ghost use Rattle.rv_command.specs.RefusedLines.{line_before, line_message, list_message, numbered_line, refused_line_message};
-ghost use Rattle.rv_command.specs.RefusedLines.{wanted_behind};
+ghost use Rattle.rv_command.specs.RefusedLines.{expected_after};
 
 use rv_lists::{JobError, What, read_faults};
 use rv_text::{Span, text_of_spans};
@@ -64,7 +64,7 @@ fn line_message<'a>(
             Span::Text(" line \""),
             Span::Value(numbered_line(text, number)),
             Span::Text("\": expected "),
-            Span::Text(wanted_behind(line_before(text, number))),
+            Span::Text(expected_after(line_before(text, number))),
             Span::Text("\n"),
         ],
     )
@@ -91,7 +91,7 @@ fn are_faults_of_list(faults: &[JobError]) -> bool
 fn numbered_line(text: &[u8], number: usize) -> &[u8]
     ensures { result.now ≡ numbered_line text.now number }
 {
-    first_line(behind_lines(text, number.saturating_sub(1)))
+    first_line(after_lines(text, number.saturating_sub(1)))
 }
 
 fn line_before(text: &[u8], number: usize) -> &[u8]
@@ -104,9 +104,9 @@ fn line_before(text: &[u8], number: usize) -> &[u8]
     }
 }
 
-#[tactic(auto, unfolding(crate::specs::RefusedLines::behind_lines))]
-fn behind_lines(text: &[u8], count: usize) -> &[u8]
-    ensures { result.now ≡ behind_lines count text.now }
+#[tactic(auto, unfolding(crate::specs::RefusedLines::after_lines))]
+fn after_lines(text: &[u8], count: usize) -> &[u8]
+    ensures { result.now ≡ after_lines count text.now }
 {
     let mut rest = text;
     for _ in 0..count {
@@ -141,9 +141,9 @@ fn line_feed_place(text: &[u8]) -> Option<usize>
 }
 
 // Returns what a report has after a line, and at its beginning.
-#[tactic(auto, unfolding(crate::specs::RefusedLines::wanted_behind))]
-fn wanted_behind(line: &[u8]) -> &'static str
-    ensures { result.now ≡ wanted_behind line.now }
+#[tactic(auto, unfolding(crate::specs::RefusedLines::expected_after))]
+fn expected_after(line: &[u8]) -> &'static str
+    ensures { result.now ≡ expected_after line.now }
 {
     if line.starts_with(b"job ") {
         "\"end\" and how the run ended"

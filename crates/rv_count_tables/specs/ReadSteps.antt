@@ -13,7 +13,7 @@ use Rattle.rv_count_tables.specs.Lines.{whole_line}
 use Rattle.rv_count_tables.specs.Table.{has_name, is_behind, name_of, digests_rise, IsCounted, IsImage, IsNamedSpot, AreCounts, AreNames, AreNamesOf, AreSpots}
 use Rattle.rv_count_tables.specs.Text.{address_line, image_line, image_text, line_of_spot, named, spot_line}
 use Rattle.rv_call_tree.specs.declared.spot.Spot.{Spot}
-use Rattle.rv_call_tree.specs.Trees.{last_path, path_behind, StandsBehind}
+use Rattle.rv_call_tree.specs.Trees.{last_path, path_after, FollowsInPreorder}
 
 -- ---- names
 
@@ -77,7 +77,7 @@ at_image = record { address = Some 0; names = []; front = Some [] }
 
 abbrev pub path_in : Option (List ℕ) → Spot → Option (List ℕ)
 path_in None s = None
-path_in (Some front) s = Some (path_behind front s)
+path_in (Some front) s = Some (path_after front s)
 
 -- addresses come first, then nodes
 abbrev pub behind_entry : Place → Entry → Place
@@ -99,7 +99,7 @@ is_from (Some lowest) address = nat_le lowest address
 
 abbrev pub StandsIn : Option (List ℕ) → Spot → Type 0
 StandsIn None s = ⊥
-StandsIn (Some front) s = StandsBehind front s
+StandsIn (Some front) s = FollowsInPreorder front s
 
 abbrev pub MayStand : Place → Entry → Type 0
 MayStand p (OfAddress c) = is_from p.address c.address ≡ true
@@ -127,7 +127,7 @@ IsNoAddress lowest line = (c : AddressCounts) → IsCounted c → nat_le lowest 
 
 -- the line is not that of any node that can come next
 abbrev pub IsNoSpot : List FunctionName → List ℕ → List ℕ → Type 0
-IsNoSpot names front line = (n : NamedSpot) → IsNamedSpot n → StandsBehind front n.spot
+IsNoSpot names front line = (n : NamedSpot) → IsNamedSpot n → FollowsInPreorder front n.spot
     → AgreesWith n.name (name_of n.spot.function names) → line ≡ spot_line n → ⊥
 
 -- the line is not that of any image that can come next

@@ -7,7 +7,7 @@ ghost use Rattle.rv_count_tables.specs.Lines.{whole_line};
 ghost use Rattle.rv_count_tables.specs.ReadSteps.{function_name, AgreesWith, AreSpotLines, IsNoSpot};
 ghost use Rattle.rv_count_tables.specs.Table.{name_of, IsNamedSpot, IsSpot};
 ghost use Rattle.rv_count_tables.specs.Text.{spot_line};
-ghost use Rattle.rv_call_tree.specs.Trees.{StandsBehind};
+ghost use Rattle.rv_call_tree.specs.Trees.{FollowsInPreorder};
 
 use crate::growth::push_item;
 use crate::line_parts::{
@@ -75,7 +75,7 @@ fn next_spot(
     names: &NamesByFunction,
 ) -> Result<Option<NamedSpot>, AllocError>
     ensures spot { (text : List ℕ) → line.now ≡ whole_line text → IfOk result (λ read. IfSome read IsNamedSpot) }
-    ensures stands { IfOk result (λ read. IfSome read (λ n. StandsBehind front.now n.spot)) }
+    ensures stands { IfOk result (λ read. IfSome read (λ n. FollowsInPreorder front.now n.spot)) }
     ensures agrees { IfOk result (λ read. IfSome read (λ n. AgreesWith n.name (name_of n.spot.function names.now))) }
     ensures line { IfOk result (λ read. IfSome read (λ n. line.now ≡ spot_line n)) }
     ensures none { IfOk result (λ read. IfNone read (IsNoSpot names.now front.now line.now)) }
@@ -90,7 +90,7 @@ fn next_spot(
 
 // Whether a table can have the node after this path.
 fn can_stand(spot: Spot, front: &[u32]) -> bool
-    ensures { IsTrue result ↔ (IsSpot spot × StandsBehind front.now spot) }
+    ensures { IsTrue result ↔ (IsSpot spot × FollowsInPreorder front.now spot) }
 {
     0 < spot.arrivals
         && spot.depth <= front.len()

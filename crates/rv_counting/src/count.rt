@@ -35,7 +35,7 @@ fn counter_of_run(alloc: Global, machine: Machine, budget: u32) -> Result<Counte
     'steps: while left > 0 {
         let block = counter.find_block(&machine, left);
         if block.steps == 0 {
-            if !counter.step_anew(&mut machine)?.completed {
+            if !counter.step_uncached(&mut machine)?.completed {
                 return Ok(counter);
             }
             left -= 1;

@@ -14,7 +14,7 @@ ghost use Rattle.rv_jobs.specs.Plans.{Planned};
 ghost use Rattle.rv_machine.specs.declared.ending.Ending.{Ending};
 ghost use Rattle.rv_machine.specs.Run.{run_of, step_of};
 ghost use Rattle.rv_machine.specs.State.{State};
-ghost use Rattle.rv_rows.specs.Wholes.{KeepSame};
+ghost use Rattle.rv_rows.specs.Wholes.{HaveSameResults};
 ghost use Rattle.rv_counting.specs.Coverage.{fetch_at, is_begun, once_if, begins_at_end, begun_total, AreCountsOf};
 ghost use Rattle.rv_counting.specs.JobTables.{AreTablesOfParts, AreTablesOfShards, IsTableOfJobs, IsTableOfPlaces, SumsTo};
 
@@ -63,6 +63,6 @@ pub fn tables_of_shards_sum_to_that_of_all()
 
 /// Jobs have one table for all sets of file contents that agree on the jobs' paths, for example for those gathered for these jobs alone.
 pub fn jobs_have_one_table_over_the_same_files()
-    ensures { (some others : List Answer) (jobs : List Job) (t : CountTable) → All (KeepSame some others) jobs
+    ensures { (some others : List Answer) (jobs : List Job) (t : CountTable) → All (HaveSameResults some others) jobs
         → IsTableOfJobs some jobs t → IsTableOfJobs others jobs t }
 {}

@@ -33,8 +33,8 @@ abbrev pub value_in_quotes : List ℕ → List ℕ
 value_in_quotes value = codes "\"" ++ printable_value value ++ codes "\""
 
 -- the first index at which both lists have elements and these differ
-abbrev pub first_differing_place : List ℕ → List ℕ → Option ℕ
-first_differing_place old new = position (λ pair. not (pair.0 == pair.1)) (zip old new)
+abbrev pub first_differing_index : List ℕ → List ℕ → Option ℕ
+first_differing_index old new = position (λ pair. not (pair.0 == pair.1)) (zip old new)
 
 abbrev pub count_words : ℕ → List ℕ → List ℕ
 count_words count what = decimal count ++ codes " " ++ what
@@ -50,7 +50,7 @@ byte_change_words (Some place) old new = codes "byte " ++ decimal place ++ codes
 byte_change_words None old new = counts_words (codes "bytes") old new
 
 unfoldable pub console_words : List ℕ → List ℕ → List ℕ
-console_words old new = codes "console " ++ byte_change_words (first_differing_place old new) old new
+console_words old new = codes "console " ++ byte_change_words (first_differing_index old new) old new
 
 -- the first word that differs
 abbrev pub word_change_words : Option ℕ → List ℕ → List ℕ → List ℕ
@@ -64,7 +64,7 @@ size_words (Some words) = count_words (length words) (codes "words")
 
 -- the sizes, if one of the two signatures is missing
 abbrev pub signature_change_words : Option (List ℕ) → Option (List ℕ) → List ℕ
-signature_change_words (Some old) (Some new) = word_change_words (first_differing_place old new) old new
+signature_change_words (Some old) (Some new) = word_change_words (first_differing_index old new) old new
 signature_change_words old new = becomes (size_words old) (size_words new)
 
 unfoldable pub signature_words : Option (List ℕ) → Option (List ℕ) → List ℕ

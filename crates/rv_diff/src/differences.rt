@@ -3,7 +3,7 @@
 ghost use Rattle.std.specs.Prelude.{◌≡◌, ◌++◌, OnOk};
 ghost use Rattle.rv_diff.specs.Change.{have_same_console, are_same_endings, agree_in_steps, are_same_verdicts};
 ghost use Rattle.rv_diff.specs.Differences.{becomes, change_line, change_lines, console_words};
-ghost use Rattle.rv_diff.specs.Differences.{ending_words, first_differing_place, percent_words, steps_words, verdict_words};
+ghost use Rattle.rv_diff.specs.Differences.{ending_words, first_differing_index, percent_words, steps_words, verdict_words};
 
 use crate::change::{
     Compare, agree_in_steps, are_same_endings, are_same_verdicts, have_same_console,
@@ -184,7 +184,7 @@ fn push_console_change<'a>(text: &mut Vec<u8>, old: &'a Row, new: &'a Row) -> Re
 }
 
 fn first_differing_byte(old: &[u8], new: &[u8]) -> Option<usize>
-    ensures { result ≡ first_differing_place old.now new.now }
+    ensures { result ≡ first_differing_index old.now new.now }
 {
     old.iter().zip(new).position(|(x, y)| x != y)
 }

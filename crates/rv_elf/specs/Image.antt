@@ -116,15 +116,15 @@ is_entry_past_file n e = is_load e
     && (nat_lt 0 e.segment.filesz && nat_lt n (e.segment.offset + e.segment.filesz))
 
 -- whether it has bytes in memory
-abbrev pub is_kept_entry : ProgramHeader → Bool
-is_kept_entry e = is_load e && nat_lt 0 e.segment.memsz
+abbrev pub is_loaded_entry : ProgramHeader → Bool
+is_loaded_entry e = is_load e && nat_lt 0 e.segment.memsz
 
-abbrev pub kept_segments : List ProgramHeader → List Segment
-kept_segments found = map (λ e. e.segment) (filter is_kept_entry found)
+abbrev pub loaded_segments : List ProgramHeader → List Segment
+loaded_segments found = map (λ e. e.segment) (filter is_loaded_entry found)
 
 -- the PT_LOAD entries with a nonzero memory size, in table order
 unfoldable pub segments : List ℕ → List Segment
-segments file = kept_segments (program_entries file)
+segments file = loaded_segments (program_entries file)
 
 -- ---- the refusals, and the image
 

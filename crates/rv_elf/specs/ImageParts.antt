@@ -29,5 +29,5 @@ unfoldable pub segments_and_entry_check : Isa → List ℕ → Result (Unit {0})
 segments_and_entry_check isa file = first_refusal (image_rows isa file) accepted
 
 -- the result once the header has been accepted
-unfoldable pub image_behind_header : Isa → List ℕ → Result Image ImageError
-image_behind_header isa file = first_refusal (drop 8 (refusals isa file)) (Ok (unchecked_image file))
+unfoldable pub image_after_header : Isa → List ℕ → Result Image ImageError
+image_after_header isa file = first_refusal (drop 8 (refusals isa file)) (Ok (unchecked_image file))

@@ -56,15 +56,15 @@ segment_byte file at s a = slice_index file (s.offset + (a - load_address at s))
 
 -- the initial byte at an address: the file byte of the segment that fills it, else 0. If the map is accepted no two segments fill one
 -- address, so the first that does is the only one
-abbrev pub opening_byte : List Segment → List ℕ → LoadAt → ℕ → ℕ
-opening_byte [] file at a = 0
-opening_byte (s ∷ ss) file at a =
-    if segment_fills at a s then segment_byte file at s a else opening_byte ss file at a
+abbrev pub initial_byte : List Segment → List ℕ → LoadAt → ℕ → ℕ
+initial_byte [] file at a = 0
+initial_byte (s ∷ ss) file at a =
+    if segment_fills at a s then segment_byte file at s a else initial_byte ss file at a
 
 -- the initial memory
-unfoldable pub opening_memory : List Region → List Segment → List ℕ → LoadAt → fin.FinMap nat_cmp ℕ
-opening_memory regions segments file at =
-    tabulate (addresses regions) (opening_byte segments file at)
+unfoldable pub initial_memory : List Region → List Segment → List ℕ → LoadAt → fin.FinMap nat_cmp ℕ
+initial_memory regions segments file at =
+    tabulate (addresses regions) (initial_byte segments file at)
 
 -- the segment's bytes in the file
 abbrev pub file_bytes : List ℕ → Segment → List ℕ

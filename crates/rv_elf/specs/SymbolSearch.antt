@@ -8,8 +8,8 @@ use Rattle.std.specs.List.{list_any}
 use Rattle.std.specs.Option.{option_map_or}
 use Rattle.rv_elf.specs.declared.image.Image.{Image}
 use Rattle.rv_elf.specs.declared.image.Segment.{Segment}
-use Rattle.rv_elf.specs.declared.symbol_search.Sought.{Sought}
-use Rattle.rv_elf.specs.declared.symbol_search.Sought.TheVariants.{Code, Value}
+use Rattle.rv_elf.specs.declared.symbol_search.LookupKind.{LookupKind}
+use Rattle.rv_elf.specs.declared.symbol_search.LookupKind.TheVariants.{Code, Value}
 use Rattle.rv_elf.specs.declared.symbols.Symbol.{Symbol}
 use Rattle.rv_elf.specs.Sections.{text_before_zero, symbols_of}
 use Rattle.rv_elf.specs.Symbols.{table_check, symbol_and_string_bytes}
@@ -62,14 +62,14 @@ covers_address addr s = (s.value == addr) || ((is_function s || is_object s) && 
 
 -- whether the symbol may name an address: it is a named symbol that is not above it. For code it must be a function or an untyped symbol in
 -- one segment with the address; for a value, a function, an object or an untyped symbol that covers it
-abbrev pub is_candidate : Sought → List Segment → List ℕ → ℕ → Symbol → Bool
+abbrev pub is_candidate : LookupKind → List Segment → List ℕ → ℕ → Symbol → Bool
 is_candidate Code segments strings addr s = may_be_code s && (has_section s && (nat_le s.value addr
     && (has_usable_name strings s && are_in_one_segment segments s.value addr)))
 is_candidate Value segments strings addr s = (may_be_code s || is_object s) && (has_section s
     && (covers_address addr s && has_usable_name strings s))
 
 -- the candidates among the symbols in a table's bytes, in order
-abbrev pub candidates : Sought → List Segment → List ℕ → ℕ → List ℕ → List Symbol
+abbrev pub candidates : LookupKind → List Segment → List ℕ → ℕ → List ℕ → List Symbol
 candidates sought segments strings addr table =
     filter (is_candidate sought segments strings addr) (symbols_of table)
 
@@ -93,12 +93,12 @@ abbrev pub name_and_offset : List ℕ → ℕ → Symbol → Option (List ℕ ×
 name_and_offset strings addr s = option_map (λ name. (name, addr - s.value)) (symbol_name strings s)
 
 -- the name and offset of the nearest candidate in a symbol table and its string table
-abbrev pub symbol_before : Sought → List Segment → ℕ → List ℕ → List ℕ → Option (List ℕ × ℕ)
+abbrev pub symbol_before : LookupKind → List Segment → ℕ → List ℕ → List ℕ → Option (List ℕ × ℕ)
 symbol_before sought segments addr table strings = option_and_then (name_and_offset strings addr)
     (nearest_candidate (candidates sought segments strings addr table))
 
 -- the name and offset from the first symbol table of an image's file; none if a table is rejected
-unfoldable pub nearest_symbol : Sought → Image → List ℕ → ℕ → Option (List ℕ × ℕ)
+unfoldable pub nearest_symbol : LookupKind → Image → List ℕ → ℕ → Option (List ℕ × ℕ)
 nearest_symbol sought image file addr = if is_ok (table_check file)
     then option_and_then (λ t. symbol_before sought image.segments addr t.0 t.1) (symbol_and_string_bytes file)
     else None

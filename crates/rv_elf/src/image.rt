@@ -3,13 +3,13 @@ ghost use Rattle.std.specs.Prelude.{◌≡◌, ◌≢◌, ◌≤◌, IfOk, Match
 ghost use Rattle.rv_isa.specs.Extensions.{has, RV32C};
 ghost use Rattle.rv_elf.specs.Image.{image_of, segments, HasTable, IsImageOf};
 ghost use Rattle.rv_elf.specs.Functions.{is_executable};
-ghost use Rattle.rv_elf.specs.ImageParts.{image_behind_header, segments_and_entry_check};
+ghost use Rattle.rv_elf.specs.ImageParts.{image_after_header, segments_and_entry_check};
 ghost use Rattle.rv_elf.specs.declared.error.ImageError.TheVariants.{OutOfMemory};
 
 use crate::error::ImageError;
 use crate::fields::{E_ENTRY, word_field};
 use crate::header::check_header;
-use crate::program_headers::{check_entries, kept_segments, program_entries};
+use crate::program_headers::{check_entries, loaded_segments, program_entries};
 use rv_base::Sequence;
 use rv_isa::Isa;
 use std::alloc::Global;
@@ -63,18 +63,18 @@ pub fn read_image(alloc: Global, file: &[u8], isa: Isa) -> Result<Image, ImageEr
     ensures aligned { IfOk result (λ image. has isa RV32C ≡ false → image.entry % 4 ≡ 0) }
 {
     check_header(file)?;
-    read_image_behind_header(alloc, file, isa)
+    read_image_after_header(alloc, file, isa)
 }
 
 // Does the rest of [`read_image`] once the header has been accepted.
-fn read_image_behind_header(alloc: Global, file: &[u8], isa: Isa) -> Result<Image, ImageError>
+fn read_image_after_header(alloc: Global, file: &[u8], isa: Isa) -> Result<Image, ImageError>
     requires { HasTable file.now }
-    ensures { MatchResult result (λ image. image_behind_header isa file.now ≡ Ok image)
-        (λ e. e ≢ OutOfMemory → image_behind_header isa file.now ≡ Err e) }
+    ensures { MatchResult result (λ image. image_after_header isa file.now ≡ Ok image)
+        (λ e. e ≢ OutOfMemory → image_after_header isa file.now ≡ Err e) }
 {
     let found = program_entries(alloc, file)?;
     check_entries(found.as_slice(), file)?;
-    let kept = kept_segments(alloc, found.as_slice())?;
+    let kept = loaded_segments(alloc, found.as_slice())?;
     check_segments_and_entry(file, kept.as_slice(), isa)?;
     Ok(Image {
         entry: word_field(file, E_ENTRY),

@@ -5,7 +5,7 @@ ghost use Rattle.rv_memory.specs.Regions.{in_one};
 ghost use Rattle.rv_memory.specs.Bus.{new_bus, with_bytes};
 ghost use Rattle.rv_elf.specs.Rows.{accepted};
 ghost use Rattle.rv_elf.specs.Image.{IsImageOf};
-ghost use Rattle.rv_elf.specs.Loading.{load_address, segment_fits, segments_overlap, any_segments_overlap, segment_fills, map_check, opening_memory};
+ghost use Rattle.rv_elf.specs.Loading.{load_address, segment_fits, segments_overlap, any_segments_overlap, segment_fills, map_check, initial_memory};
 ghost use Rattle.rv_elf.specs.Loading.{file_bytes, unfit_segment};
 
 use crate::error::ImageError;
@@ -43,7 +43,7 @@ pub fn load(image: &Image, file: &[u8], at: LoadAt, bus: &mut Bus)
     requires fits { map_check image.now.segments bus.old.regions at ≡ accepted }
     requires new { bus.old ≡ new_bus bus.old.regions bus.old.script bus.old.misaligned }
     ensures { bus.new ≡ record bus.old {
-      memory = opening_memory bus.old.regions image.now.segments file.now at;
+      memory = initial_memory bus.old.regions image.now.segments file.now at;
     } }
 {
     for segment in image.segments.as_slice() {

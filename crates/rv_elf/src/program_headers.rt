@@ -2,7 +2,7 @@
 ghost use Rattle.std.specs.Prelude.{◌≡◌, ◌+◌, ◌*◌, ◌<◌, ◌≤◌, IfOk, map, length};
 ghost use Rattle.std.specs.List.{list_any, range_with_len};
 ghost use Rattle.rv_elf.specs.Image.{segment_at, program_entry_at, program_entries, is_dynamic, has_bad_sizes, is_entry_past_file};
-ghost use Rattle.rv_elf.specs.Image.{kept_segments, HasTable};
+ghost use Rattle.rv_elf.specs.Image.{loaded_segments, HasTable};
 ghost use Rattle.rv_elf.specs.ImageParts.{entry_check};
 
 use crate::error::ImageError;
@@ -59,11 +59,11 @@ pub(crate) fn check_entries(found: &[ProgramHeader], file: &[u8]) -> Result<(), 
 }
 
 /// Returns the segments of the PT_LOAD entries with bytes in memory, in order.
-pub(crate) fn kept_segments(
+pub(crate) fn loaded_segments(
     alloc: Global,
     found: &[ProgramHeader],
 ) -> Result<Vec<Segment>, AllocError>
-    ensures { IfOk result (λ v. v.items ≡ kept_segments found.now) }
+    ensures { IfOk result (λ v. v.items ≡ loaded_segments found.now) }
 {
     let mut kept = Vec::new(alloc);
     for entry in found {

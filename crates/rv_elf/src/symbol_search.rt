@@ -24,7 +24,7 @@ pub struct SymbolAt<'a> {
 
 // What a symbol is looked up for.
 #[derive(Clone, Copy)]
-enum Sought {
+enum LookupKind {
     // The code at an address.
     Code,
     // A value that may be the address of anything.
@@ -53,7 +53,7 @@ pub fn symbol_at<'a>(image: &Image, file: &'a [u8], addr: u32) -> Option<SymbolA
     ensures { MatchOption result (symbol_at image.now file.now addr ≡ None)
         (λ s. symbol_at image.now file.now addr ≡ Some (s.name.now, s.offset)) }
 {
-    nearest_symbol(image, file, addr, Sought::Code)
+    nearest_symbol(image, file, addr, LookupKind::Code)
 }
 
 /// Returns the symbol of a value, such as a register's, that may be an address: the function, object or untyped symbol of the file's first
@@ -66,7 +66,7 @@ pub fn symbol_of_value<'a>(image: &Image, file: &'a [u8], value: u32) -> Option<
     ensures { MatchOption result (symbol_of_value image.now file.now value ≡ None)
         (λ s. symbol_of_value image.now file.now value ≡ Some (s.name.now, s.offset)) }
 {
-    nearest_symbol(image, file, value, Sought::Value)
+    nearest_symbol(image, file, value, LookupKind::Value)
 }
 
 // Returns the nearest symbol at or below an address in the first symbol table, for code or for a value.
@@ -74,7 +74,7 @@ fn nearest_symbol<'a>(
     image: &Image,
     file: &'a [u8],
     addr: u32,
-    sought: Sought,
+    sought: LookupKind,
 ) -> Option<SymbolAt<'a>>
     requires image { IsImageOf file.now image.now }
     ensures { MatchOption result (nearest_symbol sought image.now file.now addr ≡ None)
@@ -96,7 +96,7 @@ fn nearest_candidate(
     strings: &[u8],
     segments: &[Segment],
     addr: u32,
-    sought: Sought,
+    sought: LookupKind,
 ) -> Option<Symbol>
     ensures value { result ≡ nearest_candidate (candidates sought segments.now strings.now addr table.now) }
     ensures below { IfSome result (λ s. s.value ≤ addr) }
@@ -165,20 +165,20 @@ impl Symbol {
         end: usize,
         segments: &[Segment],
         addr: u32,
-        sought: Sought,
+        sought: LookupKind,
     ) -> bool
         requires { IsNamesEnd strings.now end }
         ensures { result ≡ is_candidate sought segments.now strings.now addr self.now }
     {
         match sought {
-            Sought::Code => {
+            LookupKind::Code => {
                 self.may_be_code()
                     && self.has_section()
                     && self.value <= addr
                     && self.has_usable_name(strings, end)
                     && are_in_one_segment(segments, self.value, addr)
             }
-            Sought::Value => {
+            LookupKind::Value => {
                 (self.may_be_code() || self.is_object())
                     && self.has_section()
                     && self.covers_address(addr)

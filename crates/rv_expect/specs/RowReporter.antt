@@ -57,7 +57,7 @@ named_outcome other = option_map outcome_in_row other
 
 -- an expectation is reported exactly when it does not hold, and the default one of a job that expects nothing exactly when its run did not
 -- end with exit code 0
-pub record TellsWhatDoesNotHold (told : List Unmet) (job : Job) (outcome : Outcome)
+pub record ReportsUnmet (told : List Unmet) (job : Job) (outcome : Outcome)
     (file reference : Option (List ℕ)) (other : Option Outcome) : Type 0 where
   pub exit : list_any is_exit told ≡ not (has_expected_exit job.expect_exit outcome.ending)
   pub end : list_any is_end told ≡ not (has_expected_end job.expect_end outcome.ending)

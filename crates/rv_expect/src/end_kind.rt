@@ -27,7 +27,7 @@ impl EndKind {
     pub const COUNT: usize = FaultKind::ALL.len() + 3;
 
     /// Returns the kind at an index below [`COUNT`](EndKind::COUNT), in the order exit, budget, each kind of fault, refused.
-    pub fn from_place(place: usize) -> EndKind
+    pub fn from_index(place: usize) -> EndKind
         ensures { result ≡ end_kind_at place }
     {
         if place == 0 {

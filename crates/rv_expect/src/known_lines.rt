@@ -18,7 +18,7 @@ pub(crate) fn lines_of(alloc: Global, text: &[u8]) -> Result<Vec<&[u8]>, AllocEr
 pub(crate) fn name_text(line: &[u8]) -> &[u8]
     ensures { result.now ≡ name_text line.now }
 {
-    trimmed(&line[..hash_place(line)])
+    trimmed(&line[..hash_index(line)])
 }
 
 /// Returns the reason in a line, empty if it has none.
@@ -26,7 +26,7 @@ pub(crate) fn name_text(line: &[u8]) -> &[u8]
 pub(crate) fn reason_text(line: &[u8]) -> &[u8]
     ensures { result.now ≡ reason_text line.now }
 {
-    let place = hash_place(line);
+    let place = hash_index(line);
     if place < line.len() {
         trimmed(&line[place + 1..])
     } else {
@@ -35,7 +35,7 @@ pub(crate) fn reason_text(line: &[u8]) -> &[u8]
 }
 
 // Returns the index of the first `#`, or the length if there is none.
-fn hash_place(line: &[u8]) -> usize
+fn hash_index(line: &[u8]) -> usize
     ensures place { result ≡ position_or_len is_hash line.now }
     ensures within { result ≤ length line.now }
 {

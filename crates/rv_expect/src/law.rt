@@ -12,7 +12,7 @@ ghost use Rattle.rv_expect.specs.Comparisons.{Sides};
 ghost use Rattle.rv_expect.specs.Difference.{IsDifference, first_difference};
 ghost use Rattle.rv_expect.specs.UnmetInPlan.{unmet_in};
 ghost use Rattle.rv_expect.specs.Reference.{IsReferenceOf, IsWord, read_reference, signature_words_or_empty};
-ghost use Rattle.rv_expect.specs.RowReporter.{HasItsVerdict, TellsWhatDoesNotHold, named_outcome, outcome_in_row, passes};
+ghost use Rattle.rv_expect.specs.RowReporter.{HasItsVerdict, ReportsUnmet, named_outcome, outcome_in_row, passes};
 ghost use Rattle.rv_expect.specs.Unmet.{unmet_of};
 
 /// A reported difference of two lists is a real one, and the first: before it the lists are equal. If none is reported, the lists are
@@ -37,7 +37,7 @@ pub fn unmet_is_what_does_not_hold()
     ensures { (sides : Sides)
         → IsTrue (did_run sides.row.ending)
         → AllByRecursion IsWord (signature_words_or_empty sides.row.signature)
-        → TellsWhatDoesNotHold (unmet_of sides) sides.job (outcome_in_row sides.row)
+        → ReportsUnmet (unmet_of sides) sides.job (outcome_in_row sides.row)
         sides.console sides.reference (named_outcome sides.other) }
 {}
 
@@ -58,7 +58,7 @@ pub fn unmet_of_a_plan_is_what_does_not_hold()
     ensures told { (plan : Planned) (job : Job)
         → IsTrue (did_run (row_of plan job).ending)
         → AllByRecursion IsWord (signature_words_or_empty (row_of plan job).signature)
-        → TellsWhatDoesNotHold (unmet_in plan job (row_of plan job)) job
+        → ReportsUnmet (unmet_in plan job (row_of plan job)) job
         (outcome_in plan.answers job) (expected_console_bytes plan.answers job) (signature_reference_bytes plan.answers job) (named_job_outcome plan job) }
     ensures passes { (plan : Planned) (job : Job)
         → IsTrue (did_run (row_of plan job).ending)

@@ -11,5 +11,5 @@ memory_contents files path = option_map (λ (file : MemoryFile). file.bytes.item
     (find (λ (file : MemoryFile). bytes_eq path file.path) files)
 
 -- the files as contracts see them
-abbrev pub memory_placed : List MemoryFile → List CommittedFile
-memory_placed files = map (λ (file : MemoryFile). placed_file file.path file.bytes.items) files
+abbrev pub committed_memory_files : List MemoryFile → List CommittedFile
+committed_memory_files files = map (λ (file : MemoryFile). placed_file file.path file.bytes.items) files

@@ -17,10 +17,10 @@ abbrev pub contents_below : Option (List ℕ) → Option FileContents → Option
 contents_below folder known = option_map (λ files path. files (resolved_path folder path)) known
 
 -- a path that was unreadable for a system error has no contents, if contents are known
-abbrev pub HoldsNothingIfUnreadable : Option FileContents → List ℕ → WholeError → Type 0
-HoldsNothingIfUnreadable known path (whole.Failed reason) = IfSome known (λ files. files path ≡ None)
-HoldsNothingIfUnreadable known path whole.TooLong = Unit {0}
-HoldsNothingIfUnreadable known path whole.OutOfMemory = Unit {0}
+abbrev pub HasNoContentsIfUnreadable : Option FileContents → List ℕ → WholeError → Type 0
+HasNoContentsIfUnreadable known path (whole.Failed reason) = IfSome known (λ files. files path ≡ None)
+HasNoContentsIfUnreadable known path whole.TooLong = Unit {0}
+HasNoContentsIfUnreadable known path whole.OutOfMemory = Unit {0}
 
 -- a path was unreadable for this reason
 abbrev pub unread_entry : List ℕ → ErrorKind → UnreadPath

@@ -1,7 +1,7 @@
 //! Files in memory, as inputs and outputs. They reveal all bytes, which shows that the contracts of both can be met.
 
 ghost use Rattle.std.specs.Prelude.{◌≡◌, ◌+◌, ◌++◌, ◌∷◌, [], Some, MatchResult, OnOk, option_map};
-ghost use Rattle.rv_files.specs.MemoryFiles.{memory_contents, memory_placed};
+ghost use Rattle.rv_files.specs.MemoryFiles.{memory_contents, committed_memory_files};
 
 use crate::file_error::FileError;
 use crate::input::InputError;
@@ -144,7 +144,7 @@ impl Outputs for MemoryOutputs {
 
     type Synced = Vec<u8>;
 
-    ghost placed = { λ outputs. Some (memory_placed outputs.placed.items) };
+    ghost placed = { λ outputs. Some (committed_memory_files outputs.placed.items) };
 
     ghost pending_path = { λ path. path };
 

@@ -4,7 +4,7 @@ ghost use Rattle.std.specs.Prelude.{◌≡◌, ◌≤◌, ◌<◌, ◌++◌, ◌
 ghost use Rattle.std.specs.Prelude.{IfErr, IfOk, IfSome, IsSomeAnd, MatchResult, OnErr, OnOk};
 ghost use Rattle.std.specs.Option.{option_copied};
 ghost use Rattle.rv_base.specs.Limits.{most_bytes};
-ghost use Rattle.rv_files.specs.UnreadPaths.{HoldsNothingIfUnreadable, contents_below, unread_entry, unread_entries};
+ghost use Rattle.rv_files.specs.UnreadPaths.{HasNoContentsIfUnreadable, contents_below, unread_entry, unread_entries};
 
 use crate::file_store::WholeError;
 use crate::inputs::{Inputs, read_whole_up_to};
@@ -70,13 +70,13 @@ impl<'a, D: Inputs> RecordingStore<'a, D> {
         ensures long { IfErr result (λ error. error ≡ WholeError.TooLong →
             IfSome (contents_below (option_copied self.old.folder) (D.contents self.old.inputs.now))
             (λ files. IsSomeAnd (files path.now) (λ bytes. most_bytes < length bytes))) }
-        ensures missing { IfErr result (HoldsNothingIfUnreadable
+        ensures missing { IfErr result (HasNoContentsIfUnreadable
             (contents_below (option_copied self.old.folder) (D.contents self.old.inputs.now)) path.now) }
         ensures noted { MatchResult result (λ _. self.new.unread.items ≡ self.old.unread.items)
             (λ error. self.new.unread.items
             ≡ self.old.unread.items ++ unread_entries path.now error) }
     {
-        let answer = self.read_place(alloc, path);
+        let answer = self.read_resolved_path(alloc, path);
         if let Err(WholeError::Failed(reason)) = answer {
             self.note_unread(alloc, path, reason)?;
         }
@@ -84,7 +84,7 @@ impl<'a, D: Inputs> RecordingStore<'a, D> {
     }
 
     // Reads the file that the path denotes.
-    fn read_place(&self, alloc: Global, path: &str) -> Result<Vec<u8>, WholeError>
+    fn read_resolved_path(&self, alloc: Global, path: &str) -> Result<Vec<u8>, WholeError>
         ensures known { IfOk result (λ bytes.
             IfSome (contents_below (option_copied self.now.folder) (D.contents self.now.inputs.now))
             (λ files. files path.now ≡ Some bytes.items)) }
@@ -92,7 +92,7 @@ impl<'a, D: Inputs> RecordingStore<'a, D> {
         ensures long { IfErr result (λ error. error ≡ WholeError.TooLong →
             IfSome (contents_below (option_copied self.now.folder) (D.contents self.now.inputs.now))
             (λ files. IsSomeAnd (files path.now) (λ bytes. most_bytes < length bytes))) }
-        ensures missing { IfErr result (HoldsNothingIfUnreadable
+        ensures missing { IfErr result (HasNoContentsIfUnreadable
             (contents_below (option_copied self.now.folder) (D.contents self.now.inputs.now)) path.now) }
     {
         let place = resolved_path(alloc, self.folder, path)?;

@@ -54,14 +54,14 @@ pub(crate) fn temporary_and_final_path<R: Files>(
 // Whether there is nothing or a regular file at the path. A link is followed.
 fn is_replaceable<R: Files>(files: &R, path: &str) -> io::Result<bool> {
     match files.metadata(path) {
-        Ok(met) => Ok(gives_way(&met)),
+        Ok(met) => Ok(may_be_replaced(&met)),
         Err(error) if error.kind() == ErrorKind::NotFound && !path.is_empty() => Ok(true),
         Err(error) => Err(error),
     }
 }
 
 // Whether another file may replace this one: only a regular file may be replaced.
-fn gives_way(met: &Metadata) -> bool
+fn may_be_replaced(met: &Metadata) -> bool
     ensures { IsTrue result ↔ IsFile (file_type met.now) }
 {
     met.is_file()

@@ -138,7 +138,7 @@ fn real_path_of<R: Files>(
 }
 
 // Returns the path at which a file is created if nothing is at a path, or only a dangling link.
-fn place_of_missing_file<R: Files>(
+fn path_of_missing_file<R: Files>(
     files: &R,
     alloc: Global,
     path: &str,
@@ -184,7 +184,7 @@ where
         };
         let path = match real_path_of(self.files, alloc, path)? {
             Some(path) => path,
-            None => place_of_missing_file(self.files, alloc, path)?,
+            None => path_of_missing_file(self.files, alloc, path)?,
         };
         Ok(path.starts_with(directory.as_str()))
     }

@@ -17,7 +17,7 @@ const CHUNK: usize = 16_384;
 // Reads once. No bytes mean the end.
 pub(crate) fn read_chunk<I: Read>(alloc: Global, input: &mut I) -> Result<Vec<u8>, SessionError>
     ensures read { IfOk result (λ chunk. IsChunkRead (I.remaining input.old) (I.remaining input.new) chunk.items) }
-    ensures failed { IfErr result (λ broken. broken ≢ SessionError.Unput) }
+    ensures failed { IfErr result (λ broken. broken ≢ SessionError.ReplyWriteFailed) }
 {
     let mut buffer = [0u8; CHUNK];
     match input.read(&mut buffer) {
@@ -30,7 +30,7 @@ pub(crate) fn read_chunk<I: Read>(alloc: Global, input: &mut I) -> Result<Vec<u8
 // time.
 pub(crate) fn check_raised(was_seen: bool, chunk: &[u8]) -> Result<(), SessionError>
     ensures raised { OnOk result (was_seen ≡ true → is_interrupted chunk.now true ≡ true) }
-    ensures failed { IfErr result (λ broken. broken ≢ SessionError.Unput) }
+    ensures failed { IfErr result (λ broken. broken ≢ SessionError.ReplyWriteFailed) }
 {
     if was_seen && !is_interrupted(chunk) {
         return Err(SessionError::UnreadPath(ErrorKind::Interrupted));
@@ -45,7 +45,7 @@ pub(crate) fn read_ahead<I: Read>(
     raised: &AtomicBool,
 ) -> Result<Vec<u8>, SessionError>
     ensures read { IfOk result (λ chunk. IsChunkRead (I.remaining input.old) (I.remaining input.new) chunk.items) }
-    ensures failed { IfErr result (λ broken. broken ≢ SessionError.Unput) }
+    ensures failed { IfErr result (λ broken. broken ≢ SessionError.ReplyWriteFailed) }
 {
     let read = read_chunk(alloc, input);
     let is_raised = match &read {

@@ -2,7 +2,7 @@
 use Rattle.std.specs.Prelude.{ℕ, List, [], ◌∷◌, ◌++◌, ◌==◌, Option, Some, None, if◌then◌else◌, length, nat_lt}
 use Rattle.hex.specs.Hex.{hex_digit_value}
 use Rattle.rv_gdb_protocol.specs.Escapes.{begin_mark, end_mark}
-use Rattle.rv_gdb_protocol.specs.Sums.{judged_sum, sum_of, sum_told}
+use Rattle.rv_gdb_protocol.specs.Sums.{judged_sum, sum_of, sum_of_digits}
 use Rattle.rv_gdb_protocol.specs.declared.frame.Incoming.{Incoming}
 use Rattle.rv_gdb_protocol.specs.declared.frame.Incoming.TheVariants as heard
 use Rattle.rv_gdb_protocol.specs.declared.frame.Place.{Place}
@@ -68,18 +68,18 @@ signal byte = if byte == 3 then Some heard.Interrupt
     else if byte == 45 then Some heard.Again else None
 
 -- a packet is complete at the second digit of its checksum
-abbrev pub heard_at_place : Place → List ℕ → ℕ → Option Incoming
-heard_at_place place.Between body byte = signal byte
-heard_at_place place.Body body byte = None
-heard_at_place place.FirstDigit body byte = None
-heard_at_place (place.SecondDigit high) body byte =
-    Some (heard.Packet body (judged_sum (sum_of body) (sum_told (hex_digit_value high) (hex_digit_value byte))))
-heard_at_place place.LongBody body byte = None
-heard_at_place place.LongFirstDigit body byte = None
-heard_at_place place.LongSecondDigit body byte = Some heard.TooLong
+abbrev pub received_in_state : Place → List ℕ → ℕ → Option Incoming
+received_in_state place.Between body byte = signal byte
+received_in_state place.Body body byte = None
+received_in_state place.FirstDigit body byte = None
+received_in_state (place.SecondDigit high) body byte =
+    Some (heard.Packet body (judged_sum (sum_of body) (sum_of_digits (hex_digit_value high) (hex_digit_value byte))))
+received_in_state place.LongBody body byte = None
+received_in_state place.LongFirstDigit body byte = None
+received_in_state place.LongSecondDigit body byte = Some heard.TooLong
 
 abbrev pub incoming_at : Frame → ℕ → Option Incoming
-incoming_at frame byte = heard_at_place frame.place frame.body byte
+incoming_at frame byte = received_in_state frame.place frame.body byte
 
 abbrev pub option_list : Option Incoming → List Incoming
 option_list None = []

@@ -4,7 +4,7 @@ use Rattle.std.specs.List.{flat_map, list_all}
 use Rattle.hex.specs.Hex.{hex_digit_value}
 use Rattle.rv_gdb_protocol.specs.Escapes.{begin_mark, data_of, end_mark, escaped, is_whole}
 use Rattle.rv_gdb_protocol.specs.Frames.{Frame, between, frame_after, incoming_in, most_body}
-use Rattle.rv_gdb_protocol.specs.Sums.{framed, judged_sum, sum_of, sum_told}
+use Rattle.rv_gdb_protocol.specs.Sums.{framed, judged_sum, sum_of, sum_of_digits}
 use Rattle.rv_gdb_protocol.specs.declared.frame.Incoming.{Incoming}
 use Rattle.rv_gdb_protocol.specs.declared.frame.Incoming.TheVariants.{Packet}
 use Rattle.rv_gdb_protocol.specs.declared.frame.Sum.{Sum}
@@ -25,7 +25,7 @@ sent text high low = begin_mark ∷ (text ++ end_mark ∷ high ∷ low ∷ [])
 
 -- whether two digits are a text's checksum
 abbrev pub verdict_of : List ℕ → ℕ → ℕ → Sum
-verdict_of text high low = judged_sum (sum_of text) (sum_told (hex_digit_value high) (hex_digit_value low))
+verdict_of text high low = judged_sum (sum_of text) (sum_of_digits (hex_digit_value high) (hex_digit_value low))
 
 -- what is received in bytes that arrive in fragments
 unfoldable pub heard_in_pieces : Frame → List (List ℕ) → List Incoming

@@ -204,5 +204,5 @@ signal_move move args = if is_some (number_of args) then ask.Move move
 abbrev pub move_within : List ℕ → Option Move
 move_within text = option_map (λ pair. move.StepWithin pair.0 pair.1) (numbers_at comma text)
 
-abbrev pub signalled : Move → List ℕ → Option Move
-signalled move text = if is_some (number_of text) then Some move else None
+abbrev pub move_with_signal : Move → List ℕ → Option Move
+move_with_signal move text = if is_some (number_of text) then Some move else None

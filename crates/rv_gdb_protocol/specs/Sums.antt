@@ -22,10 +22,10 @@ unfoldable pub framed : List ℕ → List ℕ
 framed body = in_frame (escaped body)
 
 -- the checksum that two digits encode
-abbrev pub sum_told : Option ℕ → Option ℕ → Option ℕ
-sum_told (Some high) (Some low) = Some (high * 16 + low)
-sum_told (Some high) None = None
-sum_told None low = None
+abbrev pub sum_of_digits : Option ℕ → Option ℕ → Option ℕ
+sum_of_digits (Some high) (Some low) = Some (high * 16 + low)
+sum_of_digits (Some high) None = None
+sum_of_digits None low = None
 
 -- whether the received checksum is correct
 abbrev pub judged_sum : ℕ → Option ℕ → Sum

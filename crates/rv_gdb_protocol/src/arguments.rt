@@ -1,7 +1,7 @@
 //! Parsers for the arguments of packets.
 
 ghost use Rattle.std.specs.Prelude.{◌≡◌};
-ghost use Rattle.rv_gdb_protocol.specs.Requests.{all_registers, break_at, description, elsewhere, image_path, kind_at, move_within, other_kind, part_at, plain_move, range_at, read_file, read_memory, read_register, register_at, register_of, register_write, signal_move, signalled, trap_at, trap_range, watch_at, watched, write_register, written};
+ghost use Rattle.rv_gdb_protocol.specs.Requests.{all_registers, break_at, description, elsewhere, image_path, kind_at, move_within, other_kind, part_at, plain_move, range_at, read_file, read_memory, read_register, register_at, register_of, register_write, signal_move, move_with_signal, trap_at, trap_range, watch_at, watched, write_register, written};
 
 use crate::number::{behind, number_of, numbers_at, place_of, value_of};
 use crate::request::{Move, Part, Range, Refusal, Register, Request, Stoppoint, Watched};
@@ -248,8 +248,8 @@ pub(crate) fn move_within(text: &[u8]) -> Option<Move>
 }
 
 /// Parses a signal, which is ignored, for a move.
-pub(crate) fn signalled(step: Move, text: &[u8]) -> Option<Move>
-    ensures { result ≡ signalled step text.now }
+pub(crate) fn move_with_signal(step: Move, text: &[u8]) -> Option<Move>
+    ensures { result ≡ move_with_signal step text.now }
 {
     if number_of(text).is_some() {
         Some(step)

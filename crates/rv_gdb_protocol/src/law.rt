@@ -15,7 +15,7 @@ ghost use Rattle.rv_gdb_protocol.specs.declared.stop.Stop.{Stop};
 ghost use Rattle.rv_gdb_protocol.specs.declared.frame.Incoming.TheVariants.{Packet};
 
 /// What is received does not depend on how the bytes are split.
-pub fn cuts_are_not_heard()
+pub fn bytes_can_be_split()
     ensures { (frame : Frame) (front rest : List ℕ) → incoming_in frame (front ++ rest)
         ≡ incoming_in frame front ++ incoming_in (fold frame_after frame front) rest }
 {}

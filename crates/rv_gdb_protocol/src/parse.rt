@@ -2,13 +2,13 @@
 
 ghost use Rattle.std.specs.Prelude.{◌≡◌, IfOk, option_map};
 ghost use Rattle.rv_gdb_protocol.specs.Numbers.{bytes_of};
-ghost use Rattle.rv_gdb_protocol.specs.Packets.{carrying, command, request_of};
+ghost use Rattle.rv_gdb_protocol.specs.Packets.{request_with_bytes, command, request_of};
 ghost use Rattle.rv_gdb_protocol.specs.Requests.{open_file, opened_file, whole_data, write_data, write_digits, write_of, write_registers};
 
 use crate::arguments::{all_registers, range_at, written};
 use crate::escapes::push_data;
 use crate::number::{behind, bytes_of, numbers_at, place_of};
-use crate::packets::light_request;
+use crate::packets::request_without_bytes;
 use crate::request::{Range, Refusal, Request};
 use rv_base::Bytes;
 use std::alloc::{AllocError, Global};
@@ -18,19 +18,19 @@ use std::alloc::{AllocError, Global};
 pub fn parse_request(alloc: Global, body: &[u8]) -> Result<Request, AllocError>
     ensures { IfOk result (λ request. request ≡ request_of body.now) }
 {
-    if let Some(request) = light_request(body) {
+    if let Some(request) = request_without_bytes(body) {
         return Ok(request);
     }
-    match carrying(alloc, body)? {
+    match request_with_bytes(alloc, body)? {
         Some(request) => Ok(request),
         None => Ok(Request::Refused(Refusal::Unknown)),
     }
 }
 
 // Parses a packet that carries bytes.
-#[tactic(auto, unfolding(crate::specs::Packets::carrying))]
-fn carrying(alloc: Global, body: &[u8]) -> Result<Option<Request>, AllocError>
-    ensures { IfOk result (λ request. request ≡ carrying body.now) }
+#[tactic(auto, unfolding(crate::specs::Packets::request_with_bytes))]
+fn request_with_bytes(alloc: Global, body: &[u8]) -> Result<Option<Request>, AllocError>
+    ensures { IfOk result (λ request. request ≡ request_with_bytes body.now) }
 {
     if let Some(args) = behind(b"G", body) {
         return Ok(Some(write_registers(alloc, args)?));

@@ -81,7 +81,7 @@ impl Reader {
             }
             Place::SecondDigit(high) => Ok(Some(self.finish(alloc, high, byte))),
             Place::LongBody => {
-                self.pass_over(byte);
+                self.skip_byte(byte);
                 Ok(None)
             }
             Place::LongFirstDigit => {
@@ -131,7 +131,7 @@ impl Reader {
     }
 
     // Consumes a byte of a body that is too long to be kept.
-    fn pass_over(&mut self, byte: u8)
+    fn skip_byte(&mut self, byte: u8)
         requires { self.old.place ≡ place.LongBody }
         ensures { self.new ≡ frame_after self.old byte }
     {

@@ -2,7 +2,7 @@
 
 ghost use Rattle.std.specs.Prelude.{◌≡◌, ◌<◌, IfSome};
 ghost use Rattle.hex.specs.Hex.{hex_digit_value};
-ghost use Rattle.rv_gdb_protocol.specs.Sums.{judged_sum, sum_of, sum_told};
+ghost use Rattle.rv_gdb_protocol.specs.Sums.{judged_sum, sum_of, sum_of_digits};
 
 use crate::frame::Sum;
 
@@ -20,16 +20,16 @@ pub(crate) fn sum_of(text: &[u8]) -> u8
 
 /// Whether two digits are the checksum of a text.
 pub(crate) fn judged_sum(text: &[u8], high: u8, low: u8) -> Sum
-    ensures { result ≡ judged_sum (sum_of text.now) (sum_told (hex_digit_value high) (hex_digit_value low)) }
+    ensures { result ≡ judged_sum (sum_of text.now) (sum_of_digits (hex_digit_value high) (hex_digit_value low)) }
 {
-    match told_sum(high, low) {
+    match received_sum(high, low) {
         Some(told) if told == sum_of(text) => Sum::Right,
         _ => Sum::Wrong,
     }
 }
 
-fn told_sum(high: u8, low: u8) -> Option<u8>
-    ensures { result ≡ sum_told (hex_digit_value high) (hex_digit_value low) }
+fn received_sum(high: u8, low: u8) -> Option<u8>
+    ensures { result ≡ sum_of_digits (hex_digit_value high) (hex_digit_value low) }
 {
     match (digit_value(high), digit_value(low)) {
         (Some(high), Some(low)) => Some(high * 16 + low),

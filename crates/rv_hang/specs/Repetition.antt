@@ -49,5 +49,5 @@ again_behind again place values s =
     else None
 
 -- the number of steps up to and including the last one that loads from the exhausted input script
-abbrev pub waited_behind : ℕ → ℕ → State → ℕ
-waited_behind waited place s = if reads_script_end s then place + 1 else waited
+abbrev pub waits_up_to : ℕ → ℕ → State → ℕ
+waits_up_to waited place s = if reads_script_end s then place + 1 else waited

@@ -44,7 +44,7 @@ fn is_instr_quiet(machine: &Machine, instr: Instr) -> bool
 fn takes_script(bus: &Bus, addr: u32) -> bool
     ensures { result ≡ takes_script bus.now addr }
 {
-    addr == 0x1000_0000 && bus.script_left() != 0
+    addr == 0x1000_0000 && bus.script_remaining() != 0
 }
 
 fn is_store_quiet(machine: &Machine, instr: Instr, width: Width) -> bool

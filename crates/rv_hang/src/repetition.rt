@@ -1,7 +1,7 @@
 //! Repeated states.
 
 ghost use Rattle.std.specs.Prelude.{◌≡◌, ◌≤◌, ◌<◌, ◌-◌, ℕ, IfSome, is_some, true};
-ghost use Rattle.rv_hang.specs.Repetition.{IsLastAgain, IsRepetition, IsWaitTold, again_behind, has_values, waited_behind};
+ghost use Rattle.rv_hang.specs.Repetition.{IsLastAgain, IsRepetition, IsWaitTold, again_behind, has_values, waits_up_to};
 ghost use Rattle.rv_machine.specs.Machine.{state_of};
 ghost use Rattle.rv_machine.specs.Run.{run_of};
 ghost use Rattle.rv_trace.specs.Trace.{state_after};
@@ -80,7 +80,7 @@ fn again_at(again: Option<Again>, machine: &Machine, place: u32, end: &HartValue
 // 0 if none does.
 fn waited_at(waited: u32, machine: &Machine, place: u32) -> u32
     requires { place < 0xFFFF_FFFF }
-    ensures { result ≡ waited_behind waited place (state_of machine.now) }
+    ensures { result ≡ waits_up_to waited place (state_of machine.now) }
 {
     if reads_script_end(machine) {
         place + 1

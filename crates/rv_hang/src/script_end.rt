@@ -28,7 +28,7 @@ fn loads_script_end(machine: &Machine, instr: Instr) -> bool
 {
     match instr.op {
         Op::Lw => {
-            accessed_address(machine, instr) == 0x1000_0000 && machine.bus().script_left() == 0
+            accessed_address(machine, instr) == 0x1000_0000 && machine.bus().script_remaining() == 0
         }
         _ => false,
     }

@@ -15,8 +15,8 @@ abbrev pub AreStates : State → List MachineAt → Type 0
 AreStates start kept = All (IsAt start) kept
 
 -- the steps are strictly decreasing
-abbrev pub AreFalling : List MachineAt → Type 0
-AreFalling kept = AllPairs (λ one other. other.place < one.place) kept
+abbrev pub AreDecreasing : List MachineAt → Type 0
+AreDecreasing kept = AllPairs (λ one other. other.place < one.place) kept
 
 -- no machine at or before a step is later than `last`
 abbrev pub IsLastUpTo : List MachineAt → ℕ → ℕ → Type 0

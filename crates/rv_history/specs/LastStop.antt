@@ -1,7 +1,7 @@
 -- The last stop of a search in progress.
 use Rattle.std.specs.Prelude.{ℕ, ◌+◌, ◌<◌, ◌≤◌, Bool, Option, Some, None, if◌then◌else◌}
 use Rattle.rv_machine.specs.State.{State}
-use Rattle.rv_history.specs.Moves.{IsStopBefore, IsUnbroken}
+use Rattle.rv_history.specs.Moves.{IsStopBefore, IsUninterrupted}
 use Rattle.rv_history.specs.Places.{IsBreakAt, IsChangeAt}
 use Rattle.rv_history.specs.declared.found.StopInfo.{StopInfo}
 use Rattle.rv_history.specs.declared.found.Found.TheVariants as found
@@ -30,7 +30,7 @@ AreQuiet stops budget start begin end = (j : ℕ) → begin ≤ j → j < end �
 
 -- the last stop before `end`; none if all steps from `begin` on are quiet
 abbrev pub IsLastOn : Stops → ℕ → State → ℕ → ℕ → Option StopInfo → Type 0
-IsLastOn stops budget start begin end (Some last) = IsStopBefore stops budget start end last.place last.found × IsUnbroken last.found
+IsLastOn stops budget start begin end (Some last) = IsStopBefore stops budget start end last.place last.found × IsUninterrupted last.found
 IsLastOn stops budget start begin end None = AreQuiet stops budget start begin end
 
 -- the last stop before a step that a part of the run contains, for any budget

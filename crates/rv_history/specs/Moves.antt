@@ -15,12 +15,12 @@ abbrev pub IsEndAt : ℕ → State → ℕ → Ending → Type 0
 IsEndAt budget start place ending = (place ≡ last_place budget start) × (ending ≡ (run_of budget start).ending)
 
 -- an interrupt ended a move
-abbrev pub IsBroken : Found → Type 0
-IsBroken what = what ≡ found.Interrupted
+abbrev pub IsInterrupted : Found → Type 0
+IsInterrupted what = what ≡ found.Interrupted
 
 -- no interrupt ended the move
-abbrev pub IsUnbroken : Found → Type 0
-IsUnbroken what = IsBroken what → ⊥
+abbrev pub IsUninterrupted : Found → Type 0
+IsUninterrupted what = IsInterrupted what → ⊥
 
 -- ---- forwards
 

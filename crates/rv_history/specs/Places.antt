@@ -3,7 +3,7 @@ use Rattle.std.specs.Prelude.{ℕ, ◌≡◌, ◌+◌, ◌<◌, true}
 use Rattle.rv_machine.specs.Run.{run_of}
 use Rattle.rv_machine.specs.State.{State}
 use Rattle.rv_trace.specs.Trace.{state_after}
-use Rattle.rv_history.specs.Stops.{IsSetOff, is_break, is_halt}
+use Rattle.rv_history.specs.Stops.{TriggersWatch, is_break, is_halt}
 use Rattle.rv_history.specs.declared.bounds.Bounds.{Bounds}
 use Rattle.rv_history.specs.declared.stops.Stops.{Stops}
 
@@ -27,4 +27,4 @@ IsHaltAt stops bounds start place = is_halt stops bounds (state_after place star
 -- watched for accesses
 pub record IsChangeAt (stops : Stops) (budget : ℕ) (start : State) (place : ℕ) : Type 0 where
   pub completes : place < last_place budget start
-  pub changes : IsSetOff stops (state_after place start) (state_after (place + 1) start)
+  pub changes : TriggersWatch stops (state_after place start) (state_after (place + 1) start)

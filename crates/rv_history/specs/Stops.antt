@@ -57,27 +57,27 @@ abbrev pub first_read : Access → List Watch → Option ℕ
 first_read access watches = if access.is_read then first_hit access watches else None
 
 -- the reported watchpoint, or the alternative if there is none
-abbrev pub told_or : (ℕ → WatchHit) → Option ℕ → Option WatchHit → Option WatchHit
-told_or told None other = other
-told_or told (Some address) other = Some (told address)
+abbrev pub reported_or : (ℕ → WatchHit) → Option ℕ → Option WatchHit → Option WatchHit
+reported_or told None other = other
+reported_or told (Some address) other = Some (told address)
 
 -- the first read watchpoint, else the first access watchpoint, that an instruction triggers by what it reads or writes
 abbrev pub touched_by : Stops → Option Access → Option WatchHit
 touched_by stops None = None
-touched_by stops (Some access) = told_or set_off.Read (first_read access stops.reads)
-    (told_or set_off.Access (first_hit access stops.accesses) None)
+touched_by stops (Some access) = reported_or set_off.Read (first_read access stops.reads)
+    (reported_or set_off.Access (first_hit access stops.accesses) None)
 
-abbrev pub touched : Stops → State → Option WatchHit
-touched stops s = touched_by stops (access_at s)
+abbrev pub access_hit : Stops → State → Option WatchHit
+access_hit stops s = touched_by stops (access_at s)
 
 -- the first watchpoint that a step triggers: for changes first, then for reads, then for accesses
-abbrev pub first_set_off : Stops → State → State → Option WatchHit
-first_set_off stops s t = told_or set_off.Change (first_differing stops.watches s.bus t.bus) (touched stops s)
+abbrev pub first_triggered : Stops → State → State → Option WatchHit
+first_triggered stops s t = reported_or set_off.Change (first_differing stops.watches s.bus t.bus) (access_hit stops s)
 
 -- a step triggers a watchpoint
-abbrev pub IsSetOff : Stops → State → State → Type 0
-IsSetOff stops s t = (watched_bytes stops s.bus ≢ watched_bytes stops t.bus) ⊎ (is_some (touched stops s) ≡ true)
+abbrev pub TriggersWatch : Stops → State → State → Type 0
+TriggersWatch stops s t = (watched_bytes stops s.bus ≢ watched_bytes stops t.bus) ⊎ (is_some (access_hit stops s) ≡ true)
 
 -- a step triggers no watchpoint
-abbrev pub IsUnset : Stops → State → State → Type 0
-IsUnset stops s t = (watched_bytes stops s.bus ≡ watched_bytes stops t.bus) × (is_some (touched stops s) ≡ false)
+abbrev pub TriggersNoWatch : Stops → State → State → Type 0
+TriggersNoWatch stops s t = (watched_bytes stops s.bus ≡ watched_bytes stops t.bus) × (is_some (access_hit stops s) ≡ false)

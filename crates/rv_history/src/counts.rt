@@ -29,7 +29,7 @@ pub(crate) fn first_with(
     ensures { IfOk result (IsFound count value budget (start_of start.now)) }
 {
     let mut machine = start.machine(alloc)?;
-    let script = start.bus.script_left();
+    let script = start.bus.script_remaining();
     for place in 0..budget {
         if count_in(count, script, machine.bus()) == value as usize {
             return Ok(Some(place));
@@ -50,6 +50,6 @@ fn count_in(count: Count, script: usize, bus: &Bus) -> usize
 {
     match count {
         Count::Printed => bus.console().len(),
-        Count::Taken => script.saturating_sub(bus.script_left()),
+        Count::Taken => script.saturating_sub(bus.script_remaining()),
     }
 }

@@ -51,7 +51,7 @@ impl History {
     ghost use Rattle.rv_history.specs.Moves.{IsNextStep, IsNextStop, IsStepBefore, IsStopBefore};
     ghost use Rattle.rv_history.specs.Places.{IsReached, last_place};
     ghost use Rattle.rv_history.specs.Starts.{start_of};
-    ghost use Rattle.rv_history.specs.Stops.{first_set_off};
+    ghost use Rattle.rv_history.specs.Stops.{first_triggered};
 
     /// Creates a history at the start of a run.
     pub fn new(alloc: Global, start: Start, budget: u32) -> Result<History, AllocError>
@@ -224,12 +224,12 @@ impl History {
     /// Returns the first watchpoint that the next step triggers, if it completes within the budget and triggers any.
     pub fn watch_ahead(&self, alloc: Global, stops: &Stops) -> Result<Option<WatchHit>, AllocError>
         ensures { self.now.place < last_place self.now.budget self.now.start → IfOk result
-            (λ found. found ≡ first_set_off stops.now (state_after self.now.place self.now.start)
+            (λ found. found ≡ first_triggered stops.now (state_after self.now.place self.now.start)
             (state_after (self.now.place + 1) self.now.start)) }
     {
         let steps = self.budget.min(self.place.saturating_add(1));
         let ahead = self.track.machine_after(alloc, steps)?;
-        stops.first_set_off(alloc, &self.machine, &ahead)
+        stops.first_triggered(alloc, &self.machine, &ahead)
     }
 
     /// Returns the first watchpoint that the preceding step triggers, if there is such a step and it triggers any.
@@ -239,13 +239,13 @@ impl History {
         stops: &Stops,
     ) -> Result<Option<WatchHit>, AllocError>
         ensures { IfOk result
-            (λ found. found ≡ first_set_off stops.now (state_after (self.now.place - 1) self.now.start)
+            (λ found. found ≡ first_triggered stops.now (state_after (self.now.place - 1) self.now.start)
             (state_after self.now.place self.now.start)) }
     {
         let behind = self
             .track
             .machine_after(alloc, self.place.saturating_sub(1))?;
-        stops.first_set_off(alloc, &behind, &self.machine)
+        stops.first_triggered(alloc, &behind, &self.machine)
     }
 
     // Moves to the result of a search.

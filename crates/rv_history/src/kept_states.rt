@@ -17,7 +17,7 @@ pub(crate) struct CheckpointList {
 
 impl Model for CheckpointList {
     ghost use Rattle.std.specs.Prelude.{◌<◌, ◌≤◌, List, length};
-    ghost use Rattle.rv_history.specs.Kept.{AreFalling};
+    ghost use Rattle.rv_history.specs.Kept.{AreDecreasing};
     ghost use Rattle.rv_history.specs.declared.machine_at.MachineAt.{MachineAt};
     ghost use Rattle.rv_history.specs.StandInside.{state_code};
     ghost use Rattle.std.specs.Coded.{codes};
@@ -28,7 +28,7 @@ impl Model for CheckpointList {
 
     ghost view = { λ kept. kept.items.items };
 
-    ghost invariant = { λ kept. (0 < kept.most) × ((length kept.items.items ≤ kept.most) × AreFalling kept.items.items) };
+    ghost invariant = { λ kept. (0 < kept.most) × ((length kept.items.items ≤ kept.most) × AreDecreasing kept.items.items) };
 }
 
 impl CheckpointList {

@@ -2,7 +2,7 @@
 
 ghost use Rattle.std.specs.Prelude.{◌≡◌, ◌≤◌, ℕ};
 ghost use Rattle.rv_history.specs.Counts.{IsFirstWith};
-ghost use Rattle.rv_history.specs.Moves.{IsNextStep, IsNextStop, IsStepBefore, IsStopBefore, IsUnbroken};
+ghost use Rattle.rv_history.specs.Moves.{IsNextStep, IsNextStop, IsStepBefore, IsStopBefore, IsUninterrupted};
 ghost use Rattle.rv_history.specs.Printing.{Begins};
 ghost use Rattle.rv_history.specs.declared.bounds.Bounds.{Bounds};
 ghost use Rattle.rv_history.specs.declared.counts.Count.{Count};
@@ -15,12 +15,12 @@ ghost use Rattle.rv_trace.specs.Trace.{state_after};
 pub fn moves_are_determined()
     ensures ahead { (stops : Stops) (bounds : Bounds) (budget from p q : ℕ) (start : State) (one other : Found)
         → IsNextStop stops bounds budget start from p one → IsNextStop stops bounds budget start from q other
-        → IsUnbroken one → IsUnbroken other → (p ≡ q) × (one ≡ other) }
+        → IsUninterrupted one → IsUninterrupted other → (p ≡ q) × (one ≡ other) }
     ensures step { (stops : Stops) (budget from p q : ℕ) (start : State) (one other : Found)
         → IsNextStep stops budget start from p one → IsNextStep stops budget start from q other → (p ≡ q) × (one ≡ other) }
     ensures back { (stops : Stops) (budget from p q : ℕ) (start : State) (one other : Found)
         → IsStopBefore stops budget start from p one → IsStopBefore stops budget start from q other
-        → IsUnbroken one → IsUnbroken other → (p ≡ q) × (one ≡ other) }
+        → IsUninterrupted one → IsUninterrupted other → (p ≡ q) × (one ≡ other) }
     ensures step_back { (stops : Stops) (budget from p q : ℕ) (start : State) (one other : Found)
         → IsStepBefore stops budget start from p one → IsStepBefore stops budget start from q other → (p ≡ q) × (one ≡ other) }
     ensures count { (count : Count) (value budget p q : ℕ) (start : State) → IsFirstWith count value budget start p

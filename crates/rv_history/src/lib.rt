@@ -22,8 +22,8 @@ mod slices;
 mod start;
 mod stepping;
 mod stops;
-mod touching;
 mod track;
+mod watch_hits;
 
 pub use bounds::Bounds;
 pub use counts::Count;

@@ -44,7 +44,7 @@ pub(crate) fn step_beside(
     ensures step { IfOk result (IsStepped stops.now (state_of machine.old) (state_of machine.new)) }
     ensures known { OnOk result (watched.new.items ≡ watched_bytes stops.now (state_of machine.new).bus) }
 {
-    let is_touched = stops.touched(machine).is_some();
+    let is_touched = stops.access_hit(machine).is_some();
     if let Some(ending) = step(machine) {
         return Ok(Stepped::Ended(ending));
     }

@@ -41,7 +41,7 @@ pub enum WatchHit {
 
 impl Stops {
     ghost use Rattle.rv_machine.specs.Machine.{state_of};
-    ghost use Rattle.rv_machine.specs.Waking.{IsCached};
+    ghost use Rattle.rv_machine.specs.ValidEntries.{IsCached};
     ghost use Rattle.rv_history.specs.Stops.{first_differing, is_break, watched_bytes};
 
     /// Whether there are no breakpoints and no watchpoints.

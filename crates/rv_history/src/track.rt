@@ -253,5 +253,5 @@ fn machine_size(bus: &Bus) -> usize
     for region in map.as_slice() {
         size = size.saturating_add((region.size as usize).saturating_mul(BYTES_OF_BYTE));
     }
-    size.saturating_add(bus.script_left())
+    size.saturating_add(bus.script_remaining())
 }

@@ -138,10 +138,10 @@ console_lines source met wanted = let equal = equal_line_count met wanted in
     ++ lines_around equal (whole_lines met) (whole_lines wanted)
 
 -- a difference is shown by lines if both sides are present and are UTF-8
-abbrev pub is_told_by_lines : Difference → List ℕ → List ℕ → Bool
-is_told_by_lines difference.Absent met wanted = false
-is_told_by_lines (difference.At place) met wanted = is_utf8 met && is_utf8 wanted
-is_told_by_lines difference.Lengths met wanted = is_utf8 met && is_utf8 wanted
+abbrev pub is_shown_by_lines : Difference → List ℕ → List ℕ → Bool
+is_shown_by_lines difference.Absent met wanted = false
+is_shown_by_lines (difference.At place) met wanted = is_utf8 met && is_utf8 wanted
+is_shown_by_lines difference.Lengths met wanted = is_utf8 met && is_utf8 wanted
 
 -- ---- the text that is expected
 
@@ -157,17 +157,17 @@ wanted_console (Some (console.Text text)) file = Some record { source = codes "t
 wanted_console (Some (console.File path)) file = Some record { source = printable_text path; text = unwrap_or file [] }
 
 -- the expected text, if the difference from it is shown by lines
-abbrev pub told_by_lines : Difference → List ℕ → Option Wanted → Option Wanted
-told_by_lines difference met None = None
-told_by_lines difference met (Some wanted) =
-    if is_told_by_lines difference met wanted.text then Some wanted else None
+abbrev pub shown_by_lines : Difference → List ℕ → Option Wanted → Option Wanted
+shown_by_lines difference met None = None
+shown_by_lines difference met (Some wanted) =
+    if is_shown_by_lines difference met wanted.text then Some wanted else None
 
 -- the expected text of an unmet expectation, if the difference is shown by lines
 abbrev pub expected_by_lines : Sides → Unmet → Option Wanted
 expected_by_lines sides unmet.Exit = None
 expected_by_lines sides unmet.End = None
 expected_by_lines sides (unmet.Console difference) =
-    told_by_lines difference sides.row.console (wanted_console sides.job.expect_console sides.console)
+    shown_by_lines difference sides.row.console (wanted_console sides.job.expect_console sides.console)
 expected_by_lines sides (unmet.Signature difference) = None
 expected_by_lines sides (unmet.Same difference) = None
 expected_by_lines sides unmet.Nothing = None

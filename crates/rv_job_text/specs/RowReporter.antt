@@ -24,7 +24,7 @@ use Rattle.rv_job_text.specs.ImageSymbols.{signature_begin, fault_symbol}
 use Rattle.rv_job_text.specs.RefusalReasons.{ending_reason}
 use Rattle.rv_job_text.specs.BudgetUseLine.{budget_use_line}
 use Rattle.rv_job_text.specs.TraceOptions.{optional_calls_text, optional_trace_text}
-use Rattle.rv_job_text.specs.declared.way_to_end.TraceOptions.{TraceOptions}
+use Rattle.rv_job_text.specs.declared.end_trace.TraceOptions.{TraceOptions}
 use Rattle.rv_trace.specs.Trace.{image_bytes, trace_in}
 
 -- the plan whose rows are reported, the notes on its paths, how rows are counted, how much is shown, and how many of the last instructions

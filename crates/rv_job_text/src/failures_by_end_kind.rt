@@ -22,7 +22,7 @@ pub(crate) fn push_failures_by_end_kind(
 {
     let mut is_open = false;
     for place in 0..EndKind::COUNT {
-        let kind = EndKind::from_place(place);
+        let kind = EndKind::from_index(place);
         let count = failure_count_of_end_kind(judge, rows, kind);
         if count > 0 {
             push_failure_count(bytes, is_open, count, kind)?;

@@ -11,7 +11,7 @@ pub fn lines_are_the_text()
 
 /// Before the line that is reported as the first difference, the lines of two texts are equal. At that line they differ, or one text has
 /// ended.
-pub fn told_line_differs_first()
+pub fn shown_line_differs_first()
     ensures { (met wanted : List ℕ) → met ≢ wanted
         → DifferFirstAt (equal_line_count met wanted) (whole_lines met) (whole_lines wanted) }
 {}

@@ -12,6 +12,7 @@ ghost use Rattle.rv_job_text.specs.RowReporter.{outcome_text, run_explanation, r
 
 use crate::budget_use_line::push_budget_use_line;
 use crate::console_tail::push_console_tail;
+use crate::end_trace::TraceOptions;
 use crate::job_file::JobFile;
 use crate::job_row::JobRow;
 use crate::met_line::push_met_lines;
@@ -19,7 +20,6 @@ use crate::refusal_reasons::ending_reason;
 use crate::result_line::{EndDetail, push_result_line};
 use crate::unmet_line::push_unmet_lines;
 use crate::verbosity::{Detail, Verbosity};
-use crate::way_to_end::TraceOptions;
 use rv_elf::SymbolAt;
 use rv_expect::{Comparison, Judge, Unmet, row_of_same_as_job, unmet_expectations};
 use rv_files::UnreadPath;

@@ -4,16 +4,16 @@ use Rattle.std.specs.Prelude.{option_and_then, slice_index_or}
 use Rattle.rv_lists.specs.declared.job.Job.{Job}
 use Rattle.rv_jobs.specs.declared.path_reading.Places.{Places}
 use Rattle.rv_jobs.specs.declared.path_reading.Found.{Found}
-use Rattle.rv_base.specs.Names.{place_in}
+use Rattle.rv_base.specs.Names.{index_in}
 use Rattle.rv_lists.specs.Jobs.{console_path}
 
 -- these are the indices of a job's paths, all of which exist
 pub record ArePlaced (paths : List (List ℕ)) (job : Job) (at : Places) : Type 0 where
-  pub image : place_in paths job.image ≡ Some at.image
+  pub image : index_in paths job.image ≡ Some at.image
   pub reference :
-      option_map (place_in paths) job.expect_signature ≡ option_map (λ k. Some k) at.reference
+      option_map (index_in paths) job.expect_signature ≡ option_map (λ k. Some k) at.reference
   pub console :
-      option_map (place_in paths) (console_path job.expect_console)
+      option_map (index_in paths) (console_path job.expect_console)
       ≡ option_map (λ k. Some k) at.console
 
 -- what is recorded for each job: the indices of its paths, or nothing
@@ -25,9 +25,9 @@ pub record AreNoted (paths : List (List ℕ)) (jobs : List Job)
 
 -- these are the indices of those of a job's paths that exist
 pub record IsFound (paths : List (List ℕ)) (job : Job) (at : Found) : Type 0 where
-  pub image : place_in paths job.image ≡ at.image
-  pub reference : option_and_then (place_in paths) job.expect_signature ≡ at.reference
-  pub console : option_and_then (place_in paths) (console_path job.expect_console) ≡ at.console
+  pub image : index_in paths job.image ≡ at.image
+  pub reference : option_and_then (index_in paths) job.expect_signature ≡ at.reference
+  pub console : option_and_then (index_in paths) (console_path job.expect_console) ≡ at.console
 
 -- these are the indices for each job
 pub record AreFound (paths : List (List ℕ)) (jobs : List Job) (found : List Found) : Type 0 where

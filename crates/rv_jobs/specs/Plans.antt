@@ -8,7 +8,7 @@ use Rattle.rv_lists.specs.declared.job.Job.{Job}
 use Rattle.rv_jobs.specs.declared.kept.Kept.{Kept}
 use Rattle.rv_jobs.specs.declared.kept.Kept.TheVariants.{Unreadable}
 use Rattle.rv_jobs.specs.declared.answers.Answer.{Answer}
-use Rattle.rv_base.specs.Names.{place_in}
+use Rattle.rv_base.specs.Names.{index_in}
 use Rattle.rv_lists.specs.Jobs.{console_path, single_job}
 use Rattle.rv_base.specs.Files.{FileContents}
 use Rattle.rv_jobs.specs.Kept.{IsKeptOf, is_unreadable}
@@ -26,7 +26,7 @@ answers_with (p ∷ ps) (k ∷ ks) = record { path = p; kept = k } ∷ answers_w
 
 -- the paths, extended by one more unless it is among them
 unfoldable pub with_path : List (List ℕ) → List ℕ → List (List ℕ)
-with_path paths p = if is_some (place_in paths p) then paths else paths ++ p ∷ []
+with_path paths p = if is_some (index_in paths p) then paths else paths ++ p ∷ []
 
 -- the paths, extended by one more if there is one
 abbrev pub with_path_if : List (List ℕ) → Option (List ℕ) → List (List ℕ)

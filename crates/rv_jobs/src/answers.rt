@@ -1,7 +1,7 @@
 //! The results for the distinct paths that jobs name, while a plan is gathered.
 
 ghost use Rattle.std.specs.Prelude.{◌≡◌, ℕ, [], IfOk, Some, map};
-ghost use Rattle.rv_base.specs.Names.{place_in};
+ghost use Rattle.rv_base.specs.Names.{index_in};
 ghost use Rattle.rv_jobs.specs.Plans.{paths_of, with_path, AreKept, unreadable_count, one_more_times};
 
 use crate::kept::{Kept, keep_path_answer};
@@ -65,7 +65,7 @@ impl<'a> Answers<'a> {
     ) -> Result<(Answers<'a>, usize), AllocError>
         ensures same { S.contents store.new ≡ S.contents store.old }
         ensures paths { IfOk result (λ a. paths_of a.0 ≡ with_path (paths_of self.entry) path.now) }
-        ensures place { IfOk result (λ a. place_in (paths_of a.0) path.now ≡ Some a.1) }
+        ensures place { IfOk result (λ a. index_in (paths_of a.0) path.now ≡ Some a.1) }
         ensures kept { AreKept (S.contents store.old) self.entry
             → IfOk result (λ a. AreKept (S.contents store.old) a.0) }
         ensures faults { (n : ℕ) → S.faulted store.old ≡ one_more_times n (unreadable_count self.entry)
@@ -99,7 +99,7 @@ impl<'a> Answers<'a> {
 
     /// Returns the index of a path's result, if it has one.
     pub(crate) fn place_of_path(&self, path: &str) -> Option<usize>
-        ensures { result ≡ place_in (paths_of self.now) path.now }
+        ensures { result ≡ index_in (paths_of self.now) path.now }
     {
         let _ = &self.paths;
         self.places.get(path).copied()

@@ -4,7 +4,7 @@ ghost use Rattle.std.specs.Prelude.{◌≡◌, ◌<◌, ℕ, IfOk, IfSome, Some,
 ghost use Rattle.std.specs.Prelude.{option_map, option_and_then};
 ghost use Rattle.std.specs.List.{fold};
 ghost use Rattle.rv_lists.specs.Jobs.{AreJobs, console_path, single_job};
-ghost use Rattle.rv_base.specs.Names.{place_in};
+ghost use Rattle.rv_base.specs.Names.{index_in};
 ghost use Rattle.rv_jobs.specs.Plans.{paths_of, with_job, with_path_if, jobs_needed_at};
 ghost use Rattle.rv_jobs.specs.Plans.{AreKept, unreadable_count, one_more_times};
 ghost use Rattle.rv_jobs.specs.Placed.{ArePlaced, AreNoted, IsFound, AreFound};
@@ -156,7 +156,7 @@ fn read_path_if_named<'a, S: Store>(
     ensures same { S.contents store.new ≡ S.contents store.old }
     ensures paths { IfOk result (λ a. paths_of a.0
         ≡ with_path_if (paths_of asked.entry) (option_map (λ p. p.now) path.entry)) }
-    ensures place { IfOk result (λ a. option_map (place_in (paths_of a.0))
+    ensures place { IfOk result (λ a. option_map (index_in (paths_of a.0))
         (option_map (λ p. p.now) path.entry) ≡ option_map (λ k. Some k) a.1) }
     ensures kept { AreKept (S.contents store.old) asked.entry
         → IfOk result (λ a. AreKept (S.contents store.old) a.0) }
@@ -211,7 +211,7 @@ fn answer_places_of_job(asked: &Answers, job: &Job, noted: Option<Places>) -> Fo
 
 /// Returns the index of a path's result, if there is a path and it has a result.
 fn place_of_path_if_named(asked: &Answers, path: Option<&str>) -> Option<usize>
-    ensures { result ≡ option_and_then (place_in (paths_of asked.now))
+    ensures { result ≡ option_and_then (index_in (paths_of asked.now))
         (option_map (λ p. p.now) path.entry) }
 {
     match path {

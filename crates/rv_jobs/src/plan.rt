@@ -6,7 +6,7 @@ ghost use Rattle.std.specs.Prelude.{◌≡◌, ◌<◌, ◌≤◌, ℕ, List, If
 ghost use Rattle.std.specs.Prelude.{slice_index_or, option_map};
 ghost use Rattle.std.specs.List.{All};
 ghost use Rattle.rv_lists.specs.Jobs.{IsJob, console_path};
-ghost use Rattle.rv_base.specs.Names.{place_in};
+ghost use Rattle.rv_base.specs.Names.{index_in};
 ghost use Rattle.rv_jobs.specs.Plans.{paths_of, paths_used, jobs_needed_for, kept_for};
 ghost use Rattle.rv_jobs.specs.Plans.{AreKept, unreadable_count, one_more_times};
 
@@ -164,7 +164,7 @@ impl Plan {
     // Returns the result at an index, or that of a path that was not read.
     fn kept_or_unread(&self, at: Option<usize>) -> &Kept
         requires { IfSome at (λ k. k < length self.now.answers) }
-        ensures { (path : List ℕ) → place_in (paths_of self.now.answers) path ≡ at
+        ensures { (path : List ℕ) → index_in (paths_of self.now.answers) path ≡ at
             → result.now ≡ kept_for self.now.answers path }
     {
         match at {

@@ -3,7 +3,7 @@
 ghost use Rattle.std.specs.Prelude.{◌≡◌, IfErr, OnErr, OnOk};
 ghost use Rattle.std.specs.Io.KnownBytes.{Appends};
 ghost use Rattle.rv_rows.specs.Sinks.{AppendsBeginning};
-ghost use Rattle.rv_rows.specs.Counts.{HasRisen};
+ghost use Rattle.rv_rows.specs.Counts.{HasIncreased};
 ghost use Rattle.rv_stream.specs.Streams.{row_text_list};
 ghost use Rattle.rv_expect.specs.Judgement.{judging_of};
 ghost use Rattle.rv_junit.specs.Junit.{junit_text};
@@ -11,7 +11,7 @@ ghost use Rattle.rv_junit.specs.Junit.{junit_text};
 use crate::junit::{push_suite_begin, push_test_case};
 use crate::suite::Suite;
 use rv_rows::{Row, Sink, WriteError, put_all};
-use rv_stream::{IndexedRows, RowReporter, put_row_texts};
+use rv_stream::{IndexedRows, RowReporter, write_row_texts};
 use rv_text::push_text;
 use std::alloc::{AllocError, Global};
 
@@ -34,7 +34,7 @@ pub fn write_junit<T: RowReporter, W: Sink>(
         (junit_text suite.now.name.now (judging_of suite.now.judge)
         (row_text_list (T.line reporter.now) rows.now.places.now rows.now.rows.now) rows.now.rows.now)) }
     ensures failed { IfErr result (λ error. error ≡ WriteError.Failed
-        → HasRisen (W.failed out.old) (W.failed out.new)) }
+        → HasIncreased (W.failed out.old) (W.failed out.new)) }
 {
     let mut begin = String::new(alloc);
     push_suite_begin(alloc, &mut begin, suite, rows.rows)?;
@@ -43,7 +43,7 @@ pub fn write_junit<T: RowReporter, W: Sink>(
         suite: *suite,
         reporter,
     };
-    put_row_texts(alloc, &mut text, &cases, rows, out)?;
+    write_row_texts(alloc, &mut text, &cases, rows, out)?;
     push_text(&mut text, "</testsuite>\n</testsuites>\n")?;
     put_all(out, text.as_slice())?;
     Ok(())

@@ -42,8 +42,8 @@ IsKeyAndValue key None told = told ≡ key ++ codes " is missing"
 IsKeyAndValue key (Some value) told = (shown : List ℕ) × IsShownValue value shown × (told ≡ key ++ codes " = " ++ shown)
 
 -- a key with its value, or that it is missing, and what is expected of the value
-abbrev pub IsWantedValue : List ℕ → Option Data → List ℕ → List ℕ → Type 0
-IsWantedValue key value wanted told =
+abbrev pub IsExpectedValue : List ℕ → Option Data → List ℕ → List ℕ → Type 0
+IsExpectedValue key value wanted told =
     (met : List ℕ) × IsKeyAndValue key value met × (told ≡ met ++ (codes ": " ++ wanted))
 
 -- ---- faults of the whole list
@@ -108,9 +108,9 @@ rest_words rest.Nothing = []
 rest_words (rest.Most most) = decimal most
 rest_words rest.FaultKinds = first_kinds_text (length fault_kinds)
 
-abbrev pub told_words : Explanation → List ℕ
-told_words (told.Text text) = text.now
-told_words (told.Expected wanted) = wanted.now.before.now ++ (rest_words wanted.now.rest ++ wanted.now.behind.now)
+abbrev pub explained_words : Explanation → List ℕ
+explained_words (told.Text text) = text.now
+explained_words (told.Expected wanted) = wanted.now.before.now ++ (rest_words wanted.now.rest ++ wanted.now.behind.now)
 
 -- the words for a key's value, if they depend only on the error
 abbrev pub key_words : What → Option (List ℕ)

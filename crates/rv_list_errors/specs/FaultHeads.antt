@@ -73,6 +73,6 @@ abbrev pub borrowed_names : List (Option (Bor (List ℕ))) → List (Option (Lis
 borrowed_names names = map borrowed_name names
 
 -- the location as found by reading the text a second time
-abbrev pub look_place : FaultView → ℕ → List ℕ
-look_place (look.NoToml text error) number = []
-look_place (look.List list) number = fault_place list.lines.items (borrowed_names list.names.items) number
+abbrev pub location_in_view : FaultView → ℕ → List ℕ
+location_in_view (look.NoToml text error) number = []
+location_in_view (look.List list) number = fault_place list.lines.items (borrowed_names list.names.items) number

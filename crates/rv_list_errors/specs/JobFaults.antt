@@ -21,7 +21,7 @@ use Rattle.rv_text.specs.Words.{word_digits}
 use Rattle.rv_list_errors.specs.Lines.{BeginsWith}
 use Rattle.rv_list_errors.specs.Expectations.{IsExpectationTold, isa_told}
 use Rattle.rv_list_errors.specs.FaultHeads.{borrowed_names}
-use Rattle.rv_list_errors.specs.Explanation.{IsKeyAndValue, IsShownValue, key_words, region_number_text, rest_words, told_words}
+use Rattle.rv_list_errors.specs.Explanation.{IsKeyAndValue, IsShownValue, key_words, region_number_text, rest_words, explained_words}
 use Rattle.rv_list_errors.specs.UnknownKeys.{TellsUnknownKey}
 use Rattle.rv_list_errors.specs.declared.fault_text.FaultView.{FaultView}
 use Rattle.rv_list_errors.specs.declared.fault_text.FaultView.TheVariants as look
@@ -130,9 +130,9 @@ script_told_of ms = script_told (text_at_key (codes "input") ms) (text_at_key (c
 -- ---- what is told of one key
 
 -- the key whose value is shown, if any
-abbrev pub told_key : Explanation → Option (List ℕ)
-told_key (told.Text text) = None
-told_key (told.Expected wanted) = Some wanted.now.key.now
+abbrev pub explained_key : Explanation → Option (List ℕ)
+explained_key (told.Text text) = None
+explained_key (told.Expected wanted) = Some wanted.now.key.now
 
 -- the number of bytes that a text of some length represents, if it is reported
 abbrev pub told_bytes : Bytes → ℕ → ℕ
@@ -254,11 +254,11 @@ TellsSameAs names ms told = (head : List ℕ)
 
 -- the explanation of a key matches the error of its value
 pub record IsToldOf (wrong : What) (ms : Members) (explained : Explanation) : Type 0 where
-  pub words : IfSome (key_words wrong) (λ words. told_words explained ≡ words)
-  pub key : IfSome (key_of wrong) (λ key. told_key explained ≡ Some key)
-  pub script : wrong ≡ what.Input → (told_key explained, told_words explained) ≡ script_told_of ms
-  pub expectation : wrong ≡ what.Expect → IsExpectationTold ms (told_key explained, told_words explained)
-  pub isa : wrong ≡ what.Isa → (told_key explained, told_words explained) ≡ isa_told ms
+  pub words : IfSome (key_words wrong) (λ words. explained_words explained ≡ words)
+  pub key : IfSome (key_of wrong) (λ key. explained_key explained ≡ Some key)
+  pub script : wrong ≡ what.Input → (explained_key explained, explained_words explained) ≡ script_told_of ms
+  pub expectation : wrong ≡ what.Expect → IsExpectationTold ms (explained_key explained, explained_words explained)
+  pub isa : wrong ≡ what.Isa → (explained_key explained, explained_words explained) ≡ isa_told ms
 
 -- the explanation of an error that does not depend on the other jobs
 abbrev pub TellsOwnFault : What → Members → List ℕ → Type 0

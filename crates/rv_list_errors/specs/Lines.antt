@@ -28,12 +28,12 @@ PutsLines count before after =
     × (after ≡ before ++ flat_map printable_line messages)
 
 -- a line for each error has been appended, whose message satisfies the predicate
-abbrev pub PutsLineOfEach : (JobError → List ℕ → Type 0) → List JobError → List ℕ → List ℕ → Type 0
-PutsLineOfEach Is faults before after =
+abbrev pub AppendsLineOfEach : (JobError → List ℕ → Type 0) → List JobError → List ℕ → List ℕ → Type 0
+AppendsLineOfEach Is faults before after =
     (messages : List (List ℕ)) × TellEach Is faults messages
     × (after ≡ before ++ flat_map printable_line messages)
 
 -- a line for each error has been appended, beginning with its head
 abbrev pub PutsFaultLines : (JobError → List ℕ) → List JobError → List ℕ → List ℕ → Type 0
 PutsFaultLines head faults before after =
-    PutsLineOfEach (λ fault message. BeginsWith (head fault) message) faults before after
+    AppendsLineOfEach (λ fault message. BeginsWith (head fault) message) faults before after

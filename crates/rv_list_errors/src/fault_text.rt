@@ -1,7 +1,7 @@
 //! The message on an error.
 
 ghost use Rattle.std.specs.Prelude.{◌≡◌, ◌++◌, ◌<◌, IfOk, None, OnOk, codes, slice_get, slice_index_or};
-ghost use Rattle.rv_list_errors.specs.FaultHeads.{borrowed_name, borrowed_names, fault_place, job_heading, line_text, look_place};
+ghost use Rattle.rv_list_errors.specs.FaultHeads.{borrowed_name, borrowed_names, fault_place, job_heading, line_text, location_in_view};
 ghost use Rattle.rv_list_errors.specs.FaultHeads.{job_number_and_name, name_text};
 ghost use Rattle.rv_list_errors.specs.JobFaults.{EndsSo, TellsFaultOfList, TellsFoundFault};
 ghost use Rattle.rv_list_errors.specs.Lines.{BeginsWith};
@@ -34,9 +34,9 @@ pub(crate) fn message_of_fault(
     fault: JobError,
     suggestion: Suggestion,
 ) -> Result<Vec<u8>, AllocError>
-    ensures head { IfOk result (λ message. BeginsWith (file.now ++ look_place look.now fault.job) message.items) }
+    ensures head { IfOk result (λ message. BeginsWith (file.now ++ location_in_view look.now fault.job) message.items) }
     ensures told { IfOk result (λ message. EndsSo (TellsFoundFault look.now fault)
-        (file.now ++ look_place look.now fault.job) message.items) }
+        (file.now ++ location_in_view look.now fault.job) message.items) }
 {
     let mut message = Vec::new(alloc);
     push_text(&mut message, file)?;
@@ -65,7 +65,7 @@ pub(crate) fn list_fault_message(
 
 // Appends the location of an error in the list, as far as its jobs are known.
 fn push_fault_place(message: &mut Vec<u8>, look: &FaultView<'_>, job: u32) -> Result<(), AllocError>
-    ensures { OnOk result (message.new.items ≡ message.old.items ++ look_place look.now job) }
+    ensures { OnOk result (message.new.items ≡ message.old.items ++ location_in_view look.now job) }
 {
     match look {
         FaultView::NoToml(_, _) => Ok(()),

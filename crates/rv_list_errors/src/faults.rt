@@ -1,10 +1,10 @@
 //! The lines of a list's errors.
 
 ghost use Rattle.std.specs.Prelude.{◌++◌, OnOk, length};
-ghost use Rattle.rv_list_errors.specs.FaultHeads.{fault_head, look_place};
+ghost use Rattle.rv_list_errors.specs.FaultHeads.{fault_head, location_in_view};
 ghost use Rattle.rv_list_errors.specs.FaultsTold.{TellsFaultOfText};
 ghost use Rattle.rv_list_errors.specs.JobFaults.{EndsSo, TellsFoundFault};
-ghost use Rattle.rv_list_errors.specs.Lines.{PutsFaultLines, PutsLineOfEach, PutsLines};
+ghost use Rattle.rv_list_errors.specs.Lines.{PutsFaultLines, AppendsLineOfEach, PutsLines};
 
 use crate::fault_text::{FaultView, message_of_fault};
 use crate::list::List;
@@ -30,7 +30,7 @@ pub fn push_faults(
     ensures heads { OnOk result (PutsFaultLines (fault_head file.now text.now) faults.now
         bytes.old.items bytes.new.items) }
     // The explanation of the error follows, based on the values of that job.
-    ensures told { OnOk result (PutsLineOfEach (TellsFaultOfText file.now text.now) faults.now
+    ensures told { OnOk result (AppendsLineOfEach (TellsFaultOfText file.now text.now) faults.now
         bytes.old.items bytes.new.items) }
 {
     match toml::table_from_slice(alloc, text) {
@@ -55,8 +55,8 @@ fn push_fault_lines(
     look: &FaultView<'_>,
     faults: &[JobError],
 ) -> Result<(), AllocError>
-    ensures { OnOk result (PutsLineOfEach
-        (λ fault message. EndsSo (TellsFoundFault look.now fault) (file.now ++ look_place look.now fault.job) message)
+    ensures { OnOk result (AppendsLineOfEach
+        (λ fault message. EndsSo (TellsFoundFault look.now fault) (file.now ++ location_in_view look.now fault.job) message)
         faults.now bytes.old.items bytes.new.items) }
 {
     for (at, fault) in faults.iter().enumerate() {

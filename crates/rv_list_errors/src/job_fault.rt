@@ -8,8 +8,8 @@ ghost use Rattle.rv_lists.specs.declared.error.What.TheVariants.{Expect, Input, 
 ghost use Rattle.rv_list_errors.specs.Expectations.{IsExpectationTold, isa_told, set_words};
 ghost use Rattle.rv_list_errors.specs.FaultHeads.{borrowed_name, borrowed_names};
 ghost use Rattle.rv_list_errors.specs.JobFaults.{TellsFaultOfTable, TellsJobFault, TellsNoTable, TellsName, TellsOwnFault, element_at, free_words};
-ghost use Rattle.rv_list_errors.specs.JobFaults.{are_digit_pairs, key_of, script_told, script_told_of, told_key};
-ghost use Rattle.rv_list_errors.specs.Explanation.{AddsSome, is_unsimulated, key_words, letters_words, told_words};
+ghost use Rattle.rv_list_errors.specs.JobFaults.{are_digit_pairs, key_of, script_told, script_told_of, explained_key};
+ghost use Rattle.rv_list_errors.specs.Explanation.{AddsSome, is_unsimulated, key_words, letters_words, explained_words};
 
 use crate::expectation_fault::expectation_explanation;
 use crate::explanations::{
@@ -111,11 +111,11 @@ fn push_fault_within_job(message: &mut Message, table: &Table, what: What)
 
 // Returns the explanation of an error of a single value.
 fn key_explanation(table: &Table, what: What) -> Explanation
-    ensures words { IfSome (key_words what) (λ words. told_words result ≡ words) }
-    ensures key { IfSome (key_of what) (λ key. told_key result ≡ Some key) }
-    ensures script { what ≡ Input → (told_key result, told_words result) ≡ script_told_of (table_view table.now) }
-    ensures expectation { what ≡ Expect → IsExpectationTold (table_view table.now) (told_key result, told_words result) }
-    ensures isa { what ≡ Isa → (told_key result, told_words result) ≡ isa_told (table_view table.now) }
+    ensures words { IfSome (key_words what) (λ words. explained_words result ≡ words) }
+    ensures key { IfSome (key_of what) (λ key. explained_key result ≡ Some key) }
+    ensures script { what ≡ Input → (explained_key result, explained_words result) ≡ script_told_of (table_view table.now) }
+    ensures expectation { what ≡ Expect → IsExpectationTold (table_view table.now) (explained_key result, explained_words result) }
+    ensures isa { what ≡ Isa → (explained_key result, explained_words result) ≡ isa_told (table_view table.now) }
 {
     match what {
         What::Name => Explanation::Expected(&NAME),
@@ -133,7 +133,7 @@ fn key_explanation(table: &Table, what: What) -> Explanation
 
 /// Returns which part of an instruction set is not simulated, for the sets requested most often.
 pub(crate) fn isa_explanation(table: &Table) -> Explanation
-    ensures { (told_key result, told_words result) ≡ isa_told (table_view table.now) }
+    ensures { (explained_key result, explained_words result) ≡ isa_told (table_view table.now) }
 {
     match text_at_key(table, "isa") {
         Some(isa) => set_explanation(isa.as_bytes()),
@@ -143,8 +143,8 @@ pub(crate) fn isa_explanation(table: &Table) -> Explanation
 
 // Returns the explanation of the name of an instruction set.
 fn set_explanation(isa: &[u8]) -> Explanation
-    ensures key { told_key result ≡ Some (codes "isa") }
-    ensures words { told_words result ≡ set_words isa.now }
+    ensures key { explained_key result ≡ Some (codes "isa") }
+    ensures words { explained_words result ≡ set_words isa.now }
 {
     if isa.starts_with(b"rv64") {
         Explanation::Expected(&ISA_OF_64_BITS)
@@ -157,8 +157,8 @@ fn set_explanation(isa: &[u8]) -> Explanation
 
 // Returns the explanation of the letters of a 32-bit instruction set.
 fn letters_explanation(letters: &[u8]) -> Explanation
-    ensures key { told_key result ≡ Some (codes "isa") }
-    ensures words { told_words result ≡ letters_words letters.now }
+    ensures key { explained_key result ≡ Some (codes "isa") }
+    ensures words { explained_words result ≡ letters_words letters.now }
 {
     match unsimulated_letter(letters) {
         Some(b'a') => Explanation::Expected(&ISA_WITH_A),
@@ -182,13 +182,13 @@ fn is_unsimulated(letter: u8) -> bool
 
 // Returns the explanation of a bad script, given the texts of both its keys.
 fn input_explanation(table: &Table) -> Explanation
-    ensures { (told_key result, told_words result) ≡ script_told_of (table_view table.now) }
+    ensures { (explained_key result, explained_words result) ≡ script_told_of (table_view table.now) }
 {
     script_explanation(text_at_key(table, "input"), text_at_key(table, "input_hex"))
 }
 
 fn script_explanation(text: Option<&str>, digits: Option<&str>) -> Explanation
-    ensures { (told_key result, told_words result) ≡ script_told (borrowed_name text.entry) (borrowed_name digits.entry) }
+    ensures { (explained_key result, explained_words result) ≡ script_told (borrowed_name text.entry) (borrowed_name digits.entry) }
 {
     match (text, digits) {
         (Some(_), Some(_)) => Explanation::Text(BOTH_INPUTS),
@@ -199,7 +199,7 @@ fn script_explanation(text: Option<&str>, digits: Option<&str>) -> Explanation
 }
 
 fn digits_explanation(digits: &str) -> Explanation
-    ensures { (told_key result, told_words result) ≡ script_told None (Some digits.now) }
+    ensures { (explained_key result, explained_words result) ≡ script_told None (Some digits.now) }
 {
     if are_hex_digit_pairs(digits) {
         Explanation::Expected(&INPUT_HEX)

@@ -75,7 +75,7 @@ fn first_overlap(regions: &[Region]) -> Option<Overlap>
         (λ overlap. IsFirstOverlap regions.now overlap.at overlap.later overlap.address) }
 {
     for at in 0..regions.len() {
-        if let Some(overlap) = overlap_behind(regions, at) {
+        if let Some(overlap) = overlap_with_later(regions, at) {
             return Some(overlap);
         }
     }
@@ -83,7 +83,7 @@ fn first_overlap(regions: &[Region]) -> Option<Overlap>
 }
 
 // Returns the first later region that overlaps the region at an index.
-fn overlap_behind(regions: &[Region], at: usize) -> Option<Overlap>
+fn overlap_with_later(regions: &[Region], at: usize) -> Option<Overlap>
     requires { at < length regions.now }
     ensures { MatchOption result (IsApartBehind regions.now at)
         (λ overlap. (overlap.at ≡ at) × IsOverlap regions.now overlap.at overlap.later overlap.address

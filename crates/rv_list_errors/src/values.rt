@@ -4,7 +4,7 @@ ghost use Rattle.std.specs.Prelude.{◌≡◌, option_map, unwrap_or};
 ghost use Rattle.toml.specs.Data.{get_member, no_items};
 ghost use Rattle.toml.specs.View.{items_view, table_view, view};
 ghost use Rattle.rv_lists.specs.Keys.{array_at_key, text_at_key};
-ghost use Rattle.rv_list_errors.specs.Explanation.{AddsSome, IsKeyAndValue, IsWantedValue};
+ghost use Rattle.rv_list_errors.specs.Explanation.{AddsSome, IsKeyAndValue, IsExpectedValue};
 
 use crate::message::Message;
 use toml::{Table, Value};
@@ -62,7 +62,7 @@ pub(crate) fn push_key_and_value(message: &mut Message, table: &Table, key: &str
 /// Appends a key, its value, and what is expected of it.
 pub(crate) fn push_expected_value(message: &mut Message, table: &Table, key: &str, wanted: &str)
     ensures { AddsSome message.old message.new
-        (IsWantedValue key.now (get_member key.now (table_view table.now)) wanted.now) }
+        (IsExpectedValue key.now (get_member key.now (table_view table.now)) wanted.now) }
 {
     push_key_and_value(message, table, key);
     message.push(": ");

@@ -9,8 +9,8 @@ use Rattle.rv_list_locations.specs.JobPlaces.{Step}
 use Rattle.std.specs.Prelude.{Option}
 
 -- the remaining text
-abbrev pub GivesText : Result (Bor (List ℕ)) ParseError → Option (List ℕ) → Type 0
-GivesText result expected = Gives (λ rest. rest.now) result expected
+abbrev pub ReturnsText : Result (Bor (List ℕ)) ParseError → Option (List ℕ) → Type 0
+ReturnsText result expected = Gives (λ rest. rest.now) result expected
 
 abbrev pub step_view : code.Step → Step
 step_view step = (step.is_job, step.next, step.rest.now)

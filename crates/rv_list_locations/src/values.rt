@@ -4,7 +4,7 @@ ghost use Rattle.std.specs.Prelude.{◌≡◌, ◌-◌, ◌^◌, ◌<◌, ◌≤
 ghost use Rattle.rv_list_locations.specs.JobPlaces.{after_brackets, after_string_or_word, after_token, after_value};
 ghost use Rattle.toml_parser.specs.Lexical.{skip_blank as behind_blank};
 ghost use Rattle.rv_list_locations.specs.JobPlaces.{after_word, depth_after, is_in_word};
-ghost use Rattle.rv_list_locations.specs.Steps.{GivesText};
+ghost use Rattle.rv_list_locations.specs.Steps.{ReturnsText};
 
 use std::alloc::Global;
 use toml_parser::bytes::is_word;
@@ -14,7 +14,7 @@ use toml_parser::{ErrorKind, ParseError, quoted, starts_string};
 /// Returns the text after a value.
 #[tactic(auto, unfolding(crate::specs::JobPlaces::after_value))]
 pub(crate) fn skip_value(alloc: Global, text: &str) -> Result<&str, ParseError>
-    ensures value { GivesText result (after_value text.now) }
+    ensures value { ReturnsText result (after_value text.now) }
     ensures shorter { IfOk result (λ rest. length rest.now < length text.now) }
 {
     if matches!(first(text), b'[' | b'{') {
@@ -26,7 +26,7 @@ pub(crate) fn skip_value(alloc: Global, text: &str) -> Result<&str, ParseError>
 
 // Returns the text after an array or an inline table, that is after the bracket that closes the last open one.
 fn skip_brackets(alloc: Global, text: &str) -> Result<&str, ParseError>
-    ensures value { GivesText result (after_brackets (suc (length text.now)) 0 text.now) }
+    ensures value { ReturnsText result (after_brackets (suc (length text.now)) 0 text.now) }
     ensures shorter { IfOk result (λ rest. length rest.now < length text.now) }
 {
     let mut rest = text;
@@ -63,7 +63,7 @@ fn bracket_depth_after(depth: usize, byte: u8) -> usize
 /// Returns the text after a punctuation sign, a string or a word.
 #[tactic(auto, unfolding(crate::specs::JobPlaces::after_token))]
 pub(crate) fn skip_token(alloc: Global, text: &str) -> Result<&str, ParseError>
-    ensures value { GivesText result (after_token text.now) }
+    ensures value { ReturnsText result (after_token text.now) }
     ensures shorter { IfOk result (λ rest. length rest.now < length text.now) }
 {
     if matches!(first(text), b'[' | b']' | b'{' | b'}' | b',' | b'=') {
@@ -76,7 +76,7 @@ pub(crate) fn skip_token(alloc: Global, text: &str) -> Result<&str, ParseError>
 // Returns the text after a string or a word.
 #[tactic(auto, unfolding(crate::specs::JobPlaces::after_string_or_word))]
 fn skip_string_or_word(alloc: Global, text: &str) -> Result<&str, ParseError>
-    ensures value { GivesText result (after_string_or_word text.now) }
+    ensures value { ReturnsText result (after_string_or_word text.now) }
     ensures shorter { IfOk result (λ rest. length rest.now < length text.now) }
 {
     if starts_string(text) {
@@ -89,11 +89,11 @@ fn skip_string_or_word(alloc: Global, text: &str) -> Result<&str, ParseError>
 
 // Returns the text after an unquoted key, or a value that is not a text.
 fn skip_word(text: &str) -> Result<&str, ParseError>
-    ensures value { GivesText result (after_word text.now) }
+    ensures value { ReturnsText result (after_word text.now) }
     ensures shorter { IfOk result (λ rest. length rest.now < length text.now) }
 {
     let mut rest = text;
-    'letters: while bare_word_goes_on(rest) {
+    'letters: while bare_word_continues(rest) {
         rest = skip(rest, 1);
     }
     if rest.len() == text.len() {
@@ -103,7 +103,7 @@ fn skip_word(text: &str) -> Result<&str, ParseError>
 }
 
 // Whether a word begins or continues here; a space may separate date and time.
-fn bare_word_goes_on(text: &str) -> bool
+fn bare_word_continues(text: &str) -> bool
     ensures { result ≡ is_in_word (slice_index text.now 0) (slice_index text.now 1) }
 {
     is_word(first(text)) || (first(text) == b' ' && byte_at(text, 1).is_ascii_digit())

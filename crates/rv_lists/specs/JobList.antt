@@ -34,7 +34,7 @@ use Rattle.rv_machine.specs.declared.ending.FaultKind.{FaultKind}
 use Rattle.rv_machine.specs.Faults.{fault_named}
 use Rattle.rv_base.specs.Limits.{is_within, most_budget, most_symbol}
 use Rattle.rv_base.specs.Limits.{most_console, most_jobs, most_path, most_script}
-use Rattle.rv_base.specs.Names.{is_name, place_in}
+use Rattle.rv_base.specs.Names.{is_name, index_in}
 use Rattle.rv_lists.specs.Jobs.{default_regions}
 use Rattle.rv_lists.specs.Reading.{◌>>=◌, fault_if, passing_value, reading_or_default, numbered_reading}
 use Rattle.rv_lists.specs.Keys.{any_unknown_key, is_list_key, item_count, text_at_key, number_at_key}
@@ -199,7 +199,7 @@ same_as_from_place None = Err what.SameAs
 same_as_from_place (Some k) = Ok (Some k)
 
 abbrev pub same_as_from_name : List (List ℕ) → List ℕ → Result (Option ℕ) What
-same_as_from_name earlier t = same_as_from_place (place_in earlier t)
+same_as_from_name earlier t = same_as_from_place (index_in earlier t)
 
 unfoldable pub same_as_from_table : List (List ℕ) → Members → Result (Option ℕ) What
 same_as_from_table earlier ms = reading_or_default (same_as_from_name earlier) None (text_at_key (codes "same_as") ms)
@@ -232,7 +232,7 @@ job_from_table earlier ms = do
   known ← fault_if (has_unknown_job_or_region_key ms) what.UnknownKey
   typed ← fault_if (has_wrong_kind ms) what.WrongType
   name ← name_from_table ms
-  fresh ← fault_if (is_some (place_in earlier name)) what.Duplicate
+  fresh ← fault_if (is_some (index_in earlier name)) what.Duplicate
   image ← image_from_table ms
   budget ← budget_from_table ms
   script ← script_from_table ms

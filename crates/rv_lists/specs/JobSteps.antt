@@ -3,7 +3,7 @@ use Rattle.std.specs.Prelude.{ℕ, List, Result, Ok, is_some}
 use Rattle.toml.specs.Data.{Members}
 use Rattle.rv_lists.specs.declared.error.What.{What}
 use Rattle.rv_lists.specs.declared.job.Job.{Job}
-use Rattle.rv_lists.specs.declared.run_keys.Manner.{Manner}
+use Rattle.rv_lists.specs.declared.run_keys.RunOptions.{RunOptions}
 use Rattle.rv_lists.specs.declared.results.Results.{Results}
 use Rattle.rv_lists.specs.declared.setup.Setup.{Setup}
 use Rattle.rv_lists.specs.JobList.{script_from_table, map_from_table, load_from_table, signature_from_table, exit_from_table}
@@ -12,8 +12,8 @@ use Rattle.rv_lists.specs.JobList.{end_from_table, same_as_from_table, isa_from_
 use Rattle.rv_lists.specs.Reading.{◌>>=◌}
 
 -- how a job runs and should end, given the names of the earlier jobs
-unfoldable pub manner_from_table : List (List ℕ) → Members → Result Manner What
-manner_from_table earlier ms = do
+unfoldable pub run_options_from_table : List (List ℕ) → Members → Result RunOptions What
+run_options_from_table earlier ms = do
   expect_end ← end_from_table ms
   same_as ← same_as_from_table earlier ms
   set ← isa_from_table ms
@@ -42,7 +42,7 @@ unfoldable pub job_from_remaining_keys : List (List ℕ) → List ℕ → List �
 job_from_remaining_keys earlier name image budget ms = do
   setup ← setup_from_table ms
   results ← results_from_table ms
-  manner ← manner_from_table earlier ms
+  manner ← run_options_from_table earlier ms
   Ok (record {
     name = name;
     image = image;

@@ -7,7 +7,7 @@ use Rattle.rv_lists.specs.declared.error.What.{What}
 use Rattle.rv_lists.specs.declared.error.What.TheVariants as what
 use Rattle.rv_lists.specs.declared.error.JobError.{JobError}
 use Rattle.rv_lists.specs.JobList.{name_from_table, job_from_element, job_elements, document_of}
-use Rattle.rv_base.specs.Names.{place_in}
+use Rattle.rv_base.specs.Names.{index_in}
 
 -- the error of a result, with the number of its job
 abbrev pub numbered_fault : {A : Type 0} → ℕ → Result A What → List JobError
@@ -15,13 +15,13 @@ numbered_fault n (Ok x) = []
 numbered_fault n (Err w) = record { job = n; what = w } ∷ []
 
 -- a name that is not among these
-abbrev pub untaken_name : List (List ℕ) → Result (List ℕ) What → Option (List ℕ)
-untaken_name names (Ok name) = if is_some (place_in names name) then None else Some name
-untaken_name names (Err fault) = None
+abbrev pub unused_name : List (List ℕ) → Result (List ℕ) What → Option (List ℕ)
+unused_name names (Ok name) = if is_some (index_in names name) then None else Some name
+unused_name names (Err fault) = None
 
 -- the name that an element takes, whether its job is good or bad: a valid name that no earlier element has taken
 unfoldable pub name_taken_by_element : List (List ℕ) → Data → Option (List ℕ)
-name_taken_by_element names (table ms) = untaken_name names (name_from_table ms)
+name_taken_by_element names (table ms) = unused_name names (name_from_table ms)
 name_taken_by_element names _ = None
 
 -- names and one more, if there is one

@@ -6,7 +6,7 @@ ghost use Rattle.std.specs.Result.{result_err};
 ghost use Rattle.toml.specs.View.{view, table_view, items_view};
 ghost use Rattle.rv_base.specs.Limits.{most_jobs};
 ghost use Rattle.rv_lists.specs.JobList.{job_from_element, job_list_of, names_of_jobs};
-ghost use Rattle.rv_base.specs.Names.{place_in};
+ghost use Rattle.rv_base.specs.Names.{index_in};
 ghost use Rattle.rv_lists.specs.ListFaults.{numbered_fault, faults_of_elements, faults_of_document, list_faults, name_taken_by_element};
 ghost use Rattle.rv_lists.specs.ListFaults.{names_with_taken};
 
@@ -121,7 +121,7 @@ fn reserve_bad_job_name(
 fn name_taken_by_element<'a>(earlier: &EarlierJobs, element: &'a Value) -> Option<&'a str>
     ensures value { option_map (λ name. name.now) result
         ≡ name_taken_by_element (names_of_jobs earlier.now) (view element.now) }
-    ensures fresh { IfSome result (λ name. place_in (names_of_jobs earlier.now) name.now ≡ None) }
+    ensures fresh { IfSome result (λ name. index_in (names_of_jobs earlier.now) name.now ≡ None) }
 {
     let name = match element.as_table() {
         Some(table) => match name_from_table(table) {

@@ -16,7 +16,7 @@ use Rattle.rv_memory.specs.declared.access.Misaligned.TheVariants.{Fault, Allow}
 use Rattle.rv_memory.specs.declared.faults.FetchFault.{FetchFault}
 use Rattle.rv_memory.specs.declared.faults.FetchFault.TheVariants.{Unmapped, Stale}
 use Rattle.rv_memory.specs.declared.limits.TheConstants.{CONSOLE_ROOM}
-use Rattle.rv_memory.specs.Regions.{in_one, in_writable, addresses, tabulate}
+use Rattle.rv_memory.specs.Regions.{in_one, is_in_writable_region, addresses, tabulate}
 
 -- a bus as callers see it
 pub record Contents : Type 0 where
@@ -92,15 +92,15 @@ load_from c a w =
     else (if in_one c.regions a (size_of w) then Ok (value_at c.memory a w, c) else Err Access))
 
 -- one byte stored, and marked as stored whatever its previous value
-abbrev pub put_byte : Contents → ℕ → ℕ → Contents
-put_byte c a b = record c { memory = fin.insert c.memory a b; stored = set.insert c.stored a }
+abbrev pub with_stored_byte : Contents → ℕ → ℕ → Contents
+with_stored_byte c a b = record c { memory = fin.insert c.memory a b; stored = set.insert c.stored a }
 
 -- the low bytes of a value stored, lowest first
 abbrev pub put : Contents → ℕ → Width → ℕ → Contents
-put c a Byte v = put_byte c a (v % 0x100)
-put c a Half v = put_byte (put_byte c a (v % 0x100)) (a + 1) (v / 0x100 % 0x100)
+put c a Byte v = with_stored_byte c a (v % 0x100)
+put c a Half v = with_stored_byte (with_stored_byte c a (v % 0x100)) (a + 1) (v / 0x100 % 0x100)
 put c a Word v =
-    put_byte (put_byte (put_byte (put_byte c a (v % 0x100)) (a + 1) (v / 0x100 % 0x100))
+    with_stored_byte (with_stored_byte (with_stored_byte (with_stored_byte c a (v % 0x100)) (a + 1) (v / 0x100 % 0x100))
     (a + 2) (v / 0x1_0000 % 0x100)) (a + 3) (v / 0x100_0000 % 0x100)
 
 -- A store to the console: a word store at its first address appends its low byte, until the output is full. Every other store is rejected.
@@ -119,7 +119,7 @@ abbrev pub store_to : Contents → ℕ → Width → ℕ → Result Contents Bus
 store_to c a w v =
     if refuses c.misaligned a w then Err Misaligned
     else (if touches_console a (size_of w) then console_store c a w v
-    else (if in_writable c.regions a (size_of w) then Ok (put c a w v) else Err Access))
+    else (if is_in_writable_region c.regions a (size_of w) then Ok (put c a w v) else Err Access))
 
 -- whether one of the two bytes was stored to since the last FENCE.I
 abbrev pub is_stale : Contents → ℕ → Bool
@@ -151,13 +151,13 @@ abbrev pub without_stored : Contents → Contents
 without_stored c = record c { stored = set.empty }
 
 -- the memory with bytes written consecutively from an address on
-abbrev pub bytes_put : fin.FinMap nat_cmp ℕ → ℕ → List ℕ → fin.FinMap nat_cmp ℕ
-bytes_put m a [] = m
-bytes_put m a (b ∷ bs) = bytes_put (fin.insert m a b) (a + 1) bs
+abbrev pub with_bytes_written : fin.FinMap nat_cmp ℕ → ℕ → List ℕ → fin.FinMap nat_cmp ℕ
+with_bytes_written m a [] = m
+with_bytes_written m a (b ∷ bs) = with_bytes_written (fin.insert m a b) (a + 1) bs
 
 -- an image's bytes written from an address on: none of them counts as stored
 abbrev pub with_bytes : Contents → ℕ → List ℕ → Contents
-with_bytes c a bytes = record c { memory = bytes_put c.memory a bytes }
+with_bytes c a bytes = record c { memory = with_bytes_written c.memory a bytes }
 
 -- a new bus: zeroed memory, and no byte stored
 unfoldable pub new_bus : List Region → List ℕ → Choice → Contents

@@ -3,7 +3,7 @@ ghost use Rattle.std.specs.Prelude.{◌≡◌, ◌+◌, ◌*◌, ◌/◌, ◌%�
 ghost use Rattle.std.specs.Prelude.{None, length};
 ghost use Rattle.rv_memory.specs.Regions.{in_one};
 ghost use Rattle.rv_memory.specs.Maps.{map_error};
-ghost use Rattle.rv_memory.specs.Inside.Places.{IsPlace};
+ghost use Rattle.rv_memory.specs.Inside.Places.{IsStoredAt};
 ghost use Rattle.rv_memory.specs.Bus.{size_of, load_from, store_to, fetch_half_from, fetch_word_from, clean_from};
 ghost use Rattle.rv_memory.specs.Bus.{put, without_stored, with_bytes};
 
@@ -73,7 +73,7 @@ impl Bus {
             (λ e. (load_from self.old addr width ≡ Err e) × (self.new ≡ self.old)) }
     {
         if width.divides(addr) {
-            if let Some(place) = self.map.place_in_first_region(addr, width) {
+            if let Some(place) = self.map.index_in_first_region(addr, width) {
                 return Ok(read_value(&self.bytes, place.at, width));
             }
         }
@@ -94,7 +94,7 @@ impl Bus {
             (λ e. (store_to self.old addr width value ≡ Err e) × (self.new ≡ self.old)) }
     {
         if width.divides(addr) {
-            if let Some(place) = self.map.place_in_first_region(addr, width) {
+            if let Some(place) = self.map.index_in_first_region(addr, width) {
                 if place.writable {
                     self.put(place, addr, width, value);
                     return Ok(());
@@ -117,7 +117,7 @@ impl Bus {
     // Writes the low bytes of a value at the index of an address, and marks them as stored.
     #[inline(always)]
     fn put(&mut self, place: Place, addr: u32, width: Width, value: u32)
-        requires { IsPlace self.old.regions addr (size_of width) place.at place.writable }
+        requires { IsStoredAt self.old.regions addr (size_of width) place.at place.writable }
         ensures { self.new ≡ put self.old addr width value }
     {
         // Only the contract uses the address.

@@ -40,7 +40,7 @@ impl Bus {
 
     /// Creates the bus that [`Bus::new`] would, reusing the memory of `self` if it has the same number of bytes; otherwise that memory is
     /// freed first.
-    pub fn renewed(
+    pub fn new_reusing(
         self,
         alloc: Global,
         map: Map,

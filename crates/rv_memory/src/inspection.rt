@@ -27,7 +27,7 @@ impl Bus {
         }
     }
     /// Returns the number of script bytes left.
-    pub fn script_left(&self) -> usize
+    pub fn script_remaining(&self) -> usize
         ensures { result ≡ length self.now.script }
     {
         self.script.len() - self.taken

@@ -2,7 +2,7 @@
 ghost use Rattle.std.specs.Prelude.{◌≡◌, ◌+◌, ◌%◌, ◌<◌, ◌≤◌, IfSome, MatchOption, false, true};
 ghost use Rattle.std.specs.List.{list_any, list_all};
 ghost use Rattle.rv_memory.specs.Bus.{size_of};
-ghost use Rattle.rv_memory.specs.Inside.Places.{IsPlace, search_place};
+ghost use Rattle.rv_memory.specs.Inside.Places.{IsStoredAt, search_index};
 ghost use Rattle.rv_memory.specs.Maps.{is_aligned, is_sized};
 ghost use Rattle.rv_memory.specs.Regions.{covers, total_size};
 
@@ -25,7 +25,7 @@ impl Map {
     pub(crate) fn place(&self, addr: u32, len: u32) -> Option<Place>
         requires { 0 < len }
         ensures { MatchOption result (list_any (covers addr len) self.now ≡ false)
-            (λ p. IsPlace self.now addr len p.at p.writable) }
+            (λ p. IsStoredAt self.now addr len p.at p.writable) }
     {
         let first = &self.regions[0];
         if let Some(offset) = first.offset_of(addr, len) {
@@ -40,9 +40,9 @@ impl Map {
     /// Returns where the bytes are stored if they are in the first region and the address is a multiple of the width: regions begin and end
     /// at multiples of 4, so one comparison decides it.
     #[inline(always)]
-    pub(crate) fn place_in_first_region(&self, addr: u32, width: Width) -> Option<Place>
+    pub(crate) fn index_in_first_region(&self, addr: u32, width: Width) -> Option<Place>
         requires { addr % size_of width ≡ 0 }
-        ensures { IfSome result (λ p. IsPlace self.now addr (size_of width) p.at p.writable) }
+        ensures { IfSome result (λ p. IsStoredAt self.now addr (size_of width) p.at p.writable) }
     {
         let first = &self.regions[0];
         let offset = first.offset_of_aligned(addr, width)?;
@@ -59,7 +59,7 @@ fn search_regions(regions: &[Region], start: usize, addr: u32, len: u32) -> Opti
     requires some { 0 < len }
     requires sized { list_all is_sized regions.now ≡ true }
     requires room { start + total_size regions.now ≤ MAP_ROOM }
-    ensures { result ≡ search_place regions.now start addr len }
+    ensures { result ≡ search_index regions.now start addr len }
 {
     let mut at = start;
     for region in regions {

@@ -2,7 +2,7 @@
 use Rattle.std.specs.Prelude.{◌≡◌, ◌-◌, ◌<◌, ◌≤◌, ℕ, true, List, [], length, take, Some, Result}
 use Rattle.std.specs.Prelude.{Ok, Err, is_some, slice_get}
 use Rattle.std.specs.List.{All}
-use Rattle.rv_jobs.specs.Names.{place_in}
+use Rattle.rv_jobs.specs.Names.{index_in}
 use Rattle.rv_report.specs.declared.row.Row.{Row}
 use Rattle.rv_report.specs.declared.read.ReadError.{ReadError}
 use Rattle.rv_report.specs.declared.read.ReadError.TheVariants as read
@@ -48,7 +48,7 @@ pub record AreTwo (bytes others : List ℕ) : Type 0 where
 pub record IsNameTwice (rows : List Row) (place : ℕ) : Type 0 where
   pub row : Row
   pub at : slice_get rows place ≡ Some row
-  pub twice : is_some (place_in (row_names (take place rows)) row.name) ≡ true
+  pub twice : is_some (index_in (row_names (take place rows)) row.name) ≡ true
 
 -- the texts are the parts of a run of some rows, in which the name of a job is that of an earlier one, and the text has its row
 pub record HasNameTwice (texts : List (List ℕ)) (bytes : List ℕ) (n : ℕ) : Type 0 where

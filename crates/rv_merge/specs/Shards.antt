@@ -8,7 +8,7 @@ use Rattle.rv_jobs.specs.Limits.{most_jobs}
 use Rattle.rv_jobs.specs.declared.answers.Answer.{Answer}
 use Rattle.rv_jobs.specs.Plans.{Planned, jobs_needed_for}
 use Rattle.rv_rows.specs.Rows.{rows_at}
-use Rattle.rv_rows.specs.Wholes.{KeepSame, plan_of_jobs}
+use Rattle.rv_rows.specs.Wholes.{HaveSameResults, plan_of_jobs}
 use Rattle.rv_report.specs.declared.saved.Extent.TheVariants as extent
 use Rattle.rv_report.specs.declared.saved.SavedReport.{SavedReport}
 use Rattle.rv_report.specs.Saved.{saved_text}
@@ -47,7 +47,7 @@ pub record IsTextFrom (list : List Job) (answers : List Answer) (run : Run) (n :
   pub low : 0 < n
   pub high : n ≤ run.shards
   pub kept : List Answer
-  pub same : All (KeepSame kept answers) (jobs_needed_for list (shard_places run.shards n run.jobs))
+  pub same : All (HaveSameResults kept answers) (jobs_needed_for list (shard_places run.shards n run.jobs))
   pub text : bytes ≡ saved_text (shard_report run n (plan_of_jobs list kept))
 
 -- each text is that of a shard, and each shard's text is among them

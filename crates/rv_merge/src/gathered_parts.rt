@@ -78,7 +78,7 @@ pub(crate) fn add_part(
         None => {
             gathered.sources[shard] = Some(at);
             let rows = part.rows.into_vec();
-            put_rows_in_slots(&mut gathered.slots, part.numbers.as_slice(), rows);
+            fill_slots(&mut gathered.slots, part.numbers.as_slice(), rows);
             Ok(())
         }
         Some(earlier) if are_same_texts(texts, earlier, at) => Ok(()),
@@ -113,7 +113,7 @@ fn are_same_texts(texts: &[&[u8]], place: usize, other: usize) -> bool
 }
 
 // Writes rows to the slots of their jobs.
-fn put_rows_in_slots(slots: &mut Vec<Option<Row>>, numbers: &[u32], rows: Vec<Row>)
+fn fill_slots(slots: &mut Vec<Option<Row>>, numbers: &[u32], rows: Vec<Row>)
     requires numbers { All (λ n. (0 < n) × (n ≤ vec_len slots.old)) numbers.now }
     requires counted { length numbers.now ≡ vec_len rows }
     ensures { slots.new.items ≡ filled_slots numbers.now rows.items slots.old.items }

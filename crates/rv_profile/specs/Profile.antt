@@ -3,7 +3,7 @@ use Rattle.std.specs.Prelude.{◌==◌, ◌≤◌, ◌&&◌, ◌||◌, ℕ, Bool
 use Rattle.std.specs.List.{All, sum_by}
 use Rattle.std.specs.List.Sorted.{IsPermutation, IsSortedBy}
 use Rattle.rv_count_tables.specs.declared.table.FunctionName.{FunctionName}
-use Rattle.rv_call_tree.specs.Profiles.{arrivals_in, inclusive_behind}
+use Rattle.rv_call_tree.specs.Profiles.{arrivals_in, inclusive_after}
 use Rattle.rv_call_tree.specs.Trees.{own_in}
 use Rattle.rv_call_tree.specs.declared.spot.Spot.{Spot}
 use Rattle.rv_profile.specs.declared.function.FunctionProfile.{FunctionProfile}
@@ -22,7 +22,7 @@ profiled spots named = record {
   name = named.name;
   function = named.function;
   own = own_in named.function spots;
-  inclusive = inclusive_behind named.function [] spots;
+  inclusive = inclusive_after named.function [] spots;
   arrivals = arrivals_in named.function spots;
 }
 

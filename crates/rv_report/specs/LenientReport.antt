@@ -6,7 +6,7 @@ use Rattle.std.specs.Prelude.{Result, Ok, Err, codes, is_some}
 use Rattle.std.specs.List.{onto_first}
 use Rattle.hex.specs.Hex.{decode_of}
 use Rattle.hex.specs.declared.error.FromHexError.{FromHexError}
-use Rattle.rv_base.specs.Names.{is_name, place_in}
+use Rattle.rv_base.specs.Names.{is_name, index_in}
 use Rattle.rv_base.specs.Limits.{most_jobs}
 use Rattle.rv_machine.specs.declared.ending.FaultKind.{FaultKind}
 use Rattle.rv_machine.specs.declared.ending.FaultKind.TheVariants as fault
@@ -215,8 +215,8 @@ row_so_far verdict g = record {
 }
 
 -- the row in progress added to the rows
-unfoldable pub with_closed_row : Verdict → Gathered → Gathered
-with_closed_row verdict g =
+unfoldable pub with_finished_row : Verdict → Gathered → Gathered
+with_finished_row verdict g =
     gathering_between_rows (g.numbers ++ g.number ∷ []) (g.rows ++ row_so_far verdict g ∷ []) g.extent
 
 -- a line that cannot come next: the rest is ignored
@@ -267,7 +267,7 @@ at_words line g =
     if is_hex_word line && nat_lt (length g.words) g.count then
     record g { words = g.words ++ hex_word line ∷ [] }
     else if (slice_index line 0 == 118) && (length g.words == g.count) then
-    with_closed_row (verdict_of_line line) g
+    with_finished_row (verdict_of_line line) g
     else with_stage_over g
 
 abbrev pub with_line_at : Stage → List ℕ → Gathered → Gathered
@@ -289,7 +289,7 @@ with_lines (line ∷ lines) g = with_lines lines (with_line line g)
 -- a row that is incomplete at the end is included
 unfoldable pub with_unfinished_row : Gathered → Gathered
 with_unfinished_row g =
-    if g.begun then with_closed_row verdict.Unasked (record g { words = padded_words g.count g.words }) else g
+    if g.begun then with_finished_row verdict.Unasked (record g { words = padded_words g.count g.words }) else g
 
 unfoldable pub gather_rows : List ℕ → Gathered
 gather_rows text = with_unfinished_row (with_lines (lines text) (gathering_between_rows [] [] extent.Whole))
@@ -306,7 +306,7 @@ rising_count text_before_byte (n ∷ ns) =
 unfoldable pub count_before_repeated_name : List (List ℕ) → List (List ℕ) → ℕ
 count_before_repeated_name earlier [] = 0
 count_before_repeated_name earlier (text ∷ texts) =
-    if is_some (place_in earlier text) then 0 else count_before_repeated_name (earlier ++ text ∷ []) texts + 1
+    if is_some (index_in earlier text) then 0 else count_before_repeated_name (earlier ++ text ∷ []) texts + 1
 
 -- the given extent if the numbers fit it, or else any extent that they fit
 unfoldable pub extent_or_choice : Extent → List ℕ → Extent

@@ -6,7 +6,7 @@ use Rattle.std.specs.List.{AllByRecursion, list_all}
 use Rattle.std.specs.Fmt.{decimal}
 use Rattle.hex.specs.Hex.{IsBytes}
 use Rattle.rv_elf.specs.declared.error.ImageError.TheVariants as image
-use Rattle.rv_base.specs.Names.{is_name, place_in}
+use Rattle.rv_base.specs.Names.{is_name, index_in}
 use Rattle.rv_base.specs.Limits.{most_jobs}
 use Rattle.rv_report.specs.Report.{line, row_text, done_line}
 use Rattle.rv_report.specs.declared.row.Refusal.TheVariants as refusal
@@ -99,7 +99,7 @@ pub record IsRow (row : Row) : Type 0 where
 unfoldable pub are_new : List (List ℕ) → List (List ℕ) → Bool
 are_new earlier [] = true
 are_new earlier (text ∷ texts) =
-    not (is_some (place_in earlier text)) && are_new (earlier ++ text ∷ []) texts
+    not (is_some (index_in earlier text)) && are_new (earlier ++ text ∷ []) texts
 
 abbrev pub row_names : List Row → List (List ℕ)
 row_names rows = map (λ (row : Row). row.name) rows

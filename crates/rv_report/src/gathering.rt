@@ -1,7 +1,7 @@
 //! The content of all lines of a text: rows with the numbers of their jobs, and a last line.
 
 ghost use Rattle.std.specs.Prelude.{◌≡◌, ◌++◌, ◌∷◌, [], OnOk, IfOk, string_bytes};
-ghost use Rattle.rv_report.specs.LenientReport.{lines, gathering_between_rows, with_closed_row, with_stage_over, at_job_or_last_line, at_ending, at_steps, at_console};
+ghost use Rattle.rv_report.specs.LenientReport.{lines, gathering_between_rows, with_finished_row, with_stage_over, at_job_or_last_line, at_ending, at_steps, at_console};
 ghost use Rattle.rv_report.specs.LenientReport.{at_signature};
 ghost use Rattle.rv_report.specs.LenientReport.{at_words, with_line, with_lines, row_so_far, padded_words, with_unfinished_row, gather_rows};
 ghost use Rattle.rv_report.specs.View.{gathering_view};
@@ -230,9 +230,9 @@ fn pad_signature_words(words: &mut Vec<u32>, count: u32) -> Result<(), AllocErro
 }
 
 // Finishes the row in progress and adds it to the rows.
-#[tactic(auto, unfolding(crate::specs::LenientReport::with_closed_row, crate::specs::LenientReport::gathering_between_rows, crate::specs::LenientReport::row_so_far))]
+#[tactic(auto, unfolding(crate::specs::LenientReport::with_finished_row, crate::specs::LenientReport::gathering_between_rows, crate::specs::LenientReport::row_so_far))]
 fn close_row(alloc: Global, gathering: &mut Gathering, verdict: Verdict) -> Result<(), AllocError>
-    ensures { OnOk result (gathering_view gathering.new ≡ with_closed_row verdict (gathering_view gathering.old)) }
+    ensures { OnOk result (gathering_view gathering.new ≡ with_finished_row verdict (gathering_view gathering.old)) }
 {
     gathering.numbers.push(gathering.number)?;
     let row = take_row(alloc, gathering, verdict)?;

@@ -6,7 +6,7 @@ ghost use Rattle.std.specs.Io.KnownBytes.{Appends};
 ghost use Rattle.rv_report.specs.Report.{end_line, dash_if_empty, console_line};
 ghost use Rattle.rv_report.specs.Report.{signature_lines, row_text, rows_text, done_line, report_text};
 ghost use Rattle.rv_base.specs.Sinks.{AppendsBeginning, IsPartlySent};
-ghost use Rattle.rv_base.specs.Counts.{HasRisen};
+ghost use Rattle.rv_base.specs.Counts.{HasIncreased};
 ghost use Rattle.rv_base.specs.Counts.{one_more};
 ghost use Rattle.rv_report.specs.declared.report.WriteError.TheVariants.{Failed, OutOfMemory};
 
@@ -63,13 +63,13 @@ pub fn write_report<W: Sink>(alloc: Global, report: &Report, out: &mut W) -> Res
     ensures part { OnErr result
         (AppendsBeginning (W.taken out.old) (W.taken out.new) (report_text report.now.rows)) }
     ensures failed { IfErr result (λ error. error ≡ WriteError.Failed
-        → HasRisen (W.failed out.old) (W.failed out.new)) }
+        → HasIncreased (W.failed out.old) (W.failed out.new)) }
 {
     let rows = report.rows.as_slice();
     let mut text = String::new(alloc);
     put_rows(alloc, rows, &mut text, out)?;
     push_done_line(&mut text, rows.len())?;
-    put_text(&mut text, out)?;
+    flush_text(&mut text, out)?;
     Ok(())
 }
 
@@ -111,11 +111,11 @@ pub(crate) fn put_text_if_enough<W: Sink>(text: &mut String, out: &mut W) -> Res
     if text.len() < ENOUGH {
         return Ok(());
     }
-    put_text(text, out)
+    flush_text(text, out)
 }
 
 /// Writes the buffered text and clears the buffer.
-pub(crate) fn put_text<W: Sink>(text: &mut String, out: &mut W) -> Result<(), WriteError>
+pub(crate) fn flush_text<W: Sink>(text: &mut String, out: &mut W) -> Result<(), WriteError>
     ensures appended { OnOk result
         (Appends (W.taken out.old) (W.taken out.new) (string_bytes text.old)) }
     ensures anew { OnOk result (string_bytes text.new ≡ []) }

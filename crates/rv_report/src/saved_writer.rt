@@ -5,10 +5,10 @@ ghost use Rattle.std.specs.Io.KnownBytes.{Appends};
 ghost use Rattle.rv_base.specs.Limits.{most_jobs};
 ghost use Rattle.rv_base.specs.Counts.{one_more};
 ghost use Rattle.rv_base.specs.Sinks.{AppendsBeginning, IsPartlySent};
-ghost use Rattle.rv_base.specs.Counts.{HasRisen};
+ghost use Rattle.rv_base.specs.Counts.{HasIncreased};
 ghost use Rattle.rv_report.specs.Saved.{are_rising, numbered_text, saved_text};
 
-use crate::report::{WriteError, push_row, put_text, put_text_if_enough};
+use crate::report::{WriteError, flush_text, push_row, put_text_if_enough};
 use crate::row::Row;
 use crate::saved::SavedReport;
 use crate::saved_report_text::push_extent_line;
@@ -30,13 +30,13 @@ pub fn write_saved_report<W: Sink>(
     ensures part { OnErr result
         (AppendsBeginning (W.taken out.old) (W.taken out.new) (saved_text report.now)) }
     ensures failed { IfErr result (λ error. error ≡ WriteError.Failed
-        → HasRisen (W.failed out.old) (W.failed out.new)) }
+        → HasIncreased (W.failed out.old) (W.failed out.new)) }
 {
     let rows = report.rows.as_slice();
     let mut text = String::new(alloc);
     put_numbered_rows(alloc, report.numbers.as_slice(), rows, &mut text, out)?;
     push_extent_line(&mut text, &report.extent, rows.len())?;
-    put_text(&mut text, out)?;
+    flush_text(&mut text, out)?;
     Ok(())
 }
 

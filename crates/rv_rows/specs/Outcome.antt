@@ -4,7 +4,7 @@ use Rattle.rv_elf.specs.declared.error.ImageError.{ImageError}
 use Rattle.rv_elf.specs.declared.error.ImageError.TheVariants as image
 use Rattle.rv_elf.specs.declared.image.Image.{Image}
 use Rattle.rv_elf.specs.Image.{image_of}
-use Rattle.rv_elf.specs.Loading.{map_check, opening_memory}
+use Rattle.rv_elf.specs.Loading.{map_check, initial_memory}
 use Rattle.rv_elf.specs.Symbols.{signature_check, symbol_of}
 use Rattle.rv_jobs.specs.declared_job.Job.{Job}
 use Rattle.rv_jobs.specs.declared_job.Symbols.{Symbols}
@@ -91,7 +91,7 @@ loadable_image job file = do
 abbrev pub loaded_contents : Job → List ℕ → Image → Contents
 loaded_contents job file image =
     record (new_bus job.regions job.script job.misaligned) {
-      memory = opening_memory job.regions image.segments file job.load;
+      memory = initial_memory job.regions image.segments file job.load;
     }
 
 -- the hart at reset, with its pc at the image's entry

@@ -9,7 +9,7 @@ abbrev pub plan_of_jobs : List Job → List Answer → Planned
 plan_of_jobs jobs answers = record { jobs = jobs; answers = answers }
 
 -- both have the same result for each path of a job
-pub record KeepSame (some others : List Answer) (job : Job) : Type 0 where
+pub record HaveSameResults (some others : List Answer) (job : Job) : Type 0 where
   pub image : kept_for some job.image ≡ kept_for others job.image
   pub reference :
       option_map (kept_for some) job.expect_signature

@@ -9,7 +9,7 @@ ghost use Rattle.rv_jobs.specs.Plans.{Planned, jobs_needed_for};
 ghost use Rattle.rv_report.specs.declared.row.Row.{Row};
 ghost use Rattle.rv_rows.specs.Narrower.{is_end_of_any_set, widened_plan};
 ghost use Rattle.rv_rows.specs.Rows.{rows_at, rows_of};
-ghost use Rattle.rv_rows.specs.Wholes.{KeepSame, plan_of_jobs};
+ghost use Rattle.rv_rows.specs.Wholes.{HaveSameResults, plan_of_jobs};
 
 /// A law of rows, with no code to run: a smaller instruction set only adds faults and refusals. Take a plan, and the plan with the same
 /// results in which the set of one job is changed to RV32IMC. If the job's row in the first is not refused and is not a fault `illegal` or
@@ -26,6 +26,6 @@ pub fn narrower_sets_only_refuse()
 /// gathered for all jobs.
 pub fn parts_have_the_rows_of_the_whole()
     ensures { (jobs : List Job) (some others : List Answer) (places : List ℕ)
-        → All (KeepSame some others) (jobs_needed_for jobs places)
+        → All (HaveSameResults some others) (jobs_needed_for jobs places)
         → rows_at (plan_of_jobs jobs some) places ≡ rows_at (plan_of_jobs jobs others) places }
 {}

@@ -32,7 +32,7 @@ impl Spare {
         ensures { IfOk result (λ bus. bus ≡ new_bus map script.items misaligned) }
     {
         match self.bus.take() {
-            Some(last) => last.renewed(alloc, map, script, misaligned),
+            Some(last) => last.new_reusing(alloc, map, script, misaligned),
             None => Bus::new(alloc, map, script, misaligned),
         }
     }

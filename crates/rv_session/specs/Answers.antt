@@ -25,7 +25,7 @@ use Rattle.rv_gdb_protocol.specs.declared.request.Stoppoint.{Stoppoint}
 use Rattle.rv_gdb_protocol.specs.declared.stop.Stop.TheVariants as stop
 use Rattle.rv_gdb_protocol.specs.declared.target.TheConstants.{TARGET}
 use Rattle.rv_session.specs.Memory.{bytes_from, stand_at}
-use Rattle.rv_session.specs.Replies.{granted, granted_if, printing, refused, saying, silent}
+use Rattle.rv_session.specs.Replies.{granted, granted_if, printing, refused, with_body, silent}
 use Rattle.rv_session.specs.Sessions.{at_place, here}
 use Rattle.rv_session.specs.Traps.{IsTrapped, without_trap}
 use Rattle.rv_session.specs.declared.monitor.TheConstants.{HELP}
@@ -58,7 +58,7 @@ registers_here session = registers_text (here session).registers (here session).
 
 -- `E01` if no byte can be read
 abbrev pub memory_reply : List ℕ → Reply
-memory_reply bytes = if length bytes == 0 then refused refusal.Failed else saying (encode_lower bytes)
+memory_reply bytes = if length bytes == 0 then refused refusal.Failed else with_body (encode_lower bytes)
 
 -- `F`, a count of eight digits and `;`
 abbrev pub counted : ℕ → List ℕ
@@ -71,29 +71,29 @@ abbrev pub file_part : List ℕ → Part → List ℕ
 file_part image part = take (min most_file_part part.count) (drop part.offset image)
 
 abbrev pub file_reply : List ℕ → Reply
-file_reply bytes = saying (counted (length bytes) ++ bytes)
+file_reply bytes = with_body (counted (length bytes) ++ bytes)
 
 -- the words of gdb's `struct stat`: the third is the mode, that of a readable file, and the ninth the size
 abbrev pub stat_words : ℕ → List ℕ
 stat_words size = 0 ∷ 0 ∷ 0x8124 ∷ 0 ∷ 0 ∷ 0 ∷ 0 ∷ 0 ∷ size ∷ 0 ∷ 0 ∷ 0 ∷ 0 ∷ 0 ∷ 0 ∷ 0 ∷ []
 
 abbrev pub size_reply : ℕ → Reply
-size_reply size = saying (counted 64 ++ flat_map (to_be_bytes w32) (stat_words (shown_count size)))
+size_reply size = with_body (counted 64 ++ flat_map (to_be_bytes w32) (stat_words (shown_count size)))
 
 -- the reply that is equal in every session; the empty reply to an unknown request
 abbrev pub fixed_answer : Request → Reply
-fixed_answer request = saying (unwrap_or (fixed_reply request) [])
+fixed_answer request = with_body (unwrap_or (fixed_reply request) [])
 
 -- the reply to a request that does not change the session
 abbrev pub shown_reply : Session → Request → Reply
-shown_reply session ask.LastStop = saying (stop_text session.last)
-shown_reply session ask.Registers = saying (registers_here session)
-shown_reply session (ask.Register register) = saying (register_text (value_of session register))
+shown_reply session ask.LastStop = with_body (stop_text session.last)
+shown_reply session ask.Registers = with_body (registers_here session)
+shown_reply session (ask.Register register) = with_body (register_text (value_of session register))
 shown_reply session (ask.ReadMemory range) = memory_reply (bytes_from (here session).bus range)
-shown_reply session (ask.Description part) = saying (part_text TARGET.now part)
-shown_reply session (ask.ImagePath part) = saying (part_text session.program.path part)
+shown_reply session (ask.Description part) = with_body (part_text TARGET.now part)
+shown_reply session (ask.ImagePath part) = with_body (part_text session.program.path part)
 shown_reply session (ask.OpenFile path) =
-    if bytes_eq session.program.path path then saying (codes "F5") else refused refusal.OtherFile
+    if bytes_eq session.program.path path then with_body (codes "F5") else refused refusal.OtherFile
 shown_reply session ask.FileSize = size_reply (length session.program.image)
 shown_reply session (ask.ReadFile part) = file_reply (file_part session.program.image part)
 shown_reply session (ask.WriteRegisters bytes) =
@@ -175,7 +175,7 @@ IsAnswered session (ask.Clear place) reply next =
     (reply ≡ granted) × (next ≡ record session { stops = without_trap session.stops place })
 IsAnswered session (ask.Command text) reply next = IsCommanded session text reply next
 IsAnswered session ask.Restart reply next =
-    (reply ≡ saying (stop_text stop.Here)) × (next ≡ record (at_place session 0) { last = stop.Here })
+    (reply ≡ with_body (stop_text stop.Here)) × (next ≡ record (at_place session 0) { last = stop.Here })
 IsAnswered session ask.NoAcknowledgements reply next = (reply ≡ granted) × (next ≡ record session { acknowledges = false })
 IsAnswered session ask.Detach reply next = (reply ≡ granted) × (next ≡ record session { is_over = true })
 IsAnswered session ask.Kill reply next =

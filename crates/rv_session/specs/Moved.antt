@@ -1,8 +1,8 @@
 -- Moves in the run, and the stops that are reported for them.
 use Rattle.std.specs.Prelude.{ℕ, List, [], ◌≡◌, ◌+◌, ◌-◌, ◌<◌, Bool, true, false, Option, Some, None, drop, if◌then◌else◌, length, max}
-use Rattle.rv_history.specs.Moves.{IsBroken, IsNextStep, IsNextStop, IsStepBefore, IsStopBefore}
+use Rattle.rv_history.specs.Moves.{IsInterrupted, IsNextStep, IsNextStop, IsStepBefore, IsStopBefore}
 use Rattle.rv_history.specs.Places.{last_place}
-use Rattle.rv_history.specs.Stops.{first_set_off}
+use Rattle.rv_history.specs.Stops.{first_triggered}
 use Rattle.rv_history.specs.declared.bounds.Bounds.TheVariants as bounds
 use Rattle.rv_history.specs.declared.found.Found.{Found}
 use Rattle.rv_history.specs.declared.found.Found.TheVariants as found
@@ -31,13 +31,13 @@ is_forward move.ContinueBack = false
 is_forward move.StepBack = false
 
 -- where a move ends, and what it finds there
-abbrev pub IsGone : Move → Stops → ℕ → State → ℕ → ℕ → Found → Type 0
-IsGone move.Continue stops budget start from place found = IsNextStop stops bounds.All budget start from place found
-IsGone move.Step stops budget start from place found = IsNextStep stops budget start from place found
-IsGone (move.StepWithin low high) stops budget start from place found =
+abbrev pub IsMoveResult : Move → Stops → ℕ → State → ℕ → ℕ → Found → Type 0
+IsMoveResult move.Continue stops budget start from place found = IsNextStop stops bounds.All budget start from place found
+IsMoveResult move.Step stops budget start from place found = IsNextStep stops budget start from place found
+IsMoveResult (move.StepWithin low high) stops budget start from place found =
     IsNextStop stops (bounds.Within low high) budget start from place found
-IsGone move.ContinueBack stops budget start from place found = IsStopBefore stops budget start from place found
-IsGone move.StepBack stops budget start from place found = IsStepBefore stops budget start from place found
+IsMoveResult move.ContinueBack stops budget start from place found = IsStopBefore stops budget start from place found
+IsMoveResult move.StepBack stops budget start from place found = IsStepBefore stops budget start from place found
 
 -- how an end is reported
 abbrev pub end_stop : Ending → Stop
@@ -54,7 +54,7 @@ watch_told None = stop.Here
 
 -- the first watchpoint that the step from one step of the run to another triggers
 abbrev pub watch_between : Session → ℕ → ℕ → Option WatchHit
-watch_between session one other = first_set_off session.stops (state_at session one) (state_at session other)
+watch_between session one other = first_triggered session.stops (state_at session one) (state_at session other)
 
 -- the first watchpoint triggered by the next step, or, moving backwards, by the preceding step
 abbrev pub watch_stop : Session → Move → ℕ → Stop
@@ -96,8 +96,8 @@ pub record IsMoved (end_text : List ℕ) (may_break : Bool) (session : Session) 
     : Type 0 where
   pub place : ℕ
   pub found : Found
-  pub gone : IsGone asked session.stops session.history.budget session.history.start session.history.place place found
-  pub broken_off : IsBroken found → may_break ≡ true
+  pub gone : IsMoveResult asked session.stops session.history.budget session.history.start session.history.place place found
+  pub broken_off : IsInterrupted found → may_break ≡ true
   pub reply_is : reply ≡ stopping (printed_on session asked (state_at session place)) (end_text_at end_text found)
       (stop_text (stop_of session asked place found))
   pub next_is : next ≡ record session {

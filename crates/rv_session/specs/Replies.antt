@@ -5,8 +5,8 @@ use Rattle.rv_gdb_protocol.specs.declared.request.Refusal.{Refusal}
 use Rattle.rv_session.specs.declared.reply.Reply.{Reply}
 
 -- only a body
-abbrev pub saying : List ℕ → Reply
-saying body = record { printed = []; end_text = []; body = Some body }
+abbrev pub with_body : List ℕ → Reply
+with_body body = record { printed = []; end_text = []; body = Some body }
 
 -- output, followed by a body
 abbrev pub printing : List ℕ → List ℕ → Reply
@@ -21,10 +21,10 @@ abbrev pub stopping : List ℕ → List ℕ → List ℕ → Reply
 stopping printed end_text body = record { printed = printed; end_text = end_text; body = Some body }
 
 abbrev pub granted : Reply
-granted = saying (codes "OK")
+granted = with_body (codes "OK")
 
 abbrev pub refused : Refusal → Reply
-refused refusal = saying (refusal_text refusal)
+refused refusal = with_body (refusal_text refusal)
 
 -- `OK` if accepted, else the refusal
 abbrev pub granted_if : Bool → Refusal → Reply

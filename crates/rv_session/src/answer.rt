@@ -5,7 +5,7 @@ ghost use Rattle.rv_gdb_protocol.specs.Replies.{part_text};
 ghost use Rattle.rv_gdb_protocol.specs.Stops.{stop_text};
 ghost use Rattle.rv_gdb_protocol.specs.declared.stop.Stop.TheVariants as stop;
 ghost use Rattle.rv_session.specs.Answers.{IsAnswered, IsTrapAsked, fixed_answer, shown_reply};
-ghost use Rattle.rv_session.specs.Replies.{granted, saying, silent};
+ghost use Rattle.rv_session.specs.Replies.{granted, with_body, silent};
 ghost use Rattle.rv_session.specs.Sessions.{at_place};
 ghost use Rattle.rv_session.specs.Traps.{without_trap};
 
@@ -62,11 +62,11 @@ impl Session {
 
     // Handles `?`.
     fn last_stop(&self, alloc: Global) -> Result<Reply, AllocError>
-        ensures { IfOk result (λ reply. reply ≡ saying (stop_text self.now.last)) }
+        ensures { IfOk result (λ reply. reply ≡ with_body (stop_text self.now.last)) }
     {
         let mut body = Vec::new(alloc);
         push_stop(&mut body, self.last)?;
-        Ok(Reply::saying(alloc, body))
+        Ok(Reply::with_body(alloc, body))
     }
 
     // Handles `Z`.
@@ -95,7 +95,7 @@ impl Session {
 
     // Handles `vRun`: moves to the start of the run.
     fn restart(&mut self, alloc: Global) -> Result<Reply, AllocError>
-        ensures { IfOk result (λ reply. (reply ≡ saying (stop_text stop.Here))
+        ensures { IfOk result (λ reply. (reply ≡ with_body (stop_text stop.Here))
             × (self.new ≡ record (at_place self.old 0) { last = stop.Here })) }
     {
         self.go_to_start(alloc)?;
@@ -144,13 +144,13 @@ impl Session {
 fn fixed(alloc: Global, request: &Request) -> Result<Reply, AllocError>
     ensures { IfOk result (λ reply. reply ≡ fixed_answer request.now) }
 {
-    Reply::reporter(alloc, fixed_reply(request).unwrap_or(""))
+    Reply::with_text(alloc, fixed_reply(request).unwrap_or(""))
 }
 
 fn part_of(alloc: Global, text: &[u8], part: Part) -> Result<Reply, AllocError>
-    ensures { IfOk result (λ reply. reply ≡ saying (part_text text.now part)) }
+    ensures { IfOk result (λ reply. reply ≡ with_body (part_text text.now part)) }
 {
     let mut body = Vec::new(alloc);
     push_part(&mut body, text, part)?;
-    Ok(Reply::saying(alloc, body))
+    Ok(Reply::with_body(alloc, body))
 }

@@ -6,7 +6,7 @@ ghost use Rattle.std.specs.List.{flat_map};
 ghost use Rattle.std.specs.Str.{bytes_eq};
 ghost use Rattle.rv_gdb_protocol.specs.declared.request.Refusal.TheVariants as refusal;
 ghost use Rattle.rv_session.specs.Answers.{counted, file_part, file_reply, size_reply, stat_words};
-ghost use Rattle.rv_session.specs.Replies.{refused, saying};
+ghost use Rattle.rv_session.specs.Replies.{refused, with_body};
 
 use crate::reading::{are_same, shown_count};
 use crate::reply::Reply;
@@ -27,10 +27,10 @@ impl Session {
     // Handles `vFile:open:`.
     pub(crate) fn open_file(&self, alloc: Global, path: &[u8]) -> Result<Reply, AllocError>
         ensures { IfOk result (λ reply. reply
-            ≡ (if bytes_eq self.now.program.path path.now then saying (codes "F5") else refused refusal.OtherFile)) }
+            ≡ (if bytes_eq self.now.program.path path.now then with_body (codes "F5") else refused refusal.OtherFile)) }
     {
         if are_same(self.program.path.as_slice(), path) {
-            Reply::reporter(alloc, "F5")
+            Reply::with_text(alloc, "F5")
         } else {
             Reply::refusing(alloc, Refusal::OtherFile)
         }
@@ -44,7 +44,7 @@ impl Session {
         let mut body = Vec::new(alloc);
         push_count(&mut body, STAT_BYTES)?;
         push_words(&mut body, &stat_words(size))?;
-        Ok(Reply::saying(alloc, body))
+        Ok(Reply::with_body(alloc, body))
     }
 
     // Handles `vFile:pread:5,`.
@@ -55,7 +55,7 @@ impl Session {
         let mut body = Vec::new(alloc);
         push_count(&mut body, bytes.len() as u32)?;
         body.extend_from_slice(bytes)?;
-        Ok(Reply::saying(alloc, body))
+        Ok(Reply::with_body(alloc, body))
     }
 }
 

@@ -11,7 +11,7 @@ ghost use Rattle.rv_session.specs.declared.reply.Reply.{Reply};
 ghost use Rattle.rv_session.specs.declared.session.Session.{Session};
 
 /// What is sent does not depend on whether bytes arrive in one read or in two.
-pub fn cuts_are_not_seen()
+pub fn reads_can_be_split()
     ensures { (end_text : List ℕ) (behind : Bool) (session between next : Session) (front rest out more : List ℕ)
         → IsFed end_text (is_interrupted rest behind) session front out between → IsFed end_text behind between rest more next
         → IsFed end_text behind session (front ++ rest) (out ++ more) next }

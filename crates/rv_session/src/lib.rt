@@ -8,12 +8,12 @@
 mod answer;
 mod end_text;
 mod files;
-mod hearing;
 mod law;
 mod monitor;
 mod moving;
 mod program;
 mod reading;
+mod receiving;
 mod reply;
 mod seeking;
 mod session;
@@ -22,7 +22,7 @@ mod writing;
 
 pub use end_text::EndText;
 pub use law::{
-    answers_are_determined, cuts_are_not_seen, ends_are_told, printed_bytes_go_out_once,
+    answers_are_determined, ends_are_told, printed_bytes_go_out_once, reads_can_be_split,
 };
 pub use program::Program;
 pub use reply::Reply;

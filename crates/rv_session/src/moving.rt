@@ -1,10 +1,10 @@
 //! Moves in the run, and the stops that are reported for them.
 
 ghost use Rattle.std.specs.Prelude.{◌≡◌, IfOk, None, OnOk, is_some, true};
-ghost use Rattle.rv_history.specs.Moves.{IsBroken};
+ghost use Rattle.rv_history.specs.Moves.{IsInterrupted};
 ghost use Rattle.rv_history.specs.declared.found.Found.TheVariants as found;
 ghost use Rattle.rv_gdb_protocol.specs.Stops.{stop_text};
-ghost use Rattle.rv_session.specs.Moved.{CanTell, IsGone, IsMoved, end_stop, end_text_at, is_forward, printed_on, shown_on, stop_of, watch_stop, watch_told};
+ghost use Rattle.rv_session.specs.Moved.{CanTell, IsMoveResult, IsMoved, end_stop, end_text_at, is_forward, printed_on, shown_on, stop_of, watch_stop, watch_told};
 ghost use Rattle.rv_session.specs.Incoming.{IsWorked};
 ghost use Rattle.rv_session.specs.Replies.{stopping};
 ghost use Rattle.rv_session.specs.Sessions.{IsSameRun, at_place, here};
@@ -67,9 +67,9 @@ impl Session {
         asked: Move,
         interrupt: &mut I,
     ) -> Result<Found, AllocError>
-        ensures gone { IfOk result (IsGone asked self.old.stops self.old.history.budget self.old.history.start
+        ensures gone { IfOk result (IsMoveResult asked self.old.stops self.old.history.budget self.old.history.start
             self.old.history.place self.new.history.place) }
-        ensures broken_off { IfOk result (λ found. IsBroken found → I.was_raised interrupt.new ≡ true) }
+        ensures broken_off { IfOk result (λ found. IsInterrupted found → I.was_raised interrupt.new ≡ true) }
         ensures same { self.new ≡ at_place self.old self.new.history.place }
     {
         match asked {

@@ -5,7 +5,7 @@ ghost use Rattle.std.specs.Str.{bytes_eq};
 ghost use Rattle.rv_gdb_protocol.specs.Shown.{register_text};
 ghost use Rattle.rv_session.specs.Answers.{hart_value, memory_reply, registers_here, shown_count, taken_here, value_of};
 ghost use Rattle.rv_session.specs.Memory.{bytes_asked, bytes_from};
-ghost use Rattle.rv_session.specs.Replies.{saying};
+ghost use Rattle.rv_session.specs.Replies.{with_body};
 ghost use Rattle.rv_session.specs.Sessions.{here};
 
 use crate::reply::Reply;
@@ -20,21 +20,21 @@ const MOST_BYTES: u32 = 8184;
 impl Session {
     // Handles `g`.
     pub(crate) fn registers(&self, alloc: Global) -> Result<Reply, AllocError>
-        ensures { IfOk result (λ reply. reply ≡ saying (registers_here self.now)) }
+        ensures { IfOk result (λ reply. reply ≡ with_body (registers_here self.now)) }
     {
         let machine = self.history.machine();
         let mut body = Vec::new(alloc);
         push_registers(&mut body, &machine.registers(), machine.pc())?;
-        Ok(Reply::saying(alloc, body))
+        Ok(Reply::with_body(alloc, body))
     }
 
     // Handles `p`.
     pub(crate) fn register(&self, alloc: Global, register: Register) -> Result<Reply, AllocError>
-        ensures { IfOk result (λ reply. reply ≡ saying (register_text (value_of self.now register))) }
+        ensures { IfOk result (λ reply. reply ≡ with_body (register_text (value_of self.now register))) }
     {
         let mut body = Vec::new(alloc);
         push_register(&mut body, self.value(register))?;
-        Ok(Reply::saying(alloc, body))
+        Ok(Reply::with_body(alloc, body))
     }
 
     // Returns the value of a register. A number that is not a register of the hart has the value of the pc.
@@ -64,7 +64,7 @@ impl Session {
     pub(crate) fn taken(&self) -> usize
         ensures { result ≡ taken_here self.now }
     {
-        let left = self.history.machine().bus().script_left();
+        let left = self.history.machine().bus().script_remaining();
         self.script.saturating_sub(left)
     }
 
@@ -78,7 +78,7 @@ impl Session {
         }
         let mut body = Vec::new(alloc);
         push_memory(alloc, &mut body, bytes.as_slice())?;
-        Ok(Reply::saying(alloc, body))
+        Ok(Reply::with_body(alloc, body))
     }
 }
 

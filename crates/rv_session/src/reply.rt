@@ -18,11 +18,11 @@ pub struct Reply {
 }
 
 impl Reply {
-    ghost use Rattle.rv_session.specs.Replies.{granted, granted_if, printing, refused, saying, silent};
+    ghost use Rattle.rv_session.specs.Replies.{granted, granted_if, printing, refused, with_body, silent};
 
     /// Creates a reply with only a body.
-    pub(crate) fn saying(alloc: Global, body: Vec<u8>) -> Reply
-        ensures { result ≡ saying body.items }
+    pub(crate) fn with_body(alloc: Global, body: Vec<u8>) -> Reply
+        ensures { result ≡ with_body body.items }
     {
         Reply {
             printed: Bytes::new(Vec::new(alloc)),
@@ -55,23 +55,23 @@ impl Reply {
     }
 
     /// Creates a reply with only this text.
-    pub(crate) fn reporter(alloc: Global, text: &str) -> Result<Reply, AllocError>
-        ensures { IfOk result (λ reply. reply ≡ saying text.now) }
+    pub(crate) fn with_text(alloc: Global, text: &str) -> Result<Reply, AllocError>
+        ensures { IfOk result (λ reply. reply ≡ with_body text.now) }
     {
-        Ok(Reply::saying(alloc, Vec::from_slice(alloc, text.as_bytes())?))
+        Ok(Reply::with_body(alloc, Vec::from_slice(alloc, text.as_bytes())?))
     }
 
     /// Creates the reply `OK`.
     pub(crate) fn granted(alloc: Global) -> Result<Reply, AllocError>
         ensures { IfOk result (λ reply. reply ≡ granted) }
     {
-        Reply::reporter(alloc, "OK")
+        Reply::with_text(alloc, "OK")
     }
 
     pub(crate) fn refusing(alloc: Global, refusal: Refusal) -> Result<Reply, AllocError>
         ensures { IfOk result (λ reply. reply ≡ refused refusal) }
     {
-        Reply::reporter(alloc, refusal_text(refusal))
+        Reply::with_text(alloc, refusal_text(refusal))
     }
 
     /// Creates the reply `OK` or a refusal.

@@ -42,7 +42,7 @@ impl Session {
     ) -> Result<Session, AllocError>
         ensures { IfOk result (λ session. session ≡ at_first start budget program) }
     {
-        let script = start.bus.script_left();
+        let script = start.bus.script_remaining();
         let history = History::new(alloc, start, budget)?;
         Ok(Session {
             reader: Reader::new(alloc),

@@ -20,7 +20,7 @@ use Rattle.rv_rows.specs.Sinks.{AppendsBeginning}
 use Rattle.rv_stream.specs.declared.reported_row.ReportedRow.{ReportedRow}
 use Rattle.rv_stream.specs.Limits.{rows_up_to}
 use Rattle.rv_stream.specs.Streams.{joined_row_texts, row_text_list}
-use Rattle.rv_stream.specs.Told.{rows_of_reported, texts_of_reported, AreRowsUpToFailure, IsToldRow}
+use Rattle.rv_stream.specs.Told.{rows_of_reported, texts_of_reported, AreRowsUpToFailure, IsReportedRow}
 use Rattle.rv_stream.proofs.Limits.{ended_there, first_of}
 use Rattle.rv_stream.proofs.Tellings.{told_append}
 
@@ -46,7 +46,7 @@ texts_first line (p ∷ ps) (t ∷ ts) few each =
     ∷ texts_first line ps ts (omega (arith, few)) (λ k d lt. each (suc k) d (omega (arith, lt))) i)
 
 module _ (line : ℕ → Row → List ℕ) (batch : Batch) (told : List ReportedRow) (few : length told ≤ length batch.places.now)
-    (each : (k : ℕ) (any : ReportedRow) → k < length told → IsToldRow line batch k (get_or told k any)) where
+    (each : (k : ℕ) (any : ReportedRow) → k < length told → IsReportedRow line batch k (get_or told k any)) where
   rows_are : rows_of_reported told ≡ take (length told) (batch_rows batch)
   unfolding rows_at
   rows_are =
@@ -80,7 +80,7 @@ pub record HasEnded (line : ℕ → Row → List ℕ) (batch : Batch) (most : Op
 module _ (line : ℕ → Row → List ℕ) (batch : Batch) (most : Option ℕ) (judging : Judging) (left : Option ℕ) (refused : Bool) (kept : List Row)
     (received : List ReportedRow → Type 0) (stops : Type 0)
     (first : (told : List ReportedRow) → received told → AreRowsUpToFailure most judging left refused kept (rows_of_reported told)) where
-  begins : (n : ℕ) → HasReceived (IsToldRow line batch) (length batch.places.now) received n → HasBegun line batch most judging received
+  begins : (n : ℕ) → HasReceived (IsReportedRow line batch) (length batch.places.now) received n → HasBegun line batch most judging received
   begins n hears =
       let told = hears.results in
       let long = hears.count_is in
@@ -101,14 +101,14 @@ module _ (line : ℕ → Row → List ℕ) (batch : Batch) (most : Option ℕ) (
       }
 
   -- however a run ended
-  pub has_begun : (ran : Result Flow RunError) → IsRunDelivered (IsToldRow line batch) (length batch.places.now) received stops ran
+  pub has_begun : (ran : Result Flow RunError) → IsRunDelivered (IsReportedRow line batch) (length batch.places.now) received stops ran
       → HasBegun line batch most judging received
   has_begun (Ok GoOn) run = begins (length batch.places.now) run.0
   has_begun (Ok Stop) run = begins run.0.count run.0.hears
   has_begun (Err error) run = begins run.count run.hears
 
   -- with all rows, or where a failure ended it
-  pub has_ended : (flow : Flow) → IsRunDelivered (IsToldRow line batch) (length batch.places.now) received stops (Ok flow)
+  pub has_ended : (flow : Flow) → IsRunDelivered (IsReportedRow line batch) (length batch.places.now) received stops (Ok flow)
       → refused ≡ false → (stops → left ≡ Some 0) → HasEnded line batch most judging received kept
   has_ended GoOn run there ends =
       let hears = run.0 in
@@ -148,7 +148,7 @@ module _ (line : ℕ → Row → List ℕ) (batch : Batch) (most : Option ℕ) (
       }
 
   -- the same of a run that ended well
-  pub has_ended_well : (ran : Result Flow RunError) → IsRunDelivered (IsToldRow line batch) (length batch.places.now) received stops ran
+  pub has_ended_well : (ran : Result Flow RunError) → IsRunDelivered (IsReportedRow line batch) (length batch.places.now) received stops ran
       → is_ok ran ≡ true → refused ≡ false → (stops → left ≡ Some 0) → HasEnded line batch most judging received kept
   has_ended_well (Ok flow) run ok there ends = has_ended flow run there ends
   has_ended_well (Err error) run ok there ends = absurd (false≢true ok)

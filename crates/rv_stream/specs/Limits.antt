@@ -11,10 +11,10 @@ rows_until fails (suc more) [] = []
 rows_until fails (suc more) (row ∷ rows) = row ∷ rows_until fails (if fails row then more else suc more) rows
 
 -- how many failures are left, after these rows, before the run ends
-abbrev pub failures_behind : (Row → Bool) → ℕ → List Row → ℕ
-failures_behind fails zero rows = zero
-failures_behind fails (suc more) [] = suc more
-failures_behind fails (suc more) (row ∷ rows) = failures_behind fails (if fails row then more else suc more) rows
+abbrev pub failures_left_after : (Row → Bool) → ℕ → List Row → ℕ
+failures_left_after fails zero rows = zero
+failures_left_after fails (suc more) [] = suc more
+failures_left_after fails (suc more) (row ∷ rows) = failures_left_after fails (if fails row then more else suc more) rows
 
 -- the rows up to the failure that ends the run, or all rows without such a limit
 abbrev pub rows_up_to : Option ℕ → (Row → Bool) → List Row → List Row

@@ -1,16 +1,16 @@
 -- Rows of a batch with their reported texts, and the first of them.
 use Rattle.std.specs.Prelude.{◌≡◌, ℕ, Bool, false, List, Option, map, option_map}
 use Rattle.rv_fleet.specs.declared.batch.Batch.{Batch}
-use Rattle.rv_fleet.specs.Batches.{place_of_number, row_of_number}
+use Rattle.rv_fleet.specs.Batches.{index_of_number, row_of_number}
 use Rattle.rv_rows.specs.declared_row.Row.{Row}
 use Rattle.rv_stream.specs.declared.reported_row.ReportedRow.{ReportedRow}
-use Rattle.rv_stream.specs.Limits.{failures_behind, rows_up_to}
+use Rattle.rv_stream.specs.Limits.{failures_left_after, rows_up_to}
 use Rattle.rv_expect.specs.Judgement.{Judging, fails}
 
 -- the row of the job with a number, and its reported text
-pub record IsToldRow (line : ℕ → Row → List ℕ) (batch : Batch) (number : ℕ) (told : ReportedRow) : Type 0 where
+pub record IsReportedRow (line : ℕ → Row → List ℕ) (batch : Batch) (number : ℕ) (told : ReportedRow) : Type 0 where
   pub row : told.row ≡ row_of_number batch number
-  pub text : told.text.items ≡ line (place_of_number batch number) told.row
+  pub text : told.text.items ≡ line (index_of_number batch number) told.row
 
 abbrev pub rows_of_reported : List ReportedRow → List Row
 rows_of_reported told = map (λ (t : ReportedRow). t.row) told
@@ -20,7 +20,7 @@ texts_of_reported told = map (λ (t : ReportedRow). t.text.items) told
 
 -- how many failures are left before they end the run, if failures end it
 abbrev pub failures_left : Option ℕ → Judging → List Row → Option ℕ
-failures_left most judging rows = option_map (λ number. failures_behind (fails judging) number rows) most
+failures_left most judging rows = option_map (λ number. failures_left_after (fails judging) number rows) most
 
 -- the rows up to the failure that ends a run; they are kept unless an allocation failed
 pub record AreRowsUpToFailure (most : Option ℕ) (judging : Judging) (left : Option ℕ) (refused : Bool) (kept rows : List Row) : Type 0 where

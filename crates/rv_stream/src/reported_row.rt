@@ -24,11 +24,11 @@ pub(crate) struct ReportedRowWork<'b, 't, T: RowReporter> {
 impl<T: RowReporter> Work<ReportedRow> for ReportedRowWork<'_, '_, T> {
     ghost use Rattle.std.specs.Prelude.{length};
     ghost use Rattle.rv_rows.specs.Recent.{AreOutcomes};
-    ghost use Rattle.rv_stream.specs.Told.{IsToldRow};
+    ghost use Rattle.rv_stream.specs.Told.{IsReportedRow};
 
     ghost jobs = { λ s. length s.batch.now.places.now };
 
-    ghost is_made = { λ s number told. IsToldRow (T.line s.reporter.now) s.batch.now number told };
+    ghost is_made = { λ s number told. IsReportedRow (T.line s.reporter.now) s.batch.now number told };
 
     ghost is_worker_state = { λ s worker_state. AreOutcomes s.batch.now.plan.now worker_state.recent };
 

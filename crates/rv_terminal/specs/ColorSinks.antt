@@ -7,8 +7,8 @@ use Rattle.rv_base.specs.Counts.{one_more}
 use Rattle.rv_terminal.specs.Colors.{InText, beginning, colored, mark_text, place_behind, uncolored}
 use Rattle.rv_terminal.specs.declared.colors.Colors.{Colors}
 use Rattle.rv_terminal.specs.declared.colors.Colors.TheVariants as colors
-use Rattle.rv_terminal.specs.declared.course.Course.{Course}
-use Rattle.rv_terminal.specs.declared.course.Course.TheVariants as course
+use Rattle.rv_terminal.specs.declared.course.OutputState.{OutputState}
+use Rattle.rv_terminal.specs.declared.course.OutputState.TheVariants as course
 use Rattle.rv_terminal.specs.declared.place.Mark.{Mark}
 use Rattle.rv_terminal.specs.declared.place.Place.{Place}
 
@@ -58,7 +58,7 @@ IsOutInPart colors.With (Some before) plain out = AreTold (IsColoredInPart befor
 pub record InColors (S : Type 0) : Type 0 where
   pub sink : S
   pub failures : ℕ
-  pub course : Course
+  pub course : OutputState
 
 -- the results that were written, given what the sink below received
 abbrev pub results_of : Colors → Option (List ℕ) → Option (List ℕ) → Option (List ℕ)
@@ -68,36 +68,36 @@ results_of colors.With (Some before) out =
     option_map (λ bytes. before ++ uncolored InText (drop (length before) bytes)) out
 
 -- how the output of a sink begins
-abbrev pub first_course : Colors → Course
+abbrev pub first_course : Colors → OutputState
 first_course colors.Without = course.Plain
 first_course colors.With = course.Colored beginning
 
-abbrev pub is_cut_off : Course → Bool
+abbrev pub is_cut_off : OutputState → Bool
 is_cut_off course.Plain = false
 is_cut_off (course.Colored here) = false
 is_cut_off course.CutOff = true
 
 -- the text was written in its colours from a position in a line on: up to the position after it, or up to a failed write
-abbrev pub IsPutFrom : Place → Course → List ℕ → Option (List ℕ) → Option (List ℕ) → Type 0
+abbrev pub IsPutFrom : Place → OutputState → List ℕ → Option (List ℕ) → Option (List ℕ) → Type 0
 IsPutFrom here course.Plain text old new = ⊥
 IsPutFrom here (course.Colored there) text old new = (there ≡ fold place_behind here text) × Appends old new (colored here text)
 IsPutFrom here course.CutOff text old new =
     (part : List ℕ) × (IsMarkBegun part × Appends old new (colored here text ++ part))
 
 -- the text was written as the state says, which led to the next state; if no text was written, a write failed
-abbrev pub IsPutBy : Course → Course → List ℕ → Option (List ℕ) → Option (List ℕ) → Type 0
+abbrev pub IsPutBy : OutputState → OutputState → List ℕ → Option (List ℕ) → Option (List ℕ) → Type 0
 IsPutBy course.Plain next text old new = (next ≡ course.Plain) × Appends old new text
 IsPutBy (course.Colored here) next text old new = IsPutFrom here next text old new
 IsPutBy course.CutOff next text old new = (next ≡ course.CutOff) × ((text ≡ []) × (new ≡ old))
 
 -- the failures of the sink below after a write of a number of bytes: one more if that wrote none of them or cut the results off; if they
 -- were cut off before, nothing was written to it
-abbrev pub failures_below : Course → Course → ℕ → ℕ → ℕ
+abbrev pub failures_below : OutputState → OutputState → ℕ → ℕ → ℕ
 failures_below here next count before = if is_cut_off here then before
     else if is_cut_off next || count == 0 then one_more before else before
 
 -- the sink failed as often as the sink below, up to the failed write to that one that cut the results off
-abbrev pub IsCounted : Course → ℕ → ℕ → Type 0
+abbrev pub IsCounted : OutputState → ℕ → ℕ → Type 0
 IsCounted course.CutOff failures below = 1 ≤ below
 IsCounted _ failures below = failures ≡ below
 
@@ -115,13 +115,13 @@ pub record IsShownInPart (before out : List ℕ) : Type 0 where
   pub shown : out ≡ before ++ (colored beginning text ++ part)
 
 -- how the output of a sink continues, given what was written after the earlier bytes
-abbrev pub IsCourseBehind : List ℕ → List ℕ → Course → Type 0
+abbrev pub IsCourseBehind : List ℕ → List ℕ → OutputState → Type 0
 IsCourseBehind before out course.Plain = ⊥
 IsCourseBehind before out (course.Colored here) = IsShownUpTo here before out
 IsCourseBehind before out course.CutOff = IsShownInPart before out
 
 -- how the output of a sink continues, if what was written is known
-abbrev pub IsOnCourse : Colors → Option (List ℕ) → Option (List ℕ) → Course → Type 0
+abbrev pub IsOnCourse : Colors → Option (List ℕ) → Option (List ℕ) → OutputState → Type 0
 IsOnCourse colors.Without before out course.Plain = ⊤
 IsOnCourse colors.Without before out (course.Colored here) = ⊥
 IsOnCourse colors.Without before out course.CutOff = ⊥

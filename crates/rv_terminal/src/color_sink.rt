@@ -4,7 +4,7 @@ ghost use Rattle.std.specs.Prelude.{◌≡◌, ◌≤◌, IfErr, OnOk, is_err};
 ghost use Rattle.rv_terminal.specs.ColorSinks.{IsOut, IsOutInPart, first_course, is_cut_off, results_of};
 
 use crate::colors::Colors;
-use crate::course::{Course, put_by_course};
+use crate::course::{OutputState, put_by_course};
 use rv_base::{Sink, SinkFailed};
 use std::marker::{Brand, Model, PhantomData};
 
@@ -32,7 +32,7 @@ impl Results for Brand {
 #[derive(Drop)]
 pub struct ColorSink<J: Results, S: Sink + Drop> {
     sink: S,
-    course: Course,
+    course: OutputState,
     failures: u64,
     of: PhantomData<J>,
 }
@@ -60,7 +60,7 @@ impl<J: Results, S: Sink + Drop> ColorSink<J, S> {
         let failures = sink.failures();
         ColorSink {
             sink,
-            course: Course::first(colors),
+            course: OutputState::first(colors),
             failures,
             of: PhantomData,
         }

@@ -12,11 +12,11 @@ use Rattle.rv_machine.specs.Run.{step_of}
 use Rattle.rv_machine.specs.State.{State, register}
 use Rattle.rv_trace.specs.declared.write_targets.Access.{Access}
 use Rattle.rv_trace.specs.declared.write_targets.Access.TheVariants as access
-use Rattle.rv_trace.specs.declared.write_targets.Aim.{Aim}
-use Rattle.rv_trace.specs.declared.write_targets.Aim.TheVariants as aim
+use Rattle.rv_trace.specs.declared.write_targets.WriteTarget.{WriteTarget}
+use Rattle.rv_trace.specs.declared.write_targets.WriteTarget.TheVariants as aim
 use Rattle.rv_trace.specs.declared.step.TracedStep.{TracedStep}
-use Rattle.rv_trace.specs.declared.step.Wrote.{Wrote}
-use Rattle.rv_trace.specs.declared.step.Wrote.TheVariants as wrote
+use Rattle.rv_trace.specs.declared.step.WriteEffect.{WriteEffect}
+use Rattle.rv_trace.specs.declared.step.WriteEffect.TheVariants as wrote
 use Rattle.rv_trace.specs.Code.{code_at, instr_of}
 
 -- ---- what an instruction is about to write, and where
@@ -35,18 +35,18 @@ access_of _ = access.Neither
 
 -- a load reads its address into a register; a store writes the low bytes of rs2 to its address; every other instruction writes a register
 -- other than x0, if any
-abbrev pub instruction_write_target : Access → Instr → State → Aim
+abbrev pub instruction_write_target : Access → Instr → State → WriteTarget
 instruction_write_target access.Load i s = aim.Load i.rd (address s i)
 instruction_write_target (access.Store width) i s =
     aim.Store (address s i) width (rs2_value s i % 2 ^ (8 * size_of width))
 instruction_write_target access.Neither i s = if i.rd == 0 then aim.Nothing else aim.Register i.rd
 
-abbrev pub write_target : Option Instr → State → Aim
+abbrev pub write_target : Option Instr → State → WriteTarget
 write_target None s = aim.Nothing
 write_target (Some i) s = instruction_write_target (access_of i.op) i s
 
 -- the target's register number is valid
-abbrev pub HasRegister : Aim → Type 0
+abbrev pub HasRegister : WriteTarget → Type 0
 HasRegister (aim.Register number) = number < 32
 HasRegister (aim.Load number address) = number < 32
 HasRegister _ = Unit {0}
@@ -54,7 +54,7 @@ HasRegister _ = Unit {0}
 -- ---- what it wrote
 
 -- the target with the values found in the state after the instruction
-abbrev pub completed_write : Aim → State → Wrote
+abbrev pub completed_write : WriteTarget → State → WriteEffect
 completed_write aim.Nothing t = wrote.Nothing
 completed_write (aim.Register number) t = wrote.Register number (register t number)
 completed_write (aim.Load number address) t = wrote.Loaded number (register t number) address

@@ -21,8 +21,8 @@ use Rattle.rv_text.specs.Words.{word_digits}
 use Rattle.rv_trace.specs.declared.code.Code.{Code}
 use Rattle.rv_trace.specs.declared.code.Code.TheVariants.{Half, Word}
 use Rattle.rv_trace.specs.declared.step.TracedStep.{TracedStep}
-use Rattle.rv_trace.specs.declared.step.Wrote.{Wrote}
-use Rattle.rv_trace.specs.declared.step.Wrote.TheVariants as wrote
+use Rattle.rv_trace.specs.declared.step.WriteEffect.{WriteEffect}
+use Rattle.rv_trace.specs.declared.step.WriteEffect.TheVariants as wrote
 use Rattle.rv_trace.specs.declared.trace.Trace.{Trace}
 
 -- ---- columns
@@ -78,7 +78,7 @@ address_text image file address =
     symbol_and_space (symbol_of_value image file address) ++ word_digits address
 
 -- what an instruction wrote
-unfoldable pub wrote_text : Image → List ℕ → Wrote → List ℕ
+unfoldable pub wrote_text : Image → List ℕ → WriteEffect → List ℕ
 wrote_text image file wrote.Nothing = []
 wrote_text image file (wrote.Register number value) = register_text number value
 wrote_text image file (wrote.Loaded number value address) =

@@ -9,7 +9,7 @@ ghost use Rattle.rv_trace.specs.Text.{wrote_text};
 use crate::code::Code;
 use crate::columns::push_digits_after_first;
 use crate::elf_file::ElfFile;
-use crate::step::Wrote;
+use crate::step::WriteEffect;
 use rv_disasm::{push_assembly16, push_assembly32, push_illegal16, push_illegal32};
 use rv_elf::SymbolAt;
 use rv_machine::FaultKind;
@@ -54,20 +54,20 @@ pub(crate) fn push_wrote_text(
     alloc: Global,
     bytes: &mut Vec<u8>,
     elf: &ElfFile<'_>,
-    wrote: Wrote,
+    wrote: WriteEffect,
 ) -> Result<(), AllocError>
     ensures { OnOk result (bytes.new.items ≡ bytes.old.items
         ++ wrote_text elf.now.image.now elf.now.bytes.now wrote) }
 {
     match wrote {
-        Wrote::Nothing => Ok(()),
-        Wrote::Register(number, value) => push_register(bytes, number, value),
-        Wrote::Loaded(number, value, from) => {
+        WriteEffect::Nothing => Ok(()),
+        WriteEffect::Register(number, value) => push_register(bytes, number, value),
+        WriteEffect::Loaded(number, value, from) => {
             push_loaded_text(bytes, number, value)?;
             push_text(bytes, "from ")?;
             push_address(alloc, bytes, elf, from)
         }
-        Wrote::Stored(address, width, value) => {
+        WriteEffect::Stored(address, width, value) => {
             push_address(alloc, bytes, elf, address)?;
             push_text(bytes, " <- ")?;
             push_stored_value(alloc, bytes, width, value)

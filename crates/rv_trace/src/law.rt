@@ -12,7 +12,7 @@ ghost use Rattle.rv_rows.specs.Rows.{row_of, start_in};
 ghost use Rattle.rv_memory.specs.Bus.{size_of, touches_console, value_at};
 ghost use Rattle.rv_memory.specs.declared.access.Width.{Width};
 ghost use Rattle.rv_trace.specs.declared.code.Code.{Code};
-ghost use Rattle.rv_trace.specs.declared.step.Wrote.TheVariants.{Stored};
+ghost use Rattle.rv_trace.specs.declared.step.WriteEffect.TheVariants.{Stored};
 ghost use Rattle.rv_trace.specs.Steps.{traced_step};
 ghost use Rattle.rv_trace.specs.Showing.{EndsThere, IsCodeOf, ShowsTheEnd};
 ghost use Rattle.rv_trace.specs.Trace.{trace_of};

@@ -13,7 +13,7 @@ use rv_memory::Width;
 
 /// What an instruction wrote.
 #[derive(Clone, Copy)]
-pub enum Wrote {
+pub enum WriteEffect {
     Nothing,
     /// A register other than x0, and its new value.
     Register(u8, u32),
@@ -29,7 +29,7 @@ pub struct TracedStep {
     pub pc: u32,
     /// The encoding that was fetched; always present, since the instruction completed.
     pub code: Option<Code>,
-    pub wrote: Wrote,
+    pub wrote: WriteEffect,
 }
 
 /// Instructions in the order in which they completed; contracts see them as a list.

@@ -16,7 +16,7 @@ use Rattle.rvfleet_app.specs.declared.error.Failure.{Failure}
 use Rattle.rvfleet_app.specs.Failures.{is_failure_of_list, is_failure_of_raw, is_failure_of_sending}
 use Rattle.rvfleet_app.specs.Lines.{IsLinePut, bad_words_line, failure_line, fault_line}
 use Rattle.rvfleet_app.specs.ElfImage.{script_bytes, is_bad_image_request, is_bad_path, single_image_jobs}
-use Rattle.rvfleet_app.specs.Plans.{AreJobRows, MayFault, MayList, Stored}
+use Rattle.rvfleet_app.specs.Plans.{AreJobRows, IsPossibleListError, IsPossibleList, Stored}
 use Rattle.rvfleet_app.specs.FlatImage.{AreRawRows}
 
 -- ---- which words are refused
@@ -32,7 +32,7 @@ is_request_refused None = true
 abbrev pub IsFaultOfRequest : Option Request → Option FileContents → JobError → Type 0
 IsFaultOfRequest (Some (raw budget)) known error = ⊥
 IsFaultOfRequest (Some (one path budget digits)) known error = ⊥
-IsFaultOfRequest (Some (run path workers group)) known error = MayFault known path error
+IsFaultOfRequest (Some (run path workers group)) known error = IsPossibleListError known path error
 IsFaultOfRequest None known error = ⊥
 
 -- a list that the store may contain for the request has an error
@@ -63,7 +63,7 @@ AreImageRows store path budget digits rows = (script : List ℕ) × ((script_byt
 -- the rows of the jobs of a list that the store may contain at a path
 abbrev pub AreListRows : Stored → List ℕ → List Row → Type 0
 AreListRows store path rows =
-    (jobs : List Job) × (MayList store.known path jobs × AreJobRows store jobs rows)
+    (jobs : List Job) × (IsPossibleList store.known path jobs × AreJobRows store jobs rows)
 
 -- the rows of a request, given the bytes of the input and what the store may return
 abbrev pub AreRows : Option Request → Option (List ℕ) → Stored → List Row → Type 0
@@ -92,8 +92,8 @@ pub record IsReportSent (before after : Option (List ℕ)) (status : ℕ) (rows 
   pub verdicts : status ≡ verdicts_status rows
 
 -- a prefix of their report was written
-abbrev pub IsReportBegun : Option (List ℕ) → Option (List ℕ) → List Row → Type 0
-IsReportBegun before after rows = AppendsBeginning before after (report_text rows)
+abbrev pub IsReportPrefixWritten : Option (List ℕ) → Option (List ℕ) → List Row → Type 0
+IsReportPrefixWritten before after rows = AppendsBeginning before after (report_text rows)
 
 -- ---- the answer
 
@@ -107,7 +107,7 @@ pub record Answers (request : Option Request) (input : Option (List ℕ)) (store
   pub refused : status ≡ 2
       → Keeps before after × (is_request_refused request ≡ true ⊎ HasFault request store)
   pub failed : status ≡ 3 → Keeps before after
-      ⊎ ((rows : List Row) × (AreRows request input store rows × IsReportBegun before after rows))
+      ⊎ ((rows : List Row) × (AreRows request input store rows × IsReportPrefixWritten before after rows))
 
 -- ---- what standard error says
 
@@ -139,7 +139,7 @@ IsQuiet before after failures_before failures_after =
     Keeps before after × (failures_after ≡ failures_before)
 
 -- the line says why the status is 2 or 3; for 0 and 1, nothing is written
-pub record TellsWhy (request : Option Request) (known : Option FileContents)
+pub record ReportsReason (request : Option Request) (known : Option FileContents)
     (before after : Option (List ℕ)) (failures_before failures_after : ℕ) (status : ℕ)
     : Type 0 where
   pub quiet : status ≡ 0 ⊎ status ≡ 1 → IsQuiet before after failures_before failures_after

@@ -22,7 +22,7 @@ abbrev pub stored_contents : Option FileContents → ℕ → ℕ → Stored
 stored_contents known before after = record { known = known; before = before; after = after }
 
 -- a plan of jobs over results that the store may return: one for each of their paths, and one more fault for each that cannot be read
-pub record MayPlan (store : Stored) (list : List Job) (plan : Planned) : Type 0 where
+pub record IsPossiblePlan (store : Stored) (list : List Job) (plan : Planned) : Type 0 where
   pub jobs : plan.jobs ≡ list
   pub paths : paths_of plan.answers ≡ paths_used list
   pub kept : AreKept store.known plan.answers
@@ -30,19 +30,19 @@ pub record MayPlan (store : Stored) (list : List Job) (plan : Planned) : Type 0 
 
 -- the rows of the jobs, over results that the store may return
 abbrev pub AreJobRows : Stored → List Job → List Row → Type 0
-AreJobRows store jobs rows = (plan : Planned) × (MayPlan store jobs plan × (rows ≡ rows_of plan))
+AreJobRows store jobs rows = (plan : Planned) × (IsPossiblePlan store jobs plan × (rows ≡ rows_of plan))
 
 -- the jobs are those of a list that the store may contain at a path
-abbrev pub MayList : Option FileContents → List ℕ → List Job → Type 0
-MayList known path jobs =
+abbrev pub IsPossibleList : Option FileContents → List ℕ → List Job → Type 0
+IsPossibleList known path jobs =
     (list : List ℕ) × (IsKeptOf known path (Content list) × (job_list_of list ≡ Ok jobs))
 
 -- a list that the store may contain at a path has this error
-abbrev pub MayFault : Option FileContents → List ℕ → JobError → Type 0
-MayFault known path error =
+abbrev pub IsPossibleListError : Option FileContents → List ℕ → JobError → Type 0
+IsPossibleListError known path error =
     (list : List ℕ) × (IsKeptOf known path (Content list) × (job_list_of list ≡ Err error))
 
 -- the error of a list that was read; a list that was not read has none
 abbrev pub IsListFault : Option FileContents → List ℕ → ListError → Type 0
-IsListFault known path (Refused error) = MayFault known path error
+IsListFault known path (Refused error) = IsPossibleListError known path error
 IsListFault known path (Failed failure) = Unit {0}

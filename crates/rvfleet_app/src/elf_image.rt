@@ -5,9 +5,9 @@ ghost use Rattle.std.specs.Prelude.{List, ◌≡◌, ◌≢◌, ◌<◌, ◌≤�
 ghost use Rattle.std.specs.Prelude.{length, option_map, true, vec_len};
 ghost use Rattle.std.specs.Io.KnownBytes.{Keeps};
 ghost use Rattle.rv_fleet.specs.declared_row.Row.{Row as ARow};
-ghost use Rattle.rv_jobs.specs.Counts.{HasRisen};
+ghost use Rattle.rv_jobs.specs.Counts.{HasIncreased};
 ghost use Rattle.rv_jobs.specs.Limits.{most_path, most_script};
-ghost use Rattle.rvfleet_app.specs.Answers.{IsReportBegun, IsReportSent};
+ghost use Rattle.rvfleet_app.specs.Answers.{IsReportPrefixWritten, IsReportSent};
 ghost use Rattle.rvfleet_app.specs.Failures.{is_failure_of_sending};
 ghost use Rattle.rvfleet_app.specs.ElfImage.{script_bytes, is_bad_path, is_bad_script, single_image_jobs};
 ghost use Rattle.rvfleet_app.specs.Plans.{AreJobRows, stored_contents};
@@ -86,9 +86,9 @@ pub fn run_image<S: Store, O: Sink>(
         ⊎ ((rows : List ARow)
         × (AreJobRows (stored_contents (S.contents store.old) (S.faulted store.old) (S.faulted store.new))
         (single_image_jobs run.entry.path.now run.entry.budget run.entry.script.items) rows
-        × IsReportBegun (O.taken out.old) (O.taken out.new) rows))) }
+        × IsReportPrefixWritten (O.taken out.old) (O.taken out.new) rows))) }
     ensures failed { IfErr result
-        (λ error. error ≡ Failure.WriteFailed → HasRisen (O.failed out.old) (O.failed out.new)) }
+        (λ error. error ≡ Failure.WriteFailed → HasIncreased (O.failed out.old) (O.failed out.new)) }
     ensures same { S.contents store.new ≡ S.contents store.old }
 {
     let ImageRun {

@@ -5,9 +5,9 @@ ghost use Rattle.std.specs.Io.KnownBytes.{Appends, Keeps};
 ghost use Rattle.rv_fleet.specs.declared_row.Row.{Row as ARow};
 ghost use Rattle.rv_fleet.specs.Flat.{flat_row_of};
 ghost use Rattle.rv_fleet.specs.Report.{report_text};
-ghost use Rattle.rv_jobs.specs.Counts.{HasRisen};
+ghost use Rattle.rv_jobs.specs.Counts.{HasIncreased};
 ghost use Rattle.rv_files.specs.Input.{TookFirstBytes};
-ghost use Rattle.rvfleet_app.specs.Answers.{IsReportBegun};
+ghost use Rattle.rvfleet_app.specs.Answers.{IsReportPrefixWritten};
 ghost use Rattle.rvfleet_app.specs.FlatImage.{AreRawRows, IsInputBeginning, most_read};
 
 use crate::error::RunError;
@@ -36,9 +36,9 @@ pub fn run_raw<R: Read, O: Sink>(
         (λ error. error ≡ RunError.ReadFailed → Keeps (O.taken out.old) (O.taken out.new)) }
     ensures part { OnErr result (Keeps (O.taken out.old) (O.taken out.new)
         ⊎ ((rows : List ARow) × (AreRawRows (R.remaining input.old) budget rows
-        × IsReportBegun (O.taken out.old) (O.taken out.new) rows))) }
+        × IsReportPrefixWritten (O.taken out.old) (O.taken out.new) rows))) }
     ensures failed { IfErr result
-        (λ error. error ≡ RunError.WriteFailed → HasRisen (O.failed out.old) (O.failed out.new)) }
+        (λ error. error ≡ RunError.WriteFailed → HasIncreased (O.failed out.old) (O.failed out.new)) }
 {
     let bytes = read_flat_image(alloc, input)?;
     let report = flat_report(alloc, bytes.as_slice(), budget)?;

@@ -6,9 +6,9 @@ ghost use Rattle.std.specs.Prelude.{true, false};
 ghost use Rattle.std.specs.Io.KnownBytes.{Keeps};
 ghost use Rattle.clap.specs.Words.{kind_of};
 ghost use Rattle.rv_fleet.specs.declared_row.Row.{Row};
-ghost use Rattle.rvfleet_app.specs.Answers.{Answers, IsReportBegun, IsQuiet, IsReportSent, TellsWhy, TellsFailure};
+ghost use Rattle.rvfleet_app.specs.Answers.{Answers, IsReportPrefixWritten, IsQuiet, IsReportSent, ReportsReason, TellsFailure};
 ghost use Rattle.rvfleet_app.specs.Answers.{reads_input, reads_store};
-ghost use Rattle.rv_cli.specs.RvfleetCommand.{AsksHelp, IsToAnswer, faultless_request, are_words_taken, one};
+ghost use Rattle.rv_cli.specs.RvfleetCommand.{AsksHelp, IsToAnswer, faultless_request, are_arguments_accepted, one};
 ghost use Rattle.rv_cli.specs.RvfleetCommand.{raw, request_of, run};
 ghost use Rattle.rvfleet_app.specs.Lines.{IsLinePut, bad_words_line};
 ghost use Rattle.rvfleet_app.specs.Plans.{stored_contents};
@@ -45,7 +45,7 @@ pub fn run_words<'a, R: Threads + Wait, T: AsStr, S: Store, I: Read, O: Sink, E:
     gate: &G,
 ) -> u8
     // Arguments that the command accepts make a request.
-    ensures asked { are_words_taken (map T.text words.entry.now) ≡ true
+    ensures asked { are_arguments_accepted (map T.text words.entry.now) ≡ true
         → is_some (request_of (map T.text words.entry.now)) ≡ true }
     // For arguments that it accepts, or in which it finds no error, the report of their request is written whole, in part, or not at all,
     // as the status says.
@@ -56,7 +56,7 @@ pub fn run_words<'a, R: Threads + Wait, T: AsStr, S: Store, I: Read, O: Sink, E:
     // No write to `out` failed if the status is 0 or 1.
     ensures counted { result ≡ 0 ⊎ result ≡ 1 → O.failed out.new ≡ O.failed out.old }
     // A line on `errors` says why the status is 2 or 3, for any arguments; otherwise nothing is written there.
-    ensures told { TellsWhy (faultless_request (map T.text words.entry.now)) (S.contents store.old)
+    ensures told { ReportsReason (faultless_request (map T.text words.entry.now)) (S.contents store.old)
         (E.taken errors.old) (E.taken errors.new)
         (E.failed errors.old) (E.failed errors.new) result }
     // Status 0 or 1 means that the arguments make a request or request help.
@@ -119,7 +119,7 @@ impl<'a, R: Threads + Wait, G: Gate> Host<'a, R, G> {
         ensures answers { Answers (Some (request asked.entry)) (I.remaining input.old)
             (stored_contents (S.contents store.old) (S.faulted store.old) (S.faulted store.new))
             (O.taken out.old) (O.taken out.new) result }
-        ensures told { TellsWhy (Some (request asked.entry)) (S.contents store.old)
+        ensures told { ReportsReason (Some (request asked.entry)) (S.contents store.old)
             (E.taken errors.old) (E.taken errors.new)
             (E.failed errors.old) (E.failed errors.new) result }
         ensures counted { result ≡ 0 ⊎ result ≡ 1 → O.failed out.new ≡ O.failed out.old }
@@ -172,7 +172,7 @@ impl<'a, R: Threads + Wait, G: Gate> Host<'a, R, G> {
             (Some (run asked.now.path.now asked.now.workers asked.now.group)) None
             (stored_contents (S.contents store.old) (S.faulted store.old) (S.faulted store.new))
             (O.taken out.old) (O.taken out.new) result }
-        ensures told { TellsWhy
+        ensures told { ReportsReason
             (Some (run asked.now.path.now asked.now.workers asked.now.group))
             (S.contents store.old) (E.taken errors.old) (E.taken errors.new)
             (E.failed errors.old) (E.failed errors.new) result }
@@ -209,7 +209,7 @@ fn answer_raw<I: Read, O: Sink, E: Sink>(
     ensures counted { result ≡ DONE → O.failed out.new ≡ O.failed out.old }
     ensures part { result ≡ FAILED → Keeps (O.taken out.old) (O.taken out.new)
         ⊎ ((rows : List Row) × (AreRawRows (I.remaining input.old) budget rows
-        × IsReportBegun (O.taken out.old) (O.taken out.new) rows)) }
+        × IsReportPrefixWritten (O.taken out.old) (O.taken out.new) rows)) }
     ensures quiet { result ≡ DONE → IsQuiet (E.taken errors.old) (E.taken errors.new)
         (E.failed errors.old) (E.failed errors.new) }
     ensures told { result ≡ FAILED → TellsFailure (Some (raw budget))
@@ -236,7 +236,7 @@ fn answer_image<S: Store, O: Sink, E: Sink>(
         (option_map (λ text. text.now) asked.now.digits))) None
         (stored_contents (S.contents store.old) (S.faulted store.old) (S.faulted store.new))
         (O.taken out.old) (O.taken out.new) result }
-    ensures told { TellsWhy
+    ensures told { ReportsReason
         (Some (one asked.now.path.now asked.now.budget
         (option_map (λ text. text.now) asked.now.digits)))
         (S.contents store.old) (E.taken errors.old) (E.taken errors.new)

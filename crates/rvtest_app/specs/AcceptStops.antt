@@ -15,13 +15,13 @@ use Rattle.rv_files.specs.UnreadPaths.{resolved_path}
 use Rattle.rv_lists.specs.JobList.{job_list_of}
 use Rattle.rv_lists.specs.declared.job.Job.{Job}
 use Rattle.rvtest_app.specs.Overwrites.{IsAcceptOverwriteStop}
-use Rattle.rvtest_app.specs.PutStops.{IsUnopenedStop, IsUnwrittenStop}
+use Rattle.rvtest_app.specs.WriteStops.{IsUnopenedStop, IsUnwrittenStop}
 
 -- ---- one file
 
 -- the file for the path was not opened, not written, or not moved to its path
-abbrev pub IsUnmadeStop : List ℕ → Stop → Type 0
-IsUnmadeStop path why = IsUnopenedStop path why ⊎ IsUnwrittenStop path why
+abbrev pub IsFileNotCreatedStop : List ℕ → Stop → Type 0
+IsFileNotCreatedStop path why = IsUnopenedStop path why ⊎ IsUnwrittenStop path why
 
 -- the file has other bytes than those that were written
 abbrev pub IsOtherBytesStop : List ℕ → Stop → Type 0
@@ -36,8 +36,8 @@ abbrev pub IsUncheckedStop : Option FileContents → List ℕ → Stop → Type 
 IsUncheckedStop known path why = IsListUnreadStop known path why ⊎ (IsOtherBytesStop path why ⊎ IsChangedStop path why)
 
 -- the file was not written as intended
-abbrev pub IsUnputStop : Option FileContents → List ℕ → Stop → Type 0
-IsUnputStop known path why = IsUnmadeStop path why ⊎ IsUncheckedStop known path why
+abbrev pub IsFileNotWrittenStop : Option FileContents → List ℕ → Stop → Type 0
+IsFileNotWrittenStop known path why = IsFileNotCreatedStop path why ⊎ IsUncheckedStop known path why
 
 -- ---- the files of what is accepted
 
@@ -51,9 +51,9 @@ AreTargetsUnread known root targets why = (why ≡ stop.OutOfMemory)
     ⊎ Any (λ target. IsListUnreadStop known (resolved_path root target.path) why) targets
 
 -- out of memory, a failed write to standard output, or, without `--check`, a file that was not written
-abbrev pub IsPutAcceptedStop : Option FileContents → Bool → List ℕ → List GoldenFile → Stop → Type 0
-IsPutAcceptedStop known check list files why = (why ≡ stop.OutOfMemory) ⊎ ((why ≡ stop.WriteFailed)
-    ⊎ ((check ≡ false) × IsStopOfFiles (IsUnputStop known) list files why))
+abbrev pub IsAcceptanceWriteStop : Option FileContents → Bool → List ℕ → List GoldenFile → Stop → Type 0
+IsAcceptanceWriteStop known check list files why = (why ≡ stop.OutOfMemory) ⊎ ((why ≡ stop.WriteFailed)
+    ⊎ ((check ≡ false) × IsStopOfFiles (IsFileNotWrittenStop known) list files why))
 
 -- ---- the command
 
@@ -73,7 +73,7 @@ IsGoldenUnreadStop known words jobs why = (why ≡ stop.OutOfMemory)
 
 -- the file was not read or, without `--check`, not written
 abbrev pub IsFileOfListStop : Option FileContents → Bool → List ℕ → Stop → Type 0
-IsFileOfListStop known check path why = IsListUnreadStop known path why ⊎ ((check ≡ false) × IsUnputStop known path why)
+IsFileOfListStop known check path why = IsListUnreadStop known path why ⊎ ((check ≡ false) × IsFileNotWrittenStop known path why)
 
 -- out of memory, no thread could be started, a failed write to standard output, or a file of the list that was not read or not written
 abbrev pub IsAcceptingStop : Option FileContents → AcceptArgs → List Job → Stop → Type 0

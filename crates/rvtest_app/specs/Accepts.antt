@@ -120,29 +120,29 @@ pub record IsOutcome (known : Option FileContents) (words : AcceptArgs) (bytes :
   pub unchanged : told.new.now.text ≡ None → intended_jobs jobs told.runs.now ≡ jobs
 
 -- the report went to standard output, with the summary line; unless this is a check, the files were written to their paths
-abbrev pub IsAcceptancePut : Bool → AcceptSummary → ℕ → CommandOutputs → CommandOutputs → Type 0
-IsAcceptancePut true told status before after =
+abbrev pub IsAcceptanceWritten : Bool → AcceptSummary → ℕ → CommandOutputs → CommandOutputs → Type 0
+IsAcceptanceWritten true told status before after =
     (status ≡ accept_status (left_count told) (changed_count told))
     × IsOnlyStandardOutput (told_lines told ++ count_line writing.Asked (changed_count told) (left_count told)) before after
-IsAcceptancePut false told status before after =
+IsAcceptanceWritten false told status before after =
     (status ≡ accept_status (left_count told) 0)
     × Appends before.out after.out (told_lines told ++ count_line writing.Done (changed_count told) (left_count told))
     × (after.errors ≡ before.errors) × (after.failures ≡ before.failures)
     × AreFilesCommitted before.placed after.placed (Some (written_files told))
 
 -- the summary with these parts
-abbrev pub accepting_of : ListFile → List (Option JobRun) → List GoldenText → List GoldenFile → NewList → AcceptSummary → Type 0
-accepting_of list runs claims files new told = (told.list ≡ list) × (told.runs.now ≡ runs) × (told.claims.now ≡ claims)
+abbrev pub IsAcceptSummaryOf : ListFile → List (Option JobRun) → List GoldenText → List GoldenFile → NewList → AcceptSummary → Type 0
+IsAcceptSummaryOf list runs claims files new told = (told.list ≡ list) × (told.runs.now ≡ runs) × (told.claims.now ≡ claims)
     × (told.files.now ≡ files) × (told.new.now ≡ new)
 
-pub record IsOutcomePut (check : Bool) (list : ListFile) (runs : List (Option JobRun)) (claims : List GoldenText)
+pub record IsOutcomeWritten (check : Bool) (list : ListFile) (runs : List (Option JobRun)) (claims : List GoldenText)
     (files : List GoldenFile) (new : NewList) (status : ℕ) (before after : CommandOutputs) : Type 0 where
   pub told : AcceptSummary
-  pub of : accepting_of list runs claims files new told
-  pub put : IsAcceptancePut check told status before after
+  pub of : IsAcceptSummaryOf list runs claims files new told
+  pub put : IsAcceptanceWritten check told status before after
 
 -- the golden files outside of the list's directory were reported; there are none if committed files are reported
-pub record IsOutsideTold (before after : CommandOutputs) : Type 0 where
+pub record AreOutsideFilesReported (before after : CommandOutputs) : Type 0 where
   pub outside : List ℕ
   pub inside : IfSome before.placed (λ _. outside ≡ [])
   pub told : IsOnlyErrorOutput outside before after
@@ -159,7 +159,7 @@ pub record AreJudged (known : Option FileContents) (words : AcceptArgs) (jobs : 
 pub record IsAcceptedOfMarks (known : Option FileContents) (words : AcceptArgs) (bytes : List ℕ) (jobs : List Job)
     (chosen : List Bool) (status : ℕ) (before after : CommandOutputs) : Type 0 where
   pub first : CommandOutputs
-  pub outside : IsOutsideTold before first
+  pub outside : AreOutsideFilesReported before first
   pub rows : List (Option Row)
   pub middle : CommandOutputs
   pub ran : AreRowsPut known (optional_text words.run.root) (map without_expectations jobs)
@@ -168,7 +168,7 @@ pub record IsAcceptedOfMarks (known : Option FileContents) (words : AcceptArgs) 
   pub judging : AreJudged known words jobs chosen rows judged
   pub told : AcceptSummary
   pub outcome : IsOutcome known words bytes jobs judged told
-  pub put : IsAcceptancePut words.check told status middle after
+  pub put : IsAcceptanceWritten words.check told status middle after
 
 -- if no job is chosen, the status is 0 and nothing more is reported
 abbrev pub IsAcceptedOfChosen : Option FileContents → AcceptArgs → List ℕ → List Job → Option (List Bool) → ℕ

@@ -8,15 +8,15 @@ use Rattle.rvtest_cli.specs.declared.requests.Asked.{Asked}
 use Rattle.rvtest_cli.specs.declared.requests.Asked.TheVariants as asked
 use Rattle.rvtest_app.specs.Accepts.{IsAcceptedAt}
 use Rattle.rvtest_app.specs.Colors.{IsColoredOutput, requested_colors}
-use Rattle.rvtest_app.specs.Consoles.{IsConsolePut}
-use Rattle.rvtest_app.specs.CountSums.{IsSumPut}
-use Rattle.rvtest_app.specs.Covers.{IsCoverPut}
+use Rattle.rvtest_app.specs.Consoles.{IsConsoleWritten}
+use Rattle.rvtest_app.specs.CountSums.{IsSumWritten}
+use Rattle.rvtest_app.specs.Covers.{IsCoverageWritten}
 use Rattle.rvtest_app.specs.Debugging.{IsGdbAnswered}
-use Rattle.rvtest_app.specs.HelpTopics.{IsTopicTold}
-use Rattle.rvtest_app.specs.Lists.{IsListPut}
+use Rattle.rvtest_app.specs.HelpTopics.{IsTopicPrinted}
+use Rattle.rvtest_app.specs.Lists.{IsListWritten}
 use Rattle.rvtest_app.specs.Merges.{IsMergedAt}
-use Rattle.rvtest_app.specs.Profiles.{IsProfilePut}
-use Rattle.rvtest_app.specs.Reports.{IsCheckAt, IsDiffPut, IsExplanationAt}
+use Rattle.rvtest_app.specs.Profiles.{IsProfileWritten}
+use Rattle.rvtest_app.specs.Reports.{IsCheckAt, IsDiffWritten, IsExplanationAt}
 use Rattle.rvtest_app.specs.Runs.{IsRunAt}
 use Rattle.rvtest_app.specs.CommandOutputs.{IsOnlyStandardOutput, CommandOutputs}
 use Rattle.rvtest_app.specs.Shows.{IsShownAt}
@@ -30,9 +30,9 @@ IsDone known input is_terminal (asked.Explain words) status before after =
     (text : List ℕ) × (IsExplanationAt known words text status
     × IsOnlyStandardOutput text before after)
 IsDone known input is_terminal (asked.List words) status before after =
-    IsListPut known words status before after
+    IsListWritten known words status before after
 IsDone known input is_terminal (asked.Console words) status before after =
-    IsConsolePut known words status before after
+    IsConsoleWritten known words status before after
 IsDone known input is_terminal (asked.Gdb words) status before after =
     (rest : Option (List ℕ)) × IsGdbAnswered known is_terminal words input rest status before after
 IsDone known input is_terminal (asked.Check words) status before after =
@@ -43,17 +43,17 @@ IsDone known input is_terminal (asked.Accept words) status before after =
 IsDone known input is_terminal (asked.Merge words) status before after =
     IsMergedAt known words status before after
 IsDone known input is_terminal (asked.Diff words) status before after =
-    IsDiffPut known words status before after
+    IsDiffWritten known words status before after
 IsDone known input is_terminal (asked.Show words) status before after =
     IsShownAt known words status before after
 IsDone known input is_terminal (asked.Counts words) status before after =
-    IsSumPut known words status before after
+    IsSumWritten known words status before after
 IsDone known input is_terminal (asked.Cover words) status before after =
-    IsCoverPut known words status before after
+    IsCoverageWritten known words status before after
 IsDone known input is_terminal (asked.Profile words) status before after =
-    IsProfilePut known words status before after
+    IsProfileWritten known words status before after
 IsDone known input is_terminal (asked.Help words) status before after =
-    (text : List ℕ) × (IsTopicTold words.topic.now text status
+    (text : List ℕ) × (IsTopicPrinted words.topic.now text status
     × IsOnlyStandardOutput text before after)
 
 -- a command did what was requested, and its results on standard output were coloured as requested, given whether standard output is a

@@ -1,7 +1,7 @@
 -- What a command has output so far, and the files that it has committed.
 use Rattle.std.specs.Prelude.{◌≡◌, ℕ, List, None, Option, Some}
 use Rattle.std.specs.Io.KnownBytes.{Appends}
-use Rattle.rv_command.specs.Messages.{IsMessagePut}
+use Rattle.rv_command.specs.Messages.{IsMessageWritten}
 use Rattle.rv_files.specs.Placed.{CommittedFile}
 use Rattle.rvtest_app.specs.declared.destinations.Destinations.{Destinations}
 
@@ -24,13 +24,13 @@ outputs_of placed taken told failed to = record {
 }
 
 -- the committed files, if those committed before were reported
-abbrev pub placed_behind : Option (List CommittedFile) → Option (List CommittedFile) → Option (List CommittedFile)
-placed_behind None placed = None
-placed_behind (Some earlier) placed = placed
+abbrev pub placed_if_reported : Option (List CommittedFile) → Option (List CommittedFile) → Option (List CommittedFile)
+placed_if_reported None placed = None
+placed_if_reported (Some earlier) placed = placed
 
 -- the outputs, with the committed files if those committed before were reported
-abbrev pub where_told : Option (List CommittedFile) → CommandOutputs → CommandOutputs
-where_told earlier now = record now { placed = placed_behind earlier now.placed }
+abbrev pub with_placed_if_reported : Option (List CommittedFile) → CommandOutputs → CommandOutputs
+with_placed_if_reported earlier now = record now { placed = placed_if_reported earlier now.placed }
 
 -- the text went to standard output, and nothing else was output
 abbrev pub IsOnlyStandardOutput : List ℕ → CommandOutputs → CommandOutputs → Type 0
@@ -41,5 +41,5 @@ IsOnlyStandardOutput text before after =
 -- the message went to standard error, or a prefix of it if a write failed, and nothing else was output
 abbrev pub IsOnlyErrorOutput : List ℕ → CommandOutputs → CommandOutputs → Type 0
 IsOnlyErrorOutput text before after =
-    (after.out ≡ before.out) × IsMessagePut before.errors after.errors before.failures after.failures text
+    (after.out ≡ before.out) × IsMessageWritten before.errors after.errors before.failures after.failures text
     × (after.placed ≡ before.placed)

@@ -31,15 +31,15 @@ use Rattle.rvtest_app.specs.Answers.{AskForHelp}
 use Rattle.rvtest_app.specs.Commands.{failure_rule}
 use Rattle.rvtest_app.specs.CountStops.{IsCountsStop}
 use Rattle.rvtest_app.specs.CoverStops.{IsCoverStop}
-use Rattle.rvtest_app.specs.Debugging.{IsBrokenStop, IsFailureTold, IsNoGdbStop, IsUnopenedOfStop}
+use Rattle.rvtest_app.specs.Debugging.{IsBrokenStop, IsFailureCounted, IsNoGdbStop, IsUnopenedOfStop}
 use Rattle.rvtest_app.specs.HelpTopics.{IsNoTopicStop}
 use Rattle.rvtest_app.specs.MergeStops.{IsMergeStop}
 use Rattle.rvtest_app.specs.Overwrites.{IsShowOverwriteStop}
 use Rattle.rvtest_app.specs.ProfileStops.{IsProfileStop}
-use Rattle.rvtest_app.specs.PutStops.{IsOutputStop}
+use Rattle.rvtest_app.specs.WriteStops.{IsOutputStop}
 use Rattle.rvtest_app.specs.RunStops.{IsRunStop}
 use Rattle.rvtest_app.specs.CommandOutputs.{CommandOutputs}
-use Rattle.rvtest_app.specs.ToldStops.{IsHelpAsked}
+use Rattle.rvtest_app.specs.ReportedStops.{IsHelpAsked}
 
 -- `check`: the list was not read, memory ran out, or the list has an error
 abbrev pub IsCheckStop : Option FileContents → CheckArgs → Stop → Type 0
@@ -82,7 +82,7 @@ IsGdbStop known is_terminal words why = IsUnshownStop known is_terminal words wh
 abbrev pub IsGdbStopped : Option FileContents → Bool → GdbArgs → Stop → CommandOutputs → CommandOutputs → ℕ → ℕ → Type 0
 IsGdbStopped known is_terminal words why before after failures_before failures_after =
     (IsUnshownStop known is_terminal words why × (after ≡ before))
-    ⊎ ((is_terminal ≡ false) × ((broken : SessionError) × (IsBrokenStop broken why × IsFailureTold broken failures_before failures_after)))
+    ⊎ ((is_terminal ≡ false) × ((broken : SessionError) × (IsBrokenStop broken why × IsFailureCounted broken failures_before failures_after)))
 
 -- the text is not a list, or the arguments choose none of its jobs
 abbrev pub IsNoChoiceStop : Option FileContents → RunArgs → List ℕ → Stop → Type 0

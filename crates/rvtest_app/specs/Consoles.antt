@@ -48,7 +48,7 @@ pub record IsConsoleAt (known : Option FileContents) (words : ConsoleArgs) (cons
   pub of_list : IsConsoleOf (contents_below (optional_text words.root) known) bytes words.name.now console line status
 
 -- only the console went to standard output, and then the line to standard error
-pub record IsConsolePut (known : Option FileContents) (words : ConsoleArgs) (status : ℕ) (before after : CommandOutputs)
+pub record IsConsoleWritten (known : Option FileContents) (words : ConsoleArgs) (status : ℕ) (before after : CommandOutputs)
     : Type 0 where
   pub console : List ℕ
   pub line : List ℕ

@@ -31,8 +31,8 @@ IsReadErrorStop path (read.Line line) why =
 IsReadErrorStop path read.CutOff why = IsStop 2 (path_message path (codes "the table is truncated")) why
 
 -- adding the table at the path would make the count of an address, or in the stacks of a function, 2^64 or more
-abbrev pub great_count_message : List ℕ → List ℕ → ℕ → List ℕ
-great_count_message path what address = codes "rvtest: " ++ printable_text path ++ what ++ word_digits address
+abbrev pub count_overflow_message : List ℕ → List ℕ → ℕ → List ℕ
+count_overflow_message path what address = codes "rvtest: " ++ printable_text path ++ what ++ word_digits address
     ++ codes " does not fit in 64 bits\n"
 
 -- a function has one name in the table at the path and another in the tables before it
@@ -43,9 +43,9 @@ two_names_message path function = codes "rvtest: " ++ printable_text path ++ cod
 -- a table cannot be added to the others
 abbrev pub IsSumErrorStop : List ℕ → SumError → Stop → Type 0
 IsSumErrorStop path sum.OutOfMemory why = why ≡ stop.OutOfMemory
-IsSumErrorStop path (sum.Count address) why = IsStop 2 (great_count_message path (codes ": the count at ") address) why
+IsSumErrorStop path (sum.Count address) why = IsStop 2 (count_overflow_message path (codes ": the count at ") address) why
 IsSumErrorStop path (sum.Spot function) why =
-    IsStop 2 (great_count_message path (codes ": a count in the stacks of ") function) why
+    IsStop 2 (count_overflow_message path (codes ": a count in the stacks of ") function) why
 IsSumErrorStop path (sum.Names function) why = IsStop 2 (two_names_message path function) why
 IsSumErrorStop path sum.Runs why = IsStop 2 (path_message path (codes "the number of runs does not fit in 64 bits")) why
 
@@ -56,15 +56,15 @@ pub record IsTableFaultStop (path text : List ℕ) (why : Stop) : Type 0 where
   pub whole : (table : CountTable) → IsTable table → table_text table ≡ text → why ≡ stop.OutOfMemory
 
 -- the table at the path cannot be added to the sum of those before it
-abbrev pub IsGreatSumStop : Option FileContents → List ℕ → CountTable → Stop → Type 0
-IsGreatSumStop known path before why = (table : CountTable) × (IsTableAt known path table
+abbrev pub IsSumOverflowStop : Option FileContents → List ℕ → CountTable → Stop → Type 0
+IsSumOverflowStop known path before why = (table : CountTable) × (IsTableAt known path table
     × ((error : SumError) × (HaveNoSum error before table × IsSumErrorStop path error why)))
 
 -- the path was not read, its text is not a table, or the table cannot be added to the sum of those before it
 abbrev pub IsUnaddedStop : Option FileContents → List ℕ → CountTable → Stop → Type 0
 IsUnaddedStop known path before why = IsResultUnreadStop known path why
     ⊎ (((text : List ℕ) × (IsTextAt known path text × IsTableFaultStop path text why))
-    ⊎ IsGreatSumStop known path before why)
+    ⊎ IsSumOverflowStop known path before why)
 
 -- one of the paths failed in this way, and the tables at the paths before it were added
 pub record IsSumStop (known : Option FileContents) (paths : List (Bor (List ℕ))) (why : Stop) : Type 0 where

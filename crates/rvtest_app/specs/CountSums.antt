@@ -29,13 +29,13 @@ AreAdded known (path ∷ paths) before after =
     (next : CountTable) × (IsAdded known path.now before next × AreAdded known paths next after)
 
 -- the number of executed instructions in all, or the greatest 64-bit number if there are more
-abbrev pub begun_of_addresses : List AddressCounts → ℕ
-begun_of_addresses [] = 0
-begun_of_addresses (c ∷ cs) = c.begun + begun_of_addresses cs
+abbrev pub executed_at_addresses : List AddressCounts → ℕ
+executed_at_addresses [] = 0
+executed_at_addresses (c ∷ cs) = c.begun + executed_at_addresses cs
 
-abbrev pub begun_of_images : List ImageCounts → ℕ
-begun_of_images [] = 0
-begun_of_images (image ∷ images) = begun_of_addresses image.addresses + begun_of_images images
+abbrev pub executed_in_images : List ImageCounts → ℕ
+executed_in_images [] = 0
+executed_in_images (image ∷ images) = executed_at_addresses image.addresses + executed_in_images images
 
 abbrev pub most_number : ℕ
 most_number = 2 ^ 64 - 1
@@ -61,10 +61,10 @@ instructions_text number = number_head number ++ decimal number ++ instruction_w
 
 abbrev pub sum_note : CountTable → List ℕ
 sum_note table = decimal table.runs ++ run_word table.runs ++ decimal (length table.images) ++ image_word (length table.images)
-    ++ instructions_text (shown_number (begun_of_images table.images))
+    ++ instructions_text (shown_number (executed_in_images table.images))
 
 -- the sum of the tables at the paths went to the given path or to standard output, and its summary to standard error; the status is 0
-pub record IsSumPut (known : Option FileContents) (words : CountsArgs) (status : ℕ) (before after : CommandOutputs) : Type 0 where
+pub record IsSumWritten (known : Option FileContents) (words : CountsArgs) (status : ℕ) (before after : CommandOutputs) : Type 0 where
   pub sum : CountTable
   pub added : AreAdded known words.tables.items no_counts sum
   pub middle : CommandOutputs

@@ -129,8 +129,8 @@ pub record IsUnopenedOfStop (known : Option FileContents) (words : GdbArgs) (byt
 abbrev pub IsBrokenStop : SessionError → Stop → Type 0
 IsBrokenStop broken.OutOfMemory why = why ≡ stop.OutOfMemory
 IsBrokenStop (broken.UnreadPath reason) why = IsSystemStop (codes "standard input") reason why
-IsBrokenStop broken.Unput why = why ≡ stop.WriteFailed
+IsBrokenStop broken.ReplyWriteFailed why = why ≡ stop.WriteFailed
 
 -- the count of failed writes rises by one if a failed write ended the session, and is unchanged if another error did
-abbrev pub IsFailureTold : SessionError → ℕ → ℕ → Type 0
-IsFailureTold cause before after = (cause ≡ broken.Unput → after ≡ one_more before) × (cause ≢ broken.Unput → after ≡ before)
+abbrev pub IsFailureCounted : SessionError → ℕ → ℕ → Type 0
+IsFailureCounted cause before after = (cause ≡ broken.ReplyWriteFailed → after ≡ one_more before) × (cause ≢ broken.ReplyWriteFailed → after ≡ before)

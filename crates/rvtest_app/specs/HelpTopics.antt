@@ -11,8 +11,8 @@ abbrev pub list_topic : List ℕ
 list_topic = codes "list"
 
 -- what is printed for a topic: all keys for the list format, and nothing for any other topic
-abbrev pub IsTopicTold : List ℕ → List ℕ → ℕ → Type 0
-IsTopicTold topic text status = (topic ≡ list_topic) × ((text ≡ LIST_KEYS.now) × (status ≡ 0))
+abbrev pub IsTopicPrinted : List ℕ → List ℕ → ℕ → Type 0
+IsTopicPrinted topic text status = (topic ≡ list_topic) × ((text ≡ LIST_KEYS.now) × (status ≡ 0))
 
 abbrev pub no_topic_message : List ℕ → List ℕ
 no_topic_message topic = codes "rvtest: unknown help topic \"" ++ printable_value topic

@@ -38,24 +38,24 @@ AreOldRows known words jobs old = MatchOption words.into (old ≡ None)
 -- ---- the rows that are put into it
 
 -- the old rows, with those at some indices replaced by these, in order
-abbrev pub rows_put : List ℕ → List Row → List Row → List Row
-rows_put [] rows old = old
-rows_put (place ∷ places) [] old = old
-rows_put (place ∷ places) (row ∷ rows) old = rows_put places rows (slice_set old place row)
+abbrev pub merged_rows : List ℕ → List Row → List Row → List Row
+merged_rows [] rows old = old
+merged_rows (place ∷ places) [] old = old
+merged_rows (place ∷ places) (row ∷ rows) old = merged_rows places rows (slice_set old place row)
 
 -- the report of the rows of the jobs at some indices: the whole report after merging, or a report of these rows alone
 abbrev pub run_report_text : Option (List Row) → ℕ → List ℕ → Option Shard → List Row → List ℕ
-run_report_text (Some old) jobs places shard rows = report_text (rows_put places rows old)
+run_report_text (Some old) jobs places shard rows = report_text (merged_rows places rows old)
 run_report_text None jobs places shard rows = chosen_report_text jobs places shard rows
 
 -- the part of the report that is written as rows arrive: empty if they are merged into another report
-abbrev pub rows_ahead : Option (List Row) → List ℕ → List Row → List ℕ
-rows_ahead (Some old) places rows = []
-rows_ahead None places rows = joined_row_texts row_text places rows
+abbrev pub streamed_rows : Option (List Row) → List ℕ → List Row → List ℕ
+streamed_rows (Some old) places rows = []
+streamed_rows None places rows = joined_row_texts row_text places rows
 
 -- the part of the report that is written after that
 abbrev pub run_report_rest : Option (List Row) → ℕ → List ℕ → Option Shard → List Row → List ℕ
-run_report_rest (Some old) jobs places shard rows = report_text (rows_put places rows old)
+run_report_rest (Some old) jobs places shard rows = report_text (merged_rows places rows old)
 run_report_rest None jobs places shard rows = chosen_last_line jobs places shard rows
 
 -- the path at which the report is written

@@ -21,24 +21,24 @@ use Rattle.rvtest_app.specs.declared.whole_report.OtherName.{OtherName}
 -- ---- the texts
 
 -- what is expected instead of such a report
-abbrev pub whole_wanted : List ℕ
-whole_wanted = codes ": --into expects a report of the whole list\n"
+abbrev pub expected_whole_report : List ℕ
+expected_whole_report = codes ": --into expects a report of the whole list\n"
 
 -- the report at the path has this many rows of a list of this many jobs
 abbrev pub part_refusal : List ℕ → ℕ → ℕ → List ℕ
 part_refusal path rows jobs = codes "rvtest: " ++ printable_text path ++ codes ": rows of " ++ decimal rows
-    ++ codes " of " ++ decimal jobs ++ codes " jobs" ++ whole_wanted
+    ++ codes " of " ++ decimal jobs ++ codes " jobs" ++ expected_whole_report
 
 -- the report has this many rows, and the list at the path this many jobs
 abbrev pub count_refusal : List ℕ → List ℕ → ℕ → ℕ → List ℕ
 count_refusal path list rows jobs = codes "rvtest: " ++ printable_text path ++ codes ": " ++ decimal rows
-    ++ codes " rows, but " ++ printable_text list ++ codes " has " ++ decimal jobs ++ codes " jobs" ++ whole_wanted
+    ++ codes " rows, but " ++ printable_text list ++ codes " has " ++ decimal jobs ++ codes " jobs" ++ expected_whole_report
 
 -- the job of this number has one name in the report and another in the list at the path
 abbrev pub name_refusal : List ℕ → List ℕ → ℕ → List ℕ → List ℕ → List ℕ
 name_refusal path list number name wanted = codes "rvtest: " ++ printable_text path ++ codes ": job "
     ++ decimal number ++ codes " is \"" ++ name ++ codes "\", but \"" ++ wanted ++ codes "\" in "
-    ++ printable_text list ++ whole_wanted
+    ++ printable_text list ++ expected_whole_report
 
 abbrev pub not_whole_refusal : List ℕ → List ℕ → NotWhole → List ℕ
 not_whole_refusal path list (other.Part rows jobs) = part_refusal path rows jobs

@@ -41,7 +41,7 @@ pub record AreListedAt (known : Option FileContents) (words : RunArgs) (names no
   pub of : AreListedOf known words bytes names notes
 
 -- the notes went to standard error, and then the names to standard output; the status is 0
-pub record IsListPut (known : Option FileContents) (words : RunArgs) (status : ℕ) (before after : CommandOutputs) : Type 0 where
+pub record IsListWritten (known : Option FileContents) (words : RunArgs) (status : ℕ) (before after : CommandOutputs) : Type 0 where
   pub names : List ℕ
   pub notes : List ℕ
   pub are : AreListedAt known words names notes

@@ -12,7 +12,7 @@ use Rattle.rv_report.specs.declared.row.Row.{Row}
 use Rattle.rvtest_app.specs.MergeRefusals.{ArePartsRefused}
 use Rattle.rvtest_app.specs.Merges.{AreTextsAt, merged_report_path}
 use Rattle.rvtest_app.specs.Overwrites.{IsMergeOverwriteStop}
-use Rattle.rvtest_app.specs.PutStops.{IsOutputStop}
+use Rattle.rvtest_app.specs.WriteStops.{IsOutputStop}
 
 -- one of the paths was not read, and those before it were
 pub record IsPartUnreadStop (known : Option FileContents) (paths : List (Bor (List ℕ))) (why : Stop) : Type 0 where

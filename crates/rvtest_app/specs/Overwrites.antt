@@ -26,7 +26,7 @@ use Rattle.rvtest_app.specs.declared.read_files.ReadPath.{ReadPath}
 use Rattle.rvtest_app.specs.declared.read_files.ReadRole.{ReadRole}
 use Rattle.rvtest_app.specs.declared.read_files.ReadRole.TheVariants as role
 use Rattle.rvtest_app.specs.Outlets.{file_path_at}
-use Rattle.rvtest_app.specs.PutStops.{IsUnopenedStop}
+use Rattle.rvtest_app.specs.WriteStops.{IsUnopenedStop}
 
 -- ---- one file
 
@@ -76,12 +76,12 @@ abbrev pub overwrite_message : List ℕ → List ℕ → List ℕ → List ℕ �
 overwrite_message option path role read = overwrite_head option path ++ role ++ read_path_text read
 
 -- the message says that the file would overwrite an input
-abbrev pub IsOverwriteTold : List ℕ → List ℕ → Stop → Type 0
-IsOverwriteTold option path why = (role : List ℕ) × (read : List ℕ) × IsStop 2 (overwrite_message option path role read) why
+abbrev pub IsOverwriteReported : List ℕ → List ℕ → Stop → Type 0
+IsOverwriteReported option path why = (role : List ℕ) × (read : List ℕ) × IsStop 2 (overwrite_message option path role read) why
 
 -- the file would overwrite an input, or the system would not say which file its path leads to
 abbrev pub IsOverwriteStop : List ℕ → List ℕ → Stop → Type 0
-IsOverwriteStop option path why = IsUnopenedStop path why ⊎ IsOverwriteTold option path why
+IsOverwriteStop option path why = IsUnopenedStop path why ⊎ IsOverwriteReported option path why
 
 -- the file of an option, if it has one, would overwrite an input
 abbrev pub IsOptionStop : List ℕ → Option (List ℕ) → Stop → Type 0

@@ -91,7 +91,7 @@ pub record IsDiffAt (known : Option FileContents) (words : DiffArgs) (output not
   pub diff : IsDiffOf words old new output notes status
 
 -- the notes went to standard error, and then the output to standard output
-pub record IsDiffPut (known : Option FileContents) (words : DiffArgs) (status : ℕ) (before after : CommandOutputs) : Type 0 where
+pub record IsDiffWritten (known : Option FileContents) (words : DiffArgs) (status : ℕ) (before after : CommandOutputs) : Type 0 where
   pub text : List ℕ
   pub notes : List ℕ
   pub diff : IsDiffAt known words text notes status

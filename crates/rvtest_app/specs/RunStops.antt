@@ -22,7 +22,7 @@ use Rattle.rvtest_app.specs.IntoStops.{IsIntoStop}
 use Rattle.rvtest_app.specs.KnownStops.{IsKnownStop}
 use Rattle.rvtest_app.specs.Outlets.{file_path_at}
 use Rattle.rvtest_app.specs.Overwrites.{IsRunOverwriteStop}
-use Rattle.rvtest_app.specs.PutStops.{IsFileStop, IsOutputStop, IsUnwrittenStop}
+use Rattle.rvtest_app.specs.WriteStops.{IsFileStop, IsOutputStop, IsUnwrittenStop}
 use Rattle.rvtest_app.specs.Runs.{AreJobsToRun, AreRequestedJobs}
 use Rattle.rvtest_app.specs.StackStops.{IsUnstackedStop}
 

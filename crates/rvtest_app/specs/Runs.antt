@@ -93,8 +93,8 @@ abbrev pub run_judging : RunArgs → Option KnownJobs → Judging
 run_judging words failures = record { rule = failure_rule words.lenient; known = failures }
 
 -- how the rows of a run are reported
-abbrev pub run_telling : RunArgs → Option KnownJobs → Planned → List UnreadPath → RowReporter
-run_telling words failures plan unread = record {
+abbrev pub run_reporter : RunArgs → Option KnownJobs → Planned → List UnreadPath → RowReporter
+run_reporter words failures plan unread = record {
   plan = plan;
   unread = unread;
   judging = run_judging words failures;
@@ -107,26 +107,26 @@ abbrev pub run_rows : Option ℕ → Judging → Planned → List ℕ → List R
 run_rows stop_after judging plan places = rows_up_to stop_after (fails judging) (rows_at plan places)
 
 -- the indices of the jobs that have one of these rows
-abbrev pub shown_places : List ℕ → List Row → List ℕ
-shown_places places rows = take (length rows) places
+abbrev pub shown_indices : List ℕ → List Row → List ℕ
+shown_indices places rows = take (length rows) places
 
 -- the files of these rows that the arguments request
 abbrev pub junit_file : RunArgs → RowReporter → List ℕ → List Row → List CommittedFile
 junit_file words reporter places rows =
-    file_at (optional_text words.junit) (run_junit words reporter (shown_places places rows) rows)
+    file_at (optional_text words.junit) (run_junit words reporter (shown_indices places rows) rows)
 
 abbrev pub report_file : RunArgs → RowReporter → List ℕ → Option Shard → Option (List Row) → List Row → List CommittedFile
 report_file words reporter places shard old rows = file_at (run_report_path words)
-    (run_report_text old (length reporter.plan.jobs) (shown_places places rows) shard rows)
+    (run_report_text old (length reporter.plan.jobs) (shown_indices places rows) shard rows)
 
 -- a requested run wrote these rows, those of the first of the jobs at some indices: their lines with the totals, the report, and the JUnit
 -- document
-abbrev pub IsRunPut : RunArgs → RowReporter → List ℕ → Option Shard → Option (List Row) → List Row → CommandOutputs → CommandOutputs → Type 0
-IsRunPut words reporter places shard old rows before after =
+abbrev pub IsRunWritten : RunArgs → RowReporter → List ℕ → Option Shard → Option (List Row) → List Row → CommandOutputs → CommandOutputs → Type 0
+IsRunWritten words reporter places shard old rows before after =
     WentOutBeside (uses_run_stdout words) (run_report_path words) (optional_text words.junit)
     (run_output_text (row_lines_at reporter) reporter.judging places rows)
-    (run_report_text old (length reporter.plan.jobs) (shown_places places rows) shard rows)
-    (run_junit words reporter (shown_places places rows) rows) before after
+    (run_report_text old (length reporter.plan.jobs) (shown_indices places rows) shard rows)
+    (run_junit words reporter (shown_indices places rows) rows) before after
 
 -- the table of counts of the runs of the jobs at some indices, with their stacks if requested
 abbrev pub IsCountsTable : Bool → Planned → List ℕ → CountTable → Type 0
@@ -139,17 +139,17 @@ IsCountsText stacks plan places text =
     (table : CountTable) × (IsCountsTable stacks plan places table × (text ≡ table_text table))
 
 -- the text of this table was written to the path, if one is given
-abbrev pub AreCountsPut : Bool → Option (List ℕ) → Planned → List ℕ → CommandOutputs → CommandOutputs → Type 0
-AreCountsPut stacks None plan places before after = IsWrittenAt None [] before after
-AreCountsPut stacks (Some path) plan places before after =
+abbrev pub AreCountsWritten : Bool → Option (List ℕ) → Planned → List ℕ → CommandOutputs → CommandOutputs → Type 0
+AreCountsWritten stacks None plan places before after = IsWrittenAt None [] before after
+AreCountsWritten stacks (Some path) plan places before after =
     (text : List ℕ) × (IsCountsText stacks plan places text × IsWrittenAt (Some path) text before after)
 
 -- the run wrote these rows, and then the table of its counts
-pub record IsCountedRunPut (words : RunArgs) (reporter : RowReporter) (places : List ℕ) (shard : Option Shard) (old : Option (List Row))
+pub record IsCountedRunWritten (words : RunArgs) (reporter : RowReporter) (places : List ℕ) (shard : Option Shard) (old : Option (List Row))
     (rows : List Row) (before after : CommandOutputs) : Type 0 where
   pub middle : CommandOutputs
-  pub put : IsRunPut words reporter places shard old rows before middle
-  pub counted : AreCountsPut words.stacks (optional_text words.counts) reporter.plan (shown_places places rows) middle after
+  pub put : IsRunWritten words reporter places shard old rows before middle
+  pub counted : AreCountsWritten words.stacks (optional_text words.counts) reporter.plan (shown_indices places rows) middle after
 
 -- with a plan of the jobs, all with the requested budget, the directory that paths are resolved against is reported if every image is
 -- missing; and the rows of the jobs at these indices were written as requested: their lines with the totals, the report, and the JUnit
@@ -165,7 +165,7 @@ pub record IsRunOfPlaces (known : Option FileContents) (words : RunArgs) (failur
   pub judged : status ≡ rows_status (run_judging words failures) rows
   pub middle : CommandOutputs
   pub noted : IsOnlyErrorOutput (missing_images_note plan.jobs unread (length places) (optional_text words.root)) before middle
-  pub put : IsCountedRunPut words (run_telling words failures plan unread) places shard old rows middle after
+  pub put : IsCountedRunWritten words (run_reporter words failures plan unread) places shard old rows middle after
 
 -- the run of the selected jobs; if none are selected, the status is 0 and nothing more is reported
 abbrev pub IsRunOfMarked : Option FileContents → RunArgs → Option KnownJobs → List Job → Option (List Bool) → Option Shard
@@ -209,7 +209,7 @@ pub record IsRunInPart (known : Option FileContents) (words : RunArgs) (failures
       unread
   pub rows : List Row
   pub shown : rows ≡ run_rows words.stop_after (run_judging words failures) plan places
-  pub placed : AreRunFilesPlacedInPart words (run_telling words failures plan unread) places shard old rows before after
+  pub placed : AreRunFilesPlacedInPart words (run_reporter words failures plan unread) places shard old rows before after
 
 -- no file was committed, or only these
 abbrev pub IsUndoneRunOfPlaces : Option FileContents → RunArgs → Option KnownJobs → List Job → List ℕ → Option Shard

@@ -6,7 +6,7 @@ use Rattle.rv_command.specs.declared.stop.Stop.{Stop}
 use Rattle.rv_command.specs.declared.stop.Stop.TheVariants as stop
 use Rattle.rv_count_tables.specs.declared.sum.SumError.{SumError}
 use Rattle.rvtest_app.specs.CountStops.{IsSumErrorStop}
-use Rattle.rvtest_app.specs.PutStops.{IsFileStop}
+use Rattle.rvtest_app.specs.WriteStops.{IsFileStop}
 use Rattle.rvtest_app.specs.WrittenTexts.{written_path}
 
 -- the requested stacks have no sum, which is reported for the path of the table

@@ -61,8 +61,8 @@ standing_by ran unmet = if ran && is_none_unmet unmet then standing.Passes
 
 -- the verdict on a row of a job and what it is compared with: it passes if the job ran and no expectation is unmet, which `run` counts as a
 -- pass too
-abbrev pub standing_of : Sides → CurrentVerdict
-standing_of sides = standing_by (did_run sides.row.ending) (unmet_of sides)
+abbrev pub verdict_of_sides : Sides → CurrentVerdict
+verdict_of_sides sides = standing_by (did_run sides.row.ending) (unmet_of sides)
 
 abbrev pub sides_over : List (Option Row) → Job → Row → Option (List ℕ) → Option (List ℕ) → Sides
 sides_over rows job row console signature = record {
@@ -80,7 +80,7 @@ pub record IsStanding (known : Option FileContents) (root : Option (List ℕ)) (
   pub signature : Option (List ℕ)
   pub console_read : IsGoldenText known root (path_to_read job row (console_path job.expect_console)) console
   pub signature_read : IsGoldenText known root (path_to_read job row job.expect_signature) signature
-  pub is : stands ≡ standing_of (sides_over rows job row console signature)
+  pub is : stands ≡ verdict_of_sides (sides_over rows job row console signature)
 
 -- a job that was not run does not pass
 abbrev pub IsStandingIfRun : Option FileContents → Option (List ℕ) → List (Option Row) → Job → Option Row → CurrentVerdict → Type 0

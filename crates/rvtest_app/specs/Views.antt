@@ -82,7 +82,7 @@ IsViewOfMarked known words shown jobs (Some marks) before after =
     IsViewOfPlaces known words shown jobs (places_of_marks marks) before after
 
 -- notes about the choice went to standard error, and then the view of the requested jobs' images was written; the status is 0
-pub record IsViewPut (known : Option FileContents) (words : RunArgs) (shown : View) (status : ℕ) (before after : CommandOutputs) : Type 0 where
+pub record IsViewWritten (known : Option FileContents) (words : RunArgs) (shown : View) (status : ℕ) (before after : CommandOutputs) : Type 0 where
   pub jobs : List Job
   pub marks : Option (List Bool)
   pub shard : Option Shard

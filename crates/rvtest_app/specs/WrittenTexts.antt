@@ -3,7 +3,7 @@ use Rattle.std.specs.Prelude.{◌≡◌, ℕ, Bool, true, false, List, Option, S
 use Rattle.std.specs.Io.KnownBytes.{Appends}
 use Rattle.rv_command.specs.declared.stop.Stop.{Stop}
 use Rattle.rv_command.specs.declared.stop.Stop.TheVariants as stop
-use Rattle.rvtest_app.specs.AcceptStops.{IsUnmadeStop}
+use Rattle.rvtest_app.specs.AcceptStops.{IsFileNotCreatedStop}
 use Rattle.rvtest_app.specs.Outlets.{AreFilesCommitted, file_at, is_stdout, stdout_at}
 use Rattle.rvtest_app.specs.CommandOutputs.{CommandOutputs}
 
@@ -22,7 +22,7 @@ pub record IsWrittenAt (path : Option (List ℕ)) (text : List ℕ) (before afte
 -- why the text was not written
 abbrev pub IsUnwrittenBy : Bool → List ℕ → Stop → Type 0
 IsUnwrittenBy true path why = why ≡ stop.WriteFailed
-IsUnwrittenBy false path why = IsUnmadeStop path why
+IsUnwrittenBy false path why = IsFileNotCreatedStop path why
 
 abbrev pub IsUnwrittenAtStop : List ℕ → Stop → Type 0
 IsUnwrittenAtStop path why = IsUnwrittenBy (is_stdout path) path why

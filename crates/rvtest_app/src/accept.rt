@@ -15,8 +15,8 @@ ghost use Rattle.rv_choice.specs.Chosen.{IsChoice};
 ghost use Rattle.rv_command.specs.Texts.{IsTextAt, optional_text};
 ghost use Rattle.rv_lists.specs.JobList.{job_list_of};
 ghost use Rattle.rv_lists.specs.Jobs.{without_expectations};
-ghost use Rattle.rvtest_app.specs.AcceptStops.{IsAcceptChosenStop, IsGoldenUnreadStop, IsPutAcceptedStop};
-ghost use Rattle.rvtest_app.specs.Accepts.{AreGoldenFiles, AreJudged, AreRowsPut, IsAcceptedAt, IsAcceptedOfMarks, IsOutcomePut, IsOutsideTold, accept_status};
+ghost use Rattle.rvtest_app.specs.AcceptStops.{IsAcceptChosenStop, IsGoldenUnreadStop, IsAcceptanceWriteStop};
+ghost use Rattle.rvtest_app.specs.Accepts.{AreGoldenFiles, AreJudged, AreRowsPut, IsAcceptedAt, IsAcceptedOfMarks, IsOutcomeWritten, AreOutsideFilesReported, accept_status};
 ghost use Rattle.rvtest_app.specs.Accepts.{acceptance_of};
 ghost use Rattle.rvtest_app.specs.CommandStops.{IsAcceptStop, IsListStop};
 ghost use Rattle.rvtest_app.specs.Commands.{failure_rule};
@@ -157,7 +157,7 @@ fn guarded_jobs<R, D, F: Outputs + Drop, O: Sink + Drop, E: Sink + Drop>(
     ensures marks { IfOk result (λ marked. marked.marks.items
         ≡ jobs_to_run list.now.jobs chosen.now) }
     ensures files { to.new.files ≡ to.old.files }
-    ensures outside { OnOk result (IsOutsideTold (outputs_of F.placed O.taken E.taken E.failed to.old)
+    ensures outside { OnOk result (AreOutsideFilesReported (outputs_of F.placed O.taken E.taken E.failed to.old)
         (outputs_of F.placed O.taken E.taken E.failed to.new)) }
     ensures apart { OnOk result (IfSome (F.placed to.old.files) (λ _. AreAcceptFilesApart
         asked.now list.now.jobs (jobs_to_run list.now.jobs chosen.now))) }
@@ -336,10 +336,10 @@ fn put_accepted<'x, R, D: Inputs, F: Outputs + Drop, O: Sink + Drop, E: Sink + D
 ) -> Result<u8, Stop>
     ensures low { IfOk result (λ status. status ≤ 1) }
     ensures unwritten { asked.now.check ≡ true → to.new.files ≡ to.old.files }
-    ensures put { IfOk result (λ status. IsOutcomePut asked.now.check list.now outcomes.now.new.runs.items
+    ensures put { IfOk result (λ status. IsOutcomeWritten asked.now.check list.now outcomes.now.new.runs.items
         outcomes.now.claims.items outcomes.now.files.items outcomes.now.new status
         (outputs_of F.placed O.taken E.taken E.failed to.old) (outputs_of F.placed O.taken E.taken E.failed to.new)) }
-    ensures stopped { IfErr result (IsPutAcceptedStop (D.contents host.now.inputs.now) asked.now.check
+    ensures stopped { IfErr result (IsAcceptanceWriteStop (D.contents host.now.inputs.now) asked.now.check
         list.now.path.now outcomes.now.files.items) }
 {
     let accepting = AcceptSummary {

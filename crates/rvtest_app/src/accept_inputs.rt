@@ -4,7 +4,7 @@ ghost use Rattle.std.specs.Prelude.{◌≡◌, ◌<◌, ◌⊎◌, ◌++◌, ◌
 ghost use Rattle.std.specs.List.{flat_map, list_any};
 ghost use Rattle.std.specs.Path.{path_buf_bytes};
 ghost use Rattle.rv_command.specs.Texts.{optional_text};
-ghost use Rattle.rvtest_app.specs.Overwrites.{AreAcceptFilesApart, AreFilesOf, IsAcceptOverwriteStop, IsOverwriteStop, IsOverwriteTold};
+ghost use Rattle.rvtest_app.specs.Overwrites.{AreAcceptFilesApart, AreFilesOf, IsAcceptOverwriteStop, IsOverwriteStop, IsOverwriteReported};
 ghost use Rattle.rvtest_app.specs.Overwrites.{IsUnread, golden_paths_of_job, golden_paths_of_marked, inputs_of_accept, job_writer_text};
 ghost use Rattle.rvtest_app.specs.Overwrites.{is_golden_read, outside_head, outside_message, outside_path, outside_text, quoted_text, read_paths, writer_text};
 
@@ -206,7 +206,7 @@ fn refuse_first(
 ) -> Result<(), Stop>
     requires { IfSome first (λ at. at < length read.now.paths.items) }
     ensures none { OnOk result (first ≡ None) }
-    ensures stopped { IfErr result (IsOverwriteTold (writer_text golden.now.role) (path_buf_bytes golden.now.path)) }
+    ensures stopped { IfErr result (IsOverwriteReported (writer_text golden.now.role) (path_buf_bytes golden.now.path)) }
 {
     match first {
         None => Ok(()),
@@ -215,7 +215,7 @@ fn refuse_first(
 }
 
 fn golden_overwrite_stop(alloc: Global, golden: &ReadPath<'_>, read: &ReadPath<'_>) -> Stop
-    ensures { IsOverwriteTold (writer_text golden.now.role) (path_buf_bytes golden.now.path) result }
+    ensures { IsOverwriteReported (writer_text golden.now.role) (path_buf_bytes golden.now.path) result }
 {
     match writer_text(alloc, golden.role) {
         Ok(role) => overwrite_stop(alloc, role.as_str(), golden.path.as_str(), read),

@@ -4,7 +4,7 @@ ghost use Rattle.std.specs.Prelude.{◌≡◌, ◌++◌, ◌∷◌, [], IfErr, I
 ghost use Rattle.rv_command.specs.Stops.{IsListUnreadStop};
 ghost use Rattle.rv_command.specs.Texts.{optional_text};
 ghost use Rattle.rv_files.specs.UnreadPaths.{resolved_path};
-ghost use Rattle.rvtest_app.specs.AcceptStops.{AreTargetsUnread, IsChangedStop, IsOtherBytesStop, IsStopOfFiles, IsUncheckedStop, IsUnmadeStop};
+ghost use Rattle.rvtest_app.specs.AcceptStops.{AreTargetsUnread, IsChangedStop, IsOtherBytesStop, IsStopOfFiles, IsUncheckedStop, IsFileNotCreatedStop};
 ghost use Rattle.rvtest_app.specs.Accepts.{AreGoldenFiles, IsOldAt, written_files};
 ghost use Rattle.rvtest_app.specs.Outlets.{AreFilesCommitted};
 
@@ -149,7 +149,7 @@ pub(crate) fn write_accepted_files<F: Outputs>(
 ) -> Result<(), Stop>
     ensures placed { OnOk result (AreFilesCommitted (F.placed files.old) (F.placed files.new) (Some (written_files accepting.now))) }
     ensures stopped { IfErr result
-        (IsStopOfFiles IsUnmadeStop accepting.now.list.path.now accepting.now.files.now) }
+        (IsStopOfFiles IsFileNotCreatedStop accepting.now.list.path.now accepting.now.files.now) }
 {
     for file in accepting.files {
         if let Some(text) = file.new_text(&accepting.list) {

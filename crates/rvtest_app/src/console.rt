@@ -11,7 +11,7 @@ ghost use Rattle.rv_job_text.specs.RowReporter.{row_line};
 ghost use Rattle.rv_rows.specs.Rows.{row_of};
 ghost use Rattle.rvtest_app.specs.CommandStops.{IsConsoleStop, IsNoJobStop};
 ghost use Rattle.rvtest_app.specs.Commands.{passing_status};
-ghost use Rattle.rvtest_app.specs.Consoles.{IsConsoleAt, IsConsoleOf, IsConsolePut, IsJobConsole};
+ghost use Rattle.rvtest_app.specs.Consoles.{IsConsoleAt, IsConsoleOf, IsConsoleWritten, IsJobConsole};
 ghost use Rattle.rvtest_app.specs.CommandOutputs.{outputs_of};
 
 use crate::destinations::Destinations;
@@ -41,7 +41,7 @@ pub(crate) fn put_job_console<D: Inputs, F: Outputs + Drop, O: Sink + Drop, E: S
     asked: ConsoleArgs<'_>,
     to: &mut Destinations<F, O, E>,
 ) -> Result<u8, Stop>
-    ensures put { IfOk result (λ status. IsConsolePut (D.contents inputs.now) asked.entry status
+    ensures put { IfOk result (λ status. IsConsoleWritten (D.contents inputs.now) asked.entry status
         (outputs_of F.placed O.taken E.taken E.failed to.old) (outputs_of F.placed O.taken E.taken E.failed to.new)) }
     ensures low { IfOk result (λ status. status ≤ 1) }
     ensures stopped { IfErr result (λ why. (why ≡ Stop.WriteFailed)

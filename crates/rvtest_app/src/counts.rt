@@ -5,8 +5,8 @@ ghost use Rattle.rv_command.specs.Texts.{optional_text};
 ghost use Rattle.rv_count_tables.specs.Sum.{no_counts};
 ghost use Rattle.rv_count_tables.specs.Table.{IsTable};
 ghost use Rattle.rv_count_tables.specs.Text.{table_text};
-ghost use Rattle.rvtest_app.specs.CountStops.{IsCountsStop, IsReadErrorStop, IsSumErrorStop, IsSumStop, IsTableFaultStop, IsUnaddedStop, great_count_message, two_names_message};
-ghost use Rattle.rvtest_app.specs.CountSums.{AreAdded, IsAdded, IsSumPut};
+ghost use Rattle.rvtest_app.specs.CountStops.{IsCountsStop, IsReadErrorStop, IsSumErrorStop, IsSumStop, IsTableFaultStop, IsUnaddedStop, count_overflow_message, two_names_message};
+ghost use Rattle.rvtest_app.specs.CountSums.{AreAdded, IsAdded, IsSumWritten};
 ghost use Rattle.rvtest_app.specs.Outlets.{is_stdout};
 ghost use Rattle.rvtest_app.specs.Overwrites.{IsPlacedApart, IsSumFileApart, IsSumOverwriteStop};
 ghost use Rattle.rvtest_app.specs.CommandOutputs.{outputs_of};
@@ -33,7 +33,7 @@ pub(crate) fn put_sum_of_tables<D: Inputs, F: Outputs + Drop, O: Sink + Drop, E:
     asked: &CountsArgs<'_>,
     to: &mut Destinations<F, O, E>,
 ) -> Result<u8, Stop>
-    ensures put { IfOk result (λ status. IsSumPut (D.contents inputs.now) asked.now status
+    ensures put { IfOk result (λ status. IsSumWritten (D.contents inputs.now) asked.now status
         (outputs_of F.placed O.taken E.taken E.failed to.old) (outputs_of F.placed O.taken E.taken E.failed to.new)) }
     ensures low { IfOk result (λ status. status ≤ 1) }
     ensures undone { OnErr result (F.placed to.new.files ≡ F.placed to.old.files) }
@@ -139,11 +139,11 @@ pub(crate) fn sum_error_stop(alloc: Global, path: &str, error: SumError) -> Stop
         SumError::OutOfMemory => Stop::OutOfMemory,
         SumError::Count(address) => {
             let what = ": the count at ";
-            Stop::of_refusal(great_count_message(alloc, path, what, address))
+            Stop::of_refusal(count_overflow_message(alloc, path, what, address))
         }
         SumError::Spot(function) => {
             let what = ": a count in the stacks of ";
-            Stop::of_refusal(great_count_message(alloc, path, what, function))
+            Stop::of_refusal(count_overflow_message(alloc, path, what, function))
         }
         SumError::Names(function) => Stop::of_refusal(two_names_message(alloc, path, function)),
         SumError::Runs => {
@@ -168,13 +168,13 @@ fn two_names_message(alloc: Global, path: &str, function: u32) -> Result<Vec<u8>
     )
 }
 
-fn great_count_message<'a>(
+fn count_overflow_message<'a>(
     alloc: Global,
     path: &'a str,
     what: &'a str,
     address: u32,
 ) -> Result<Vec<u8>, AllocError>
-    ensures { IfOk result (λ text. text.items ≡ great_count_message path.now what.now address) }
+    ensures { IfOk result (λ text. text.items ≡ count_overflow_message path.now what.now address) }
 {
     text_of_spans(
         alloc,

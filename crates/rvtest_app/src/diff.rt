@@ -3,11 +3,11 @@
 ghost use Rattle.std.specs.Prelude.{◌≡◌, ◌⊎◌, ◌≤◌, ◌<◌, ◌^◌, ◌++◌, IfErr, IfOk, MatchResult, length};
 ghost use Rattle.rv_command.specs.Messages.{cut_off_note};
 ghost use Rattle.rvtest_app.specs.Commands.{diff_status};
-ghost use Rattle.rvtest_app.specs.Reports.{IsDiffAt, IsDiffOf, IsDiffOfReports, IsDiffPut, compared_rows, leaves_out, left_out_count};
+ghost use Rattle.rvtest_app.specs.Reports.{IsDiffAt, IsDiffOf, IsDiffOfReports, IsDiffWritten, compared_rows, leaves_out, left_out_count};
 ghost use Rattle.rvtest_app.specs.Reports.{requested_comparison};
 ghost use Rattle.rvtest_app.specs.CommandOutputs.{outputs_of};
 ghost use Rattle.rvtest_app.specs.CommandStops.{IsDiffAtStop};
-ghost use Rattle.rvtest_app.specs.ToldStops.{IsDiffStop};
+ghost use Rattle.rvtest_app.specs.ReportedStops.{IsDiffStop};
 ghost use Rattle.rv_command.specs.declared.stop.Stop.TheVariants.{OutOfMemory, WriteFailed};
 ghost use Rattle.rv_diff.specs.Diff.{diff_text, counts_of_differing};
 
@@ -38,7 +38,7 @@ pub(crate) fn diff_reports<D: Inputs, F: Outputs + Drop, O: Sink + Drop, E: Sink
     asked: DiffArgs<'_>,
     to: &mut Destinations<F, O, E>,
 ) -> Result<u8, Stop>
-    ensures put { IfOk result (λ status. IsDiffPut (D.contents inputs.now) asked.entry status
+    ensures put { IfOk result (λ status. IsDiffWritten (D.contents inputs.now) asked.entry status
         (outputs_of F.placed O.taken E.taken E.failed to.old) (outputs_of F.placed O.taken E.taken E.failed to.new)) }
     ensures low { IfOk result (λ status. status ≤ 1) }
     ensures stopped { IfErr result (λ why. (why ≡ WriteFailed)

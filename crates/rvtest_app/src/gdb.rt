@@ -109,7 +109,7 @@ fn broken_stop(alloc: Global, broken: SessionError) -> Stop
 {
     match broken {
         SessionError::OutOfMemory => Stop::OutOfMemory,
-        SessionError::Unput => Stop::WriteFailed,
+        SessionError::ReplyWriteFailed => Stop::WriteFailed,
         SessionError::UnreadPath(reason) => {
             file_error_stop(alloc, "standard input", FileError::Failed(reason))
         }

@@ -3,7 +3,7 @@
 ghost use Rattle.std.specs.Prelude.{◌≡◌, ◌<◌, length, vec_len};
 ghost use Rattle.std.specs.List.{All};
 ghost use Rattle.rv_command.specs.Texts.{optional_text};
-ghost use Rattle.rvtest_app.specs.IntoReports.{rows_put, run_report_path, uses_run_stdout};
+ghost use Rattle.rvtest_app.specs.IntoReports.{merged_rows, run_report_path, uses_run_stdout};
 
 use crate::chosen_rows::ChosenRows;
 use crate::outlets::is_stdout_at;
@@ -32,21 +32,21 @@ pub(crate) struct IntoRows<'a> {
 impl<'a> IntoRows<'a> {
     /// Returns all rows, with those of the chosen jobs at their indices. Allocates no memory.
     pub(crate) fn into_whole_rows(self) -> Rows
-        ensures { result ≡ rows_put self.entry.chosen.places.now self.entry.chosen.rows self.entry.old }
+        ensures { result ≡ merged_rows self.entry.chosen.places.now self.entry.chosen.rows self.entry.old }
     {
         let IntoRows { chosen, old, .. } = self;
         let ChosenRows { places, rows, .. } = chosen;
         let mut whole = old.into_vec();
-        put_rows_at(&mut whole, places, rows.into_vec());
+        replace_rows_at(&mut whole, places, rows.into_vec());
         Rows::new(whole)
     }
 }
 
 // Replaces the rows at `places` by `rows`.
-fn put_rows_at(whole: &mut Vec<Row>, places: &[usize], rows: Vec<Row>)
+fn replace_rows_at(whole: &mut Vec<Row>, places: &[usize], rows: Vec<Row>)
     requires within { All (λ place. place < vec_len whole.old) places.now }
     requires counted { length places.now ≡ vec_len rows }
-    ensures { whole.new.items ≡ rows_put places.now rows.items whole.old.items }
+    ensures { whole.new.items ≡ merged_rows places.now rows.items whole.old.items }
 {
     let mut at = 0;
     for row in rows {

@@ -4,7 +4,7 @@ ghost use Rattle.std.specs.Prelude.{◌≡◌, ◌⊎◌, ◌≤◌, ◌<◌, �
 ghost use Rattle.std.specs.List.{All};
 ghost use Rattle.rvtest_app.specs.CommandStops.{IsListStop, IsNoChoiceStop};
 ghost use Rattle.rvtest_app.specs.Commands.{failure_rule};
-ghost use Rattle.rvtest_app.specs.Lists.{AreListedOf, AreListedAt, IsListPut, name_line, name_lines};
+ghost use Rattle.rvtest_app.specs.Lists.{AreListedOf, AreListedAt, IsListWritten, name_line, name_lines};
 ghost use Rattle.rvtest_app.specs.Runs.{places_of_marks};
 ghost use Rattle.rvtest_app.specs.CommandOutputs.{outputs_of};
 
@@ -33,7 +33,7 @@ pub(crate) fn list_chosen_jobs<D: Inputs, F: Outputs + Drop, O: Sink + Drop, E: 
     asked: &RunArgs<'_>,
     to: &mut Destinations<F, O, E>,
 ) -> Result<u8, Stop>
-    ensures put { IfOk result (λ status. IsListPut (D.contents inputs.now) asked.now status
+    ensures put { IfOk result (λ status. IsListWritten (D.contents inputs.now) asked.now status
         (outputs_of F.placed O.taken E.taken E.failed to.old) (outputs_of F.placed O.taken E.taken E.failed to.new)) }
     ensures low { IfOk result (λ status. status ≤ 1) }
     ensures stopped { IfErr result (λ why. (why ≡ Stop.WriteFailed)

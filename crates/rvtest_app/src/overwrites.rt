@@ -5,7 +5,7 @@ ghost use Rattle.std.specs.List.{list_any};
 ghost use Rattle.std.specs.Path.{path_buf_bytes};
 ghost use Rattle.rv_command.specs.Texts.{optional_text};
 ghost use Rattle.rv_files.specs.UnreadPaths.{resolved_path};
-ghost use Rattle.rvtest_app.specs.Overwrites.{AreFilesOf, IsApart, IsOptionStop, IsOverwriteStop, IsOverwriteTold, IsUnread, is_among, job_file_text, overwrite_head, overwrite_message, read_path_text, read_paths, role_text};
+ghost use Rattle.rvtest_app.specs.Overwrites.{AreFilesOf, IsApart, IsOptionStop, IsOverwriteStop, IsOverwriteReported, IsUnread, is_among, job_file_text, overwrite_head, overwrite_message, read_path_text, read_paths, role_text};
 ghost use Rattle.rvtest_app.specs.Outlets.{is_stdout};
 
 use crate::outlets::is_stdout;
@@ -112,7 +112,7 @@ pub(crate) fn overwrite_stop<'a>(
     path: &'a str,
     read: &ReadPath<'_>,
 ) -> Stop
-    ensures { IsOverwriteTold option.entry.now path.entry.now result }
+    ensures { IsOverwriteReported option.entry.now path.entry.now result }
 {
     Stop::of_refusal(overwrite_message(alloc, option, path, read))
 }

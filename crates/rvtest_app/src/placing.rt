@@ -3,7 +3,7 @@
 ghost use Rattle.std.specs.Prelude.{◌≡◌, ◌⊎◌, IfErr, IfOk, OnErr, OnOk};
 ghost use Rattle.rvtest_app.specs.Outlets.{AreFilesCommitted, AreFilesPartlyCommitted, both_files, files_of, has_no_failure};
 ghost use Rattle.rvtest_app.specs.Outlets.{outlet_path, synced_files, synced_path};
-ghost use Rattle.rvtest_app.specs.PutStops.{IsUnplacedStop};
+ghost use Rattle.rvtest_app.specs.WriteStops.{IsUnplacedStop};
 
 use crate::outlets::{OpenFile, Outlet, Outlets, abandon_outlet};
 use rv_command::{Stop, file_error_stop};

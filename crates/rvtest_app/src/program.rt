@@ -2,13 +2,13 @@
 
 ghost use Rattle.std.specs.Prelude.{◌≡◌, ◌⊎◌, ◌≤◌, ℕ, List, Option, Ok, Err, IfErr, IfOk, MatchResult, false, map};
 ghost use Rattle.std.specs.IoError.{error_kind};
-ghost use Rattle.rv_command.specs.Messages.{IsMessagePut};
+ghost use Rattle.rv_command.specs.Messages.{IsMessageWritten};
 ghost use Rattle.rv_terminal.specs.ColorSinks.{IsOutInPart};
 ghost use Rattle.rvtest_app.specs.Answers.{IsAnswered, IsDone, IsDoneInColors};
 ghost use Rattle.rvtest_app.specs.Colors.{requested_colors};
 ghost use Rattle.rvtest_app.specs.CommandStops.{IsCommandStop, IsStopFor};
 ghost use Rattle.rvtest_app.specs.CommandOutputs.{outputs_of};
-ghost use Rattle.rvtest_app.specs.ToldStops.{IsStopReported, unreadable_words_message, unreadable_words_status};
+ghost use Rattle.rvtest_app.specs.ReportedStops.{IsStopReported, unreadable_words_message, unreadable_words_status};
 
 use crate::accept::accept_runs;
 use crate::check::check_list;
@@ -22,7 +22,7 @@ use crate::explain::explain_named_job;
 use crate::findings::put_findings;
 use crate::gdb::show_job_to_gdb;
 use crate::help::answer_words_error;
-use crate::help_topic::tell_topic;
+use crate::help_topic::topic_help;
 use crate::host::Host;
 use crate::list::list_chosen_jobs;
 use crate::merge::merge_reports;
@@ -227,7 +227,7 @@ where
         Asked::Counts(asked) => put_sum_of_tables(inputs, alloc, &asked, &mut to),
         Asked::Cover(asked) => cover_requested_jobs(host, &asked, &mut to),
         Asked::Profile(asked) => profile_requested_jobs(host, &asked, &mut to),
-        Asked::Help(asked) => put_findings(&mut to.out, tell_topic(alloc, asked)),
+        Asked::Help(asked) => put_findings(&mut to.out, topic_help(alloc, asked)),
     };
     (to, answer)
 }
@@ -236,7 +236,7 @@ where
 pub fn refuse_unreadable_words<E: Sink>(error: &io::Error, errors: &mut E) -> u8
     ensures low { result ≤ 3 }
     ensures status { result ≡ unreadable_words_status (error_kind error.now) }
-    ensures told { IsMessagePut (E.taken errors.old) (E.taken errors.new) (E.failed errors.old) (E.failed errors.new)
+    ensures told { IsMessageWritten (E.taken errors.old) (E.taken errors.new) (E.failed errors.old) (E.failed errors.new)
         (unreadable_words_message (error_kind error.now)) }
 {
     match error.kind() {

@@ -5,7 +5,7 @@ ghost use Rattle.std.specs.Io.KnownBytes.{Appends};
 ghost use Rattle.rvtest_app.specs.Outlets.{AreFilesCommitted, AreFilesPartlyCommitted, HasTaken, IsPutInto, file_at, has_no_failure};
 ghost use Rattle.rvtest_app.specs.Outlets.{outlet_path, stdout_at, stdout_part};
 ghost use Rattle.rvtest_app.specs.Puts.{IsShown, junit_of};
-ghost use Rattle.rvtest_app.specs.PutStops.{IsPutStop};
+ghost use Rattle.rvtest_app.specs.WriteStops.{IsPutStop};
 ghost use Rattle.rvtest_app.specs.ReportTexts.{report_rest_of, report_text_of};
 ghost use Rattle.rvtest_app.specs.CommandOutputs.{outputs_of};
 

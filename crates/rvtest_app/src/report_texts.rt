@@ -3,10 +3,10 @@
 ghost use Rattle.std.specs.Prelude.{◌≡◌, IfErr, OnErr, OnOk, length};
 ghost use Rattle.std.specs.Option.{ForSome};
 ghost use Rattle.std.specs.Io.KnownBytes.{Appends};
-ghost use Rattle.rv_lists.specs.Counts.{HasRisen};
+ghost use Rattle.rv_lists.specs.Counts.{HasIncreased};
 ghost use Rattle.rv_lists.specs.Sinks.{AppendsBeginning};
 ghost use Rattle.rv_report.specs.Report.{report_text};
-ghost use Rattle.rvtest_app.specs.IntoReports.{rows_put, run_report_rest, run_report_text};
+ghost use Rattle.rvtest_app.specs.IntoReports.{merged_rows, run_report_rest, run_report_text};
 ghost use Rattle.rvtest_app.specs.ReportTexts.{report_rest_of, report_rows, report_text_of};
 
 use crate::chosen_rows::ChosenRows;
@@ -48,7 +48,7 @@ impl<'a> ReportText<'a> {
         ensures part { OnErr result
             (AppendsBeginning (W.taken out.old) (W.taken out.new) (report_text_of self.entry)) }
         ensures failed { IfErr result (λ error. error ≡ WriteError.Failed
-            → HasRisen (W.failed out.old) (W.failed out.new)) }
+            → HasIncreased (W.failed out.old) (W.failed out.new)) }
     {
         match self {
             ReportText::Whole(rows) => write_report(alloc, &Report { rows }, out),
@@ -65,7 +65,7 @@ impl<'a> ReportText<'a> {
         ensures part { OnErr result
             (AppendsBeginning (W.taken out.old) (W.taken out.new) (report_rest_of self.entry)) }
         ensures failed { IfErr result (λ error. error ≡ WriteError.Failed
-            → HasRisen (W.failed out.old) (W.failed out.new)) }
+            → HasIncreased (W.failed out.old) (W.failed out.new)) }
     {
         match self {
             ReportText::Whole(rows) => write_report(alloc, &Report { rows }, out),
@@ -82,12 +82,12 @@ fn write_whole_report<W: Sink>(
     out: &mut W,
 ) -> Result<(), WriteError>
     ensures all { OnOk result (Appends (W.taken out.old) (W.taken out.new)
-        (report_text (rows_put into.entry.chosen.places.now into.entry.chosen.rows into.entry.old))) }
+        (report_text (merged_rows into.entry.chosen.places.now into.entry.chosen.rows into.entry.old))) }
     ensures counted { OnOk result (W.failed out.new ≡ W.failed out.old) }
     ensures part { OnErr result (AppendsBeginning (W.taken out.old) (W.taken out.new)
-        (report_text (rows_put into.entry.chosen.places.now into.entry.chosen.rows into.entry.old))) }
+        (report_text (merged_rows into.entry.chosen.places.now into.entry.chosen.rows into.entry.old))) }
     ensures failed { IfErr result (λ error. error ≡ WriteError.Failed
-        → HasRisen (W.failed out.old) (W.failed out.new)) }
+        → HasIncreased (W.failed out.old) (W.failed out.new)) }
 {
     let rows = into.into_whole_rows();
     write_report(alloc, &Report { rows }, out)

@@ -5,7 +5,7 @@ ghost use Rattle.std.specs.Io.KnownBytes.{Appends};
 ghost use Rattle.std.specs.List.{All};
 ghost use Rattle.rv_lists.specs.Limits.{most_jobs};
 ghost use Rattle.rv_lists.specs.Sinks.{AppendsBeginning};
-ghost use Rattle.rv_lists.specs.Counts.{HasRisen};
+ghost use Rattle.rv_lists.specs.Counts.{HasIncreased};
 ghost use Rattle.rvtest_app.specs.RunOutput.{chosen_last_line, chosen_report_text, job_numbers, part_text};
 
 use crate::chosen_rows::ChosenRows;
@@ -27,7 +27,7 @@ pub(crate) fn write_chosen_report<W: Sink>(
     ensures part { OnErr result (AppendsBeginning (W.taken out.old) (W.taken out.new)
         (chosen_report_text chosen.entry.jobs chosen.entry.places.now shard chosen.entry.rows)) }
     ensures failed { IfErr result (λ error. error ≡ WriteError.Failed
-        → HasRisen (W.failed out.old) (W.failed out.new)) }
+        → HasIncreased (W.failed out.old) (W.failed out.new)) }
 {
     let extent = match shard {
         Some(shard) => Extent::Shard(shard),
@@ -52,7 +52,7 @@ pub(crate) fn write_last_line<W: Sink>(
     ensures part { OnErr result (AppendsBeginning (W.taken out.old) (W.taken out.new)
         (chosen_last_line chosen.entry.jobs chosen.entry.places.now shard chosen.entry.rows)) }
     ensures failed { IfErr result (λ error. error ≡ WriteError.Failed
-        → HasRisen (W.failed out.old) (W.failed out.new)) }
+        → HasIncreased (W.failed out.old) (W.failed out.new)) }
 {
     let extent = match shard {
         Some(shard) => Extent::Shard(shard),
@@ -78,7 +78,7 @@ fn write_part_report<W: Sink>(
     ensures part { OnErr result (AppendsBeginning (W.taken out.old) (W.taken out.new)
         (part_text extent chosen.entry.places.now chosen.entry.rows)) }
     ensures failed { IfErr result (λ error. error ≡ WriteError.Failed
-        → HasRisen (W.failed out.old) (W.failed out.new)) }
+        → HasIncreased (W.failed out.old) (W.failed out.new)) }
 {
     let report = SavedReport {
         extent,

@@ -100,7 +100,7 @@ where
                 frame,
                 known,
             };
-            run.run_marked_jobs(marked, to, terminals)
+            run.run_selected_jobs(marked, to, terminals)
         }
         None => (to, Ok(DONE)),
     }
@@ -108,7 +108,7 @@ where
 
 impl<'x, R: Threads + Wait + Sync + Clock, D: Inputs> ListRun<'x, R, D> {
     // Runs the selected jobs, after reading the files that they need. A requested budget applies to every job.
-    fn run_marked_jobs<
+    fn run_selected_jobs<
         F: Outputs + Drop,
         O: Sink + Drop + Send,
         E: Sink + Drop + Send,

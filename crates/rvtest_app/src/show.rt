@@ -6,7 +6,7 @@ ghost use Rattle.rv_command.specs.Texts.{optional_text};
 ghost use Rattle.rv_report.specs.Report.{report_text};
 ghost use Rattle.rvtest_app.specs.CommandStops.{IsShowStop};
 ghost use Rattle.rvtest_app.specs.Puts.{WentOut};
-ghost use Rattle.rvtest_app.specs.PutStops.{IsOutputStop};
+ghost use Rattle.rvtest_app.specs.WriteStops.{IsOutputStop};
 ghost use Rattle.rvtest_app.specs.Commands.{report_judging};
 ghost use Rattle.rvtest_app.specs.RunOutput.{rows_status};
 ghost use Rattle.rvtest_app.specs.ReportSummary.{summary_text};

@@ -9,7 +9,7 @@ ghost use Rattle.rv_expect.specs.Comparisons.{sides_of};
 ghost use Rattle.rv_expect.specs.RowReporter.{is_same};
 ghost use Rattle.rv_files.specs.UnreadPaths.{resolved_path};
 ghost use Rattle.rvtest_app.specs.Standings.{AreCandidates, IsCandidateAt, IsGoldenText, IsStanding, IsWholeText, compared_row, is_marked, is_none_unmet, path_to_read};
-ghost use Rattle.rvtest_app.specs.Standings.{sides_over, standing_by, standing_of};
+ghost use Rattle.rvtest_app.specs.Standings.{sides_over, standing_by, verdict_of_sides};
 
 use crate::accepted_files::place_of_path;
 use rv_accept::{Acceptance, Candidate, CurrentVerdict, console_path, is_accepted_end};
@@ -83,18 +83,18 @@ impl<'x, D: Inputs> CurrentFiles<'x, D> {
     {
         let console = self.golden_text(path_to_read(job, row, console_path(job)))?;
         let signature = self.golden_text(path_to_read(job, row, signature_path(job)))?;
-        self.standing_over(job, row, text_of(&console), text_of(&signature))
+        self.verdict_over(job, row, text_of(&console), text_of(&signature))
     }
 
     // Returns the verdict on a job, given what was read of its golden files.
-    fn standing_over<'r>(
+    fn verdict_over<'r>(
         &self,
         job: &'r Job,
         row: &'r Row,
         console: Option<&'r [u8]>,
         signature: Option<&'r [u8]>,
     ) -> Result<CurrentVerdict, AllocError>
-        ensures { IfOk result (λ standing. standing ≡ standing_of (sides_over self.now.rows.now job.now row.now
+        ensures { IfOk result (λ standing. standing ≡ verdict_of_sides (sides_over self.now.rows.now job.now row.now
             (option_map (λ bytes. bytes.now) console.entry) (option_map (λ bytes. bytes.now) signature.entry))) }
     {
         let comparison = Comparison {

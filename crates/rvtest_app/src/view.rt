@@ -8,7 +8,7 @@ ghost use Rattle.rv_fleet.specs.Choices.{AreJobIndices};
 ghost use Rattle.rvtest_app.specs.Runs.{places_of_marks};
 ghost use Rattle.rvtest_app.specs.CommandOutputs.{outputs_of};
 ghost use Rattle.rvtest_app.specs.ViewStops.{IsTextlessStop, IsUnshownStop, IsUnviewedStop, IsViewStop, counts_source};
-ghost use Rattle.rvtest_app.specs.Views.{IsViewOfPlaces, IsViewOfPlan, IsViewPut, IsViewText};
+ghost use Rattle.rvtest_app.specs.Views.{IsViewOfPlaces, IsViewOfPlan, IsViewWritten, IsViewText};
 
 use crate::destinations::Destinations;
 use crate::host::Host;
@@ -56,7 +56,7 @@ impl<'x, R: Threads + Wait + Sync, D: Inputs> JobsView<'x, R, D> {
         command: ChoosingCommand,
         to: &mut Destinations<F, O, E>,
     ) -> Result<u8, Stop>
-        ensures put { IfOk result (λ status. IsViewPut (D.contents self.now.host.now.inputs.now) self.now.asked.now
+        ensures put { IfOk result (λ status. IsViewWritten (D.contents self.now.host.now.inputs.now) self.now.asked.now
             self.now.view status
             (outputs_of F.placed O.taken E.taken E.failed to.old) (outputs_of F.placed O.taken E.taken E.failed to.new)) }
         ensures low { IfOk result (λ status. status ≤ 1) }

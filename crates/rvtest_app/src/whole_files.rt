@@ -5,7 +5,7 @@ ghost use Rattle.std.specs.Io.KnownBytes.{Appends};
 ghost use Rattle.rv_expect.specs.Judgement.{judging_of};
 ghost use Rattle.rv_report.specs.Report.{report_text};
 ghost use Rattle.rvtest_app.specs.Outlets.{AreFilesCommitted, AreFilesPartlyCommitted, HasTaken, file_at, has_no_failure, outlet_path, stdout_at};
-ghost use Rattle.rvtest_app.specs.PutStops.{IsPutStop};
+ghost use Rattle.rvtest_app.specs.WriteStops.{IsPutStop};
 ghost use Rattle.rvtest_app.specs.JunitTexts.{failures_junit};
 
 use crate::destinations::Destinations;

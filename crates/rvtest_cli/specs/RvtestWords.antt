@@ -349,8 +349,8 @@ is_failed_path path rows = option_map_or (bytes_eq path) (first_of (codes "faile
 
 -- whether the table of counts would be written to the same file or stream as a report or the JUnit XML, or over the report that chooses the
 -- jobs
-abbrev pub are_counts_put_over : List Row → Bool
-are_counts_put_over rows = option_map_or (λ path. is_report_path path rows || (is_into_path path rows
+abbrev pub are_counts_overwriting : List Row → Bool
+are_counts_overwriting rows = option_map_or (λ path. is_report_path path rows || (is_into_path path rows
     || (is_junit_path path rows || is_failed_path path rows))) (first_of (codes "counts") rows) false
 
 -- whether stacks are requested without a table of counts
@@ -377,13 +377,13 @@ are_rows_kept rows = is_report_given rows
     || (is_option_given (codes "junit") rows || is_option_given (codes "shard") rows)
 
 -- whether rows are merged into a report and also written as a report of their own or as a shard
-abbrev pub are_rows_put_twice : List Row → Bool
-are_rows_put_twice rows = is_option_given (codes "into") rows
+abbrev pub are_rows_written_twice : List Row → Bool
+are_rows_written_twice rows = is_option_given (codes "into") rows
     && (is_option_given (codes "report") rows || is_option_given (codes "shard") rows)
 
 -- whether rows are merged into standard output, from which no report can be read
-abbrev pub is_stdout_put_into : List Row → Bool
-is_stdout_put_into rows = is_into_path (codes "-") rows
+abbrev pub is_merged_into_stdout : List Row → Bool
+is_merged_into_stdout rows = is_into_path (codes "-") rows
 
 -- whether the report that chooses the jobs would be overwritten by their rows alone
 abbrev pub is_choice_overwritten : List Row → Bool
@@ -424,13 +424,13 @@ run_misuse rows = if is_flag_set (codes "verbose") rows && is_flag_set (codes "q
     else if is_option_given (codes "budget") rows && are_rows_kept rows then Some misuse.BudgetAndRows
     else if is_option_given (codes "stop-after") rows && is_option_given (codes "shard") rows
     then Some misuse.StopAfterAndShard
-    else if are_rows_put_twice rows then Some misuse.IntoAndReport
-    else if is_stdout_put_into rows then Some misuse.IntoStdout
+    else if are_rows_written_twice rows then Some misuse.IntoAndReport
+    else if is_merged_into_stdout rows then Some misuse.IntoStdout
     else if is_choice_overwritten rows then Some misuse.FailedIsReport
     else if is_partial_alone rows then Some misuse.PartialAlone
     else if is_color_unknown rows then Some misuse.UnknownColor
     else if are_stacks_alone rows then Some misuse.StacksAlone
-    else if are_counts_put_over rows then Some misuse.CountsOneFile
+    else if are_counts_overwriting rows then Some misuse.CountsOneFile
     else files_misuse rows
 
 -- the first rule that options of `cover` break: a shard and a choice cannot be combined, and allowing a truncated report requires one that
@@ -524,15 +524,15 @@ abbrev pub words_fault_kinds : List Text → Kinds
 words_fault_kinds words = or_else (fault_of test_app words) (misuse_kinds (words_misuse words))
 
 -- out of memory, or the error says which options cannot be combined
-abbrev pub IsMisuseTold : Option Misuse → WordsError → Type 0
-IsMisuseTold misuse error.OutOfMemory = Unit {0}
-IsMisuseTold None (error.Told fault text) = ⊥
-IsMisuseTold (Some misuse) (error.Told fault text) =
+abbrev pub IsMisuseReported : Option Misuse → WordsError → Type 0
+IsMisuseReported misuse error.OutOfMemory = Unit {0}
+IsMisuseReported None (error.Told fault text) = ⊥
+IsMisuseReported (Some misuse) (error.Told fault text) =
     (misuse_kinds (Some misuse) ≡ fault ∷ []) × IsUsageText (misuse_text misuse) (string_bytes text)
 
 -- the arguments fail because options cannot be combined or memory runs out; otherwise no options conflict
 abbrev pub FailsByMisuse : {T : Type 0} → Option Misuse → Result T WordsError → Type 0
-FailsByMisuse misuse result = MatchResult result (λ _. misuse ≡ None) (IsMisuseTold misuse)
+FailsByMisuse misuse result = MatchResult result (λ _. misuse ≡ None) (IsMisuseReported misuse)
 
 -- ---- the program's own value of what is asked for
 
@@ -665,9 +665,9 @@ IsAskedInRange (asked.Diff value) = IfSome value.slower (λ percent. percent ≤
 IsAskedInRange _ = Unit {0}
 
 -- the parsed request matches these words, with numbers in their ranges
-abbrev pub AsksFor : Option Words → Option Asked → Type 0
-AsksFor words asked = (option_map asked_words asked ≡ words) × IfSome asked IsAskedInRange
+abbrev pub IsRequestFor : Option Words → Option Asked → Type 0
+IsRequestFor words asked = (option_map asked_words asked ≡ words) × IfSome asked IsAskedInRange
 
 -- the parsed request matches the words; otherwise the error says which options cannot be combined, or memory ran out
 abbrev pub ReadsRequest : Option Words → Option Misuse → Result (Option Asked) WordsError → Type 0
-ReadsRequest words misuse result = IfOk result (AsksFor words) × FailsByMisuse misuse result
+ReadsRequest words misuse result = IfOk result (IsRequestFor words) × FailsByMisuse misuse result

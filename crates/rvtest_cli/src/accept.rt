@@ -7,7 +7,7 @@ ghost use Rattle.rvtest_cli.specs.RvtestWords.{ReadsRequest, accept_request, cho
 use crate::command::accept_command;
 use crate::refusals::choice_misuse;
 use crate::requests::Asked;
-use crate::run::{RunArgs, run_asked};
+use crate::run::{RunArgs, run_args};
 use crate::words_error::WordsError;
 use clap::ArgMatches;
 use rv_base::limits::MOST_GROUP;
@@ -53,7 +53,7 @@ fn valid_accept_request<'a>(
     let Some(group) = number_value(values, "group", 1, MOST_GROUP) else {
         return Ok(None);
     };
-    let run = run_asked(alloc, values, list, group)?;
+    let run = run_args(alloc, values, list, group)?;
     Ok(Some(Asked::Accept(AcceptArgs {
         run,
         ends: is_flag_set(values, "ends"),

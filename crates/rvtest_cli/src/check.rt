@@ -1,7 +1,7 @@
 //! The arguments of `check`.
 
 ghost use Rattle.clap.specs.Words.{found_of, rows_of};
-ghost use Rattle.rvtest_cli.specs.RvtestWords.{AsksFor, check_request};
+ghost use Rattle.rvtest_cli.specs.RvtestWords.{IsRequestFor, check_request};
 
 use crate::requests::Asked;
 use clap::ArgMatches;
@@ -18,7 +18,7 @@ pub struct CheckArgs<'a> {
 
 /// Returns the request of `check` with these values.
 pub(crate) fn check_request<'a>(values: &ArgMatches<'a>) -> Option<Asked<'a>>
-    ensures { AsksFor (check_request (rows_of (found_of values.now))) result }
+    ensures { IsRequestFor (check_request (rows_of (found_of values.now))) result }
 {
     let list = text_value(values, "list")?;
     let root = text_value(values, "root");

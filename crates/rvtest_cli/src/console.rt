@@ -1,7 +1,7 @@
 //! The arguments of `console`.
 
 ghost use Rattle.clap.specs.Words.{found_of, rows_of};
-ghost use Rattle.rvtest_cli.specs.RvtestWords.{AsksFor, console_request};
+ghost use Rattle.rvtest_cli.specs.RvtestWords.{IsRequestFor, console_request};
 
 use crate::requests::Asked;
 use clap::ArgMatches;
@@ -20,7 +20,7 @@ pub struct ConsoleArgs<'a> {
 
 /// Returns the request of `console` with these values.
 pub(crate) fn console_request<'a>(values: &ArgMatches<'a>) -> Option<Asked<'a>>
-    ensures { AsksFor (console_request (rows_of (found_of values.now))) result }
+    ensures { IsRequestFor (console_request (rows_of (found_of values.now))) result }
 {
     let list = text_value(values, "list")?;
     let name = text_value(values, "name")?;

@@ -7,7 +7,7 @@ ghost use Rattle.rvtest_cli.specs.RvtestWords.{ReadsRequest, cover_misuse, cover
 use crate::command::cover_command;
 use crate::refusals::{Misuse, choice_misuse};
 use crate::requests::Asked;
-use crate::run::{RunArgs, is_choice_given, run_asked};
+use crate::run::{RunArgs, is_choice_given, run_args};
 use crate::words_error::WordsError;
 use clap::ArgMatches;
 use rv_base::limits::MOST_GROUP;
@@ -50,7 +50,7 @@ fn valid_cover_request<'a>(
     let Some(group) = number_value(values, "group", 1, MOST_GROUP) else {
         return Ok(None);
     };
-    let run = run_asked(alloc, values, list, group)?;
+    let run = run_args(alloc, values, list, group)?;
     let csv = is_flag_set(values, "csv");
     Ok(Some(Asked::Cover(CoverArgs { run, csv })))
 }

@@ -2,7 +2,7 @@
 
 ghost use Rattle.std.specs.Prelude.{◌≡◌};
 ghost use Rattle.clap.specs.Words.{found_of, rows_of};
-ghost use Rattle.rvtest_cli.specs.RvtestWords.{AsksFor, ReadsRequest, diff_misuse, diff_request};
+ghost use Rattle.rvtest_cli.specs.RvtestWords.{IsRequestFor, ReadsRequest, diff_misuse, diff_request};
 
 use crate::command::diff_command;
 use crate::refusals::{Misuse, color_misuse};
@@ -44,7 +44,7 @@ pub(crate) fn diff_request<'a>(
 }
 
 fn valid_diff_request<'a>(values: &ArgMatches<'a>) -> Option<Asked<'a>>
-    ensures { AsksFor (diff_request (rows_of (found_of values.now))) result }
+    ensures { IsRequestFor (diff_request (rows_of (found_of values.now))) result }
 {
     let old = text_value(values, "old")?;
     let new = text_value(values, "new")?;

@@ -1,7 +1,7 @@
 //! The arguments of `explain`.
 
 ghost use Rattle.clap.specs.Words.{found_of, rows_of};
-ghost use Rattle.rvtest_cli.specs.RvtestWords.{AsksFor, ReadsRequest, color_misuse, explain_request};
+ghost use Rattle.rvtest_cli.specs.RvtestWords.{IsRequestFor, ReadsRequest, color_misuse, explain_request};
 
 use crate::command::explain_command;
 use crate::refusals::color_misuse;
@@ -44,7 +44,7 @@ pub(crate) fn explain_request<'a>(
 }
 
 fn valid_explain_request<'a>(values: &ArgMatches<'a>) -> Option<Asked<'a>>
-    ensures { AsksFor (explain_request (rows_of (found_of values.now))) result }
+    ensures { IsRequestFor (explain_request (rows_of (found_of values.now))) result }
 {
     let list = text_value(values, "list")?;
     let name = text_value(values, "name")?;

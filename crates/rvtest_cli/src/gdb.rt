@@ -1,7 +1,7 @@
 //! The arguments of `gdb`.
 
 ghost use Rattle.clap.specs.Words.{found_of, rows_of};
-ghost use Rattle.rvtest_cli.specs.RvtestWords.{AsksFor, gdb_request};
+ghost use Rattle.rvtest_cli.specs.RvtestWords.{IsRequestFor, gdb_request};
 
 use crate::requests::Asked;
 use clap::ArgMatches;
@@ -22,7 +22,7 @@ pub struct GdbArgs<'a> {
 
 /// Returns the request of `gdb` with these values.
 pub(crate) fn gdb_request<'a>(values: &ArgMatches<'a>) -> Option<Asked<'a>>
-    ensures { AsksFor (gdb_request (rows_of (found_of values.now))) result }
+    ensures { IsRequestFor (gdb_request (rows_of (found_of values.now))) result }
 {
     let list = text_value(values, "list")?;
     let name = text_value(values, "name")?;

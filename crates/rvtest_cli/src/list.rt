@@ -7,7 +7,7 @@ ghost use Rattle.rvtest_cli.specs.RvtestWords.{ReadsRequest, choice_misuse, list
 use crate::command::list_command;
 use crate::refusals::choice_misuse;
 use crate::requests::Asked;
-use crate::run::run_asked;
+use crate::run::run_args;
 use crate::words_error::WordsError;
 use clap::ArgMatches;
 use rv_cli::values::text_value;
@@ -36,5 +36,5 @@ fn valid_list_request<'a>(
     let Some(list) = text_value(values, "list") else {
         return Ok(None);
     };
-    Ok(Some(Asked::List(run_asked(alloc, values, list, 1)?)))
+    Ok(Some(Asked::List(run_args(alloc, values, list, 1)?)))
 }

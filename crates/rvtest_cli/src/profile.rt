@@ -10,7 +10,7 @@ use crate::command::profile_command;
 use crate::cover::cover_misuse;
 use crate::refusals::Misuse;
 use crate::requests::Asked;
-use crate::run::{RunArgs, is_choice_given, run_asked};
+use crate::run::{RunArgs, is_choice_given, run_args};
 use crate::words_error::WordsError;
 use clap::ArgMatches;
 use rv_base::limits::MOST_GROUP;
@@ -75,7 +75,7 @@ fn named_run<'a>(
     ensures { IfOk result (λ asked. (run_asked_words asked ≡ named_run_words list.entry.now group (rows_of (found_of values.now)))
         × IsRunAskedInRange asked) }
 {
-    let mut run = run_asked(alloc, values, list, group)?;
+    let mut run = run_args(alloc, values, list, group)?;
     let only = named_or_only(alloc, values)?;
     run.only = only;
     Ok(run)

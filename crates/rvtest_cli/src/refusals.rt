@@ -2,7 +2,7 @@
 
 ghost use Rattle.std.specs.Prelude.{◌≡◌, [], ◌∷◌, Some};
 ghost use Rattle.clap.specs.Words.{found_of, rows_of};
-ghost use Rattle.rvtest_cli.specs.RvtestWords.{IsMisuseTold, choice_misuse, color_misuse, files_misuse, is_color_unknown, is_color_word, is_into_path, is_partial_alone};
+ghost use Rattle.rvtest_cli.specs.RvtestWords.{IsMisuseReported, choice_misuse, color_misuse, files_misuse, is_color_unknown, is_color_word, is_into_path, is_partial_alone};
 ghost use Rattle.rvtest_cli.specs.RvtestWords.{is_failed_path, is_junit_path, is_report_path, is_suite_nameless};
 ghost use Rattle.rvtest_cli.specs.RvtestWords.{misuse_kinds, misuse_text, show_misuse, suite_misuse};
 
@@ -60,7 +60,7 @@ impl Misuse {
         alloc: Global,
         command: Result<Command<'_>, AllocError>,
     ) -> WordsError
-        ensures { IsMisuseTold (Some self) result }
+        ensures { IsMisuseReported (Some self) result }
     {
         usage_error(alloc, command, self.misuse_error_kind(), self.misuse_text())
     }

@@ -3,7 +3,7 @@
 ghost use Rattle.std.specs.Prelude.{◌≡◌, [], IfErr, IfOk, IfSome, map, option_map};
 ghost use Rattle.clap.specs.Words.{fault_of, found_of, rows_of, subcommand_rows_of};
 ghost use Rattle.rvtest_cli.specs.RvtestCommand.{test_app};
-ghost use Rattle.rvtest_cli.specs.RvtestWords.{IsAskedInRange, IsMisuseTold, ReadsRequest, matched_misuse, subcommand_misuse};
+ghost use Rattle.rvtest_cli.specs.RvtestWords.{IsAskedInRange, IsMisuseReported, ReadsRequest, matched_misuse, subcommand_misuse};
 ghost use Rattle.rvtest_cli.specs.RvtestWords.{asked_words, matched_words, subcommand_words, words_fault_kinds, words_misuse, words_request};
 ghost use Rattle.rvtest_cli.specs.WordsErrors.{FailsByKinds};
 
@@ -75,7 +75,7 @@ pub fn read_words<'a, T: AsStr>(
     ensures kinds { FailsByKinds (words_fault_kinds (map T.text words.entry.now)) result }
     // If `clap` finds no error, the message says which options cannot be combined.
     ensures misused { fault_of test_app (map T.text words.entry.now) ≡ []
-        → IfErr result (IsMisuseTold (words_misuse (map T.text words.entry.now))) }
+        → IfErr result (IsMisuseReported (words_misuse (map T.text words.entry.now))) }
 {
     let command = test_command(alloc)?;
     match command.try_get_matches_from(words) {

@@ -3,7 +3,7 @@
 ghost use Rattle.std.specs.Prelude.{◌≡◌, ◌≤◌, IfOk, None};
 ghost use Rattle.clap.specs.Words.{found_of, rows_of};
 ghost use Rattle.rv_base.specs.Limits.{most_group};
-ghost use Rattle.rvtest_cli.specs.RvtestWords.{IsRunAskedInRange, ReadsRequest, are_counts_put_over, are_rows_kept, are_rows_put_twice, are_stacks_alone, is_choice_given, is_choice_overwritten, is_report_given, is_stdout_put_into, run_asked_words};
+ghost use Rattle.rvtest_cli.specs.RvtestWords.{IsRunAskedInRange, ReadsRequest, are_counts_overwriting, are_rows_kept, are_rows_written_twice, are_stacks_alone, is_choice_given, is_choice_overwritten, is_report_given, is_merged_into_stdout, run_asked_words};
 ghost use Rattle.rvtest_cli.specs.RvtestWords.{run_misuse, test_run_request, run_words};
 
 use crate::command::run_command;
@@ -99,12 +99,12 @@ fn valid_run_request<'a>(
     let Some(group) = number_value(values, "group", 1, MOST_GROUP) else {
         return Ok(None);
     };
-    Ok(Some(Asked::Run(run_asked(alloc, values, list, group)?)))
+    Ok(Some(Asked::Run(run_args(alloc, values, list, group)?)))
 }
 
 /// Returns the request with these values, for a list, in chunks of `group` jobs.
 #[tactic(auto, unfolding(crate::specs::RvtestWords::run_words))]
-pub(crate) fn run_asked<'a>(
+pub(crate) fn run_args<'a>(
     alloc: Global,
     values: &ArgMatches<'a>,
     list: &'a str,
@@ -157,9 +157,9 @@ fn run_misuse(values: &ArgMatches<'_>) -> Option<Misuse>
         Some(Misuse::BudgetAndRows)
     } else if is_option_given(values, "stop-after") && is_option_given(values, "shard") {
         Some(Misuse::StopAfterAndShard)
-    } else if are_rows_put_twice(values) {
+    } else if are_rows_written_twice(values) {
         Some(Misuse::IntoAndReport)
-    } else if is_stdout_put_into(values) {
+    } else if is_merged_into_stdout(values) {
         Some(Misuse::IntoStdout)
     } else if is_choice_overwritten(values) {
         Some(Misuse::FailedIsReport)
@@ -169,7 +169,7 @@ fn run_misuse(values: &ArgMatches<'_>) -> Option<Misuse>
         Some(Misuse::UnknownColor)
     } else if are_stacks_alone(values) {
         Some(Misuse::StacksAlone)
-    } else if are_counts_put_over(values) {
+    } else if are_counts_overwriting(values) {
         Some(Misuse::CountsOneFile)
     } else {
         files_misuse(values)
@@ -191,16 +191,16 @@ fn is_report_given(values: &ArgMatches<'_>) -> bool
 }
 
 // Whether rows are merged into a report and also written on their own.
-fn are_rows_put_twice(values: &ArgMatches<'_>) -> bool
-    ensures { result ≡ are_rows_put_twice (rows_of (found_of values.now)) }
+fn are_rows_written_twice(values: &ArgMatches<'_>) -> bool
+    ensures { result ≡ are_rows_written_twice (rows_of (found_of values.now)) }
 {
     is_option_given(values, "into")
         && (is_option_given(values, "report") || is_option_given(values, "shard"))
 }
 
 // Whether rows are merged into standard output, from which no report can be read.
-fn is_stdout_put_into(values: &ArgMatches<'_>) -> bool
-    ensures { result ≡ is_stdout_put_into (rows_of (found_of values.now)) }
+fn is_merged_into_stdout(values: &ArgMatches<'_>) -> bool
+    ensures { result ≡ is_merged_into_stdout (rows_of (found_of values.now)) }
 {
     is_into_path(values, "-")
 }
@@ -223,8 +223,8 @@ fn are_stacks_alone(values: &ArgMatches<'_>) -> bool
 }
 
 // Whether the table of counts has the same destination as a report or the JUnit XML, or would overwrite the report that chooses the jobs.
-fn are_counts_put_over(values: &ArgMatches<'_>) -> bool
-    ensures { result ≡ are_counts_put_over (rows_of (found_of values.now)) }
+fn are_counts_overwriting(values: &ArgMatches<'_>) -> bool
+    ensures { result ≡ are_counts_overwriting (rows_of (found_of values.now)) }
 {
     match text_value(values, "counts") {
         Some(path) => {

@@ -1,7 +1,7 @@
 //! The arguments of `show`.
 
 ghost use Rattle.clap.specs.Words.{found_of, rows_of};
-ghost use Rattle.rvtest_cli.specs.RvtestWords.{AsksFor, ReadsRequest, show_misuse, show_request};
+ghost use Rattle.rvtest_cli.specs.RvtestWords.{IsRequestFor, ReadsRequest, show_misuse, show_request};
 
 use crate::command::show_command;
 use crate::refusals::show_misuse;
@@ -43,7 +43,7 @@ pub(crate) fn show_request<'a>(
 }
 
 fn valid_show_request<'a>(values: &ArgMatches<'a>) -> Option<Asked<'a>>
-    ensures { AsksFor (show_request (rows_of (found_of values.now))) result }
+    ensures { IsRequestFor (show_request (rows_of (found_of values.now))) result }
 {
     let report = text_value(values, "report")?;
     let partial = is_flag_set(values, "partial");

@@ -28,13 +28,13 @@ choice_of false = Fault
 choice_of true = Allow
 
 -- recovering a choice returns the one that was stored
-abbrev pub choice_again : (m : Choice) → choice_of (allows m) ≡ m
-choice_again Fault = refl
-choice_again Allow = refl
+abbrev pub choice_round_trips : (m : Choice) → choice_of (allows m) ≡ m
+choice_round_trips Fault = refl
+choice_round_trips Allow = refl
 
 -- the encoding of a choice
 abbrev pub choice_code : Coded Choice
-choice_code = code_by Bool coded_bool allows choice_of choice_again
+choice_code = code_by Bool coded_bool allows choice_of choice_round_trips
 
 -- the fields of contents, in order
 abbrev pub Parts : Type 0
