@@ -18,6 +18,7 @@ pub trait HasTable {
 
     ghost table: { Self → Counted };
 
+    // Returns the table of counts.
     fn table(&self) -> &CountTable
         ensures value { result.now ≡ table self.now }
         ensures sound { IsTable (table self.now) };

@@ -18,6 +18,7 @@ pub trait Work<H> {
     // What holds of a worker's state after each of its jobs.
     ghost is_worker_state: { Self → WorkerState → Type 0 };
 
+    // Returns the number of jobs.
     fn jobs(&self) -> usize
         ensures value { result ≡ jobs self.now }
         ensures few { result ≤ most_jobs };

@@ -51,6 +51,7 @@ fn first_hash(line: &[u8]) -> Option<usize>
     line.iter().position(|byte| *byte == b'#')
 }
 
+// Returns a text without leading and trailing white space.
 fn trimmed(text: &[u8]) -> &[u8]
     ensures { result.now ≡ trimmed text.now }
 {

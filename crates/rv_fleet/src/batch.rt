@@ -18,6 +18,7 @@ pub struct Batch<'a> {
 }
 
 impl<'a> Batch<'a> {
+    /// Selects the jobs at these indices, which must be strictly increasing.
     pub fn new(plan: &'a Plan, places: &'a [usize]) -> Batch<'a>
         requires within { AreJobIndices plan.now places.now }
         requires rising { IsStrictlyIncreasing places.now }

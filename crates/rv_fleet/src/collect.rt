@@ -79,6 +79,7 @@ fn keep_piece(slots: &mut Vec<Option<Rows>>, pieces: &Pieces<'_>, piece: Piece)
     }
 }
 
+// Merges a pass into the earlier ones, if there are any.
 fn join_passes(claims: &Claims, all: Option<Pass>, pass: Pass) -> Pass
     requires all { IfSome all (λ other. other.draw ≡ claims.now) }
     requires pass { pass.draw ≡ claims.now }

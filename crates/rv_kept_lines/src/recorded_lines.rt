@@ -78,6 +78,7 @@ pub struct RecordedLines<J: LinesSpec> {
 }
 
 impl<J: LinesSpec> RecordedLines<J> {
+    /// Creates an empty collection.
     pub fn new(alloc: Global) -> RecordedLines<J> {
         RecordedLines {
             rows: BTreeMap::new(alloc),

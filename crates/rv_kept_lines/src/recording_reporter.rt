@@ -24,6 +24,7 @@ pub struct RecordingReporter<'r, 't, 'k, J: LinesSpec, R: Wait, T: RowReporter> 
 }
 
 impl<'r, 't, 'k, J: LinesSpec, R: Wait, T: RowReporter> RecordingReporter<'r, 't, 'k, J, R, T> {
+    /// Creates a reporter that keeps lines in `kept`, or keeps none if it is `None`.
     pub fn new(
         rt: &'r R,
         reporter: &'t T,

@@ -16,6 +16,7 @@ pub struct ReplayingReporter<'t, 'k, J: LinesSpec, T: RowReporter> {
 }
 
 impl<'t, 'k, J: LinesSpec, T: RowReporter> ReplayingReporter<'t, 'k, J, T> {
+    /// Creates a reporter that reuses the lines in `kept`.
     pub fn new(reporter: &'t T, kept: &'k RecordedLines<J>) -> ReplayingReporter<'t, 'k, J, T>
         requires { (place : ℕ) (row : ARow) → T.line reporter.now place row ≡ J.lines place row }
         ensures { result.reporter.now ≡ reporter.now }
