@@ -1,4 +1,4 @@
-use Rattle.std.proofs.Common.{◌≡◌, ◌∙◌, ◌++◌, ℕ, List, ap, append_assoc, codes, rules, sym}
+use Rattle.std.proofs.Common.{◌≡◌, ◌∙◌, ◌++◌, ℕ, List, Global, Vec, ap, append_assoc, codes, sym}
 use Rattle.std.specs.Fmt.{decimal}
 use Rattle.rv_session.specs.Answers.{taken_here}
 use Rattle.rv_session.proofs.session.Session.input_text.Goals as goal
@@ -10,6 +10,7 @@ pub returns : goal.returns
 returns c =
     let script = decimal c.args.self.now.script in
     let last = script ++ codes " bytes read\n" in
-    let told : c.into_bytes.result.items ≡ decimal c.taken-taken.result ++ (codes " of " ++ last) = search rules in
+    let told : c.into_bytes.result.items ≡ decimal c.taken-taken.result ++ (codes " of " ++ last) =
+    ap (λ (bytes : Vec ℕ Global). bytes.items) c.into_bytes.ensures.value ∙ c.in_ok-text.ensures.ok in
     told ∙ ap (λ (taken : ℕ). decimal taken ++ (codes " of " ++ last)) c.taken-taken.ensures
     ∙ four (decimal (taken_here c.args.self.now)) (codes " of ") script (codes " bytes read\n")
