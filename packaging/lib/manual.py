@@ -80,7 +80,7 @@ def keys_source():
     """The Rust source of what `rvtest help list` tells."""
     told = "\n".join(["The keys of a job, a table of the array job:", "", *(key_paragraph(*key) for key in keys())])
     written = told.replace("\\", "\\\\").replace('"', '\\"')
-    return f"""//! What `rvtest help list` tells. packaging/pages writes this file from README.md's table of keys.
+    return f"""//! What `rvtest help list` prints. packaging/pages writes this file from README.md's table of keys.
 
 /// The keys of a list.
 pub(crate) const LIST_KEYS: &str = "\\
