@@ -14,7 +14,6 @@ use crate::threads::run_workers;
 use crate::work::Work;
 use crate::worker::WorkerContext;
 use std::alloc::{AllocError, Global};
-use std::marker::Brand;
 use std::sync::{Mutex, Wait};
 use std::thread::Threads;
 use thiserror::Error;
@@ -38,25 +37,13 @@ impl From<AllocError> for RunError {
     }
 }
 
-/// Makes the result of each job, by as many threads as the crew has, or as there are pieces if these are fewer. The listener hears each
-/// result as soon as it has heard those of all jobs before it, and comes back: with `GoOn` it has heard of all jobs, each once
-/// and in order, and with `Stop` of the jobs up to the one where it said so; after an error it has heard of the first jobs. Each
-/// thread draws the next piece when it is free, and ends with the piece that it makes where the run ends. All threads are waited for.
+/// Makes the result of each job, using as many threads as the crew has, or one per piece if there are fewer pieces. The listener receives
+/// each result as soon as it has received those of all earlier jobs, and is returned at the end. With `GoOn` it has received the result of
+/// every job, once and in order; with `Stop` those up to the job where it said so; after an error, those of the first jobs. A free thread
+/// draws the next piece; when the run ends, each thread finishes the piece it is making. All threads are joined.
+///
+/// `J` is the run's `Brand`: it gives the results, jobs and pieces a name that contracts can use, and the caller picks its ghost members.
 pub fn run_jobs<
-    H: Drop + Send,
-    R: Threads + Wait + Sync,
-    W: Work<H> + Sync,
-    L: Listener<H> + Drop + Send,
->(crew: &Crew<'_, R>, work: &W, listener: L) -> (L, Result<Flow, RunError>)
-    requires received { L.has_received listener [] }
-    requires goes { L.stops listener → ⊥ }
-    ensures { IsRunDelivered (W.is_made work.now) (W.jobs work.now) (L.has_received result.0) (L.stops result.0) result.1 }
-{
-    run_in_order::<Brand, H, R, W, L>(crew, work, listener)
-}
-
-// The same, where a run of its own says which results are heard.
-fn run_in_order<
     J: RunSpec<H> + Send + Sync,
     H: Drop + Send,
     R: Threads + Wait + Sync,
@@ -111,7 +98,8 @@ fn deliver_rest<J: RunSpec<H>, H: Drop, R, W: Work<H>, L: Listener<H>>(
     } = rest;
     match ended {
         Some(End::Stopped) => (listener, Ok(Flow::Stop)),
-        Some(End::OutOfMemory) => (listener, Err(RunError::OutOfMemory)),
+        // Out of memory: a worker gives up for that, and a refused thread has been returned already.
+        Some(End::GaveUp) => (listener, Err(RunError::OutOfMemory)),
         None => {
             let flow = deliver_from::<J, H, R, W, L>(crew, work, &mut listener, pending, next);
             (listener, flow)

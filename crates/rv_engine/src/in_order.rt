@@ -31,8 +31,8 @@ impl<H> RunSpec<H> for Brand {
 pub(crate) enum End {
     /// The listener said stop.
     Stopped,
-    /// A growth was refused.
-    OutOfMemory,
+    /// A growth or the start of a thread was refused.
+    GaveUp,
 }
 
 /// What lies under the lock: the listener, and the results of the pieces that came before their turn.
@@ -87,11 +87,10 @@ impl<J: RunSpec<H>, H: Drop, L: Listener<H> + Drop> InOrder<J, H, L> {
         received.flow
     }
 
-    /// HasReceived no more, since a growth was refused.
+    /// Ends the run after a growth or the start of a thread was refused.
     pub(crate) fn give_up(&mut self) {
         if self.ended.is_none() {
-            // Out of memory: a worker gives up by that, or by a thread that was not started.
-            self.ended = Some(End::OutOfMemory);
+            self.ended = Some(End::GaveUp);
         }
     }
 

@@ -21,15 +21,9 @@ pub enum StreamError {
     /// The start of a thread was refused.
     #[error("no worker")]
     NoWorker,
-}
-
-/// Why not all texts of the rows went out to both of two sinks.
-#[derive(Clone, Copy, Debug)]
-pub enum BothError {
-    /// Those of the first did not, or the run ended on its way.
-    First(StreamError),
-    /// Those of the second did not.
-    Second(StreamError),
+    /// The observer said stop before the last row.
+    #[error("observer stopped")]
+    ObserverStopped,
 }
 
 impl From<AllocError> for StreamError {

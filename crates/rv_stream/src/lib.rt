@@ -18,11 +18,12 @@ mod stream;
 mod streamed;
 mod text_sender;
 
-pub use error::{BothError, StreamError};
+pub use error::StreamError;
 pub use failure_limit::FailureLimit;
 pub use indexed_rows::IndexedRows;
 pub use reported_row::ReportedRow;
+pub use row_sender::RowSender;
 pub use row_text_puts::put_row_texts;
 pub use rv_rows::RowReporter;
-pub use stream::{ReporterOutput, stream_rows, stream_rows_to_both};
+pub use stream::{ReporterOutput, stream_rows};
 pub use streamed::StreamSpec;

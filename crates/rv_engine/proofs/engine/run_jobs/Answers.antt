@@ -1,5 +1,5 @@
 use Rattle.rv_engine.proofs.Hearing.{until_some}
-use Rattle.rv_engine.proofs.engine.run_in_order.Goals as goal
+use Rattle.rv_engine.proofs.engine.run_jobs.Goals as goal
 
 pub returns-in-Err-ran : goal.returns-in-Err-ran
 returns-in-Err-ran g c =
