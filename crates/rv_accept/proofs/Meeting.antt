@@ -18,18 +18,18 @@ use Rattle.rv_rows.specs.Verdict.{did_run, has_expected_console, has_expected_en
 use Rattle.rv_rows.specs.Verdict.{has_expected_signature, lines_of_signature, meets_all_expectations}
 use Rattle.rv_accept.specs.declared.ends.Acceptance.{Acceptance}
 use Rattle.rv_accept.specs.declared.ends.Acceptance.TheVariants as acceptance
-use Rattle.rv_accept.specs.Accepted.{accepted_job, console_met, end_met, exit_met}
+use Rattle.rv_accept.specs.Accepted.{accepted_job, actual_console, actual_end, actual_exit}
 use Rattle.rv_accept.specs.Passing.{EndedWell}
 use Rattle.rv_accept.specs.Ends.{ended_as_expected, ended_in_expected_way, is_accepted, is_accepted_end}
 
 -- what is known of an end that meets its expectations once they are those of the run
 pub record Met (exit : Option ℕ) (how : Option ExpectedEnd) (end : RowEnd) : Type 0 where
   pub ran : did_run end ≡ true
-  pub code : has_expected_exit (exit_met exit end) end ≡ true
-  pub way : has_expected_end (end_met how end) end ≡ true
+  pub code : has_expected_exit (actual_exit exit end) end ≡ true
+  pub way : has_expected_end (actual_end how end) end ≡ true
 
 exit_holds : (exit : Option ℕ) (end : RowEnd) → has_expected_exit exit end ≡ true
-    → has_expected_exit (exit_met exit end) end ≡ true
+    → has_expected_exit (actual_exit exit end) end ≡ true
 exit_holds None end holds = refl
 exit_holds (Some code) (ending.Exit met) holds = eq-eqb met met refl
 exit_holds (Some code) (ending.Fault kind pc value) holds = holds
@@ -37,7 +37,7 @@ exit_holds (Some code) ending.Budget holds = holds
 exit_holds (Some code) (ending.Refused why) holds = holds
 
 end_holds : (how : Option ExpectedEnd) (end : RowEnd) → has_expected_end how end ≡ true
-    → has_expected_end (end_met how end) end ≡ true
+    → has_expected_end (actual_end how end) end ≡ true
 end_holds None end holds = refl
 end_holds (Some expected.Budget) end holds = holds
 end_holds (Some (expected.Fault kind)) (ending.Fault met pc value) holds = eq-eqb _ _ refl
@@ -99,7 +99,7 @@ same_bytes bytes = (bytes_eq-Decides bytes bytes).1 refl
 
 console_holds : (expected : Option ExpectedConsole) (outcome : Outcome) (console : Option (List ℕ))
     → did_run outcome.ending ≡ true → IfSome (console_path expected) (λ path. console ≡ Some outcome.console)
-    → has_expected_console (console_met expected outcome.console) console outcome ≡ true
+    → has_expected_console (actual_console expected outcome.console) console outcome ≡ true
 console_holds None outcome console ran is = refl
 console_holds (Some (Text bytes)) outcome console ran is = rw ran (same_bytes outcome.console)
 console_holds (Some (File path)) outcome console ran is = rw is (rw ran (same_bytes outcome.console))

@@ -13,7 +13,7 @@ use Rattle.rv_rows.specs.declared.outcome.Outcome.{Outcome}
 use Rattle.rv_rows.specs.declared_row.Row.{Row}
 use Rattle.rv_accept.proofs.ImagesThatRan.{RanOver, outcome_over, ran_over, runs_alike}
 use Rattle.rv_accept.proofs.Passing.{accepted_passes, met_if_kept, unasked_passes}
-use Rattle.rv_accept.specs.Accepted.{accepted_job, console_met}
+use Rattle.rv_accept.specs.Accepted.{accepted_job, actual_console}
 use Rattle.rv_accept.specs.Passing.{EndedWell, FindsItsFiles, is_pass_or_unasked, outcome_of_row}
 use Rattle.rv_accept.specs.Runs.{takes_from_run, why_chosen_is_left}
 use Rattle.rv_accept.specs.declared.ends.Acceptance.{Acceptance}
@@ -22,7 +22,7 @@ use Rattle.rv_accept.specs.declared.standing.CurrentVerdict.TheVariants as stand
 
 -- the path of a console's file stays
 pub console_path_stays : (console : Option ExpectedConsole) (bytes : List ℕ)
-    → console_path (console_met console bytes) ≡ console_path console
+    → console_path (actual_console console bytes) ≡ console_path console
 console_path_stays None bytes = refl
 console_path_stays (Some (Text text)) bytes = refl
 console_path_stays (Some (File path)) bytes = refl
@@ -71,7 +71,7 @@ passes_again acceptance stands job earlier later row came kept well alone finds 
 
     go : (takes : Bool) → takes_from_run job ≡ takes → is_pass_or_unasked (verdict_of changed
         (outcome_in later.answers changed) (content_if_read (option_map (kept_for later.answers) job.expect_signature))
-        (content_if_read (option_map (kept_for later.answers) (console_path (console_met job.expect_console row.console))))
+        (content_if_read (option_map (kept_for later.answers) (console_path (actual_console job.expect_console row.console))))
         (named_job_outcome later changed)) ≡ true
     go false is = unasked_passes job row.ending row.console _ _ _ _ is alone
     go true is =

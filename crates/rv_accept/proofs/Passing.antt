@@ -15,7 +15,7 @@ use Rattle.rv_rows.specs.declared_row.RowEnd.TheVariants as ending
 use Rattle.rv_rows.specs.declared_row.Verdict.TheVariants as verdict
 use Rattle.rv_rows.specs.Verdict.{expects_anything, lines_of_signature, verdict_of}
 use Rattle.rv_accept.proofs.Meeting.{Met, meets_over, met, met_if_ended_well}
-use Rattle.rv_accept.specs.Accepted.{accepted_job, console_met, end_met, exit_met}
+use Rattle.rv_accept.specs.Accepted.{accepted_job, actual_console, actual_end, actual_exit}
 use Rattle.rv_accept.specs.Ends.{is_accepted_end}
 use Rattle.rv_accept.specs.Passing.{EndedWell, is_pass_or_unasked}
 use Rattle.rv_accept.specs.Runs.{takes_from_run, why_chosen_is_left, why_text_is_left}
@@ -31,14 +31,14 @@ both_false : (a b : Bool) → (a || b) ≡ false → (a ≡ false) × (b ≡ fal
 both_false true b is = cc
 both_false false b is = (refl, is)
 
-exit_there : (exit : Option ℕ) (end : RowEnd) → is_some (exit_met exit end) ≡ is_some exit
+exit_there : (exit : Option ℕ) (end : RowEnd) → is_some (actual_exit exit end) ≡ is_some exit
 exit_there None end = refl
 exit_there (Some code) (ending.Exit met) = refl
 exit_there (Some code) (ending.Fault kind pc value) = refl
 exit_there (Some code) ending.Budget = refl
 exit_there (Some code) (ending.Refused why) = refl
 
-end_there : (how : Option ExpectedEnd) (end : RowEnd) → is_some (end_met how end) ≡ is_some how
+end_there : (how : Option ExpectedEnd) (end : RowEnd) → is_some (actual_end how end) ≡ is_some how
 end_there None end = refl
 end_there (Some expected.Budget) end = refl
 end_there (Some (expected.Fault kind)) (ending.Fault met pc value) = refl
@@ -46,7 +46,7 @@ end_there (Some (expected.Fault kind)) (ending.Exit met) = refl
 end_there (Some (expected.Fault kind)) ending.Budget = refl
 end_there (Some (expected.Fault kind)) (ending.Refused why) = refl
 
-console_there : (console : Option ExpectedConsole) (bytes : List ℕ) → is_some (console_met console bytes) ≡ is_some console
+console_there : (console : Option ExpectedConsole) (bytes : List ℕ) → is_some (actual_console console bytes) ≡ is_some console
 console_there None bytes = refl
 console_there (Some (Text text)) bytes = refl
 console_there (Some (File path)) bytes = refl

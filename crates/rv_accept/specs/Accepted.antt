@@ -1,4 +1,4 @@
--- The job that an accepted one becomes: what it expects is what its run came to.
+-- The job that an accepted one becomes: it expects the actual results of its run.
 use Rattle.std.specs.Prelude.{Some, Option, ℕ, List}
 use Rattle.rv_jobs.specs.declared_job.ExpectedConsole.{ExpectedConsole}
 use Rattle.rv_jobs.specs.declared_job.ExpectedConsole.TheVariants.{Text}
@@ -8,24 +8,24 @@ use Rattle.rv_jobs.specs.declared_job.Job.{Job}
 use Rattle.rv_rows.specs.declared_row.RowEnd.{RowEnd}
 use Rattle.rv_rows.specs.declared_row.RowEnd.TheVariants as ending
 
--- the exit code that was met, where one is expected
-abbrev pub exit_met : Option ℕ → RowEnd → Option ℕ
-exit_met (Some code) (ending.Exit met) = Some met
-exit_met expected _ = expected
+-- the actual exit code, if one is expected
+abbrev pub actual_exit : Option ℕ → RowEnd → Option ℕ
+actual_exit (Some code) (ending.Exit met) = Some met
+actual_exit expected _ = expected
 
--- the kind of the fault that was met, where a fault is expected
-abbrev pub end_met : Option ExpectedEnd → RowEnd → Option ExpectedEnd
-end_met (Some (expected.Fault kind)) (ending.Fault met pc value) = Some (expected.Fault met)
-end_met expected _ = expected
+-- the kind of the actual fault, if a fault is expected
+abbrev pub actual_end : Option ExpectedEnd → RowEnd → Option ExpectedEnd
+actual_end (Some (expected.Fault kind)) (ending.Fault met pc value) = Some (expected.Fault met)
+actual_end expected _ = expected
 
--- the bytes of the console, where the job itself has those that are expected
-abbrev pub console_met : Option ExpectedConsole → List ℕ → Option ExpectedConsole
-console_met (Some (Text bytes)) console = Some (Text console)
-console_met expected console = expected
+-- the actual bytes of the console, if the expected ones are in the list itself
+abbrev pub actual_console : Option ExpectedConsole → List ℕ → Option ExpectedConsole
+actual_console (Some (Text bytes)) console = Some (Text console)
+actual_console expected console = expected
 
 abbrev pub accepted_job : Job → RowEnd → List ℕ → Job
 accepted_job job end console = record job {
-  expect_exit = exit_met job.expect_exit end;
-  expect_end = end_met job.expect_end end;
-  expect_console = console_met job.expect_console console;
+  expect_exit = actual_exit job.expect_exit end;
+  expect_end = actual_end job.expect_end end;
+  expect_console = actual_console job.expect_console console;
 }

@@ -1,11 +1,11 @@
--- A text as a basic string of TOML on one line: in quotes, control characters and the two signs that have a meaning there escaped
+-- A text as a TOML basic string on one line: in quotes, with control characters and the two characters that have a meaning there escaped
 -- (TOML 1.0.0, String).
 use Rattle.std.specs.Prelude.{ℕ, List, [], ◌∷◌, ◌++◌, ◌==◌, ◌||◌, Bool, codes, if◌then◌else◌, Option, Some, None}
 use Rattle.std.specs.Int.{is_in_range}
 use Rattle.std.specs.List.{flat_map}
 use Rattle.hex.specs.Hex.{encode_lower}
 
--- a character that stands behind a backslash for this byte, if one does
+-- the character that follows a backslash for this byte, if there is one
 abbrev pub short_escape : ℕ → Option (List ℕ)
 short_escape byte =
     if byte == 34 then Some (codes "\\\"") else if byte == 92 then Some (codes "\\\\")

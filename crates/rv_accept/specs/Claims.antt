@@ -1,4 +1,4 @@
--- What a job that was run says of the golden files that it names.
+-- What a job that was run claims about the golden files that it names.
 use Rattle.std.specs.Prelude.{Bool, Some, None, Option, ℕ, List, [], ◌∷◌, ◌++◌, ◌+◌, if◌then◌else◌, is_some, not}
 use Rattle.rv_jobs.specs.declared_job.Job.{Job}
 use Rattle.rv_jobs.specs.Jobs.{console_path}
@@ -9,7 +9,7 @@ use Rattle.rv_accept.specs.declared.claims.Part.{Part}
 use Rattle.rv_accept.specs.declared.claims.Part.TheVariants as part
 use Rattle.rv_accept.specs.declared.runs.JobRun.{JobRun}
 
--- what a job gives, if it is accepted
+-- the text that a job gives, if it is accepted
 abbrev pub text_if : Bool → List ℕ → Option (List ℕ)
 text_if accepted text = if accepted then Some text else None
 
@@ -18,18 +18,18 @@ abbrev pub claims_if_named : ℕ → Part → Option (List ℕ) → Option (List
 claims_if_named job part text None = []
 claims_if_named job part text (Some path) = record { job = job; part = part; path = path; text = text } ∷ []
 
--- the console's file, and then the signature's
+-- the claims on the console's file and then on the signature's
 abbrev pub claims_of : ℕ → Bool → Job → Row → List GoldenText
 claims_of place accepted job row =
     claims_if_named place part.Console (text_if accepted row.console) (console_path job.expect_console)
     ++ claims_if_named place part.Signature (text_if accepted (lines_of_signature row.signature)) job.expect_signature
 
--- a job that is left gives nothing
+-- a rejected job gives no text
 abbrev pub claims_of_run : ℕ → Job → Option JobRun → List GoldenText
 claims_of_run place job None = []
 claims_of_run place job (Some run) = claims_of place (not (is_some run.left)) job run.row
 
--- what the jobs from a place on say, with their runs
+-- the claims of the jobs from an index on, with their runs
 unfoldable pub golden_texts_of_runs : ℕ → List Job → List (Option JobRun) → List GoldenText
 golden_texts_of_runs place [] runs = []
 golden_texts_of_runs place (job ∷ jobs) [] = []

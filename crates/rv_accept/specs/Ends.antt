@@ -1,4 +1,4 @@
--- Which endings of a run are accepted.
+-- Which ends of a run are accepted.
 use Rattle.std.specs.Prelude.{◌&&◌, ◌||◌, Bool, true, false, Some, None, Option, ℕ, is_some}
 use Rattle.rv_jobs.specs.declared_job.ExpectedEnd.{ExpectedEnd}
 use Rattle.rv_jobs.specs.declared_job.ExpectedEnd.TheVariants as expected
@@ -9,13 +9,13 @@ use Rattle.rv_rows.specs.Verdict.{did_run, exits_with, has_expected_end, has_exp
 use Rattle.rv_accept.specs.declared.ends.Acceptance.{Acceptance}
 use Rattle.rv_accept.specs.declared.ends.Acceptance.TheVariants as acceptance
 
--- the job ran, and ended as is expected: with exit 0 where nothing is expected of its end
+-- the job ran and ended as expected: with exit 0 if no end is expected
 abbrev pub ended_as_expected : Option ℕ → Option ExpectedEnd → RowEnd → Bool
 ended_as_expected exit how end = did_run end
     && (has_expected_exit exit end
     && (has_expected_end how end && (is_some exit || (is_some how || exits_with 0 end))))
 
--- an exit where an exit code is expected, or a fault where one is, whatever the code or the kind
+-- an exit if an exit code is expected, or a fault if one is, whatever the code or the kind
 abbrev pub ended_in_expected_way : Option ℕ → Option ExpectedEnd → RowEnd → Bool
 ended_in_expected_way (Some code) None (ending.Exit met) = true
 ended_in_expected_way None (Some (expected.Fault kind)) (ending.Fault met pc value) = true

@@ -1,4 +1,4 @@
--- What becomes of a golden file.
+-- The outcome for a golden file.
 use Rattle.std.specs.Prelude.{Bool, false, not, Some, None, Option, ℕ, List, ◌&&◌, is_some}
 use Rattle.std.specs.List.{find}
 use Rattle.std.specs.Str.{bytes_eq}
@@ -9,7 +9,7 @@ use Rattle.rv_accept.specs.declared.fates.GoldenFileOutcome.TheVariants as fate
 abbrev pub names_file : List ℕ → GoldenText → Bool
 names_file path claim = bytes_eq path claim.path
 
--- a job that is left gives nothing
+-- whether the claim on the file is that of a rejected job, which gives no text
 abbrev pub is_of_left_job : List ℕ → GoldenText → Bool
 is_of_left_job path claim = names_file path claim && not (is_some claim.text)
 
@@ -20,7 +20,7 @@ is_text text (Some given) = bytes_eq text given
 abbrev pub gives_another_text : List ℕ → List ℕ → GoldenText → Bool
 gives_another_text path text claim = names_file path claim && not (is_text text claim.text)
 
--- the text that the first job gives, unless another job gives another one
+-- the text that the first job gives, unless another job gives a different one
 abbrev pub fate_unless_another : ℕ → List ℕ → Option GoldenText → GoldenFileOutcome
 fate_unless_another job text None = fate.Agreed text
 fate_unless_another job text (Some other) = fate.Differ job other.job
@@ -38,6 +38,6 @@ abbrev pub fate_unless_left : List ℕ → List GoldenText → Option GoldenText
 fate_unless_left path claims (Some claim) = fate.LeftBy claim.job
 fate_unless_left path claims None = fate_of_first path claims (find (names_file path) claims)
 
--- the text that all jobs which name the file give it, or why it is left
+-- the text that all jobs that name the file give it, or why the file is rejected
 unfoldable pub outcome_of_golden_file : List ℕ → List GoldenText → GoldenFileOutcome
 outcome_of_golden_file path claims = fate_unless_left path claims (find (is_of_left_job path) claims)

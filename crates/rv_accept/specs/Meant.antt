@@ -1,4 +1,4 @@
--- The jobs that those of a list become, once some are accepted.
+-- The jobs that those of a list become when some are accepted.
 use Rattle.std.specs.Prelude.{List, [], ◌∷◌, Option, Some, None}
 use Rattle.rv_jobs.specs.declared_job.Job.{Job}
 use Rattle.rv_rows.specs.declared_row.Row.{Row}
@@ -6,12 +6,12 @@ use Rattle.rv_accept.specs.Accepted.{accepted_job}
 use Rattle.rv_accept.specs.Runs.{accepted_row}
 use Rattle.rv_accept.specs.declared.runs.JobRun.{JobRun}
 
--- a job that is accepted for its row, and another one as it is
+-- an accepted job with the values of its row, and any other job unchanged
 abbrev pub meant_job : Job → Option Row → Job
 meant_job job None = job
 meant_job job (Some row) = accepted_job job row.ending row.console
 
--- each job with its run, if it has one
+-- the intended job for each job and its run, if it has one
 unfoldable pub intended_jobs : List Job → List (Option JobRun) → List Job
 intended_jobs [] runs = []
 intended_jobs (job ∷ jobs) [] = job ∷ jobs

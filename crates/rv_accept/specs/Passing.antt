@@ -1,4 +1,4 @@
--- A run of a job that was accepted, over its files.
+-- A run of an accepted job, with its files.
 use Rattle.std.specs.Prelude.{◌≡◌, Bool, true, false, IfSome, IsTrue, List}
 use Rattle.rv_jobs.specs.Jobs.{console_path}
 use Rattle.rv_jobs.specs.Plans.{kept_for}
@@ -24,13 +24,13 @@ outcome_of_row row = record {
   signature = row.signature;
 }
 
--- a job that came to this row finds its image as it was, if it ran, and in its golden files what it gave
+-- the job with this row finds its image unchanged, if it ran, and in its golden files the texts that it gave
 pub record FindsItsFiles (earlier later : List Answer) (job : Job) (row : Row) : Type 0 where
   pub image : IsTrue (did_run row.ending) → kept_for later job.image ≡ kept_for earlier job.image
   pub signature : IfSome job.expect_signature (λ path. kept_for later path ≡ kept.Content (lines_of_signature row.signature))
   pub console : IfSome (console_path job.expect_console) (λ path. kept_for later path ≡ kept.Content row.console)
 
--- a job that came to this row ran, and ended as it expects, if it expects something of its end
+-- the job with this row ran, and ended as it expects, if it expects some end
 pub record EndedWell (job : Job) (row : Row) : Type 0 where
   pub ran : IsTrue (did_run row.ending)
   pub exit : IsTrue (has_expected_exit job.expect_exit row.ending)

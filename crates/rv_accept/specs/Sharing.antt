@@ -1,5 +1,5 @@
--- Which jobs run, so that what becomes of a golden file is known: the chosen ones, those that name a file which a chosen one names, and
--- those with which one of all these is compared.
+-- Which jobs run so that the outcome for a golden file is known: the chosen ones, those that name a golden file of a chosen one, and those
+-- that one of all these is compared with.
 use Rattle.std.specs.Prelude.{Bool, false, ◌==◌, ◌||◌, ◌&&◌, ◌+◌, ℕ, List, [], ◌∷◌, Option, Some, None}
 use Rattle.std.specs.Str.{bytes_eq}
 use Rattle.rv_jobs.specs.declared_job.Job.{Job}
@@ -9,11 +9,11 @@ abbrev pub is_path : List ℕ → Option (List ℕ) → Bool
 is_path path None = false
 is_path path (Some named) = bytes_eq path named
 
--- a job expects its console, or its signature, to be what the file holds
+-- the job expects its console or its signature to be the contents of the file
 abbrev pub names_golden_file : List ℕ → Job → Bool
 names_golden_file path job = is_path path (console_path job.expect_console) || is_path path job.expect_signature
 
--- a job that is marked names the file
+-- a selected job names the file
 unfoldable pub is_named_by_marked : List ℕ → List Job → List Bool → Bool
 is_named_by_marked path [] marks = false
 is_named_by_marked path (job ∷ jobs) [] = false
@@ -24,12 +24,12 @@ abbrev pub is_file_of_marked : List Job → List Bool → Option (List ℕ) → 
 is_file_of_marked jobs marks None = false
 is_file_of_marked jobs marks (Some path) = is_named_by_marked path jobs marks
 
--- a job names a file that a marked one names
+-- the job names a file that a selected one names
 abbrev pub shares_with_marked : List Job → List Bool → Job → Bool
 shares_with_marked jobs marks job = is_file_of_marked jobs marks (console_path job.expect_console)
     || is_file_of_marked jobs marks job.expect_signature
 
--- the marks of the jobs that are chosen, and of those that share a file, where some of all jobs are chosen
+-- the selection of the chosen jobs and of those that share a file with one
 unfoldable pub sharing_marks : List Job → List Bool → List Job → List Bool → List Bool
 sharing_marks all chosen [] marks = []
 sharing_marks all chosen (job ∷ jobs) [] = []
@@ -40,20 +40,20 @@ abbrev pub is_place : ℕ → Option ℕ → Bool
 is_place place None = false
 is_place place (Some named) = place == named
 
--- a job that is marked names the one at a place by same_as
+-- a selected job names the one at the index by `same_as`
 unfoldable pub is_compared_with : ℕ → List Job → List Bool → Bool
 is_compared_with place [] marks = false
 is_compared_with place (job ∷ jobs) [] = false
 is_compared_with place (job ∷ jobs) (marked ∷ marks) =
     (marked && is_place place job.same_as) || is_compared_with place jobs marks
 
--- the marks of the jobs from a place on, and of those that a marked one names, which stands behind them
+-- the selection of the jobs from an index on, together with those that later selected jobs are compared with
 unfoldable pub marks_with_compared : ℕ → List Job → List Bool → List Bool
 marks_with_compared place [] marks = []
 marks_with_compared place (job ∷ jobs) [] = []
 marks_with_compared place (job ∷ jobs) (marked ∷ marks) =
     (marked || is_compared_with place jobs marks) ∷ marks_with_compared (place + 1) jobs marks
 
--- the marks of the jobs that run, where some are chosen
+-- the selection of the jobs that run for the chosen ones
 abbrev pub jobs_to_run : List Job → List Bool → List Bool
 jobs_to_run jobs chosen = marks_with_compared 0 jobs (sharing_marks jobs chosen jobs chosen)

@@ -8,7 +8,7 @@ use Rattle.rv_accept.specs.declared.claims.GoldenText.{GoldenText}
 use Rattle.rv_accept.specs.declared.runs.JobRun.{JobRun}
 use Rattle.rv_accept.specs.declared.targets.Target.{Target}
 
--- the job at a place is chosen, and accepted
+-- the job at an index is chosen and accepted
 abbrev pub is_of_accepted : Option (Option JobRun) → Bool
 is_of_accepted (Some (Some run)) = is_accepted_run run
 is_of_accepted _ = false
@@ -16,7 +16,7 @@ is_of_accepted _ = false
 abbrev pub is_target : List ℕ → List Target → Bool
 is_target path targets = list_any (λ target. bytes_eq path target.path) targets
 
--- the file of a claim, and what becomes of it
+-- the file of a claim, and its outcome
 abbrev pub target_of : List GoldenText → GoldenText → Target
 target_of claims claim = record {
   path = claim.path;
@@ -25,7 +25,7 @@ target_of claims claim = record {
   fate = outcome_of_golden_file claim.path claims;
 }
 
--- a claim of an accepted job on a file that is none so far makes one
+-- a claim of an accepted job adds its file, unless it is a target already
 abbrev pub with_target : List (Option JobRun) → List GoldenText → List Target → GoldenText → List Target
 with_target runs claims targets claim =
     if is_of_accepted (slice_get runs claim.job) && not (is_target claim.path targets)

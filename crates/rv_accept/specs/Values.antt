@@ -1,4 +1,4 @@
--- Values of a list that an accepted run changes.
+-- The values of a list that an accepted run changes.
 use Rattle.std.specs.Prelude.{Bool, true, not, ℕ, List, [], Option, Some, codes}
 use Rattle.std.specs.Fmt.{decimal}
 use Rattle.std.specs.Str.{bytes_eq}
@@ -19,18 +19,18 @@ value_key_name key.Exit = codes "expect_exit"
 value_key_name key.End = codes "expect_end"
 value_key_name key.Console = codes "expect_console"
 
--- a console is the text that the list has for it, if it has one
+-- the console is the text that the list expects, if it has one
 abbrev pub has_text : Option ExpectedConsole → List ℕ → Bool
 has_text (Some (Text bytes)) console = bytes_eq bytes console
 has_text _ console = true
 
--- the value of a key is another one where the job is accepted
+-- whether the value of a key changes if the job is accepted
 abbrev pub is_value_changed : ValueKey → Job → Row → Bool
 is_value_changed key.Exit job row = not (has_expected_exit job.expect_exit row.ending)
 is_value_changed key.End job row = not (has_expected_end job.expect_end row.ending)
 is_value_changed key.Console job row = not (has_text job.expect_console row.console)
 
--- the value that the run came to, as TOML writes it
+-- the actual value of the run, in TOML
 unfoldable pub new_value_text : ValueKey → RowEnd → List ℕ → List ℕ
 new_value_text key.Exit (ending.Exit code) console = decimal code
 new_value_text key.End (ending.Fault kind pc value) console = basic_string (fault_name kind)

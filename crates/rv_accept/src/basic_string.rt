@@ -1,11 +1,11 @@
-//! Texts as basic strings of TOML.
+//! Texts as TOML basic strings.
 
 ghost use Rattle.std.specs.Prelude.{◌≡◌, ◌++◌, ◌∷◌, [], OnOk, option_map};
 ghost use Rattle.rv_accept.specs.BasicString.{basic_string, byte_text, byte_text_unless_short, is_other_control, short_escape};
 
 use std::alloc::{AllocError, Global};
 
-/// Appends a text as a basic string of TOML, on one line.
+/// Appends a text as a TOML basic string, on one line.
 #[tactic(auto, unfolding(crate::specs::BasicString::basic_string))]
 pub fn push_basic_string(alloc: Global, out: &mut Vec<u8>, text: &[u8]) -> Result<(), AllocError>
     ensures { OnOk result (out.new.items ≡ out.old.items ++ basic_string text.now) }
@@ -27,7 +27,7 @@ fn push_byte(alloc: Global, out: &mut Vec<u8>, byte: u8) -> Result<(), AllocErro
     }
 }
 
-// A character that stands behind a backslash for a byte.
+// Returns the character that follows a backslash for a byte, if there is one.
 fn short_escape(byte: u8) -> Option<&'static str>
     ensures { option_map (λ text. text.now) result ≡ short_escape byte }
 {

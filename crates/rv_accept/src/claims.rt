@@ -1,4 +1,4 @@
-//! What a job that was run says of the golden files that it names.
+//! What a job that was run claims about the golden files that it names.
 
 ghost use Rattle.std.specs.Prelude.{◌≡◌, ◌++◌, ◌+◌, ◌^◌, ◌<◌, IfOk, OnOk, length, option_map};
 ghost use Rattle.std.specs.List.{flat_map};
@@ -12,7 +12,7 @@ use rv_jobs::{Bytes, Job, Text};
 use rv_rows::{Row, Words, word_line};
 use std::alloc::{AllocError, Global};
 
-/// What of a run a golden file holds.
+/// The part of a run's results that a golden file contains.
 #[derive(Clone, Copy, Debug, PartialEq, Eq)]
 pub enum Part {
     /// The console's bytes: the key `expect_console_file`.
@@ -24,11 +24,11 @@ pub enum Part {
 /// A golden file that a job names, and the text that the job gives it.
 #[derive(Drop)]
 pub struct GoldenText {
-    /// The job's place in the list, counted from 0.
+    /// The index of the job in the list, counted from 0.
     pub job: usize,
     pub part: Part,
     pub path: Text,
-    /// Nothing where the job is left.
+    /// `None` if the job is rejected.
     pub text: Option<Bytes>,
 }
 
@@ -54,7 +54,7 @@ fn push_claims(
     Ok(())
 }
 
-/// What all jobs that were run say of golden files, in list order.
+/// Returns the claims of all jobs that were run on golden files, in list order.
 pub fn golden_texts_of_runs(
     alloc: Global,
     jobs: &[Job],
@@ -67,7 +67,7 @@ pub fn golden_texts_of_runs(
     Ok(claims)
 }
 
-// Appends what the jobs from a place on say.
+// Appends the claims of the jobs from an index on.
 #[tactic(auto, unfolding(crate::specs::Claims::golden_texts_of_runs))]
 fn push_claims_of_runs(
     alloc: Global,
@@ -104,7 +104,7 @@ fn push_claims_of_run(
     }
 }
 
-/// The file that a job's console is expected to be as, where one is named.
+/// Returns the file with a job's expected console, if one is named.
 pub fn console_path(job: &Job) -> Option<&str>
     ensures { option_map (λ path. path.now) result ≡ console_path job.now.expect_console }
 {

@@ -1,4 +1,4 @@
-//! Texts of which pieces are replaced.
+//! Texts with some ranges replaced.
 
 ghost use Rattle.std.specs.Prelude.{◌≡◌, IfOk, drop};
 ghost use Rattle.rv_accept.specs.Edits.{edited_from, piece};
@@ -6,7 +6,7 @@ ghost use Rattle.rv_accept.specs.Edits.{edited_from, piece};
 use rv_jobs::Bytes;
 use std::alloc::{AllocError, Global};
 
-/// What stands in place of the bytes of a text from one place to another, the second not with them.
+/// The replacement for the bytes of a text from one offset up to, but not including, another.
 #[derive(Drop)]
 pub struct Edit {
     pub begin: usize,
@@ -14,7 +14,7 @@ pub struct Edit {
     pub text: Bytes,
 }
 
-/// A text with edits, which stand in its order.
+/// Returns the text with the edits, which are in text order.
 pub fn edited_text(alloc: Global, text: &[u8], edits: &[Edit]) -> Result<Vec<u8>, AllocError>
     ensures { IfOk result (λ edited. edited.items ≡ edited_from 0 text.now edits.now) }
 {
@@ -29,7 +29,7 @@ pub fn edited_text(alloc: Global, text: &[u8], edits: &[Edit]) -> Result<Vec<u8>
     Ok(edited)
 }
 
-// The bytes of a text from one place to another.
+// Returns the bytes of a text from one offset to another.
 fn piece(text: &[u8], from: usize, to: usize) -> &[u8]
     ensures { result.now ≡ piece from to text.now }
 {

@@ -1,4 +1,4 @@
-//! Which endings of a run are accepted.
+//! Which ends of a run are accepted.
 
 ghost use Rattle.std.specs.Prelude.{◌≡◌};
 ghost use Rattle.rv_accept.specs.Ends.{ended_as_expected, ended_in_expected_way, is_accepted_end};
@@ -6,16 +6,16 @@ ghost use Rattle.rv_accept.specs.Ends.{ended_as_expected, ended_in_expected_way,
 use rv_jobs::{ExpectedEnd, Job};
 use rv_rows::{RowEnd, did_run, has_expected_end, has_expected_exit};
 
-/// Which endings of a run are accepted.
+/// Which ends of a run are accepted.
 #[derive(Clone, Copy, Debug, PartialEq, Eq)]
 pub enum Acceptance {
-    /// The expected ones.
+    /// Only the expected ones.
     Expected,
-    /// Another exit code where one is expected too, and another kind of fault.
+    /// Also another exit code if one is expected, and another kind of fault if one is.
     InExpectedWay,
 }
 
-/// Whether a run ended so that its job is accepted. Exit 0 is expected where the job says nothing of its end.
+/// Whether a run ended so that its job is accepted. Exit 0 is expected if the job specifies no end.
 pub fn is_accepted_end(acceptance: Acceptance, job: &Job, ending: RowEnd) -> bool
     ensures { result ≡ is_accepted_end acceptance job.now ending }
 {
@@ -37,7 +37,7 @@ fn ended_as_expected(job: &Job, ending: RowEnd) -> bool
             || has_expected_exit(Some(0), ending))
 }
 
-// Whether a run ended by an exit or by a fault, as is expected of it, whatever the code or the kind.
+// Whether a run ended with an exit or a fault, as expected, whatever the code or the kind.
 fn ended_in_expected_way(job: &Job, ending: RowEnd) -> bool
     ensures { result ≡ ended_in_expected_way job.now.expect_exit job.now.expect_end ending }
 {

@@ -1,4 +1,4 @@
-//! What becomes of a golden file.
+//! The outcome for a golden file.
 
 ghost use Rattle.std.specs.Prelude.{◌≡◌, IfOk, option_map};
 ghost use Rattle.std.specs.List.{find};
@@ -8,20 +8,20 @@ use crate::claims::GoldenText;
 use rv_jobs::Bytes;
 use std::alloc::{AllocError, Global};
 
-/// What becomes of a golden file.
+/// The outcome for a golden file.
 #[derive(Drop)]
 pub enum GoldenFileOutcome {
     /// No job that was run names it.
     Unclaimed,
-    /// The job at this place names it, and is left.
+    /// The job at this index names it, and is rejected.
     LeftBy(usize),
-    /// The jobs at these two places give it different texts.
+    /// The jobs at these two indices give it different texts.
     Differ(usize, usize),
     /// All jobs that name it give it this text.
     Agreed(Bytes),
 }
 
-/// What becomes of the file at a path: each job that names it gives it the same text, or it is left.
+/// Returns the outcome for the file at a path: all jobs that name it give it the same text, or it is rejected.
 #[tactic(auto, unfolding(crate::specs::Fates::outcome_of_golden_file))]
 pub fn outcome_of_golden_file(
     alloc: Global,
@@ -75,14 +75,14 @@ fn first_of_left_job<'a>(path: &str, claims: &'a [GoldenText]) -> Option<&'a Gol
     claims.iter().find(|claim| is_of_left_job(path, claim))
 }
 
-/// The first claim on the file at a path.
+/// Returns the first claim on the file at a path.
 pub fn first_on_file<'a>(path: &str, claims: &'a [GoldenText]) -> Option<&'a GoldenText>
     ensures { option_map (λ claim. claim.now) result ≡ find (names_file path.now) claims.now }
 {
     claims.iter().find(|claim| names_file(path, claim))
 }
 
-/// The first claim that gives the file at a path another text, or none.
+/// Returns the first claim that gives the file at a path a different text, or none.
 pub fn first_of_another_text<'a>(
     path: &str,
     text: &[u8],

@@ -1,4 +1,4 @@
-//! Laws of what is accepted, with nothing to run.
+//! Laws about what is accepted; there is nothing to run.
 
 ghost use Rattle.std.specs.Prelude.{◌≡◌, ℕ, List, None, Option, Some, IsTrue};
 ghost use Rattle.std.specs.List.{All};
@@ -20,8 +20,8 @@ ghost use Rattle.rv_accept.specs.Fates.{outcome_of_golden_file, names_file};
 ghost use Rattle.rv_accept.specs.Passing.{EndedWell, FindsItsFiles, is_pass_or_unasked};
 ghost use Rattle.rv_accept.specs.Runs.{why_chosen_is_left};
 
-/// A job that is accepted, and names no other, meets all its expectations once they are what its run gave: its golden files hold the
-/// console's bytes and the signature's lines, and its own values are those that were met.
+/// An accepted job that is compared with no other meets all its expectations once they are the results of its run: its golden files contain
+/// the console's bytes and the signature's lines, and its own values are the actual ones.
 pub fn accepted_jobs_meet_their_expectations()
     ensures { (acceptance : AnAcceptance) (job : Job) (outcome : Outcome) (other : Option Outcome)
         → IsTrue (is_accepted_end acceptance job outcome.ending)
@@ -30,15 +30,15 @@ pub fn accepted_jobs_meet_their_expectations()
         (Some (lines_of_signature outcome.signature)) (Some outcome.console) other) }
 {}
 
-/// A golden file is given a text only where every job that names it gives that one, so that none of them is left.
+/// A golden file is given a text only if every job that names it gives this text, so that none of them is rejected.
 pub fn an_agreed_text_is_given_by_each_job()
     ensures { (path text : List ℕ) (claims : List AClaim) → outcome_of_golden_file path claims ≡ fate.Agreed text
         → All (λ claim. IsTrue (names_file path claim) → claim.text ≡ Some text) claims }
 {}
 
-/// A chosen job that ran without its expectations, is not left for its row and as it stands, and names no other, passes in a later run, or
-/// nothing is expected of it: its own values are those that were met, and the later run finds its image as it was, and in its golden
-/// files what the earlier run gave. One that passes as it stands ended as it expects.
+/// A chosen job that ran without its expectations, is not rejected for its row and current verdict, and is compared with no other passes in
+/// a later run, or nothing is expected of it, provided that its own values are the actual ones, and that the later run finds its image
+/// unchanged and, in its golden files, what the earlier run gave. A job that currently passes ended as it expects.
 pub fn accepted_jobs_pass_over_their_files()
     ensures { (acceptance : AnAcceptance) (stands : AStanding) (job : Job) (earlier later : Planned) (row : Row)
         → row ≡ row_of earlier (without_expectations job)

@@ -1,9 +1,8 @@
-//! What a run gives in place of what its job expects: golden files, and values of a list.
+//! What a run gives in place of its job's expectations: golden files, and values of a list.
 //!
-//! A job whose run ended as it is expected is accepted ([`is_accepted_end`]), and so is one that passes as it stands ([`CurrentVerdict`]); a run
-//! that ended otherwise gives nothing. The jobs that name
-//! a golden file must all be accepted and give it the same text ([`outcome_of_golden_file`]). What an accepted job gives is exactly what makes
-//! its verdict a pass ([`accepted_jobs_meet_their_expectations`]).
+//! A job is accepted if its run ended as expected ([`is_accepted_end`]) or if it currently passes ([`CurrentVerdict`]); a run that ended
+//! otherwise gives nothing. The jobs that name a golden file must all be accepted and give it the same text ([`outcome_of_golden_file`]).
+//! An accepted job gives exactly what makes its verdict a pass ([`accepted_jobs_meet_their_expectations`]).
 #![tactic(auto)]
 
 mod basic_string;

@@ -1,7 +1,7 @@
-//! Whether a list that was written reads as the jobs that are meant.
+//! Whether a new list parses as the intended jobs.
 
 ghost use Rattle.std.specs.Prelude.{◌≡◌, IsTrue, option_map};
-ghost use Rattle.rv_accept.specs.Accepted.{console_met, end_met, exit_met};
+ghost use Rattle.rv_accept.specs.Accepted.{actual_console, actual_end, actual_exit};
 ghost use Rattle.rv_accept.specs.Meant.{meant_job, intended_jobs};
 ghost use Rattle.rv_accept.specs.Runs.{accepted_row, row_if_accepted};
 
@@ -10,7 +10,7 @@ use rv_jobs::{Bytes, ExpectedConsole, ExpectedEnd, Job, Symbols, Text};
 use rv_memory::Region;
 use rv_rows::{Row, RowEnd};
 
-/// Whether these are the jobs that those of a list become, of which some are accepted, each for its row.
+/// Whether `others` are the jobs that those of a list become when some are accepted, each with the values of its row.
 #[tactic(auto, unfolding(crate::specs::Meant::intended_jobs))]
 pub fn are_intended_jobs(jobs: &[Job], runs: &[Option<JobRun>], others: &[Job]) -> bool
     ensures { IsTrue result → others.now ≡ intended_jobs jobs.now runs.now }
@@ -24,7 +24,7 @@ pub fn are_intended_jobs(jobs: &[Job], runs: &[Option<JobRun>], others: &[Job]) 
     }
 }
 
-// The row for which a job's values are replaced, if they are.
+// Returns the row whose values replace those of the job, if it is accepted.
 fn accepted_row(run: &Option<JobRun>) -> Option<&Row>
     ensures { option_map (λ row. row.now) result ≡ accepted_row run.now }
 {
@@ -44,7 +44,7 @@ fn row_if_accepted(run: &JobRun) -> Option<&Row>
     }
 }
 
-// Whether a job is the one that another becomes.
+// Whether `other` is the job that `job` becomes.
 fn is_meant_job(job: &Job, accepted: Option<&Row>, other: &Job) -> bool
     ensures { IsTrue result → other.now ≡ meant_job job.now (option_map (λ row. row.now) accepted.entry) }
 {
@@ -69,8 +69,8 @@ fn are_meant_values(job: &Job, accepted: Option<&Row>, other: &Job) -> bool
                 && is_same_console(&job.expect_console, &other.expect_console)
         }
         Some(row) => {
-            exit_met(job.expect_exit, row.ending) == other.expect_exit
-                && end_met(job.expect_end, row.ending) == other.expect_end
+            actual_exit(job.expect_exit, row.ending) == other.expect_exit
+                && actual_end(job.expect_end, row.ending) == other.expect_end
                 && is_met_console(
                     &job.expect_console,
                     row.console.as_slice(),
@@ -80,8 +80,8 @@ fn are_meant_values(job: &Job, accepted: Option<&Row>, other: &Job) -> bool
     }
 }
 
-fn exit_met(expected: Option<u32>, ending: RowEnd) -> Option<u32>
-    ensures { result ≡ exit_met expected ending }
+fn actual_exit(expected: Option<u32>, ending: RowEnd) -> Option<u32>
+    ensures { result ≡ actual_exit expected ending }
 {
     match (expected, ending) {
         (Some(_), RowEnd::Exit(met)) => Some(met),
@@ -89,8 +89,8 @@ fn exit_met(expected: Option<u32>, ending: RowEnd) -> Option<u32>
     }
 }
 
-fn end_met(expected: Option<ExpectedEnd>, ending: RowEnd) -> Option<ExpectedEnd>
-    ensures { result ≡ end_met expected ending }
+fn actual_end(expected: Option<ExpectedEnd>, ending: RowEnd) -> Option<ExpectedEnd>
+    ensures { result ≡ actual_end expected ending }
 {
     match (expected, ending) {
         (Some(ExpectedEnd::Fault(_)), RowEnd::Fault(met, ..)) => Some(ExpectedEnd::Fault(met)),
@@ -103,7 +103,7 @@ fn is_met_console(
     console: &[u8],
     other: &Option<ExpectedConsole>,
 ) -> bool
-    ensures { IsTrue result → other.now ≡ console_met expected.now console.now }
+    ensures { IsTrue result → other.now ≡ actual_console expected.now console.now }
 {
     match (expected, other) {
         (Some(ExpectedConsole::Text(_)), Some(ExpectedConsole::Text(text))) => {
@@ -128,7 +128,7 @@ fn is_same_console(console: &Option<ExpectedConsole>, other: &Option<ExpectedCon
     }
 }
 
-// Whether a job runs as another one does.
+// Whether two jobs run alike.
 fn is_same_run(job: &Job, other: &Job) -> bool
     ensures name { IsTrue result → other.now.name ≡ job.now.name }
     ensures image { IsTrue result → other.now.image ≡ job.now.image }

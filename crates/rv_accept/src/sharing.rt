@@ -1,4 +1,4 @@
-//! Which jobs run, so that what becomes of a golden file is known.
+//! Which jobs run so that the outcome for a golden file is known.
 
 ghost use Rattle.std.specs.Prelude.{◌≡◌, ◌++◌, ◌+◌, ◌^◌, ◌<◌, IfOk, OnOk, length, option_map};
 ghost use Rattle.rv_accept.specs.Sharing.{is_compared_with, is_file_of_marked, is_named_by_marked, is_path, is_place, jobs_to_run};
@@ -8,7 +8,7 @@ use crate::claims::console_path;
 use rv_jobs::Job;
 use std::alloc::{AllocError, Global};
 
-/// Marks the jobs that run where some are chosen: these, each that names a golden file which a chosen one names, and each that one
+/// Returns the selection of the jobs that run for the chosen ones: these, each that names a golden file of a chosen one, and each that one
 /// of all these names by `same_as`.
 pub fn jobs_to_run(alloc: Global, jobs: &[Job], chosen: &[bool]) -> Result<Vec<bool>, AllocError>
     ensures { IfOk result (λ marks. marks.items ≡ jobs_to_run jobs.now chosen.now) }
@@ -20,7 +20,7 @@ pub fn jobs_to_run(alloc: Global, jobs: &[Job], chosen: &[bool]) -> Result<Vec<b
     Ok(marks)
 }
 
-// Appends the marks of the jobs from a place on, with those that marked ones name by `same_as`. They stand before these.
+// Appends the selection of the jobs from an index on, together with those that selected jobs name by `same_as`, which come before them.
 #[tactic(auto, unfolding(crate::specs::Sharing::marks_with_compared))]
 fn push_marks_with_compared(
     out: &mut Vec<bool>,
@@ -41,7 +41,7 @@ fn push_marks_with_compared(
     }
 }
 
-// Whether a job that is marked names the one at a place by `same_as`.
+// Whether a selected job names the one at an index by `same_as`.
 #[tactic(auto, unfolding(crate::specs::Sharing::is_compared_with))]
 fn is_compared_with(place: usize, jobs: &[Job], marks: &[bool]) -> bool
     ensures { result ≡ is_compared_with place jobs.now marks.now }
@@ -64,7 +64,7 @@ fn is_place(place: usize, named: Option<usize>) -> bool
     }
 }
 
-// Appends the marks of jobs of a list, of which some are chosen, with those that share a golden file.
+// Appends the selection of a list's chosen jobs and of those that share a golden file with one.
 #[tactic(auto, unfolding(crate::specs::Sharing::sharing_marks))]
 fn push_sharing_marks(
     marks: &mut Vec<bool>,
@@ -85,7 +85,7 @@ fn push_sharing_marks(
     }
 }
 
-// Whether a job names a golden file that a marked one names.
+// Whether a job names a golden file that a selected one names.
 fn shares_with_marked(jobs: &[Job], marks: &[bool], job: &Job) -> bool
     ensures { result ≡ shares_with_marked jobs.now marks.now job.now }
 {
@@ -102,7 +102,7 @@ fn is_file_of_marked(jobs: &[Job], marks: &[bool], path: Option<&str>) -> bool
     }
 }
 
-// Whether a job that is marked names a golden file.
+// Whether a selected job names a golden file.
 #[tactic(auto, unfolding(crate::specs::Sharing::is_named_by_marked))]
 fn is_named_by_marked(path: &str, jobs: &[Job], marks: &[bool]) -> bool
     ensures { result ≡ is_named_by_marked path.now jobs.now marks.now }

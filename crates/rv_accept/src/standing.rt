@@ -1,6 +1,6 @@
-//! How jobs stand, before anything is accepted.
+//! The verdicts on jobs before anything is accepted.
 
-/// How a job that was run stands: over its golden files as they are, and beside the job that it names.
+/// The verdict on a job that was run, given its golden files as they are and the job that it is compared with.
 #[derive(Clone, Copy, Debug, PartialEq, Eq)]
 pub enum CurrentVerdict {
     /// It passes.
@@ -11,7 +11,7 @@ pub enum CurrentVerdict {
     Differs,
 }
 
-/// A job of a list of which some are chosen.
+/// A job of a list, with whether it is chosen and its current verdict.
 #[derive(Clone, Copy, Debug, PartialEq, Eq)]
 pub struct Candidate {
     pub is_chosen: bool,

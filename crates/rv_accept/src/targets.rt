@@ -1,4 +1,4 @@
-//! The golden files that chosen jobs name, and what becomes of them.
+//! The golden files that chosen jobs name, and the outcome for each.
 
 ghost use Rattle.std.specs.Prelude.{◌≡◌, [], IfOk, OnOk, fold, option_map, slice_get};
 ghost use Rattle.rv_accept.specs.Targets.{is_of_accepted, is_target, target_of, with_target};
@@ -13,14 +13,14 @@ use std::alloc::{AllocError, Global};
 #[derive(Drop)]
 pub struct Target {
     pub path: Text,
-    /// The place in the list, counted from 0, of the first accepted job that names it.
+    /// The index in the list, counted from 0, of the first accepted job that names it.
     pub job: usize,
-    /// What it holds of that job.
+    /// Which part of that job's results it contains.
     pub part: Part,
     pub fate: GoldenFileOutcome,
 }
 
-/// The golden files that accepted jobs name, each once, in the order in which the list names them.
+/// Returns the golden files that accepted jobs name, each once, in the order in which the list names them.
 pub fn targets_of(
     alloc: Global,
     runs: &[Option<JobRun>],
@@ -35,7 +35,7 @@ pub fn targets_of(
     Ok(targets)
 }
 
-// Adds the file of a claim, if the claim is an accepted job's, and the file is none of the targets so far.
+// Adds the file of a claim if the claim is that of an accepted job and the file is not a target already.
 fn add_target(
     alloc: Global,
     runs: &[Option<JobRun>],
@@ -62,7 +62,7 @@ fn target_of(alloc: Global, claim: &GoldenText, claims: &[GoldenText]) -> Result
     })
 }
 
-// Whether the job of a place is chosen, and accepted.
+// Whether the job of a run is chosen and accepted.
 fn is_of_accepted(run: Option<&Option<JobRun>>) -> bool
     ensures { result ≡ is_of_accepted (option_map (λ run. run.now) run.entry) }
 {

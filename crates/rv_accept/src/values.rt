@@ -1,4 +1,4 @@
-//! Values of a list that an accepted run changes.
+//! The values of a list that an accepted run changes.
 
 ghost use Rattle.std.specs.Prelude.{◌≡◌, ◌++◌, OnOk};
 ghost use Rattle.rv_accept.specs.Values.{has_text, is_value_changed, new_value_text, value_key_name};
@@ -18,10 +18,10 @@ pub enum ValueKey {
 }
 
 impl ValueKey {
-    /// The keys, in the order in which they are told.
+    /// The keys, in the order in which they are reported.
     pub const ALL: [ValueKey; 3] = [ValueKey::Exit, ValueKey::End, ValueKey::Console];
 
-    /// The key as a list has it.
+    /// Returns the key as a list has it.
     pub fn name(self) -> &'static str
         ensures { result.now ≡ value_key_name self }
     {
@@ -33,7 +33,7 @@ impl ValueKey {
     }
 }
 
-/// Whether the value of a key is another one where a job is accepted.
+/// Whether the value of a key changes if a job is accepted.
 pub fn is_value_changed(key: ValueKey, job: &Job, row: &Row) -> bool
     ensures { result ≡ is_value_changed key job.now row.now }
 {
@@ -44,7 +44,7 @@ pub fn is_value_changed(key: ValueKey, job: &Job, row: &Row) -> bool
     }
 }
 
-// Whether a console is the text that the list has for it, if it has one.
+// Whether a console is the text that the list expects, if it has one.
 fn has_text(expected: &Option<ExpectedConsole>, console: &[u8]) -> bool
     ensures { result ≡ has_text expected.now console.now }
 {
@@ -54,7 +54,7 @@ fn has_text(expected: &Option<ExpectedConsole>, console: &[u8]) -> bool
     }
 }
 
-/// Appends the value of a key that a run came to, as TOML writes it; nothing where the run has none.
+/// Appends the actual value of a key, in TOML; does nothing if the run has none.
 #[tactic(auto, unfolding(crate::specs::Values::new_value_text))]
 pub fn push_new_value(
     alloc: Global,

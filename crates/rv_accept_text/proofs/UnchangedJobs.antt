@@ -14,7 +14,7 @@ use Rattle.rv_rows.specs.Verdict.{has_expected_end, has_expected_exit}
 use Rattle.rv_rows.specs.declared_row.Row.{Row}
 use Rattle.rv_rows.specs.declared_row.RowEnd.{RowEnd}
 use Rattle.rv_rows.specs.declared_row.RowEnd.TheVariants as ending
-use Rattle.rv_accept.specs.Accepted.{accepted_job, console_met, end_met, exit_met}
+use Rattle.rv_accept.specs.Accepted.{accepted_job, actual_console, actual_end, actual_exit}
 use Rattle.rv_accept.specs.Meant.{meant_job, intended_jobs}
 use Rattle.rv_accept.specs.Runs.{accepted_row, row_if_accepted}
 use Rattle.rv_accept.specs.Values.{has_text, is_value_changed}
@@ -25,14 +25,14 @@ use Rattle.rv_accept_text.specs.NewLists.{left_run, left_runs, why_changed, why_
 
 -- ---- one job
 
-same_exit : (exit : Option ℕ) (end : RowEnd) → has_expected_exit exit end ≡ true → exit_met exit end ≡ exit
+same_exit : (exit : Option ℕ) (end : RowEnd) → has_expected_exit exit end ≡ true → actual_exit exit end ≡ exit
 same_exit None end holds = refl
 same_exit (Some code) (ending.Exit met) holds = rw (eqb-true met code holds) refl
 same_exit (Some code) (ending.Fault kind pc value) holds = refl
 same_exit (Some code) ending.Budget holds = refl
 same_exit (Some code) (ending.Refused why) holds = refl
 
-same_end : (how : Option ExpectedEnd) (end : RowEnd) → has_expected_end how end ≡ true → end_met how end ≡ how
+same_end : (how : Option ExpectedEnd) (end : RowEnd) → has_expected_end how end ≡ true → actual_end how end ≡ how
 same_end None end holds = refl
 same_end (Some expected.Budget) end holds = refl
 same_end (Some (expected.Fault kind)) (ending.Fault met pc value) holds =
@@ -42,7 +42,7 @@ same_end (Some (expected.Fault kind)) ending.Budget holds = refl
 same_end (Some (expected.Fault kind)) (ending.Refused why) holds = refl
 
 same_console : (console : Option ExpectedConsole) (bytes : List ℕ) → has_text console bytes ≡ true
-    → console_met console bytes ≡ console
+    → actual_console console bytes ≡ console
 same_console None bytes holds = refl
 same_console (Some (File path)) bytes holds = refl
 same_console (Some (Text text)) bytes holds = rw ((bytes_eq-Decides text bytes).0 holds) refl

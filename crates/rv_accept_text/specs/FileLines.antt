@@ -16,7 +16,7 @@ use Rattle.rv_accept_text.specs.GoldenFiles.{is_left, new_text}
 use Rattle.rv_accept_text.specs.declared.golden_file.GoldenFile.{GoldenFile}
 use Rattle.rv_accept_text.specs.declared.golden_file.ListFile.{ListFile}
 
--- the name of the job at a place
+-- the name of the job at an index
 abbrev pub job_name : List Job → ℕ → List ℕ
 job_name jobs place = unwrap_or (option_map (λ job. job.name) (slice_get jobs place)) []
 
@@ -26,12 +26,12 @@ part_text part.Signature = codes "signature of "
 
 -- ---- a file that is written
 
--- which file it is, and what it holds of which job
+-- which file it is, and which part of which job's results it contains
 abbrev pub file_head : List ℕ → List Job → Target → List ℕ
 file_head sign jobs target = sign ++ printable_text target.path ++ codes ": " ++ part_text target.part
     ++ printable_text (job_name jobs target.job)
 
--- what differs between what stands there and what is written
+-- the difference between the current contents and the new text
 abbrev pub part_change : Part → List ℕ → List ℕ → List ℕ → List ℕ
 part_change part.Console path old new = text_change (printable_text path) old new
 part_change part.Signature path old new = word_change old new
@@ -78,7 +78,7 @@ first_claim_text jobs claims path None = codes "\n"
 first_claim_text jobs claims path (Some first) =
     other_claim_text jobs first (find (gives_another_text path (text_or_empty first.text)) claims)
 
--- which two jobs do not agree on the file at a path: the first that names it, and the first that gives it another text
+-- which two jobs disagree on the file at a path: the first that names it, and the first that gives it a different text
 abbrev pub disagreement_text : List Job → List GoldenText → List ℕ → List ℕ
 disagreement_text jobs claims path = first_claim_text jobs claims path (find (names_file path) claims)
 
@@ -91,7 +91,7 @@ why_file_is_left jobs claims path fate.Unclaimed = codes "the list and images ar
 abbrev pub left_head : List ℕ → List ℕ
 left_head name = codes "left " ++ printable_text name ++ codes ": "
 
--- why a golden file is left, if it is
+-- why a golden file is rejected, if it is
 unfoldable pub left_file_line : ListFile → List GoldenText → GoldenFile → List ℕ
 left_file_line list claims file = if is_left list file
     then left_head file.target.path ++ why_file_is_left list.jobs.now claims file.target.path file.target.fate

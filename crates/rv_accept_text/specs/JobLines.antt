@@ -1,4 +1,4 @@
--- The lines of jobs: values that are replaced, and why a job is left.
+-- The lines for jobs: values that are replaced, and why a job is rejected.
 use Rattle.std.specs.Prelude.{◌++◌, ℕ, List, [], Option, Some, None, codes, if◌then◌else◌, unwrap_or}
 use Rattle.std.specs.Fmt.{decimal}
 use Rattle.rv_jobs.specs.declared_job.ExpectedConsole.{ExpectedConsole}
@@ -25,7 +25,7 @@ use Rattle.rv_accept_text.specs.declared.new_list.ChangedValue.{ChangedValue}
 
 -- ---- a value that is replaced
 
--- where it stands, and of which job and key it is
+-- the location of the value, with its job and key
 abbrev pub value_head : List ℕ → ChangedValue → Job → List ℕ
 value_head path value job = codes "~ " ++ printable_text path ++ codes ":" ++ decimal value.line ++ codes ": "
     ++ printable_text job.name ++ codes ": " ++ value_key_name value.key
@@ -64,34 +64,34 @@ value_line path value job row = value_head path value job ++ value_change value.
 
 -- ---- a job that is left
 
--- in which way a run ended, and with what
-abbrev pub met_end_text : RowEnd → List ℕ
-met_end_text (ending.Exit code) = codes "exit " ++ decimal code
-met_end_text (ending.Fault kind pc value) = codes "fault " ++ fault_name kind
-met_end_text ending.Budget = codes "budget"
-met_end_text (ending.Refused refusal) = codes "refused " ++ refusal_name refusal
+-- how a run ended, with its code or kind
+abbrev pub actual_end_text : RowEnd → List ℕ
+actual_end_text (ending.Exit code) = codes "exit " ++ decimal code
+actual_end_text (ending.Fault kind pc value) = codes "fault " ++ fault_name kind
+actual_end_text ending.Budget = codes "budget"
+actual_end_text (ending.Refused refusal) = codes "refused " ++ refusal_name refusal
 
--- the end that is expected beside an exit code
+-- the end that is expected besides an exit code
 abbrev pub wanted_end_text : Option ExpectedEnd → List ℕ
 wanted_end_text (Some expected.Budget) = codes "budget"
 wanted_end_text (Some (expected.Fault kind)) = codes "fault " ++ fault_name kind
 wanted_end_text None = codes "exit 0"
 
--- the first end that is expected and was not met: exit 0 where a job says nothing of its end
+-- the first expected end that is unmet: exit 0 if a job specifies no end
 abbrev pub expected_text : Option ℕ → Option ExpectedEnd → RowEnd → List ℕ
 expected_text None how end = wanted_end_text how
 expected_text (Some code) how end =
     if has_expected_exit (Some code) end then wanted_end_text how else codes "exit " ++ decimal code
 
 abbrev pub other_end_text : Job → RowEnd → List ℕ
-other_end_text job (ending.Refused refusal) = met_end_text (ending.Refused refusal)
-other_end_text job end = met_end_text end ++ (codes ", expected " ++ expected_text job.expect_exit job.expect_end end)
+other_end_text job (ending.Refused refusal) = actual_end_text (ending.Refused refusal)
+other_end_text job end = actual_end_text end ++ (codes ", expected " ++ expected_text job.expect_exit job.expect_end end)
 
--- a key with the value that the run came to
+-- a key with its actual value
 abbrev pub new_entry_text : ValueKey → Row → List ℕ
 new_entry_text key row = value_key_name key ++ codes " = " ++ new_value_text key row.ending row.console
 
--- the name of the job with which one of a list is compared
+-- the name of the job that one of a list is compared with
 abbrev pub name_if_named : List Job → Option ℕ → List ℕ
 name_if_named list None = []
 name_if_named list (Some place) = job_name list place
@@ -99,12 +99,12 @@ name_if_named list (Some place) = job_name list place
 abbrev pub name_of_compared : List Job → Job → List ℕ
 name_of_compared list job = name_if_named list job.same_as
 
--- from which job it differs
+-- which job it differs from
 abbrev pub difference_text : List Job → Job → List ℕ
 difference_text list job = codes "the result differs from that of " ++ printable_text (name_of_compared list job)
     ++ codes ", which same_as names"
 
--- why a job of a list is left
+-- why a job of a list is rejected
 abbrev pub why_left_text : RejectReason → List Job → Job → Row → List ℕ
 why_left_text why.End list job row = other_end_text job row.ending
 why_left_text why.Differs list job row = difference_text list job
@@ -118,7 +118,7 @@ abbrev pub left_line_of : List Job → Job → Row → Option RejectReason → L
 left_line_of list job row None = []
 left_line_of list job row (Some left) = left_head job.name ++ why_left_text left list job row ++ codes "\n"
 
--- why a chosen job of a list is left, if it is
+-- why a chosen job of a list is rejected, if it is
 abbrev pub left_job_line : List Job → Job → Option JobRun → List ℕ
 left_job_line list job None = []
 left_job_line list job (Some run) = if run.is_chosen then left_line_of list job run.row run.left else []

@@ -1,4 +1,4 @@
--- All that a call of `accept` tells.
+-- Everything that `accept` reports.
 use Rattle.std.specs.Prelude.{◌==◌, ◌+◌, ◌&&◌, ◌++◌, ℕ, Bool, true, false, List, [], ◌∷◌, Option, Some, None, codes, if◌then◌else◌, is_some, slice_get}
 use Rattle.std.specs.Fmt.{decimal}
 use Rattle.std.specs.List.{count_by, flat_map}
@@ -24,13 +24,13 @@ abbrev pub value_line_in : AcceptSummary → ChangedValue → List ℕ
 value_line_in told value = value_line_of told.list.path.now value (slice_get told.list.jobs.now value.job)
     (slice_get told.runs.now value.job)
 
--- why jobs of a list are left, each with its run
+-- why jobs of a list are rejected, each with its run
 unfoldable pub left_job_lines : List Job → List Job → List (Option JobRun) → List ℕ
 left_job_lines list [] runs = []
 left_job_lines list (job ∷ jobs) [] = []
 left_job_lines list (job ∷ jobs) (run ∷ runs) = left_job_line list job run ++ left_job_lines list jobs runs
 
--- changes first, of golden files and then of the list; and then what is left, jobs and then golden files
+-- changes first, of golden files and then of the list; then what is rejected, jobs and then golden files
 abbrev pub told_lines : AcceptSummary → List ℕ
 told_lines told = flat_map (file_line told.list) told.files.now
     ++ flat_map (value_line_in told) told.new.now.values.items
@@ -46,7 +46,7 @@ abbrev pub one_if : Bool → ℕ
 one_if true = 1
 one_if false = 0
 
--- how many files change, the list among them
+-- the number of files that change, including the list
 abbrev pub changed_count : AcceptSummary → ℕ
 changed_count told = count_by (is_changed told.list) told.files.now + one_if (is_some told.new.now.text)
 
@@ -54,7 +54,7 @@ abbrev pub is_left_job : Option JobRun → Bool
 is_left_job None = false
 is_left_job (Some run) = run.is_chosen && is_some run.left
 
--- how many chosen jobs are left, and how many golden files
+-- the number of rejected chosen jobs and golden files
 abbrev pub left_count : AcceptSummary → ℕ
 left_count told = count_by is_left_job told.runs.now + count_by (is_left told.list) told.files.now
 

@@ -1,4 +1,4 @@
-//! All that a call of `accept` tells.
+//! Everything that `accept` reports.
 
 ghost use Rattle.std.specs.Prelude.{◌≡◌, ◌≤◌, ◌<◌, ◌+◌, ◌^◌, ◌++◌, OnOk, is_some, length, min, option_map};
 ghost use Rattle.std.specs.List.{count_by, flat_map};
@@ -16,7 +16,7 @@ use rv_jobs::Job;
 use rv_text::{Span, push_spans};
 use std::alloc::{AllocError, Global};
 
-/// What is accepted, and what is left.
+/// What is accepted, and what is rejected.
 #[derive(Clone, Copy)]
 pub struct AcceptSummary<'a> {
     pub list: ListFile<'a>,
@@ -29,14 +29,14 @@ pub struct AcceptSummary<'a> {
 /// Whether files are written.
 #[derive(Clone, Copy, Debug, PartialEq, Eq)]
 pub enum Writing {
-    /// Each file that changes is.
+    /// Each file that changes is written.
     Done,
-    /// None is.
+    /// No file is written.
     Asked,
 }
 
 impl<'a> AcceptSummary<'a> {
-    /// Appends the lines of all changes, of golden files first, and then of what is left, jobs first.
+    /// Appends the lines for all changes, golden files first, and then for what is rejected, jobs first.
     pub fn push_lines(&self, alloc: Global, out: &mut Vec<u8>) -> Result<(), AllocError>
         ensures { OnOk result (out.new.items ≡ out.old.items ++ told_lines self.now) }
     {
@@ -88,7 +88,7 @@ impl<'a> AcceptSummary<'a> {
         Ok(())
     }
 
-    /// How many files change, the list among them.
+    /// Returns the number of files that change, including the list.
     pub fn changed_count(&self) -> usize
         ensures { result ≡ changed_count self.now }
     {
@@ -101,7 +101,7 @@ impl<'a> AcceptSummary<'a> {
         count + self.new.text.is_some() as usize
     }
 
-    /// How many chosen jobs and how many files are left.
+    /// Returns the number of rejected chosen jobs and files.
     pub fn left_count(&self) -> usize
         ensures { result ≡ left_count self.now }
     {
@@ -121,7 +121,7 @@ impl<'a> AcceptSummary<'a> {
         count
     }
 
-    /// Appends how many files are written, or would be, and how much is left.
+    /// Appends how many files are written, or would be, and how much is rejected.
     pub fn push_count_line(&self, out: &mut Vec<u8>, writing: Writing) -> Result<(), AllocError>
         ensures { OnOk result (out.new.items
             ≡ out.old.items ++ count_line writing (changed_count self.now) (left_count self.now)) }
@@ -171,7 +171,7 @@ fn push_value_line_of(
     }
 }
 
-// Appends why jobs of a list are left.
+// Appends why jobs of a list are rejected.
 #[tactic(auto, unfolding(crate::specs::Told::left_job_lines))]
 fn push_left_job_lines(
     alloc: Global,

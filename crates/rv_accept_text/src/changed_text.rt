@@ -1,4 +1,4 @@
-//! What differs first between a text and the one that takes its place.
+//! The first difference between a text and its replacement.
 
 ghost use Rattle.std.specs.Prelude.{◌≡◌, ◌++◌, OnOk, nat_eq};
 ghost use Rattle.std.specs.List.{common_prefix_len};
@@ -10,7 +10,7 @@ use rv_rows::LINE;
 use rv_text::{Span, is_utf8, push_spans, push_text, tail_from};
 use std::alloc::AllocError;
 
-/// Appends what differs first, and ends the line: by lines where both texts are UTF-8, else by bytes. The old text has a name.
+/// Appends the first difference, and ends the line: by lines if both texts are UTF-8, else by bytes. The old text has a name.
 #[tactic(auto, unfolding(crate::specs::ChangedTexts::text_change))]
 pub(crate) fn push_text_change(
     out: &mut Vec<u8>,
@@ -28,7 +28,7 @@ pub(crate) fn push_text_change(
     }
 }
 
-/// Appends from where on two texts differ, and ends the line.
+/// Appends the offset from which two texts differ, and ends the line.
 #[tactic(auto, unfolding(crate::specs::ChangedTexts::byte_change))]
 pub(crate) fn push_byte_change(out: &mut Vec<u8>, old: &[u8], new: &[u8]) -> Result<(), AllocError>
     ensures { OnOk result (out.new.items ≡ out.old.items ++ byte_change old.now new.now) }
@@ -58,7 +58,7 @@ fn push_values_from<'x>(
     )
 }
 
-/// Appends which word of a signature is another one first, and ends the line.
+/// Appends the first word of a signature that differs, and ends the line.
 #[tactic(auto, unfolding(crate::specs::ChangedTexts::word_change))]
 pub(crate) fn push_word_change(out: &mut Vec<u8>, old: &[u8], new: &[u8]) -> Result<(), AllocError>
     ensures { OnOk result (out.new.items ≡ out.old.items ++ word_change old.now new.now) }
@@ -66,7 +66,7 @@ pub(crate) fn push_word_change(out: &mut Vec<u8>, old: &[u8], new: &[u8]) -> Res
     push_word_change_at(out, equal_len(old, new), old, new)
 }
 
-// Appends the words of two signatures whose first bytes are equal, so many.
+// Appends the differing words of two signatures whose first `len` bytes are equal.
 fn push_word_change_at<'x>(
     out: &mut Vec<u8>,
     len: usize,
@@ -90,7 +90,7 @@ fn push_word_change_at<'x>(
     )
 }
 
-// The digits of the word that a text begins with, or `none` where it has no more.
+// Returns the digits of the word at the beginning of a text, or `none` if the text is empty.
 fn digits_at(rest: &[u8]) -> &[u8]
     ensures { result.now ≡ digits_at rest.now }
 {
@@ -101,7 +101,7 @@ fn digits_at(rest: &[u8]) -> &[u8]
     }
 }
 
-// How many bytes in front are equal.
+// Returns the number of equal leading bytes.
 fn equal_len(text: &[u8], other: &[u8]) -> usize
     ensures { result ≡ common_prefix_len nat_eq text.now other.now }
 {

@@ -97,7 +97,7 @@ fn bytes_word(count: usize) -> &'static str
     if count == 1 { " byte\n" } else { " bytes\n" }
 }
 
-// Appends which file it is, and what it holds of which job.
+// Appends which file it is, and which part of which job's results it contains.
 fn push_file_head<'x>(
     out: &mut Vec<u8>,
     sign: &'static str,
@@ -127,7 +127,7 @@ fn part_text(part: Part) -> &'static str
     }
 }
 
-/// Appends why a golden file is left, if it is.
+/// Appends why a golden file is rejected, if it is.
 #[tactic(auto, unfolding(crate::specs::FileLines::left_file_line))]
 pub(crate) fn push_left_file_line(
     out: &mut Vec<u8>,
@@ -144,7 +144,7 @@ pub(crate) fn push_left_file_line(
     push_why_file_is_left(out, list.jobs, claims, &file.target)
 }
 
-/// Appends what is left.
+/// Appends what is rejected.
 pub(crate) fn push_left_head(out: &mut Vec<u8>, name: &str) -> Result<(), AllocError>
     ensures { OnOk result (out.new.items ≡ out.old.items ++ left_head name.now) }
 {
@@ -183,7 +183,7 @@ fn push_why_file_is_left(
     }
 }
 
-// Appends which two jobs do not agree on the file at a path.
+// Appends which two jobs disagree on the file at a path.
 fn push_disagreement(
     out: &mut Vec<u8>,
     jobs: &[Job],

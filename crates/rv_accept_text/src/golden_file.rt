@@ -1,4 +1,4 @@
-//! A golden file, with what stands there now.
+//! A golden file, with its current contents.
 
 ghost use Rattle.std.specs.Prelude.{◌≡◌, option_map};
 ghost use Rattle.rv_accept_text.specs.GoldenFiles.{agreed_text, another_text, is_image_path, is_kept, is_kept_text, is_left, new_text};
@@ -6,7 +6,7 @@ ghost use Rattle.rv_accept_text.specs.GoldenFiles.{agreed_text, another_text, is
 use rv_accept::{GoldenFileOutcome, Target};
 use rv_jobs::{Bytes, Job, Text};
 
-/// The file of a list, and the jobs that it reads as.
+/// The file of a list, and the jobs that it parses as.
 #[derive(Clone, Copy)]
 pub struct ListFile<'a> {
     pub path: &'a str,
@@ -18,14 +18,14 @@ pub struct ListFile<'a> {
 #[derive(Drop)]
 pub struct GoldenFile {
     pub target: Target,
-    /// Where its path leads.
+    /// The file that its path leads to.
     pub place: Text,
-    /// What stands there; nothing where the file is missing.
+    /// The current contents; `None` if the file is missing.
     pub old: Option<Bytes>,
 }
 
 impl GoldenFile {
-    /// The text that is written, where one is: that of all jobs which name the file, if another one stands there, or none.
+    /// Returns the text that is written, if any: the one that all jobs give that name the file, if the file has another text or is missing.
     pub fn new_text(&self, list: &ListFile<'_>) -> Option<&[u8]>
         ensures { option_map (λ text. text.now) result ≡ new_text list.now self.now }
     {
@@ -38,7 +38,7 @@ impl GoldenFile {
         }
     }
 
-    /// The text that it is to hold: that of all jobs which name the file, unless it is the list or an image.
+    /// Returns the text that all jobs give that name the file, unless the file is the list or an image.
     pub fn agreed_text(&self, list: &ListFile<'_>) -> Option<&[u8]>
         ensures { option_map (λ text. text.now) result ≡ agreed_text list.now self.now }
     {
@@ -48,7 +48,7 @@ impl GoldenFile {
         }
     }
 
-    /// Whether it is left: it is the list or an image, or jobs that name it are left or do not agree.
+    /// Whether it is rejected: it is the list or an image, or jobs that name it are rejected or disagree.
     pub fn is_left(&self, list: &ListFile<'_>) -> bool
         ensures { result ≡ is_left list.now self.now }
     {
@@ -84,7 +84,7 @@ fn is_image_path(path: &str, jobs: &[Job]) -> bool
     jobs.iter().any(|job| path == job.image.as_str())
 }
 
-// Whether the bytes are those of the list, or an ELF file's.
+// Whether the bytes are those of the list, or of an ELF file.
 fn is_kept_text(list: &[u8], old: &Option<Bytes>) -> bool
     ensures { result ≡ is_kept_text list.now old.now }
 {

@@ -1,9 +1,9 @@
-//! The lines of jobs: values that are replaced, and why a job is left.
+//! The lines for jobs: values that are replaced, and why a job is rejected.
 
 ghost use Rattle.std.specs.Prelude.{◌≡◌, ◌++◌, OnOk, option_map, slice_get, unwrap_or};
 ghost use Rattle.rv_accept_text.specs.FileLines.{job_name};
 ghost use Rattle.rv_accept_text.specs.JobLines.{end_change, exit_change, exit_code, expected_end_word, fault_word, left_job_line, left_line_of};
-ghost use Rattle.rv_accept_text.specs.JobLines.{met_end_text, new_entry_text, other_end_text, text_of_list, value_change, value_head, value_line};
+ghost use Rattle.rv_accept_text.specs.JobLines.{actual_end_text, new_entry_text, other_end_text, text_of_list, value_change, value_head, value_line};
 ghost use Rattle.rv_accept_text.specs.JobLines.{difference_text, name_of_compared, wanted_end_text, expected_text, why_left_text};
 
 use crate::changed_text::push_text_change;
@@ -15,7 +15,7 @@ use rv_rows::{Row, RowEnd, has_expected_exit};
 use rv_text::{Span, push_spans, push_text};
 use std::alloc::{AllocError, Global};
 
-/// The name of the job at a place.
+/// Returns the name of the job at an index.
 pub(crate) fn job_name(jobs: &[Job], place: usize) -> &str
     ensures { result.now ≡ job_name jobs.now place }
 {
@@ -129,7 +129,7 @@ fn push_end_change(
     )
 }
 
-// The value of `expect_end`.
+// Returns the value of `expect_end`.
 fn expected_end_word(end: Option<ExpectedEnd>) -> &'static str
     ensures { result.now ≡ expected_end_word end }
 {
@@ -158,7 +158,7 @@ fn text_of_list(expected: &Option<ExpectedConsole>) -> &[u8]
     }
 }
 
-/// Appends why a chosen job of a list is left, if it is.
+/// Appends why a chosen job of a list is rejected, if it is.
 pub(crate) fn push_left_job_line(
     alloc: Global,
     out: &mut Vec<u8>,
@@ -229,7 +229,7 @@ fn push_why_left(
     }
 }
 
-// Appends from which job one differs.
+// Appends which job a job differs from.
 fn push_difference(out: &mut Vec<u8>, list: &[Job], job: &Job) -> Result<(), AllocError>
     ensures { OnOk result (out.new.items ≡ out.old.items ++ difference_text list.now job.now) }
 {
@@ -243,7 +243,7 @@ fn push_difference(out: &mut Vec<u8>, list: &[Job], job: &Job) -> Result<(), All
     )
 }
 
-// The name of the job with which one is compared.
+// Returns the name of the job that a job is compared with.
 fn name_of_compared<'x>(list: &'x [Job], job: &Job) -> &'x str
     ensures { result.now ≡ name_of_compared list.now job.now }
 {
@@ -253,7 +253,7 @@ fn name_of_compared<'x>(list: &'x [Job], job: &Job) -> &'x str
     }
 }
 
-// Appends a key with the value that a run came to.
+// Appends a key with its actual value.
 fn push_new_entry(
     alloc: Global,
     out: &mut Vec<u8>,
@@ -266,7 +266,7 @@ fn push_new_entry(
     push_new_value(alloc, out, key, row)
 }
 
-// Appends how a run ended, and how it was expected to.
+// Appends the actual and the expected end of a run.
 fn push_other_end(out: &mut Vec<u8>, job: &Job, ending: RowEnd) -> Result<(), AllocError>
     ensures { OnOk result (out.new.items ≡ out.old.items ++ other_end_text job.now ending) }
 {
@@ -280,7 +280,7 @@ fn push_other_end(out: &mut Vec<u8>, job: &Job, ending: RowEnd) -> Result<(), Al
     }
 }
 
-// Appends the first end that is expected and was not met: exit 0 where a job says nothing of its end.
+// Appends the first expected end that is unmet: exit 0 if a job specifies no end.
 fn push_wanted(
     out: &mut Vec<u8>,
     exit: Option<u32>,
@@ -309,9 +309,9 @@ fn push_wanted_end(out: &mut Vec<u8>, end: Option<ExpectedEnd>) -> Result<(), Al
     }
 }
 
-// Appends in which way a run ended, and with what.
+// Appends how a run ended, with its code or kind.
 fn push_met_end(out: &mut Vec<u8>, ending: RowEnd) -> Result<(), AllocError>
-    ensures { OnOk result (out.new.items ≡ out.old.items ++ met_end_text ending) }
+    ensures { OnOk result (out.new.items ≡ out.old.items ++ actual_end_text ending) }
 {
     match ending {
         RowEnd::Exit(code) => push_spans(out, &[Span::Text("exit "), Span::Number(code as u64)]),

@@ -1,7 +1,7 @@
-//! What `accept` tells, and the new text of a list.
+//! What `accept` reports, and the new text of a list.
 //!
-//! [`accept_values`] replaces the values of accepted jobs in a list's text: what it answers reads as the jobs that are meant. An
-//! [`AcceptSummary`] tells each change, each job and each file that is left, and how many there are.
+//! [`accept_values`] replaces the values of accepted jobs in a list's text: its result parses as the intended jobs. An [`AcceptSummary`]
+//! reports each change, each rejected job and file, and their numbers.
 #![tactic(auto)]
 
 mod accepting;

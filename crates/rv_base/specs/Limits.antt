@@ -1,43 +1,43 @@
--- The limits of job lists and of files.
+-- Limits on job lists and files.
 use Rattle.std.specs.Prelude.{ℕ, Bool, ◌&&◌, nat_le}
 
--- a number from one to another, both among them
+-- whether n is from low to high, inclusive
 abbrev pub is_within : ℕ → ℕ → ℕ → Bool
 is_within low high n = nat_le low n && nat_le n high
 
--- the most jobs of a list
+-- the maximum number of jobs in a list
 abbrev pub most_jobs : ℕ
 most_jobs = 4096
 
--- the most bytes of a job's name, and of the name of a signature's symbol
+-- the maximum length, in bytes, of a job's name and of a signature symbol's name
 abbrev pub most_name : ℕ
 most_name = 64
 
 abbrev pub most_symbol : ℕ
 most_symbol = 255
 
--- the most bytes of a path
+-- the maximum length of a path, in bytes
 abbrev pub most_path : ℕ
 most_path = 4096
 
--- the most steps of a job
+-- the maximum number of steps of a job
 abbrev pub most_budget : ℕ
 most_budget = 1000000000
 
--- the most bytes that a script has, and that a console is expected to hold
+-- the maximum length, in bytes, of a script and of an expected console text
 abbrev pub most_script : ℕ
 most_script = 65536
 
 abbrev pub most_console : ℕ
 most_console = 65536
 
--- the most threads of a run, and the most jobs that one takes at a time
+-- the maximum number of threads of a run, and of jobs that a thread takes at a time
 abbrev pub most_workers : ℕ
 most_workers = 64
 
 abbrev pub most_group : ℕ
 most_group = 4096
 
--- the most bytes of a file that is read
+-- the maximum size of a file that is read, in bytes
 abbrev pub most_bytes : ℕ
 most_bytes = 16777216

@@ -1,4 +1,4 @@
--- The names of jobs and of runs, and where a name stands among others.
+-- The names of jobs and of runs, and the index of a name in a list.
 use Rattle.std.specs.Prelude.{ℕ, Bool, List, [], ◌∷◌, Option, Some, None, ◌+◌, ◌==◌, ◌&&◌, ◌||◌}
 use Rattle.std.specs.Prelude.{codes, if◌then◌else◌, length, option_map}
 use Rattle.std.specs.Char.{is_ascii_alphanumeric}
@@ -13,7 +13,7 @@ is_name_byte c = is_ascii_alphanumeric c || list_any (λ b. c == b) (codes "._-"
 unfoldable pub is_name : List ℕ → Bool
 is_name t = is_within 1 most_name (length t) && list_all is_name_byte t
 
--- the place of the first of these texts that is t
-unfoldable pub place_in : List (List ℕ) → List ℕ → Option ℕ
-place_in [] t = None
-place_in (x ∷ xs) t = if bytes_eq t x then Some 0 else option_map (λ k. k + 1) (place_in xs t)
+-- the index of the first of these texts that equals t
+unfoldable pub index_in : List (List ℕ) → List ℕ → Option ℕ
+index_in [] t = None
+index_in (x ∷ xs) t = if bytes_eq t x then Some 0 else option_map (λ k. k + 1) (index_in xs t)

@@ -1,9 +1,9 @@
-//! What needs no instruction, no image and no job: values that contracts see as lists, the limits of lists and files, and
-//! where bytes come from and go to.
+//! The basics that need no instruction, image or job: values that contracts see as lists, the limits of job lists and files, and the
+//! sources and destinations of bytes.
 //!
-//! [`Sequence`] is a vector and [`Text`] a string, of which contracts see the list. A [`Store`] reads files by their
-//! paths; a [`Sink`] takes bytes. Both count how often they fail, so that a caller's contract can say whose fault an
-//! error is. [`limits`] has the numbers that the format of lists fixes.
+//! Contracts see a [`Sequence`] (a vector) and a [`Text`] (a string) as lists. A [`Store`] reads files by path; a [`Sink`] accepts bytes.
+//! Both count their failures, so that a caller's contract can say where an error came from. [`limits`] holds the numbers that the job list
+//! format fixes.
 #![tactic(auto)]
 
 pub mod limits;

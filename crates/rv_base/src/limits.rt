@@ -1,31 +1,31 @@
-//! The limits of lists, jobs and files.
+//! The limits on lists, jobs and files.
 
-/// The most jobs of a list.
+/// The maximum number of jobs in a list.
 pub const MOST_JOBS: usize = 4_096;
 
-/// The most bytes of a job's name.
+/// The maximum length of a job's name, in bytes.
 pub const MOST_NAME: usize = 64;
 
-/// The most bytes of a path.
+/// The maximum length of a path, in bytes.
 pub const MOST_PATH: usize = 4_096;
 
-/// The most steps of a job.
+/// The maximum number of steps of a job.
 pub const MOST_BUDGET: u32 = 1_000_000_000;
 
-/// The most bytes that the console gives a job.
+/// The maximum number of bytes that the console feeds to a job.
 pub const MOST_SCRIPT: usize = 0x1_0000;
 
-/// The most bytes that the console of a job is expected to hold.
+/// The maximum length of a job's expected console text, in bytes.
 pub const MOST_CONSOLE: usize = 0x1_0000;
 
-/// The most bytes of the name of a signature's symbol.
+/// The maximum length of a signature symbol's name, in bytes.
 pub const MOST_SYMBOL: usize = 255;
 
-/// The most threads of a run.
+/// The maximum number of threads of a run.
 pub const MOST_WORKERS: u32 = 64;
 
-/// The most jobs that a thread takes at a time.
+/// The maximum number of jobs that a thread takes at a time.
 pub const MOST_GROUP: u32 = 4_096;
 
-/// The most bytes of a file that is read.
+/// The maximum size of a file that is read, in bytes.
 pub const MOST_BYTES: usize = 0x100_0000;

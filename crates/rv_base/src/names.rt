@@ -6,7 +6,7 @@ ghost use Rattle.rv_base.specs.Names.{is_name, is_name_byte};
 
 use crate::limits::MOST_NAME;
 
-/// Whether a text is a name, as a job or a run may have one: 1 to 64 ASCII letters, digits, `.`, `_` and `-`.
+/// Whether `text` is a valid name for a job or a run: 1 to 64 ASCII letters, digits, `.`, `_` and `-`.
 #[tactic(auto, unfolding(crate::specs::Names::is_name))]
 pub fn is_name(text: &[u8]) -> bool
     ensures { result ≡ is_name text.now }

@@ -4,7 +4,7 @@ ghost use Rattle.std.specs.Prelude.{◌≡◌};
 
 use std::marker::Model;
 
-/// Values in their order. Contracts see their list.
+/// Values in order, seen by contracts as a list.
 #[derive(Debug, Drop)]
 pub struct Sequence<T> {
     items: Vec<T>,
@@ -19,7 +19,7 @@ impl<T> Model for Sequence<T> {
 }
 
 impl<T> Sequence<T> {
-    /// The values of the vector. Takes no memory.
+    /// Wraps a vector without allocating.
     pub fn new(items: Vec<T>) -> Sequence<T>
         ensures { result ≡ items.items }
     {
@@ -32,7 +32,7 @@ impl<T> Sequence<T> {
         &self.items
     }
 
-    /// The vector that they were made from. Takes no memory.
+    /// Returns the underlying vector without allocating.
     pub fn into_vec(self) -> Vec<T>
         ensures { result.items ≡ self }
     {

@@ -1,23 +1,23 @@
-//! Where text goes.
+//! Destinations for text.
 
 ghost use Rattle.std.specs.Prelude.{◌≡◌, ◌≤◌, ◌<◌, ◌+◌, ℕ, List, Option, None, IfOk, IfErr, OnOk, OnErr, length, take};
 ghost use Rattle.std.specs.Io.KnownBytes.{Appends, Keeps};
 ghost use Rattle.rv_base.specs.Sinks.{AppendsBeginning};
 ghost use Rattle.rv_base.specs.Counts.{one_more};
 
-/// The sink took nothing.
+/// The sink accepted no bytes.
 #[derive(Clone, Copy, Debug, PartialEq, Eq)]
 pub struct SinkFailed;
 
-/// Something that takes bytes, and counts how often it fails.
+/// A destination for bytes that counts its failures.
 pub trait Sink {
-    // The bytes that it took, where it tells them.
+    // The bytes accepted so far, if the sink reveals them.
     ghost taken: { Self → Option (List ℕ) };
 
-    // How often it failed. A count at `u64::MAX` stays there.
+    // The number of failures, saturating at `u64::MAX`.
     ghost failed: { Self → ℕ };
 
-    /// Takes one or more bytes from the front and gives their number, or fails and takes none.
+    /// Accepts one or more bytes from the front of `bytes` and returns how many, or fails and accepts none.
     fn put(&mut self, bytes: &[u8]) -> Result<usize, SinkFailed>
         requires { 0 < length bytes.now }
         ensures within { IfOk result (λ count. (1 ≤ count) × (count ≤ length bytes.now)) }
@@ -27,12 +27,12 @@ pub trait Sink {
         ensures kept { IfErr result (λ _. Keeps (taken self.old) (taken self.new)) }
         ensures failure { IfErr result (λ _. failed self.new ≡ one_more (failed self.old)) };
 
-    /// How often it failed.
+    /// Returns the number of failures.
     fn failures(&self) -> u64
         ensures { result ≡ failed self.now };
 }
 
-/// Puts all the bytes; where a put fails, those of the puts before it went out, and no put follows.
+/// Writes all of `bytes`. If a write fails, the bytes of the earlier writes have gone out and no further write is tried.
 pub fn put_all<W: Sink>(out: &mut W, bytes: &[u8]) -> Result<(), SinkFailed>
     ensures appended { OnOk result (Appends (W.taken out.old) (W.taken out.new) bytes.now) }
     ensures counted { OnOk result (W.failed out.new ≡ W.failed out.old) }

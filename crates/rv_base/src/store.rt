@@ -1,4 +1,4 @@
-//! Where files are read from.
+//! Sources of files.
 
 ghost use Rattle.std.specs.Prelude.{◌≡◌, ◌≤◌, ◌<◌, ℕ, Option, Some, MatchResult, IfErr, IfOk, IfSome};
 ghost use Rattle.std.specs.Prelude.{IsSomeAnd, length};
@@ -7,26 +7,26 @@ ghost use Rattle.rv_base.specs.Limits.{most_bytes};
 
 use std::alloc::Global;
 
-/// Why a path was not read.
+/// Why a file could not be read.
 #[derive(Clone, Copy, Debug, PartialEq, Eq)]
 pub enum ReadError {
-    /// There is no such file, or reading it failed.
+    /// The file does not exist, or reading it failed.
     Unreadable,
-    /// The file has more than 16,777,216 bytes.
+    /// The file is longer than 16,777,216 bytes.
     TooLong,
-    /// A growth was refused.
+    /// An allocation failed.
     OutOfMemory,
 }
 
-/// Something that reads files by their paths, and counts how often a file was unreadable.
+/// A source of files, read by path, that counts how often a file was unreadable.
 pub trait Store {
-    // What each path holds, where the store tells it. No read changes it.
+    // The contents of each path, if the store reveals them. Reading does not change them.
     ghost contents: { Self → Option FileContents };
 
-    // How often a file was unreadable. A count at `u64::MAX` stays there.
+    // The number of unreadable files so far, saturating at `u64::MAX`.
     ghost faulted: { Self → ℕ };
 
-    /// The bytes of a file, at most 16,777,216.
+    /// Returns the bytes of a file, at most 16,777,216.
     fn read(&mut self, alloc: Global, path: &str) -> Result<Vec<u8>, ReadError>
         ensures same { contents self.new ≡ contents self.old }
         ensures within { IfOk result (λ bytes. length bytes.items ≤ most_bytes) }
@@ -37,7 +37,7 @@ pub trait Store {
         ensures counted { MatchResult result (λ _. faulted self.new ≡ faulted self.old)
             (λ error. faulted self.new ≡ faults_after error (faulted self.old)) };
 
-    /// How often a file was unreadable.
+    /// Returns how often a file was unreadable.
     fn faults(&self) -> u64
         ensures { result ≡ faulted self.now };
 }

@@ -6,7 +6,7 @@ use crate::sequence::Sequence;
 use std::alloc::{AllocError, Global};
 use std::marker::Model;
 
-/// A name or a path. Contracts see the bytes of its text.
+/// A name or a path, seen by contracts as the list of its bytes.
 #[derive(Debug, Drop)]
 pub struct Text {
     text: String,
@@ -21,7 +21,7 @@ impl Model for Text {
 }
 
 impl Text {
-    /// Takes no memory.
+    /// Wraps a string without allocating.
     pub fn new(text: String) -> Text
         ensures { result ≡ string_bytes text }
     {
@@ -34,14 +34,14 @@ impl Text {
         self.text.as_str()
     }
 
-    /// Takes no memory.
+    /// Returns the underlying string without allocating.
     pub fn into_string(self) -> String
         ensures { string_bytes result ≡ self }
     {
         self.text
     }
 
-    /// A copy of a text.
+    /// Copies a text.
     pub fn copy(alloc: Global, text: &str) -> Result<Text, AllocError>
         ensures { IfOk result (λ t. t ≡ text.now) }
     {
@@ -49,5 +49,5 @@ impl Text {
     }
 }
 
-/// Bytes, of which contracts see their list.
+/// Bytes, seen by contracts as a list.
 pub type Bytes = Sequence<u8>;

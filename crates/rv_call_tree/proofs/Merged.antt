@@ -10,21 +10,21 @@ use Rattle.rv_call_tree.specs.declared.spot.Spot.{Spot}
 use Rattle.rv_call_tree.specs.declared.sum.NextSpot.{NextSpot}
 use Rattle.rv_call_tree.specs.declared.sum.SpotSumError.{SpotSumError}
 use Rattle.rv_call_tree.specs.declared.sum.SpotSumError.TheVariants.{OutOfMemory, Count}
-use Rattle.rv_call_tree.specs.Sums.{both_of, goes_first, next_of, next_of_both, of_first, of_second, IsSumOfSpots, IsTooGreat, IsTooGreatHere, IsTooGreatOf}
-use Rattle.rv_call_tree.specs.Trees.{path_behind, last_path, arrivals_of, steps_of, counted_behind, ends_with, HasArrivals, IsTree, StandsBehind, StandBehind}
+use Rattle.rv_call_tree.specs.Sums.{both_of, goes_first, next_of, next_of_both, of_first, of_second, IsSumOfSpots, Overflows, IsTooGreatHere, IsTooGreatOf}
+use Rattle.rv_call_tree.specs.Trees.{path_after, last_path, arrivals_of, steps_of, counted_after, ends_with, HasArrivals, IsTree, FollowsInPreorder, FollowInPreorder}
 use Rattle.rv_call_tree.proofs.Fronts.{StandsAlike, behind_other}
 use Rattle.rv_call_tree.proofs.Tests.{equal_by, equal_test, less_by, not_less_by}
 use Rattle.rv_call_tree.proofs.Parts.{last_parts, counted_parts, some_of_parts, some_parts, stand_of_parts}
 
 -- so much of both is added: the spots in front of a rest are xs and ys
 pub record SoFar (xs ms ys bs sums : List Spot) : Type 0 where
-  pub rest_of_a : StandBehind (last_path [] xs) ms
-  pub rest_of_b : StandBehind (last_path [] ys) bs
+  pub rest_of_a : FollowInPreorder (last_path [] xs) ms
+  pub rest_of_b : FollowInPreorder (last_path [] ys) bs
   pub tree : IsTree sums
   pub some : HasArrivals xs → HasArrivals ys → HasArrivals sums
   pub counted : (count : Spot → ℕ) (path : List ℕ)
       → ((s t : Spot) → count (both_of s t).spot ≡ count s + count t)
-      → counted_behind count path [] sums ≡ counted_behind count path [] xs + counted_behind count path [] ys
+      → counted_after count path [] sums ≡ counted_after count path [] xs + counted_after count path [] ys
   pub first : StandsAlike (last_path [] xs) (last_path [] sums) ms
   pub second : StandsAlike (last_path [] ys) (last_path [] sums) bs
 
@@ -35,11 +35,11 @@ last_of f (y ∷ z ∷ zs) x = last_of f (z ∷ zs) x
 
 -- ---- one more
 
-more_counted : (count : Spot → ℕ) (path : List ℕ) (xs : List Spot) (s : Spot) → counted_behind count path [] (xs ++ s ∷ [])
-    ≡ counted_behind count path [] xs + cond (bytes_eq (path_behind (last_path [] xs) s) path) (count s) 0
+more_counted : (count : Spot → ℕ) (path : List ℕ) (xs : List Spot) (s : Spot) → counted_after count path [] (xs ++ s ∷ [])
+    ≡ counted_after count path [] xs + cond (bytes_eq (path_after (last_path [] xs) s) path) (count s) 0
 more_counted count path xs s = let h = counted_parts count path [] xs (s ∷ []) in omega (arith, h)
 
-more_tree : (xs : List Spot) (s : Spot) → IsTree xs → StandsBehind (last_path [] xs) s → IsTree (xs ++ s ∷ [])
+more_tree : (xs : List Spot) (s : Spot) → IsTree xs → FollowsInPreorder (last_path [] xs) s → IsTree (xs ++ s ∷ [])
 more_tree xs s h k = stand_of_parts [] xs (s ∷ []) h (k, tt)
 
 order_of : (s t : Spot) → goes_first t s ≡ true → (s.depth < t.depth) ⊎ ((s.depth ≡ t.depth) × (t.function < s.function))
@@ -51,11 +51,11 @@ order_of s t h = elim (or_cases (nat_lt s.depth t.depth) ((t.depth == s.depth) &
 
 -- the rest of the tree whose spot it was
 own_rest : (own front : List ℕ) (s : Spot) (ss : List Spot) → take s.depth own ≡ take s.depth front
-    → StandBehind (path_behind own s) ss → StandsAlike (path_behind own s) (path_behind front s) ss
+    → FollowInPreorder (path_after own s) ss → StandsAlike (path_after own s) (path_after front s) ss
 own_rest own front s [] same h = tt
 own_rest own front s (x ∷ xs) same h = (
   ap (λ (path : List ℕ). take x.depth (path ++ s.function ∷ [])) same,
-  subst (λ (path : List ℕ). StandsBehind (path ++ s.function ∷ []) x) same h.0,
+  subst (λ (path : List ℕ). FollowsInPreorder (path ++ s.function ∷ []) x) same h.0,
 )
 
 -- a spot goes before the first of a list
@@ -64,15 +64,15 @@ AheadOf t [] = Unit {0}
 AheadOf t (s ∷ ss) = goes_first t s ≡ true
 
 -- the rest of the other tree
-other_rest : (own front : List ℕ) (t : Spot) (ss : List Spot) → StandsBehind front t → StandsAlike own front ss
-    → AheadOf t ss → StandsAlike own (path_behind front t) ss
+other_rest : (own front : List ℕ) (t : Spot) (ss : List Spot) → FollowsInPreorder front t → StandsAlike own front ss
+    → AheadOf t ss → StandsAlike own (path_after front t) ss
 other_rest own front t [] stands h ahead = tt
 other_rest own front t (s ∷ ss) stands h ahead =
     let k = behind_other t.depth t.function front s stands.within h.1 (order_of s t ahead) in (h.0 ∙ k.0, k.1)
 
 -- what is counted of a spot behind its own front and behind that of the sum
 same_here : (count : Spot → ℕ) (path own front : List ℕ) (s : Spot) → take s.depth own ≡ take s.depth front
-    → cond (bytes_eq (path_behind own s) path) (count s) 0 ≡ cond (bytes_eq (path_behind front s) path) (count s) 0
+    → cond (bytes_eq (path_after own s) path) (count s) 0 ≡ cond (bytes_eq (path_after front s) path) (count s) 0
 same_here count path own front s same = ap (λ (p : List ℕ). cond (bytes_eq (p ++ s.function ∷ []) path) (count s) 0) same
 
 -- the first spot of the first tree
@@ -83,7 +83,7 @@ take_first xs ss ys bs sums s h ahead =
     let front = last_path [] sums in
     let of_own = last_parts [] xs (s ∷ []) in
     let of_sum = last_parts [] sums (s ∷ []) in record {
-      rest_of_a = subst (λ (path : List ℕ). StandBehind path ss) (sym of_own) h.rest_of_a.1;
+      rest_of_a = subst (λ (path : List ℕ). FollowInPreorder path ss) (sym of_own) h.rest_of_a.1;
       rest_of_b = h.rest_of_b;
       tree = more_tree sums s h.tree h.first.1;
       some = λ some_a some_b.
@@ -95,7 +95,7 @@ take_first xs ss ys bs sums s h ahead =
           let same = same_here count path own front s h.first.0 in
           omega (arith, so_far, a, b, same);
       first = subst (λ (path : List ℕ). StandsAlike path (last_path [] (sums ++ s ∷ [])) ss) (sym of_own)
-          (subst (λ (path : List ℕ). StandsAlike (path_behind own s) path ss) (sym of_sum)
+          (subst (λ (path : List ℕ). StandsAlike (path_after own s) path ss) (sym of_sum)
           (own_rest own front s ss h.first.0 h.rest_of_a.1));
       second = subst (λ (path : List ℕ). StandsAlike (last_path [] ys) path bs) (sym of_sum)
           (other_rest (last_path [] ys) front s bs h.first.1 h.second ahead);
@@ -110,7 +110,7 @@ take_second xs ms ys ts sums t h ahead =
     let of_own = last_parts [] ys (t ∷ []) in
     let of_sum = last_parts [] sums (t ∷ []) in record {
       rest_of_a = h.rest_of_a;
-      rest_of_b = subst (λ (path : List ℕ). StandBehind path ts) (sym of_own) h.rest_of_b.1;
+      rest_of_b = subst (λ (path : List ℕ). FollowInPreorder path ts) (sym of_own) h.rest_of_b.1;
       tree = more_tree sums t h.tree h.second.1;
       some = λ some_a some_b.
           let parts = some_parts ys (t ∷ []) some_b in some_of_parts sums (t ∷ []) (h.some some_a parts.0) parts.1;
@@ -123,7 +123,7 @@ take_second xs ms ys ts sums t h ahead =
       first = subst (λ (path : List ℕ). StandsAlike (last_path [] xs) path ms) (sym of_sum)
           (other_rest (last_path [] xs) front t ms h.second.1 h.first ahead);
       second = subst (λ (path : List ℕ). StandsAlike path (last_path [] (sums ++ t ∷ [])) ts) (sym of_own)
-          (subst (λ (path : List ℕ). StandsAlike (path_behind own t) path ts) (sym of_sum)
+          (subst (λ (path : List ℕ). StandsAlike (path_after own t) path ts) (sym of_sum)
           (own_rest own front t ts h.second.0 h.rest_of_b.1));
     }
 
@@ -146,7 +146,7 @@ same_order s t one other =
     (deep, omega (arith, low, high))
 
 same_spot : (front : List ℕ) (s t : Spot) → t.depth ≡ s.depth → t.function ≡ s.function
-    → path_behind front t ≡ path_behind front s
+    → path_after front t ≡ path_after front s
 same_spot front s t deep own =
     ap (λ (n : ℕ). take n front ++ t.function ∷ []) deep ∙ ap (λ (f : ℕ). take s.depth front ++ f ∷ []) own
 
@@ -165,9 +165,9 @@ take_both xs ss ys ts sums s t h deep function =
     let ends_a = last_parts [] xs (s ∷ []) in
     let ends_b = last_parts [] ys (t ∷ []) in
     let ends = last_parts [] sums (new ∷ []) in
-    let alike : path_behind front t ≡ path_behind front new = same_spot front s t deep function in record {
-      rest_of_a = subst (λ (path : List ℕ). StandBehind path ss) (sym ends_a) h.rest_of_a.1;
-      rest_of_b = subst (λ (path : List ℕ). StandBehind path ts) (sym ends_b) h.rest_of_b.1;
+    let alike : path_after front t ≡ path_after front new = same_spot front s t deep function in record {
+      rest_of_a = subst (λ (path : List ℕ). FollowInPreorder path ss) (sym ends_a) h.rest_of_a.1;
+      rest_of_b = subst (λ (path : List ℕ). FollowInPreorder path ts) (sym ends_b) h.rest_of_b.1;
       tree = more_tree sums new h.tree (record { within = h.first.1.within; rising = h.first.1.rising });
       some = λ some_a some_b.
           let of_first = some_parts xs (s ∷ []) some_a in
@@ -182,14 +182,14 @@ take_both xs ss ys ts sums s t h deep function =
           let same_a = same_here count path of_a front s h.first.0 in
           let same_b = same_here count path of_b front t h.second.0 in
           let moved = ap (λ (p : List ℕ). cond (bytes_eq p path) (count t) 0) alike in
-          let both = ap (λ (n : ℕ). cond (bytes_eq (path_behind front new) path) n 0) (adds s t) in
-          let parts = sum_if (bytes_eq (path_behind front new) path) (count s) (count t) in
+          let both = ap (λ (n : ℕ). cond (bytes_eq (path_after front new) path) n 0) (adds s t) in
+          let parts = sum_if (bytes_eq (path_after front new) path) (count s) (count t) in
           omega (arith, so_far, a, b, c, same_a, same_b, moved, both, parts);
       first = subst (λ (path : List ℕ). StandsAlike path (last_path [] (sums ++ new ∷ [])) ss) (sym ends_a)
-          (subst (λ (path : List ℕ). StandsAlike (path_behind of_a s) path ss) (sym ends)
+          (subst (λ (path : List ℕ). StandsAlike (path_after of_a s) path ss) (sym ends)
           (own_rest of_a front s ss h.first.0 h.rest_of_a.1));
       second = subst (λ (path : List ℕ). StandsAlike path (last_path [] (sums ++ new ∷ [])) ts) (sym ends_b)
-          (subst (λ (path : List ℕ). StandsAlike (path_behind of_b t) path ts) (alike ∙ sym ends)
+          (subst (λ (path : List ℕ). StandsAlike (path_after of_b t) path ts) (alike ∙ sym ends)
           (own_rest of_b front t ts h.second.0 h.rest_of_b.1));
     }
 
@@ -279,7 +279,7 @@ pub all_added : (a b sums : List Spot) (i j : ℕ) → Added a b i j sums → le
 all_added a b sums i j h over_a over_b =
     let whole = λ (count : Spot → ℕ) (path : List ℕ) (adds : (s t : Spot) → count (both_of s t).spot ≡ count s + count t).
     h.counted count path adds
-    ∙ (λ k. counted_behind count path [] (take_all i a over_a k) + counted_behind count path [] (take_all j b over_b k)) in record {
+    ∙ (λ k. counted_after count path [] (take_all i a over_a k) + counted_after count path [] (take_all j b over_b k)) in record {
       tree = h.tree;
       some = λ some_a some_b. h.some (subst HasArrivals (sym (take_all i a over_a)) some_a)
           (subst HasArrivals (sym (take_all j b over_b)) some_b);
@@ -292,8 +292,8 @@ all_added a b sums i j h over_a over_b =
 same_bytes : (p : List ℕ) → bytes_eq p p ≡ true
 same_bytes p = (bytes_eq-Decides p p).1 refl
 
-counted_here : (count : Spot → ℕ) (path : List ℕ) (xs ss : List Spot) (s : Spot) → path_behind (last_path [] xs) s ≡ path
-    → count s ≤ counted_behind count path [] (xs ++ s ∷ ss)
+counted_here : (count : Spot → ℕ) (path : List ℕ) (xs ss : List Spot) (s : Spot) → path_after (last_path [] xs) s ≡ path
+    → count s ≤ counted_after count path [] (xs ++ s ∷ ss)
 counted_here count path xs ss s is =
     let parts = counted_parts count path [] xs (s ∷ ss) in
     let here = ap (λ (b : Bool). cond b (count s) 0) (ap (λ (p : List ℕ). bytes_eq p path) is ∙ same_bytes path) in
@@ -301,12 +301,12 @@ counted_here count path xs ss s is =
 
 too_great_of : (xs ss ys ts sums : List Spot) (s t : Spot) → SoFar xs (s ∷ ss) ys (t ∷ ts) sums → goes_first s t ≡ false
     → goes_first t s ≡ false → (function : ℕ) → function ≡ s.function → IsTooGreatOf s t
-    → IsTooGreat (Count function) (xs ++ s ∷ ss) (ys ++ t ∷ ts)
+    → Overflows (Count function) (xs ++ s ∷ ss) (ys ++ t ∷ ts)
 too_great_of xs ss ys ts sums s t h one other function is great =
     let same = same_order s t one other in
-    let path = path_behind (last_path [] sums) s in
-    let at_a : path_behind (last_path [] xs) s ≡ path = ap (λ (p : List ℕ). p ++ s.function ∷ []) h.first.0 in
-    let at_b : path_behind (last_path [] ys) t ≡ path =
+    let path = path_after (last_path [] sums) s in
+    let at_a : path_after (last_path [] xs) s ≡ path = ap (λ (p : List ℕ). p ++ s.function ∷ []) h.first.0 in
+    let at_b : path_after (last_path [] ys) t ≡ path =
     ap (λ (p : List ℕ). p ++ t.function ∷ []) h.second.0 ∙ same_spot (last_path [] sums) s t same.0 same.1 in
     let a = λ (count : Spot → ℕ). counted_here count path xs ss s at_a in
     let b = λ (count : Spot → ℕ). counted_here count path ys ts t at_b in (
@@ -319,7 +319,7 @@ too_great_of xs ss ys ts sums s t h one other function is great =
     )
 
 too_great_there : (xs ms ys bs sums : List Spot) (error : SpotSumError) → SoFar xs ms ys bs sums
-    → IsTooGreatHere error ms bs → IsTooGreat error (xs ++ ms) (ys ++ bs)
+    → IsTooGreatHere error ms bs → Overflows error (xs ++ ms) (ys ++ bs)
 too_great_there xs ms ys bs sums OutOfMemory h great = tt
 too_great_there xs [] ys bs sums (Count function) h great = absurd great
 too_great_there xs (s ∷ ss) ys [] sums (Count function) h great = absurd great
@@ -327,10 +327,10 @@ too_great_there xs (s ∷ ss) ys (t ∷ ts) sums (Count function) h great =
     too_great_of xs ss ys ts sums s t h great.0 great.1 function great.2 great.3
 
 pub too_great : (a b sums : List Spot) (i j : ℕ) (error : SpotSumError) → Added a b i j sums
-    → IsTooGreatHere error (drop i a) (drop j b) → IsTooGreat error a b
+    → IsTooGreatHere error (drop i a) (drop j b) → Overflows error a b
 too_great a b sums i j error h great =
-    subst (λ (zs : List Spot). IsTooGreat error a zs) (take-append-drop j b)
-    (subst (λ (zs : List Spot). IsTooGreat error zs (take j b ++ drop j b)) (take-append-drop i a)
+    subst (λ (zs : List Spot). Overflows error a zs) (take-append-drop j b)
+    (subst (λ (zs : List Spot). Overflows error zs (take j b ++ drop j b)) (take-append-drop i a)
     (too_great_there (take i a) (drop i a) (take j b) (drop j b) sums error h great))
 
 -- ---- how many of each

@@ -2,18 +2,18 @@
 use Rattle.std.proofs.Common.{◌≡◌, ◌∙◌, ◌+◌, ◌≤◌, ℕ, List, [], ◌∷◌, ◌++◌, length, take, refl, sym, ap, arith, length-append}
 use Rattle.std.proofs.lemmas.List.{take-take, length-take-le}
 use Rattle.rv_call_tree.specs.declared.spot.Spot.{Spot}
-use Rattle.rv_call_tree.specs.Trees.{path_behind, last_path, path_of_first, counted_behind, counted_in_all, HasArrivals, StandBehind}
+use Rattle.rv_call_tree.specs.Trees.{path_after, last_path, path_of_first, counted_after, counted_in_all, HasArrivals, FollowInPreorder}
 
 pub last_parts : (front : List ℕ) (xs ys : List Spot) → last_path front (xs ++ ys) ≡ last_path (last_path front xs) ys
 last_parts front [] ys = refl
-last_parts front (s ∷ ss) ys = last_parts (path_behind front s) ss ys
+last_parts front (s ∷ ss) ys = last_parts (path_after front s) ss ys
 
 pub counted_parts : (count : Spot → ℕ) (path front : List ℕ) (xs ys : List Spot)
-    → counted_behind count path front (xs ++ ys)
-    ≡ counted_behind count path front xs + counted_behind count path (last_path front xs) ys
+    → counted_after count path front (xs ++ ys)
+    ≡ counted_after count path front xs + counted_after count path (last_path front xs) ys
 counted_parts count path front [] ys = omega arith
 counted_parts count path front (s ∷ ss) ys =
-    let h = counted_parts count path (path_behind front s) ss ys in omega (arith, h)
+    let h = counted_parts count path (path_after front s) ss ys in omega (arith, h)
 
 pub sum_parts : (count : Spot → ℕ) (xs ys : List Spot) → counted_in_all count (xs ++ ys) ≡ counted_in_all count xs + counted_in_all count ys
 sum_parts count [] ys = omega arith
@@ -27,13 +27,13 @@ pub some_of_parts : (xs ys : List Spot) → HasArrivals xs → HasArrivals ys �
 some_of_parts [] ys h k = k
 some_of_parts (s ∷ ss) ys h k = (h.0, some_of_parts ss ys h.1 k)
 
-pub stand_of_parts : (front : List ℕ) (xs ys : List Spot) → StandBehind front xs → StandBehind (last_path front xs) ys
-    → StandBehind front (xs ++ ys)
+pub stand_of_parts : (front : List ℕ) (xs ys : List Spot) → FollowInPreorder front xs → FollowInPreorder (last_path front xs) ys
+    → FollowInPreorder front (xs ++ ys)
 stand_of_parts front [] ys h k = k
-stand_of_parts front (s ∷ ss) ys h k = (h.0, stand_of_parts (path_behind front s) ss ys h.1 k)
+stand_of_parts front (s ∷ ss) ys h k = (h.0, stand_of_parts (path_after front s) ss ys h.1 k)
 
 -- a spot's functions are one more than it is deep
-pub length_behind : (front : List ℕ) (s : Spot) → s.depth ≤ length front → length (path_behind front s) ≡ s.depth + 1
+pub length_behind : (front : List ℕ) (s : Spot) → s.depth ≤ length front → length (path_after front s) ≡ s.depth + 1
 length_behind front s within =
     let parts = length-append (take s.depth front) (s.function ∷ []) in
     let long = length-take-le s.depth front within in

@@ -7,9 +7,9 @@ use Rattle.std.proofs.lemmas.List.{drop_more, take-take, take-append-le, take_at
 use Rattle.std.proofs.Math.Seq.{get_or-append_seam}
 use Rattle.rv_call_tree.specs.declared.spot.Spot.{Spot}
 use Rattle.rv_call_tree.specs.declared.subtree.Subtree.{Subtree}
-use Rattle.rv_call_tree.specs.Profiles.{has_function, inclusive_behind}
+use Rattle.rv_call_tree.specs.Profiles.{has_function, inclusive_after}
 use Rattle.rv_call_tree.specs.Subtrees.{below, of_function, subtree, subtrees_from, subtrees_of_function}
-use Rattle.rv_call_tree.specs.Trees.{all_steps, counted_in_all, path_behind, steps_if, IsTree, StandBehind, StandsBehind}
+use Rattle.rv_call_tree.specs.Trees.{all_steps, counted_in_all, path_after, steps_if, IsTree, FollowInPreorder, FollowsInPreorder}
 use Rattle.rv_call_tree.proofs.Tests.{equal_by, equal_test, less_test, not_less_test}
 
 -- ---- which lists have a function
@@ -56,8 +56,8 @@ tells f path None h = h
 tells f path (Some depth) h = has_there f depth path h.within h.there
 
 -- none among the functions in front, so the last one decides
-last_decides : (f : ℕ) (front : List ℕ) (s : Spot) → StandsBehind front s → has_function f (take s.depth front) ≡ false
-    → (b : Bool) → (s.function == f) ≡ b → IsOutermost f (path_behind front s) (cond b (Some s.depth) None)
+last_decides : (f : ℕ) (front : List ℕ) (s : Spot) → FollowsInPreorder front s → has_function f (take s.depth front) ≡ false
+    → (b : Bool) → (s.function == f) ≡ b → IsOutermost f (path_after front s) (cond b (Some s.depth) None)
 last_decides f front s stands none false is =
     any_parts f (take s.depth front) (s.function ∷ [])
     ∙ (λ i. none i || (is i || false))
@@ -65,13 +65,13 @@ last_decides f front s stands none true is =
     let kept = length-take-le s.depth front stands.within in
     let all = length-append (take s.depth front) (s.function ∷ []) in record {
       within = omega (arith, kept, all);
-      there = ap (λ (n : ℕ). get_or (path_behind front s) n 0) (sym kept)
+      there = ap (λ (n : ℕ). get_or (path_after front s) n 0) (sym kept)
           ∙ get_or-append_seam (take s.depth front) s.function [] 0 ∙ equal_by s.function f is;
       first = ap (has_function f) (take_at (take s.depth front) (s.function ∷ []) s.depth kept) ∙ none;
     }
 
-kept_there : (f : ℕ) (front : List ℕ) (s : Spot) (depth : ℕ) → StandsBehind front s → FirstAt f front depth
-    → depth < s.depth → FirstAt f (path_behind front s) depth
+kept_there : (f : ℕ) (front : List ℕ) (s : Spot) (depth : ℕ) → FollowsInPreorder front s → FirstAt f front depth
+    → depth < s.depth → FirstAt f (path_after front s) depth
 kept_there f front s depth stands h deep =
     let own = s.function ∷ [] in
     let kept = length-take-le s.depth front stands.within in
@@ -108,7 +108,7 @@ steps_left (Some depth) ss = all_steps (below depth ss)
 -- the subtrees tell all steps but those that are left
 abbrev Tells : ℕ → ℕ → List ℕ → List Spot → Type 0
 Tells f place front ss = (o : Option ℕ) (end : ℕ) → IsOutermost f front o → EndsAt o place ss end
-    → inclusive_behind f front ss ≡ steps_left o ss + inclusive_from end (of_function f (subtrees_from place ss))
+    → inclusive_after f front ss ≡ steps_left o ss + inclusive_from end (of_function f (subtrees_from place ss))
 
 of_first : (f place : ℕ) (s : Spot) (ss : List Spot) (b : Bool) → (s.function == f) ≡ b → of_function f (subtrees_from place (s ∷ ss))
     ≡ cond b (subtree place s ss ∷ of_function f (subtrees_from (place + 1) ss)) (of_function f (subtrees_from (place + 1) ss))
@@ -116,19 +116,19 @@ of_first f place s ss b is =
     ap (λ (t : Bool). cond t (subtree place s ss ∷ of_function f (subtrees_from (place + 1) ss)) (of_function f (subtrees_from (place + 1) ss))) is
 
 -- none of the functions in front counts the spot
-first_outside : (f place end : ℕ) (front : List ℕ) (s : Spot) (ss : List Spot) → StandsBehind front s
-    → has_function f (take s.depth front) ≡ false → end ≤ place → Tells f (place + 1) (path_behind front s) ss
+first_outside : (f place end : ℕ) (front : List ℕ) (s : Spot) (ss : List Spot) → FollowsInPreorder front s
+    → has_function f (take s.depth front) ≡ false → end ≤ place → Tells f (place + 1) (path_after front s) ss
     → (b : Bool) → (s.function == f) ≡ b
-    → inclusive_behind f front (s ∷ ss) ≡ inclusive_from end (of_function f (subtrees_from place (s ∷ ss)))
+    → inclusive_after f front (s ∷ ss) ≡ inclusive_from end (of_function f (subtrees_from place (s ∷ ss)))
 first_outside f place end front s ss stands none past rest false is =
     let outermost = last_decides f front s stands none false is in
-    let here = ap (λ (b : Bool). steps_if b s.steps) (tells f (path_behind front s) None outermost) in
+    let here = ap (λ (b : Bool). steps_if b s.steps) (tells f (path_after front s) None outermost) in
     let more = rest None end outermost (omega (arith, past)) in
     let of = ap (inclusive_from end) (of_first f place s ss false is) in
     omega (arith, here, more, of)
 first_outside f place end front s ss stands none past rest true is =
     let outermost = last_decides f front s stands none true is in
-    let here = ap (λ (b : Bool). steps_if b s.steps) (tells f (path_behind front s) (Some s.depth) outermost) in
+    let here = ap (λ (b : Bool). steps_if b s.steps) (tells f (path_after front s) (Some s.depth) outermost) in
     let more = rest (Some s.depth) (subtree place s ss).end outermost refl in
     let of = ap (inclusive_from end) (of_first f place s ss true is) in
     let t = subtree place s ss in
@@ -137,13 +137,13 @@ first_outside f place end front s ss stands none past rest true is =
     omega (arith, here, more, of, counts)
 
 -- the spot is below one that was counted with it
-first_inside : (f place end depth : ℕ) (front : List ℕ) (s : Spot) (ss : List Spot) → StandsBehind front s → FirstAt f front depth
-    → depth < s.depth → end ≡ place + length (s ∷ below depth ss) → Tells f (place + 1) (path_behind front s) ss
-    → (b : Bool) → (s.function == f) ≡ b → inclusive_behind f front (s ∷ ss)
+first_inside : (f place end depth : ℕ) (front : List ℕ) (s : Spot) (ss : List Spot) → FollowsInPreorder front s → FirstAt f front depth
+    → depth < s.depth → end ≡ place + length (s ∷ below depth ss) → Tells f (place + 1) (path_after front s) ss
+    → (b : Bool) → (s.function == f) ≡ b → inclusive_after f front (s ∷ ss)
     ≡ all_steps (s ∷ below depth ss) + inclusive_from end (of_function f (subtrees_from place (s ∷ ss)))
 first_inside f place end depth front s ss stands h deep ends rest b is =
     let outermost = kept_there f front s depth stands h deep in
-    let here = ap (λ (t : Bool). steps_if t s.steps) (tells f (path_behind front s) (Some depth) outermost) in
+    let here = ap (λ (t : Bool). steps_if t s.steps) (tells f (path_after front s) (Some depth) outermost) in
     let more = rest (Some depth) end outermost (omega (arith, ends)) in
     let of = ap (inclusive_from end) (of_first f place s ss b is) ∙ skipped b in
     omega (arith, here, more, of)
@@ -161,16 +161,16 @@ first_inside f place end depth front s ss stands h deep ends rest b is =
     skipped true = ap (λ (c : Bool). cond c (t.inclusive + inclusive_from t.end ts) (inclusive_from end ts)) begun
     skipped false = refl
 
-told_from : (f place : ℕ) (front : List ℕ) (ss : List Spot) → StandBehind front ss → Tells f place front ss
+told_from : (f place : ℕ) (front : List ℕ) (ss : List Spot) → FollowInPreorder front ss → Tells f place front ss
 told_from f place front [] stand None end h ends = refl
 told_from f place front [] stand (Some depth) end h ends = refl
 told_from f place front (s ∷ ss) stand None end h ends =
     let all = first_outside f place end front s ss stand.0 (none_first f s.depth front h) ends
-    (told_from f (place + 1) (path_behind front s) ss stand.1) (s.function == f) refl in
+    (told_from f (place + 1) (path_after front s) ss stand.1) (s.function == f) refl in
     omega (arith, all)
 told_from f place front (s ∷ ss) stand (Some depth) end h ends =
-    let rest = told_from f (place + 1) (path_behind front s) ss stand.1 in
-    let P : Bool → Type 0 = λ b. end ≡ place + length (cond b (s ∷ below depth ss) []) → inclusive_behind f front (s ∷ ss)
+    let rest = told_from f (place + 1) (path_after front s) ss stand.1 in
+    let P : Bool → Type 0 = λ b. end ≡ place + length (cond b (s ∷ below depth ss) []) → inclusive_after f front (s ∷ ss)
     ≡ all_steps (cond b (s ∷ below depth ss) []) + inclusive_from end (of_function f (subtrees_from place (s ∷ ss))) in
     elim (cases_lt depth s.depth) [
       | inl deep ↦ subst P (sym (less_test depth s.depth deep))
@@ -182,7 +182,7 @@ told_from f place front (s ∷ ss) stand (Some depth) end h ends =
     ]
 
 pub inclusive_told : (f : ℕ) (spots : List Spot) → IsTree spots
-    → inclusive_behind f [] spots ≡ inclusive_from 0 (subtrees_of_function f spots)
+    → inclusive_after f [] spots ≡ inclusive_from 0 (subtrees_of_function f spots)
 inclusive_told f spots tree = let all = told_from f 0 [] spots tree None 0 refl (omega arith) in omega (arith, all)
 
 -- ---- what is counted in the spots of a function themselves
@@ -241,9 +241,9 @@ own_fits f count [] = omega arith
 own_fits f count (s ∷ ss) =
     let here = if_at_most (s.function == f) (count s) in let rest = own_fits f count ss in omega (arith, here, rest)
 
-pub inclusive_fits : (f : ℕ) (front : List ℕ) (spots : List Spot) → inclusive_behind f front spots ≤ all_steps spots
+pub inclusive_fits : (f : ℕ) (front : List ℕ) (spots : List Spot) → inclusive_after f front spots ≤ all_steps spots
 inclusive_fits f front [] = omega arith
 inclusive_fits f front (s ∷ ss) =
-    let here = if_at_most (has_function f (path_behind front s)) s.steps in
-    let rest = inclusive_fits f (path_behind front s) ss in
+    let here = if_at_most (has_function f (path_after front s)) s.steps in
+    let rest = inclusive_fits f (path_after front s) ss in
     omega (arith, here, rest)

@@ -1,16 +1,16 @@
--- Spots with all that is below them.
+-- Nodes with all their descendants.
 use Rattle.std.specs.Prelude.{◌≡◌, ◌==◌, ◌+◌, ℕ, nat_lt, if◌then◌else◌, List, [], ◌∷◌, length}
 use Rattle.std.specs.List.{filter}
 use Rattle.rv_call_tree.specs.declared.spot.Spot.{Spot}
 use Rattle.rv_call_tree.specs.declared.subtree.Subtree.{Subtree}
 use Rattle.rv_call_tree.specs.Trees.{all_steps}
 
--- of the spots behind one of a depth, those below it: all up to the first that is not deeper
+-- the descendants of a node at a depth, among the nodes after it: all up to the first that is not deeper
 abbrev pub below : ℕ → List Spot → List Spot
 below depth [] = []
 below depth (s ∷ ss) = if nat_lt depth s.depth then s ∷ below depth ss else []
 
--- that of the spot at a place
+-- the subtree of the node at an index
 abbrev pub subtree : ℕ → Spot → List Spot → Subtree
 subtree place s behind = record {
   function = s.function;
@@ -21,7 +21,7 @@ subtree place s behind = record {
   arrivals = s.arrivals;
 }
 
--- those of spots of which the first stands at a place
+-- the subtrees of nodes, the first of which is at an index
 abbrev pub subtrees_from : ℕ → List Spot → List Subtree
 subtrees_from place [] = []
 subtrees_from place (s ∷ ss) = subtree place s ss ∷ subtrees_from (place + 1) ss
@@ -34,6 +34,6 @@ of_function function subtrees = filter (λ s. s.function == function) subtrees
 abbrev pub subtrees_of_function : ℕ → List Spot → List Subtree
 subtrees_of_function function spots = of_function function (subtrees_from 0 spots)
 
--- those of each function are there, in the order of their spots
+-- the list has each function's subtrees, in node order
 abbrev pub AreSubtreesByFunction : List Spot → List Subtree → Type 0
 AreSubtreesByFunction spots subtrees = (function : ℕ) → of_function function subtrees ≡ subtrees_of_function function spots

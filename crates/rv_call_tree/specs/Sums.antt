@@ -1,4 +1,4 @@
--- The sum of two trees of spots: each number of each list of functions is the sum of both.
+-- The sum of two call trees: each count of each path is the sum of both counts.
 use Rattle.std.specs.Prelude.{◌≡◌, ◌==◌, ◌+◌, ◌^◌, ◌<◌, ◌≤◌, ◌⊎◌, ℕ, Bool, true, false, ◌&&◌, ◌||◌, nat_lt, if◌then◌else◌, List, [], ◌∷◌}
 use Rattle.rv_call_tree.specs.declared.spot.Spot.{Spot}
 use Rattle.rv_call_tree.specs.declared.sum.NextSpot.{NextSpot}
@@ -12,22 +12,22 @@ pub record IsSumOfSpots (a b sum : List Spot) : Type 0 where
   pub arrivals : (path : List ℕ) → arrivals_at path sum ≡ arrivals_at path a + arrivals_at path b
   pub steps : (path : List ℕ) → steps_at path sum ≡ steps_at path a + steps_at path b
 
--- its numbers are such as a spot can have
+-- its numbers fit the fields of a node
 pub record FitsSpot (s : Spot) : Type 0 where
   pub depth : s.depth < 2 ^ 64
   pub function : s.function < 2 ^ 32
   pub arrivals : s.arrivals < 2 ^ 64
   pub steps : s.steps < 2 ^ 64
 
--- a number of some list of functions, of which the one that is told is the last, is of 2^64 or more
-abbrev pub IsTooGreat : SpotSumError → List Spot → List Spot → Type 0
-IsTooGreat OutOfMemory a b = Unit {0}
-IsTooGreat (Count function) a b = (path : List ℕ) × (ends_with function path ≡ true)
+-- a count of some path that ends in the reported function is 2^64 or more
+abbrev pub Overflows : SpotSumError → List Spot → List Spot → Type 0
+Overflows OutOfMemory a b = Unit {0}
+Overflows (Count function) a b = (path : List ℕ) × (ends_with function path ≡ true)
     × ((2 ^ 64 ≤ arrivals_at path a + arrivals_at path b) ⊎ (2 ^ 64 ≤ steps_at path a + steps_at path b))
 
 -- ---- spots from the front
 
--- the deeper goes first, and of equal depth the one of the lower function
+-- the deeper node goes first; of nodes with equal depth, the one with the lower function address
 abbrev pub goes_first : Spot → Spot → Bool
 goes_first s t = nat_lt t.depth s.depth || ((s.depth == t.depth) && nat_lt s.function t.function)
 
@@ -52,14 +52,14 @@ both_of s t = record {
 abbrev pub next_of_both : Spot → Spot → NextSpot
 next_of_both s t = if goes_first s t then of_first s else if goes_first t s then of_second t else both_of s t
 
--- the first of a sum, and of how many of each list it is the sum; of two empty lists this says nothing
+-- the first node of a sum, and how many nodes of each list it adds up; of no meaning for two empty lists
 abbrev pub next_of : List Spot → List Spot → NextSpot
 next_of (s ∷ ss) [] = of_first s
 next_of (s ∷ ss) (t ∷ ts) = next_of_both s t
 next_of [] (t ∷ ts) = of_second t
 next_of [] [] = record { spot = record { depth = 0; function = 0; arrivals = 0; steps = 0 }; of_a = 0; of_b = 0 }
 
--- a sum of two spots is of 2^64 or more
+-- a sum of the counts of two nodes is 2^64 or more
 abbrev pub IsTooGreatOf : Spot → Spot → Type 0
 IsTooGreatOf s t = (2 ^ 64 ≤ s.arrivals + t.arrivals) ⊎ (2 ^ 64 ≤ s.steps + t.steps)
 
@@ -67,7 +67,7 @@ abbrev pub IsTooGreatOfBoth : SpotSumError → Spot → Spot → Type 0
 IsTooGreatOfBoth OutOfMemory s t = ⊥
 IsTooGreatOfBoth (Count function) s t = (function ≡ s.function) × IsTooGreatOf s t
 
--- a sum of the first two, which are of one depth and function
+-- a sum of the counts of the first two nodes, which have equal depth and function
 abbrev pub IsTooGreatHere : SpotSumError → List Spot → List Spot → Type 0
 IsTooGreatHere OutOfMemory a b = ⊥
 IsTooGreatHere (Count function) (s ∷ ss) (t ∷ ts) = (goes_first s t ≡ false) × (goes_first t s ≡ false)

@@ -1,4 +1,4 @@
--- Spots in preorder: of which functions each is, and what is counted in a list of functions.
+-- Nodes in preorder: the path of functions that leads to each, and what is counted per path.
 use Rattle.std.specs.Prelude.{◌==◌, ◌+◌, ◌<◌, ◌≤◌, ℕ, Bool, false, if◌then◌else◌, List, [], ◌∷◌, ◌++◌, length, take, slice_index_or}
 use Rattle.std.specs.Coded.{×_prop, Unit-prop, le_prop}
 use Rattle.std.specs.Str.{bytes_eq}
@@ -6,16 +6,16 @@ use Rattle.rv_call_tree.specs.declared.spot.Spot.{Spot}
 
 -- ---- of which functions a spot is
 
--- as many of those of the spot in front as it is deep, and its own
-abbrev pub path_behind : List ℕ → Spot → List ℕ
-path_behind front s = take s.depth front ++ s.function ∷ []
+-- the first functions of the preceding node's path, as many as the node is deep, then its own
+abbrev pub path_after : List ℕ → Spot → List ℕ
+path_after front s = take s.depth front ++ s.function ∷ []
 
--- those of the last of some spots
+-- the path of the last of some nodes
 abbrev pub last_path : List ℕ → List Spot → List ℕ
 last_path front [] = front
-last_path front (s ∷ ss) = last_path (path_behind front s) ss
+last_path front (s ∷ ss) = last_path (path_after front s) ss
 
--- those of the last of so many spots
+-- the path of the last of the first `count` nodes
 abbrev pub path_of_first : ℕ → List Spot → List ℕ
 path_of_first count spots = last_path [] (take count spots)
 
@@ -24,11 +24,11 @@ path_of_first count spots = last_path [] (take count spots)
 abbrev pub once_if : Bool → ℕ
 once_if test = if test then 1 else 0
 
--- the sum over the spots of these functions
-abbrev pub counted_behind : (Spot → ℕ) → List ℕ → List ℕ → List Spot → ℕ
-counted_behind count path front [] = 0
-counted_behind count path front (s ∷ ss) =
-    (if bytes_eq (path_behind front s) path then count s else 0) + counted_behind count path (path_behind front s) ss
+-- the sum over the nodes with this path
+abbrev pub counted_after : (Spot → ℕ) → List ℕ → List ℕ → List Spot → ℕ
+counted_after count path front [] = 0
+counted_after count path front (s ∷ ss) =
+    (if bytes_eq (path_after front s) path then count s else 0) + counted_after count path (path_after front s) ss
 
 abbrev pub arrivals_of : Spot → ℕ
 arrivals_of s = s.arrivals
@@ -36,14 +36,14 @@ arrivals_of s = s.arrivals
 abbrev pub steps_of : Spot → ℕ
 steps_of s = s.steps
 
--- how often a run came to a list of functions, and how many instructions began in it
+-- how often a run entered a path, and how many instructions it executed there
 abbrev pub arrivals_at : List ℕ → List Spot → ℕ
-arrivals_at path spots = counted_behind arrivals_of path [] spots
+arrivals_at path spots = counted_after arrivals_of path [] spots
 
 abbrev pub steps_at : List ℕ → List Spot → ℕ
-steps_at path spots = counted_behind steps_of path [] spots
+steps_at path spots = counted_after steps_of path [] spots
 
--- the sum over all spots
+-- the sum over all nodes
 abbrev pub counted_in_all : (Spot → ℕ) → List Spot → ℕ
 counted_in_all count [] = 0
 counted_in_all count (s ∷ ss) = count s + counted_in_all count ss
@@ -57,7 +57,7 @@ all_steps spots = counted_in_all steps_of spots
 abbrev pub steps_if : Bool → ℕ → ℕ
 steps_if test steps = if test then steps else 0
 
--- how many instructions began in a function itself: in the spots of which it is the last
+-- the instructions executed in a function itself: those of the nodes that end in it
 abbrev pub own_in : ℕ → List Spot → ℕ
 own_in function spots = counted_in_all (λ s. steps_if (s.function == function) s.steps) spots
 
@@ -68,31 +68,32 @@ ends_with function (f ∷ g ∷ gs) = ends_with function (g ∷ gs)
 
 -- ---- spots that are a tree
 
--- a spot is at most one deeper than the one in front; where that one has a function at its depth, its own is above that
-pub record StandsBehind (front : List ℕ) (s : Spot) : Type 0 where
+-- a node is at most one deeper than the preceding one; if that one's path has a function at the node's depth, the node's own function
+-- address is higher
+pub record FollowsInPreorder (front : List ℕ) (s : Spot) : Type 0 where
   pub within : s.depth ≤ length front
   pub rising : s.depth < length front → slice_index_or front s.depth 0 < s.function
 
-abbrev pub StandBehind : List ℕ → List Spot → Type 0
-StandBehind front [] = Unit {0}
-StandBehind front (s ∷ ss) = StandsBehind front s × StandBehind (path_behind front s) ss
+abbrev pub FollowInPreorder : List ℕ → List Spot → Type 0
+FollowInPreorder front [] = Unit {0}
+FollowInPreorder front (s ∷ ss) = FollowsInPreorder front s × FollowInPreorder (path_after front s) ss
 
--- so each list of functions stands once, the lower function first, and behind the list without its last function
+-- each path occurs once, siblings are sorted by function address, and each node comes after its parent
 abbrev pub IsTree : List Spot → Type 0
-IsTree spots = StandBehind [] spots
+IsTree spots = FollowInPreorder [] spots
 
--- and they stand so in one way
-StandsBehind-prop : (front : List ℕ) (s : Spot) → IsProp (StandsBehind front s)
-StandsBehind-prop front s h k = λ i. record {
+-- any two proofs of this are equal
+FollowsInPreorder-prop : (front : List ℕ) (s : Spot) → IsProp (FollowsInPreorder front s)
+FollowsInPreorder-prop front s h k = λ i. record {
   within = le_prop h.within k.within i;
   rising = λ low. le_prop (h.rising low) (k.rising low) i;
 }
 
-pub StandBehind-prop : (front : List ℕ) (spots : List Spot) → IsProp (StandBehind front spots)
-StandBehind-prop front [] = Unit-prop
-StandBehind-prop front (s ∷ ss) = ×_prop (StandsBehind-prop front s) (StandBehind-prop (path_behind front s) ss)
+pub FollowInPreorder-prop : (front : List ℕ) (spots : List Spot) → IsProp (FollowInPreorder front spots)
+FollowInPreorder-prop front [] = Unit-prop
+FollowInPreorder-prop front (s ∷ ss) = ×_prop (FollowsInPreorder-prop front s) (FollowInPreorder-prop (path_after front s) ss)
 
--- a run came to each of them
+-- a run entered each of them
 abbrev pub HasArrivals : List Spot → Type 0
 HasArrivals [] = Unit {0}
 HasArrivals (s ∷ ss) = (0 < s.arrivals) × HasArrivals ss

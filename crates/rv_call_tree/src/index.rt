@@ -1,23 +1,23 @@
-//! Spots by their functions.
+//! Call-tree nodes indexed by function.
 
 ghost use Rattle.std.specs.Prelude.{◌≡◌, ◌^◌, ◌<◌, [], IfOk};
 ghost use Rattle.std.specs.List.Sorted.{IsNonDecreasingBy};
 ghost use Rattle.rv_call_tree.specs.Profiles.{IsStepsOf};
 ghost use Rattle.rv_call_tree.specs.Subtrees.{subtrees_of_function, AreSubtreesByFunction};
-ghost use Rattle.rv_call_tree.specs.Trees.{all_arrivals, all_steps, IsTree, StandBehind-prop};
+ghost use Rattle.rv_call_tree.specs.Trees.{all_arrivals, all_steps, IsTree, FollowInPreorder-prop};
 
 use crate::profile::FunctionSteps;
 use crate::spot::Spot;
 use crate::subtree::{Subtree, subtrees_of};
 use std::alloc::{AllocError, Global};
 
-/// Spots sorted by function, so that what ran in a function is told without a pass over all of them.
+/// Nodes sorted by function, so that a function's counts are found without a pass over all nodes.
 #[derive(Drop)]
 pub struct SpotIndex<'s> {
     pub spots: &'s [Spot],
-    // Those of a function in the order of their spots.
+    // The subtrees of each function, in node order.
     subtrees: Vec<Subtree>,
-    ghost tree: { IsTree spots.now } by { StandBehind-prop [] spots.now },
+    ghost tree: { IsTree spots.now } by { FollowInPreorder-prop [] spots.now },
     ghost few_steps: { all_steps spots.now < 2 ^ 64 },
     ghost few_arrivals: { all_arrivals spots.now < 2 ^ 64 },
     ghost rising: { IsNonDecreasingBy (λ s. s.function) subtrees.items },
@@ -25,7 +25,7 @@ pub struct SpotIndex<'s> {
 }
 
 impl<'s> SpotIndex<'s> {
-    /// Takes the time of a sort of the spots, and memory for 48 bytes a spot.
+    /// Builds the index. Takes the time of a sort of the nodes, and 48 bytes of memory for each.
     pub fn new(alloc: Global, spots: &'s [Spot]) -> Result<SpotIndex<'s>, AllocError>
         requires tree { IsTree spots.now }
         requires steps { all_steps spots.now < 2 ^ 64 }
@@ -37,7 +37,7 @@ impl<'s> SpotIndex<'s> {
         Ok(SpotIndex { spots, subtrees })
     }
 
-    /// What ran in a function. Its time grows with the logarithm of the number of spots, and with the number of spots of the function.
+    /// Returns a function's counts. Takes time logarithmic in the number of all nodes and linear in the number of the function's nodes.
     pub fn steps_of(&self, function: u32) -> FunctionSteps
         ensures { IsStepsOf function self.now.spots.now result }
     {
@@ -46,7 +46,7 @@ impl<'s> SpotIndex<'s> {
             inclusive: 0,
             arrivals: 0,
         };
-        // Where the last subtree ends whose steps are counted: those that begin in front of it are parts of it.
+        // The end of the last subtree whose steps are counted. Subtrees that begin before it are parts of it.
         let mut end = 0;
         for subtree in self.subtrees_of_function(function) {
             found.own += subtree.own;
@@ -59,7 +59,7 @@ impl<'s> SpotIndex<'s> {
         found
     }
 
-    // In the order of their spots.
+    // Returns the function's subtrees, in node order.
     fn subtrees_of_function(&self, function: u32) -> &[Subtree]
         ensures { result.now ≡ subtrees_of_function function self.now.spots.now }
     {

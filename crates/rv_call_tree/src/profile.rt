@@ -6,18 +6,19 @@ ghost use Rattle.rv_call_tree.specs.Profiles.{with_function, AreFunctionsOf};
 use crate::spot::Spot;
 use std::alloc::{AllocError, Global};
 
-/// How often a run came to a function, and how many instructions began there.
+/// How often a run entered a function, and how many instructions it executed there.
 #[derive(Clone, Copy, Debug, PartialEq, Eq)]
 pub struct FunctionSteps {
-    /// In itself.
+    /// Steps in the function itself.
     pub own: u64,
-    /// In itself and in what it called: in each list of functions that it is one of, once however often it stands there.
+    /// Steps in the function and in what it called. Each path that has the function counts once, even if the function occurs in it several
+    /// times.
     pub inclusive: u64,
-    /// By calls and jumps.
+    /// The number of entries, by calls and by jumps.
     pub arrivals: u64,
 }
 
-/// The functions of spots, each once, in the order in which they come.
+/// Returns the functions of nodes, each once, in order of first occurrence.
 pub fn functions_of(alloc: Global, spots: &[Spot]) -> Result<Vec<u32>, AllocError>
     ensures { IfOk result (λ functions. AreFunctionsOf spots.now functions.items) }
 {
@@ -28,7 +29,7 @@ pub fn functions_of(alloc: Global, spots: &[Spot]) -> Result<Vec<u32>, AllocErro
     Ok(functions)
 }
 
-// Appends a function that is not there.
+// Appends a function unless it is in the list.
 fn add_function(functions: &mut Vec<u32>, function: u32) -> Result<(), AllocError>
     ensures { OnOk result (functions.new.items ≡ with_function function functions.old.items) }
 {

@@ -1,19 +1,19 @@
-//! Spots as values.
+//! Nodes of a call tree.
 
 use rv_base::Sequence;
 
-/// Spots in preorder, of which contracts see their list.
+/// Nodes in preorder; contracts see them as a list.
 pub type Spots = Sequence<Spot>;
 
-/// A list of functions of which each called the next. It has as many of the functions of the spot in front as it is deep, and
-/// then its own.
+/// A path of functions, each of which called the next: the first functions of the preceding node's path, as many as the node is deep, then
+/// its own function.
 #[derive(Clone, Copy, Debug, PartialEq, Eq)]
 pub struct Spot {
     pub depth: usize,
-    /// The address of its function.
+    /// The address of the node's own function.
     pub function: u32,
-    /// How often a run came to it by a call or a jump.
+    /// How often a run entered the node by a call or a jump.
     pub arrivals: u64,
-    /// How many instructions began in it.
+    /// The number of instructions executed in the node.
     pub steps: u64,
 }

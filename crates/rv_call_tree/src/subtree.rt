@@ -1,4 +1,4 @@
-//! Spots with all that is below them.
+//! Nodes with all their descendants.
 
 ghost use Rattle.std.specs.Prelude.{◌≡◌, ◌+◌, ◌^◌, ◌<◌, ◌∷◌, IfOk, drop, length, reverse};
 ghost use Rattle.rv_call_tree.specs.Subtrees.{subtrees_from};
@@ -7,24 +7,24 @@ ghost use Rattle.rv_call_tree.specs.Trees.{all_steps};
 use crate::spot::Spot;
 use std::alloc::{AllocError, Global};
 
-/// A spot and the spots below it, which follow it.
+/// A node and its descendants, which follow it.
 #[derive(Clone, Copy)]
 pub(crate) struct Subtree {
-    /// That of the spot.
+    /// The node's function.
     pub(crate) function: u32,
-    /// The place of the spot.
+    /// The node's index.
     pub(crate) place: usize,
-    /// The place of the first spot behind it that is not below it.
+    /// The index of the first node after it that is not a descendant.
     pub(crate) end: usize,
-    /// The steps of the spot.
+    /// The node's own steps.
     pub(crate) own: u64,
-    /// The steps of the spot and of all below it.
+    /// The steps of the node and of all its descendants.
     pub(crate) inclusive: u64,
-    /// The arrivals of the spot.
+    /// The number of entries into the node.
     pub(crate) arrivals: u64,
 }
 
-/// The subtree of each spot, in their order. Takes time in proportion to the number of spots.
+/// Returns the subtree of each node, in node order. Takes time linear in the number of nodes.
 pub(crate) fn subtrees_of(alloc: Global, spots: &[Spot]) -> Result<Vec<Subtree>, AllocError>
     requires { all_steps spots.now < 2 ^ 64 }
     ensures { IfOk result (λ subtrees. subtrees.items ≡ subtrees_from 0 spots.now) }
@@ -38,8 +38,8 @@ pub(crate) fn subtrees_of(alloc: Global, spots: &[Spot]) -> Result<Vec<Subtree>,
     Ok(subtrees)
 }
 
-// That of the spot at a place, from those of the spots behind it, the last first. It goes from child to child, so that each subtree is
-// read for one spot.
+// Returns the subtree of the node at an index, given those of the nodes after it, last first. It goes from child to child, so that each
+// subtree is read for one node only.
 fn subtree_at(spots: &[Spot], place: usize, behind: &[Subtree]) -> Subtree
     requires within { place < length spots.now }
     requires steps { all_steps spots.now < 2 ^ 64 }

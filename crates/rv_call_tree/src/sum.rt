@@ -1,20 +1,20 @@
-//! The sum of two trees of spots.
+//! The sum of two call trees.
 
 ghost use Rattle.std.specs.Prelude.{◌≡◌, ◌+◌, ◌<◌, ◌++◌, ◌∷◌, [], IfOk, IfErr, OnOk, length};
 ghost use Rattle.std.specs.List.{AllByRecursion};
-ghost use Rattle.rv_call_tree.specs.Sums.{both_of, goes_first, next_of, of_first, of_second, FitsSpot, IsTooGreat, IsTooGreatHere, IsTooGreatOfBoth, IsSumOfSpots};
+ghost use Rattle.rv_call_tree.specs.Sums.{both_of, goes_first, next_of, of_first, of_second, FitsSpot, Overflows, IsTooGreatHere, IsTooGreatOfBoth, IsSumOfSpots};
 ghost use Rattle.rv_call_tree.specs.Trees.{IsTree};
 ghost use Rattle.rv_call_tree.specs.declared.sum.SpotSumError.TheVariants.{OutOfMemory};
 
 use crate::spot::{Spot, Spots};
 use std::alloc::{AllocError, Global};
 
-/// Why spots were not added.
+/// Why trees could not be added.
 #[derive(Clone, Copy, Debug, PartialEq, Eq)]
 pub enum SpotSumError {
-    /// A growth was refused.
+    /// An allocation failed.
     OutOfMemory,
-    /// The sum of a number of a spot of this function is of 2^64 or more.
+    /// A count of a node of this function would be 2^64 or more.
     Count(u32),
 }
 
@@ -26,13 +26,13 @@ impl From<AllocError> for SpotSumError {
     }
 }
 
-/// The spots of both trees, each list of functions once. Takes memory for the sum alone.
+/// Returns the nodes of both trees, each path once. Allocates only the sum.
 pub fn sum_of_spots(alloc: Global, a: &[Spot], b: &[Spot]) -> Result<Spots, SpotSumError>
     requires a { IsTree a.now }
     requires b { IsTree b.now }
     ensures value { IfOk result (λ sum. IsSumOfSpots a.now b.now sum) }
     ensures fits { IfOk result (λ sum. AllByRecursion FitsSpot sum) }
-    ensures refused { IfErr result (λ error. IsTooGreat error a.now b.now) }
+    ensures refused { IfErr result (λ error. Overflows error a.now b.now) }
 {
     let mut sums = Vec::new(alloc);
     let mut from_a = 0;
@@ -46,7 +46,7 @@ pub fn sum_of_spots(alloc: Global, a: &[Spot], b: &[Spot]) -> Result<Spots, Spot
     Ok(Spots::new(sums))
 }
 
-/// The first spot of a sum, and of how many spots of each tree it is the sum.
+/// The first node of a sum, and how many nodes of each tree it adds up.
 #[derive(Clone, Copy)]
 pub(crate) struct NextSpot {
     pub(crate) spot: Spot,
@@ -61,7 +61,7 @@ fn push_spot(spots: &mut Vec<Spot>, spot: Spot) -> Result<(), AllocError>
     Ok(())
 }
 
-// The deeper of the first spots of both goes first, and of equal depth the one of the lower function.
+// Returns the deeper of both lists' first nodes; of nodes with equal depth, the one with the lower function address.
 fn next_spot(a: &[Spot], b: &[Spot]) -> Result<NextSpot, SpotSumError>
     requires { 0 < length a.now + length b.now }
     ensures value { IfOk result (λ next. next ≡ next_of a.now b.now) }
@@ -112,7 +112,7 @@ fn of_second(spot: Spot) -> NextSpot
     }
 }
 
-// The sum of two spots of one depth and function.
+// Returns the sum of two nodes with equal depth and function.
 fn both_of(spot: Spot, other: Spot) -> Result<NextSpot, SpotSumError>
     ensures value { IfOk result (λ next. next ≡ both_of spot other) }
     ensures fits { IfOk result (λ next. FitsSpot next.spot) }

@@ -1,4 +1,4 @@
--- The calls of a run that have not returned where it ended.
+-- The calls of a run that have not returned when it ends.
 use Rattle.std.specs.Prelude.{ℕ, zero, suc, ◌+◌, ◌%◌, List, [], ◌∷◌, Option, Some, None, Result, Ok, Err, option_map, option_and_then, fold}
 use Rattle.std.specs.Result.{result_ok}
 use Rattle.rv_jobs.specs.Plans.{Planned}
@@ -17,12 +17,12 @@ use Rattle.rv_calls.specs.Stack.{instr_action, after_transfer}
 
 -- ---- one step
 
--- the address behind a code
+-- the address after an encoding
 abbrev pub after_code : ℕ → Option Code → ℕ
 after_code pc None = pc
 after_code pc (Some code) = (pc + size_of_code code) % 0x1_0000_0000
 
--- how the code at the pc of a state passed control to the next state; x2 is the stack pointer
+-- how the instruction at a state's pc passed control to the next state; x2 is the stack pointer
 abbrev pub transfer_by : Option Code → State → State → Transfer
 transfer_by code s t = record {
   action = instr_action (option_and_then instr_of code);
@@ -37,21 +37,21 @@ transfer_of s t = transfer_by (code_at s.bus s.pc) s t
 
 -- ---- a run
 
--- the transfer at a state whose step completes, and those behind it
+-- the transfer in a state whose step completes, followed by the later ones
 abbrev pub transfer_and_more : Result State Ending → State → (State → List Transfer) → List Transfer
 transfer_and_more (Ok t) s rest = transfer_of s t ∷ rest t
 transfer_and_more (Err e) s rest = []
 
--- those of the steps that complete, of at most n from a state on
+-- the transfers of the completed steps, of at most n from a state on
 unfoldable pub transfers_from : ℕ → State → List Transfer
 transfers_from zero s = []
 transfers_from (suc n) s = transfer_and_more (step_of s) s (λ t. transfers_from n t)
 
--- the frames behind transfers that go on from some
+-- the frames after transfers, given the frames before them
 abbrev pub after_transfers : List Frame → List Transfer → List Frame
 after_transfers frames ts = fold after_transfer frames ts
 
--- the frames at the end of a run of at most n steps, which begins with none
+-- the frames at the end of a run of at most n steps that begins without frames
 unfoldable pub frames_of_run : ℕ → State → List Frame
 frames_of_run n s = after_transfers [] (transfers_from n s)
 
@@ -59,6 +59,6 @@ frames_of_run n s = after_transfers [] (transfers_from n s)
 abbrev pub calls_of_run : ℕ → State → Calls
 calls_of_run n s = record { pc = (state_after n s).pc; frames = frames_of_run n s }
 
--- those of the run of a job of a plan within its budget, where it is not refused
+-- the calls of the run of a plan's job within its budget, unless the job is refused
 unfoldable pub calls_in : Planned → Job → Option Calls
 calls_in plan job = option_map (calls_of_run job.budget) (result_ok (start_in plan.answers job))

@@ -1,4 +1,4 @@
--- The calls that have not returned, as a person is told them.
+-- The calls that have not returned, as shown to a person.
 use Rattle.std.specs.Prelude.{ℕ, ◌-◌, ◌==◌, List, [], ◌++◌, codes, length, reverse, take, if◌then◌else◌, Option, Some, None}
 use Rattle.std.specs.Fmt.{decimal}
 use Rattle.std.specs.List.{flat_map}
@@ -10,7 +10,7 @@ use Rattle.rv_text.specs.Words.{word_digits}
 use Rattle.rv_calls.specs.declared.frames.Frame.{Frame}
 use Rattle.rv_calls.specs.declared.run.Calls.{Calls}
 
--- a place in code by its symbol, or by its address where it has none
+-- a code address as symbol and offset, or as a number if it has no symbol
 abbrev pub symbol_or_address : Option (List ℕ × ℕ) → ℕ → List ℕ
 symbol_or_address (Some place) address = symbol_text place
 symbol_or_address None address = word_digits address
@@ -22,19 +22,19 @@ place_text image file address = symbol_or_address (symbol_at image file address)
 abbrev pub call_text : Image → List ℕ → Frame → List ℕ
 call_text image file frame = codes " <- " ++ place_text image file frame.call
 
--- how many calls are told at most: with the pc there are 32 places
+-- the maximum number of calls shown; with the pc there are 32 addresses
 abbrev pub most_told : ℕ
 most_told = 31
 
--- how many calls more there are, where there are any
+-- the number of further calls, if there are any
 unfoldable pub more_text : ℕ → List ℕ
 more_text count = if count == 0 then [] else codes " <- " ++ decimal count ++ codes " more"
 
--- of those frames that are not told
+-- the number of frames that are not shown, if there are any
 abbrev pub rest_text : List Frame → List ℕ
 rest_text frames = more_text (length frames - most_told)
 
--- where a run ended, and behind it the place of each call, the innermost first
+-- where a run ended, then the address of each call, innermost first
 unfoldable pub places_text : Image → List ℕ → ℕ → List Frame → List ℕ
 places_text image file pc frames = place_text image file pc
     ++ flat_map (call_text image file) (take most_told (reverse frames)) ++ rest_text frames
@@ -42,7 +42,7 @@ places_text image file pc frames = place_text image file pc
 unfoldable pub calls_line : Image → List ℕ → ℕ → List Frame → List ℕ
 calls_line image file pc frames = line (codes "     calls: " ++ places_text image file pc frames)
 
--- nothing where each call has returned: the place of the end alone tells of no call
+-- empty if every call has returned, since the final pc alone shows no call
 abbrev pub calls_text : Image → List ℕ → Calls → List ℕ
 calls_text image file calls =
     if length calls.frames == 0 then [] else calls_line image file calls.pc calls.frames

@@ -1,5 +1,5 @@
--- The stack of the calls that have not returned, and what an instruction does to it (ISA manual, 2.5: the hints for a
--- return-address stack).
+-- The stack of calls that have not returned, and the effect of an instruction on it (ISA manual, 2.5: the hints for a return-address
+-- stack).
 use Rattle.std.specs.Prelude.{ℕ, ◌+◌, ◌-◌, ◌==◌, Bool, true, false, not, ◌&&◌, ◌||◌, nat_lt, nat_le, if◌then◌else◌}
 use Rattle.std.specs.Prelude.{List, [], ◌∷◌, ◌++◌, length, take, Option, Some, None}
 use Rattle.std.specs.List.{suffix_len}
@@ -17,7 +17,7 @@ use Rattle.rv_calls.specs.declared.transfer.Transfer.{Transfer}
 abbrev pub is_link : ℕ → Bool
 is_link number = (number == 1) || (number == 5)
 
--- table 2.1, by three questions: whether rd is a link, whether rs1 is one, and whether they are the same register
+-- table 2.1, from three conditions: whether rd is a link register, whether rs1 is one, and whether they are equal
 abbrev pub jalr_action : Bool → Bool → Bool → StackAction
 jalr_action false false same = action.Keep
 jalr_action false true same = action.Pop
@@ -25,13 +25,13 @@ jalr_action true false same = action.Push
 jalr_action true true false = action.PopThenPush
 jalr_action true true true = action.Push
 
--- JAL pushes where rd is a link; no other instruction but JALR does anything
+-- JAL pushes if rd is a link register; no other instruction except JALR has an effect
 abbrev pub op_action : Op → ℕ → ℕ → StackAction
 op_action op.Jal rd rs1 = if is_link rd then action.Push else action.Keep
 op_action op.Jalr rd rs1 = jalr_action (is_link rd) (is_link rs1) (rd == rs1)
 op_action _ rd rs1 = action.Keep
 
--- of the instruction that a code is; a compressed one is what it expands to
+-- the effect of an encoding's instruction; a compressed one has the effect of its expansion
 abbrev pub instr_action : Option Instr → StackAction
 instr_action (Some i) = op_action i.op i.rd i.rs1
 instr_action None = action.Keep
@@ -43,31 +43,31 @@ pushes_frame _ = false
 
 -- ---- frames, the innermost last
 
--- how many are kept at most
+-- the maximum number of frames kept
 abbrev pub most_frames : ℕ
 most_frames = 4096
 
--- how many frames lie below those at the top that pass a test
+-- the number of frames below those at the top that pass a test
 abbrev pub depth_below : (Frame → Bool) → List Frame → ℕ
 depth_below test frames = length frames - suffix_len test frames
 
--- how many there are up to the topmost one that returns to an address, which is one of them; 0 where none does
+-- the number of frames up to and including the topmost one that returns to an address; 0 if none does
 abbrev pub depth_up_to_return : ℕ → List Frame → ℕ
 depth_up_to_return to frames = depth_below (λ f. not (f.return_address == to)) frames
 
--- how many there are without those at the top whose sp is not above this one: as the stack grows down, what they called has
--- given up its part of it
+-- the number of frames without those at the top whose sp is not above this one: the stack grows down, so their callees have released their
+-- part of it
 abbrev pub depth_above : ℕ → List Frame → ℕ
 depth_above sp frames = depth_below (λ f. nat_le f.sp sp) frames
 
--- A return to an address pops down to and with the topmost frame that returns there. Where none does, as after
--- `longjmp` or the first switch to a task, it pops by the sp, and is a jump.
+-- A return to an address pops the topmost frame that returns there and all frames above it. If there is none, as after `longjmp` or the
+-- first switch to a task, it pops by the sp and counts as a jump.
 abbrev pub depth_after_return : ℕ → ℕ → List Frame → ℕ
 depth_after_return to sp frames = if depth_up_to_return to frames == 0
     then depth_above sp frames
     else depth_up_to_return to frames - 1
 
--- how many frames are left where it pops any
+-- how many frames remain after the pop, if there is one
 abbrev pub depth_left : StackAction → ℕ → ℕ → List Frame → ℕ
 depth_left action.Pop to sp frames = depth_after_return to sp frames
 depth_left action.PopThenPush to sp frames = depth_after_return to sp frames
@@ -76,7 +76,7 @@ depth_left _ to sp frames = length frames
 abbrev pub popped : List Frame → Transfer → List Frame
 popped frames t = take (depth_left t.action t.to t.sp frames) frames
 
--- whether it pushes a frame onto what is left: with as many as are kept a call is a jump
+-- whether it pushes a frame onto the remaining ones; a call at the maximum depth counts as a jump
 abbrev pub is_pushed : List Frame → Transfer → Bool
 is_pushed left t = pushes_frame t.action && nat_lt (length left) most_frames
 
@@ -87,6 +87,6 @@ frame_of t = record { return_address = t.behind; sp = t.sp; call = t.from }
 abbrev pub pushed : List Frame → Transfer → List Frame
 pushed left t = if is_pushed left t then left ++ frame_of t ∷ [] else left
 
--- the frames behind a transfer of control: it pops, and then it pushes
+-- the frames after a transfer of control: first the pop, then the push
 unfoldable pub after_transfer : List Frame → Transfer → List Frame
 after_transfer frames t = pushed (popped frames t) t

@@ -1,4 +1,4 @@
-//! What an instruction does to the stack of calls.
+//! The effect of an instruction on the stack of calls.
 
 ghost use Rattle.std.specs.Prelude.{◌≡◌, ◌==◌, Some, option_and_then};
 ghost use Rattle.rv_trace.specs.Code.{instr_of};
@@ -7,21 +7,21 @@ ghost use Rattle.rv_calls.specs.Stack.{instr_action, is_link, jalr_action, op_ac
 use rv_isa::{Instr, Op};
 use rv_trace::{Code, instr_of};
 
-/// What an instruction hints to a return-address stack (ISA manual, table 2.1).
+/// An instruction's hint to a return-address stack (ISA manual, table 2.1).
 #[derive(Clone, Copy)]
 pub enum StackAction {
-    /// Nothing.
+    /// No effect.
     Keep,
-    /// It calls.
+    /// A call.
     Push,
-    /// It returns.
+    /// A return.
     Pop,
-    /// It returns, and then it calls, as a switch between coroutines does.
+    /// A return followed by a call, as in a switch between coroutines.
     PopThenPush,
 }
 
 impl StackAction {
-    /// Whether it calls.
+    /// Whether it is a call.
     pub(crate) fn pushes_frame(self) -> bool
         ensures { result ≡ pushes_frame self }
     {
@@ -32,7 +32,7 @@ impl StackAction {
     }
 }
 
-/// What the instruction of a code does; nothing where there is none.
+/// Returns the effect of an encoding's instruction; none if it has no instruction.
 pub fn action_of_code(code: Option<Code>) -> StackAction
     ensures { result ≡ instr_action (option_and_then instr_of code) }
 {
@@ -45,7 +45,7 @@ pub fn action_of_code(code: Option<Code>) -> StackAction
     }
 }
 
-/// What an instruction does.
+/// Returns the effect of an instruction.
 pub fn action_of(instr: Instr) -> StackAction
     ensures { result ≡ instr_action (Some instr) }
 {
@@ -74,7 +74,7 @@ fn jalr_action(rd: u8, rs1: u8) -> StackAction
     }
 }
 
-// Whether a register holds return addresses by the standard's calling convention: x1, and x5 as the alternate one.
+// Whether a register holds return addresses by the standard calling convention: x1, and x5 as the alternate one.
 fn is_link(register: u8) -> bool
     ensures { result ≡ is_link register }
 {

@@ -13,12 +13,12 @@ use rv_text::{Span, push_spans, push_symbol, push_text, push_word_digits};
 use rv_trace::ElfFile;
 use std::alloc::{AllocError, Global};
 
-/// How many calls are told at most: with the place of the end there are 32.
+/// The maximum number of calls shown; with the final pc there are 32 addresses.
 const MOST_TOLD: usize = 31;
 
-/// Appends the line of the calls that have not returned where a run ended, where there are any: the place of the end, and
-/// that of each call, the innermost first, at most 32 places and how many calls more there are. A place has the symbol of
-/// the job's file, or else its address.
+/// Appends the line of the calls that have not returned when a run ended, if there are any: the final pc and the address of each call,
+/// innermost first, at most 32 addresses, then the number of further calls. Addresses are shown by the symbols of the job's file, or as
+/// numbers if they have none.
 pub fn push_calls_text(
     alloc: Global,
     bytes: &mut Vec<u8>,
@@ -50,7 +50,7 @@ fn push_calls_line(
     push_text(bytes, "\n")
 }
 
-// The pc, and the calls behind it.
+// Appends the pc, followed by the calls.
 #[tactic(auto, unfolding(crate::specs::CallsLine::places_text))]
 fn push_places(
     alloc: Global,
@@ -67,7 +67,7 @@ fn push_places(
     push_rest(bytes, frames)
 }
 
-// The innermost calls, as many as are told.
+// Appends the innermost calls, up to the maximum shown.
 fn push_calls(
     alloc: Global,
     bytes: &mut Vec<u8>,
@@ -130,14 +130,14 @@ fn push_symbol_or_address(
     }
 }
 
-// How many calls are not told.
+// Appends the number of calls that are not shown.
 fn push_rest(bytes: &mut Vec<u8>, frames: &[Frame]) -> Result<(), AllocError>
     ensures { OnOk result (bytes.new.items ≡ bytes.old.items ++ rest_text frames.now) }
 {
     push_more(bytes, frames.len().saturating_sub(MOST_TOLD))
 }
 
-// How many calls more there are, where there are any.
+// Appends the number of further calls, if there are any.
 #[tactic(auto, unfolding(crate::specs::CallsLine::more_text))]
 fn push_more(bytes: &mut Vec<u8>, count: usize) -> Result<(), AllocError>
     ensures { OnOk result (bytes.new.items ≡ bytes.old.items ++ more_text count) }

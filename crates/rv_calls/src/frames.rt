@@ -1,4 +1,4 @@
-//! Frames, and what a transfer of control does to them.
+//! Frames, and the effect of a transfer of control on them.
 
 ghost use Rattle.std.specs.Prelude.{◌≡◌, ◌==◌, ◌≤◌, not, nat_le, OnOk, length};
 ghost use Rattle.rv_calls.specs.Stack.{after_transfer, depth_above, depth_after_return, depth_left, depth_up_to_return, frame_of, most_frames};
@@ -11,21 +11,21 @@ use std::alloc::AllocError;
 /// A call that has not returned.
 #[derive(Clone, Copy)]
 pub struct Frame {
-    /// The address behind the call.
+    /// The address after the call.
     pub return_address: u32,
     /// The stack pointer x2 at the call.
     pub sp: u32,
-    /// The address of the instruction that called.
+    /// The address of the call instruction.
     pub call: u32,
 }
 
-/// Frames, the innermost last, of which contracts see their list.
+/// Frames, innermost last; contracts see them as a list.
 pub type Frames = Sequence<Frame>;
 
-/// How many frames are kept at most: a call above them is a jump.
+/// The maximum number of frames kept. A call beyond it counts as a jump.
 pub const MOST_FRAMES: usize = 4096;
 
-/// Does to frames what a transfer of control does: it pops, and then it pushes.
+/// Applies a transfer of control to frames: first the pop, then the push.
 #[tactic(auto, unfolding(crate::specs::Stack::after_transfer))]
 pub fn pass_control(frames: &mut Vec<Frame>, transfer: Transfer) -> Result<(), AllocError>
     ensures { OnOk result (frames.new.items ≡ after_transfer frames.old.items transfer) }
@@ -38,7 +38,6 @@ pub fn pass_control(frames: &mut Vec<Frame>, transfer: Transfer) -> Result<(), A
     Ok(())
 }
 
-// The frame of a call.
 fn frame_of(transfer: Transfer) -> Frame
     ensures { result ≡ frame_of transfer }
 {
@@ -49,7 +48,7 @@ fn frame_of(transfer: Transfer) -> Frame
     }
 }
 
-/// How many frames a transfer leaves where it pops any.
+/// Returns how many frames remain after the pop of a transfer, if there is one.
 pub fn frames_left(frames: &[Frame], transfer: Transfer) -> usize
     ensures { result ≡ depth_left transfer.action transfer.to transfer.sp frames.now }
 {
@@ -61,7 +60,7 @@ pub fn frames_left(frames: &[Frame], transfer: Transfer) -> usize
     }
 }
 
-// How many frames a return to an address leaves.
+// Returns how many frames remain after a return to an address.
 fn depth_after_return(frames: &[Frame], to: u32, sp: u32) -> usize
     ensures { result ≡ depth_after_return to sp frames.now }
 {
@@ -73,7 +72,7 @@ fn depth_after_return(frames: &[Frame], to: u32, sp: u32) -> usize
     }
 }
 
-// How many frames there are up to the topmost one that returns to an address, which is one of them; 0 where none does.
+// Returns the number of frames up to and including the topmost one that returns to an address; 0 if none does.
 fn depth_up_to_return(frames: &[Frame], to: u32) -> usize
     ensures { result ≡ depth_up_to_return to frames.now }
 {
@@ -84,7 +83,7 @@ fn depth_up_to_return(frames: &[Frame], to: u32) -> usize
     depth
 }
 
-// How many frames there are without those at the top whose stack pointer is not above this one.
+// Returns the number of frames without those at the top whose stack pointer is not above this one.
 fn depth_above(frames: &[Frame], sp: u32) -> usize
     ensures { result ≡ depth_above sp frames.now }
 {

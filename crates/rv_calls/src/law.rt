@@ -1,11 +1,11 @@
-//! A law of the calls of a run, with nothing to run.
+//! A law about the calls of a run; it is not executed.
 
 ghost use Rattle.std.specs.Prelude.{◌≤◌, ℕ, length};
 ghost use Rattle.rv_machine.specs.State.{State};
 ghost use Rattle.rv_calls.specs.Calls.{frames_of_run};
 ghost use Rattle.rv_calls.specs.Stack.{most_frames};
 
-/// A run never has more frames than are kept, so they need no more memory.
+/// A run never has more frames than the maximum kept, so they need no more memory.
 pub fn frames_are_few()
     ensures { (n : ℕ) (s : State) → length (frames_of_run n s) ≤ most_frames }
 {}

@@ -13,7 +13,7 @@ use rv_rows::machine_at;
 use rv_trace::JobImage;
 use std::alloc::{AllocError, Global};
 
-/// Where a run ended, and the calls that have not returned there.
+/// Where a run ended, and the calls that have not returned.
 #[derive(Drop)]
 pub struct Calls {
     /// The pc at the end.
@@ -21,8 +21,8 @@ pub struct Calls {
     pub frames: Frames,
 }
 
-/// The calls at the end of a machine's run of at most so many steps, which begins with none. It takes the time of that run
-/// and more, and memory for at most [`MOST_FRAMES`](crate::MOST_FRAMES) frames.
+/// Returns the calls at the end of a machine's run within a budget of steps, which begins without any. Takes longer than the run alone, and
+/// memory for at most [`MOST_FRAMES`](crate::MOST_FRAMES) frames.
 pub fn calls_of_run(alloc: Global, machine: Machine, budget: u32) -> Result<Calls, AllocError>
     ensures { IfOk result (λ calls. calls ≡ calls_of_run budget (state_of machine)) }
 {
@@ -34,7 +34,7 @@ pub fn calls_of_run(alloc: Global, machine: Machine, budget: u32) -> Result<Call
     })
 }
 
-// The frames of a run, which is done.
+// Runs the machine and returns the frames at the end.
 fn frames_of_run(
     alloc: Global,
     machine: &mut Machine,
@@ -53,7 +53,7 @@ fn frames_of_run(
     Ok(frames)
 }
 
-/// The calls at the end of the run of a job within its budget; nothing where the job is refused. The job is run once more.
+/// Returns the calls at the end of a job's run within its budget; `None` if the job is refused. The job is run once more.
 #[tactic(auto, unfolding(crate::specs::Calls::calls_in))]
 pub fn calls_at_end(alloc: Global, job: &JobImage<'_>) -> Result<Option<Calls>, AllocError>
     ensures { IfOk result (λ calls. (d : AJob) → calls

@@ -1,4 +1,4 @@
-//! How an instruction passes control to the next.
+//! The transfer of control between instructions.
 
 ghost use Rattle.std.specs.Prelude.{◌≡◌, ◌+◌, ◌%◌, MatchBool, MatchOption, Ok, Some, false, is_ok};
 ghost use Rattle.rv_machine.specs.Machine.{state_of};
@@ -12,24 +12,24 @@ use rv_isa::Instr;
 use rv_machine::Machine;
 use rv_trace::{Code, code_at, code_length};
 
-/// How an instruction that completed passed control to the next.
+/// How a completed instruction passed control to the next.
 #[derive(Clone, Copy)]
 pub struct Transfer {
     pub action: StackAction,
-    /// Its address.
+    /// The instruction's address.
     pub from: u32,
-    /// The address behind it, where a call returns to.
+    /// The address after it, to which a call returns.
     pub behind: u32,
-    /// Where control went on.
+    /// The address at which control continued.
     pub to: u32,
-    /// The stack pointer x2 in front of it.
+    /// The stack pointer x2 before the instruction.
     pub sp: u32,
 }
 
-/// The number of the stack pointer.
+/// The register number of the stack pointer.
 const SP: u8 = 2;
 
-/// How the next instruction of a machine passes control, which is done, if it completes.
+/// Executes a machine's next instruction, and returns its transfer of control if it completes.
 pub fn next_transfer(machine: &mut Machine) -> Option<Transfer>
     ensures { MatchOption result
         ((is_ok (step_of (state_of machine.old)) ≡ false)
@@ -52,7 +52,7 @@ pub fn next_transfer(machine: &mut Machine) -> Option<Transfer>
     })
 }
 
-/// How an instruction that completed, of so many bytes, passed control from a pc to another, with the stack pointer in front of it.
+/// Returns how a completed instruction of `length` bytes passed control from a pc to another, given the stack pointer before it.
 pub fn transfer_by(instr: Instr, length: u32, from: u32, stack: u32, to: u32) -> Transfer
     ensures { result ≡ record { action = instr_action (Some instr); from = from; behind = (from + length) % 0x1_0000_0000; to = to; sp = stack } }
 {
@@ -65,7 +65,7 @@ pub fn transfer_by(instr: Instr, length: u32, from: u32, stack: u32, to: u32) ->
     }
 }
 
-// Does the next instruction of a machine, and tells whether it completed.
+// Executes a machine's next instruction, and returns whether it completed.
 fn step_once(machine: &mut Machine) -> bool
     ensures { MatchBool result (step_of (state_of machine.old) ≡ Ok (state_of machine.new))
         ((is_ok (step_of (state_of machine.old)) ≡ false)
@@ -74,7 +74,7 @@ fn step_once(machine: &mut Machine) -> bool
     machine.run(1).steps != 0
 }
 
-// The address behind a code.
+// Returns the address after an encoding.
 fn after_code(pc: u32, code: Option<Code>) -> u32
     ensures { result ≡ after_code pc code }
 {

@@ -1,4 +1,4 @@
-//! Tests of the calls of a run, by what `rv_calls` shows its callers: small programs whose frames a person found.
+//! Tests of the calls of a run, using what `rv_calls` exports: small programs whose frames were found by hand.
 #![tactic(auto)]
 
 #[cfg(test)]

@@ -9,8 +9,8 @@ use std::test::Fail;
 
 const BASE: u32 = 0x8000_0000;
 
-// Each program stands from 80000000 on, x2 is 0 at first, and `X` is the exit call. Frames were found by hand, the innermost
-// last: where it was called, where it returns to, and x2 at the call. label | set | budget | program | frames.
+// Each program starts at 80000000, x2 is 0 at first, and `X` is the exit call. Frames were found by hand, the innermost last: the address
+// of the call, the return address, and x2 at the call. label | set | budget | program | frames.
 const RUNS: &str = "\
 no call | imc | 9 | X |
 call | imc | 9 | 008000ef 00000013 X | 80000000 80000004 00000000
@@ -50,7 +50,7 @@ two tasks, behind the first switch to the higher stack | imc | 13 | \
     80001137 80000337 03c30313 800013b7 40038393 00c000ef 008000ef 00000013 00008413 00030093 00040313 00010413 00038113 00040393 00008067 fe5ff0ef X |
 ";
 
-// Endless recursion: JAL to itself, with x1 as the link. budget | frames.
+// Endless recursion: JAL to itself, with x1 as the link register. budget | frames.
 const DEPTHS: &str = "\
 1 | 1
 4095 | 4095
@@ -74,7 +74,7 @@ fn machine_of(alloc: Global, isa: Isa, program: &str) -> Result<Machine, Fail> {
     Ok(Machine::new(alloc, bus, BASE, isa)?)
 }
 
-// The frames at the end of a run, as a row tells them.
+// Returns the frames at the end of a run, in the form of a row.
 fn told(alloc: Global, machine: Machine, budget: u32) -> Result<String, AllocError> {
     let mut text = String::new(alloc);
     let calls = calls_of_run(alloc, machine, budget)?;

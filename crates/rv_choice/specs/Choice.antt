@@ -15,36 +15,34 @@ use Rattle.rv_expect.specs.Passing.{has_passed}
 abbrev pub ChosenNames : Type 0
 ChosenNames = List (List ℕ)
 
--- a name is one of these
+-- whether a name is one of these
 abbrev pub is_among_names : ChosenNames → List ℕ → Bool
 is_among_names names name = list_any (λ other. bytes_eq other name) names
 
--- whether names choose the job of a name, where they are asked
+-- whether exact names, if given, choose the job of a name
 abbrev pub choice_by_names : Option ChosenNames → List ℕ → Option Bool
 choice_by_names names name = option_map (λ names. is_among_names names name) names
 
--- whether a pattern does, where it is asked: it is found in the name, wherever that is
+-- whether a pattern, if given, chooses the job of a name: it matches anywhere in the name
 abbrev pub choice_by_pattern : Option Re → List ℕ → Option Bool
 choice_by_pattern pattern name = option_map (λ pattern. is_some (find_str pattern name 0)) pattern
 
--- a job is chosen where one way to choose says so, by exact names, by a pattern or by the failures
--- of a report, and where none of them is asked
+-- a job is chosen if exact names, a pattern or the failures of a report choose it, and also if none of them is given
 abbrev pub is_chosen : Option Bool → Option Bool → Option Bool → Bool
 is_chosen None None None = true
 is_chosen by_name by_pattern by_report =
     unwrap_or by_name false || (unwrap_or by_pattern false || unwrap_or by_report false)
 
--- the job of a name is chosen by exact names, by a pattern and by the names of a report's failed
--- jobs, where these are asked
+-- whether the job of a name is chosen by exact names, by a pattern and by the names of a report's failed jobs, as far as these are given
 abbrev pub is_chosen_name : Option ChosenNames → Option Re → Option ChosenNames → List ℕ → Bool
 is_chosen_name only pattern failed name =
     is_chosen (choice_by_names only name) (choice_by_pattern pattern name) (choice_by_names failed name)
 
--- a mark for each job, set where it is chosen
+-- the selection of the chosen jobs
 unfoldable pub chosen_marks : Option ChosenNames → Option Re → Option ChosenNames → List Job → List Bool
 chosen_marks only pattern failed jobs = map (λ job. is_chosen_name only pattern failed job.name) jobs
 
--- names as a caller hands them over
+-- names as a caller passes them
 abbrev pub borrowed_names : List (Bor (List ℕ)) → ChosenNames
 borrowed_names names = map (λ name. name.now) names
 
@@ -54,51 +52,51 @@ optional_names names = option_map (λ names. borrowed_names names.now) names
 abbrev pub pattern_of : Option (Bor Regex) → Option Re
 pattern_of pattern = option_map (λ regex. regex_pattern regex.now) pattern
 
--- a pattern is what its text reads as, under the default options
+-- the pattern is what its text parses as, with the default options
 abbrev pub IsReadByDefault : Regex → Type 0
 IsReadByDefault regex = (regex_config regex ≡ default_config) × IsReadFromSource regex
 
--- the names of the rows that failed, in their order
+-- the names of the failed rows, in order
 abbrev pub failed_job_names : Rule → List Row → List (List ℕ)
 failed_job_names rule rows =
     map (λ (row : Row). row.name) (filter (λ (row : Row). not (has_passed rule row)) rows)
 
--- a row has the name
+-- whether a row has the name
 abbrev pub has_row_named : List Row → List ℕ → Bool
 has_row_named rows name = list_any (λ (row : Row). bytes_eq row.name name) rows
 
--- how many jobs have no row
+-- the number of jobs without a row
 abbrev pub jobs_without_row : List Job → List Row → ℕ
 jobs_without_row jobs rows = length (filter (λ (job : Job). not (has_row_named rows job.name)) jobs)
 
--- exact names are asked where there are any
+-- exact names are given if there are any
 abbrev pub requested_names : List (Bor (List ℕ)) → Option ChosenNames
 requested_names [] = None
 requested_names (name ∷ more) = Some (borrowed_names (name ∷ more))
 
--- a pattern is found in the name of some job
+-- whether the pattern matches the name of some job
 abbrev pub is_found_in_names : Re → List Job → Bool
 is_found_in_names pattern jobs = list_any (λ job. is_some (find_str pattern job.name 0)) jobs
 
--- a mark is left of a job in whose name a pattern is not found
+-- whether a selected job remains selected: the pattern does not match its name
 abbrev pub is_left : Bool → Bool → Bool
 is_left mark is_found = mark && not is_found
 
--- a mark for each job, set where it was and where a pattern is not found in the job's name
+-- the selection without the jobs whose names the pattern matches
 unfoldable pub left_marks : Re → List Job → List Bool → List Bool
 left_marks pattern [] marks = []
 left_marks pattern (job ∷ jobs) [] = []
 left_marks pattern (job ∷ jobs) (mark ∷ marks) =
     is_left mark (is_some (find_str pattern job.name 0)) ∷ left_marks pattern jobs marks
 
--- some mark is set
+-- whether some job is selected
 abbrev pub has_mark : List Bool → Bool
 has_mark marks = list_any (λ mark. mark) marks
 
--- of some marks that were set none is left
+-- whether jobs were selected and none remains
 abbrev pub are_emptied : List Bool → List Bool → Bool
 are_emptied marks left = has_mark marks && not (has_mark left)
 
--- a job has the name
+-- whether a job has the name
 abbrev pub has_job_named : List Job → List ℕ → Bool
 has_job_named jobs name = list_any (λ job. bytes_eq job.name name) jobs

@@ -1,4 +1,4 @@
--- Why words choose no jobs.
+-- Why the arguments choose no jobs.
 use Rattle.std.specs.Prelude.{◌≡◌, ◌≢◌, ◌⊎◌, ◌++◌, ℕ, Bool, List, Option, Some, codes, false, true}
 use Rattle.regex.specs.Patterns.{default_config}
 use Rattle.regex.specs.Sources.{IsTextRefusal}
@@ -20,15 +20,15 @@ use Rattle.rv_choice.specs.Choice.{IsReadByDefault, are_emptied, is_found_in_nam
 use Rattle.rv_choice.specs.Chosen.{AreWanted}
 use Rattle.rv_choice.specs.UnknownName.{IsUnknownNameStop, unknown_name}
 
--- a text is refused as a pattern, and not for want of memory
+-- the text is rejected as a pattern, and not because memory ran out
 abbrev pub IsNoPattern : List ℕ → Type 0
 IsNoPattern text = (error : patterns.Error) × (error ≢ refused.OutOfMemory) × IsTextRefusal default_config text error
 
--- a text of an option is no pattern, and that is told
+-- the text of an option is not a pattern, and that is reported
 abbrev pub IsRefusedPattern : List ℕ → List ℕ → Stop → Type 0
 IsRefusedPattern option text stop = IsNoPattern text × IsBadPatternStop option text stop
 
--- the pattern of a text is found in the name of no job
+-- the pattern of the text matches the name of no job
 abbrev pub IsUnmatched : List ℕ → List Job → Type 0
 IsUnmatched text jobs = (pattern : Regex) × (regex_source pattern ≡ text) × IsReadByDefault pattern
     × (is_found_in_names (regex_pattern pattern) jobs ≡ false)
@@ -37,13 +37,13 @@ abbrev pub unmatched_pattern : List ℕ → List ℕ → List ℕ
 unmatched_pattern list text = codes "rvtest: " ++ printable_text list ++ codes ": no job name matches \""
     ++ printable_value text ++ codes "\"\n"
 
--- memory was wanting, a text is no pattern, or its pattern is found in no name
+-- out of memory, the text is not a pattern, or its pattern matches no name
 abbrev pub IsPatternStop : List ℕ → List ℕ → List Job → Stop → Type 0
 IsPatternStop list text jobs stop = (stop ≡ why.OutOfMemory)
     ⊎ (IsRefusedPattern (codes "--match <REGEX>") text stop
     ⊎ (IsUnmatched text jobs × IsStop 2 (unmatched_pattern list text) stop))
 
--- the pattern of a text leaves none of the jobs that words want
+-- the pattern of the text leaves none of the requested jobs
 pub record LeavesNone (known : Option FileContents) (words : RunArgs) (rule : Rule) (jobs : List Job) (text : List ℕ)
     : Type 0 where
   pub wanted : List Bool
@@ -58,17 +58,17 @@ abbrev pub emptied_choice : List ℕ → List ℕ → List ℕ
 emptied_choice list text = codes "rvtest: " ++ printable_text list ++ codes ": no jobs left after --exclude \"" ++ printable_value text
     ++ codes "\"\n"
 
--- that is told, of a pattern that leaves none of some marks
+-- the message says that the pattern leaves none of the selected jobs
 abbrev pub IsEmptiedStop : List ℕ → List Job → List Bool → Regex → Stop → Type 0
 IsEmptiedStop list jobs marks pattern stop = (are_emptied marks (left_marks (regex_pattern pattern) jobs marks) ≡ true)
     × IsStop 2 (emptied_choice list (regex_source pattern)) stop
 
--- a text is no pattern, or its pattern leaves no job
+-- the text is not a pattern, or its pattern leaves no job
 abbrev pub IsExclusionStop : Option FileContents → RunArgs → Rule → List Job → List ℕ → Stop → Type 0
 IsExclusionStop known words rule jobs text stop = IsRefusedPattern (codes "--exclude <REGEX>") text stop
     ⊎ (LeavesNone known words rule jobs text × IsStop 2 (emptied_choice words.list.now text) stop)
 
--- memory was wanting; a name is no job's; the pattern chooses nothing; the report was not read; or what is left out leaves nothing
+-- out of memory, a name that no job has, a pattern that chooses no job, a report that was not read, or an exclusion that leaves no job
 pub data IsChoiceStop (known : Option FileContents) (words : RunArgs) (rule : Rule) (jobs : List Job) (stop : Stop)
     : Type 0 where
   memory : stop ≡ why.OutOfMemory → IsChoiceStop known words rule jobs stop

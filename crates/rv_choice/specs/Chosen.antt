@@ -1,4 +1,4 @@
--- The marks of the jobs of a list that words choose, and what is said beside that.
+-- The selection of the jobs of a list that the arguments choose, and the notes about it.
 use Rattle.std.specs.Prelude.{◌≡◌, ◌↔◌, ◌++◌, ℕ, Bool, IfSome, List, [], Option, Some, None, false, option_map, true}
 use Rattle.regex.specs.Patterns.{Re}
 use Rattle.regex.specs.Strings.{regex_pattern, regex_source}
@@ -17,8 +17,8 @@ use Rattle.rv_choice.specs.Choice.{jobs_without_row, left_marks, requested_names
 use Rattle.rv_choice.specs.FailedJobNotes.{failed_job_notes}
 use Rattle.rv_choice.specs.UnknownName.{unknown_name}
 
--- by exact names, by a pattern, and among the jobs of these names, which failed in the report at a path, where so many jobs have no
--- row; there are no marks exactly where words ask for the jobs that failed in a report and in no other way, and none failed
+-- the jobs chosen by exact names, by a pattern, and among the jobs of these names, which failed in the report at a path, where `missing`
+-- jobs have no row; there is no selection exactly if the arguments only request the jobs that failed in a report, and none failed
 pub record AreChosenFrom (path : List ℕ) (failed : ChosenNames) (missing : ℕ) (pattern : Option Re) (words : RunArgs)
     (jobs : List Job) (marks : Option (List Bool)) (notes : List ℕ) : Type 0 where
   pub told : notes ≡ failed_job_notes path jobs failed missing
@@ -26,7 +26,7 @@ pub record AreChosenFrom (path : List ℕ) (failed : ChosenNames) (missing : ℕ
       ≡ chosen_marks (requested_names words.only.items) pattern (Some failed) jobs)
   pub none : (marks ≡ None) ↔ ((failed ≡ []) × (words.only.items ≡ []) × (pattern ≡ None))
 
--- the same of what a report that stands at a path has as failed, and behind how many rows it has, where it is cut off
+-- the jobs chosen with the failures of the report at a path, and a note with its number of rows if it is truncated
 pub record AreChosenFromReport (known : Option FileContents) (path : List ℕ) (pattern : Option Re) (words : RunArgs)
     (rule : Rule) (jobs : List Job) (marks : Option (List Bool)) (notes : List ℕ) : Type 0 where
   pub found : PartialReport
@@ -36,7 +36,7 @@ pub record AreChosenFromReport (known : Option FileContents) (path : List ℕ) (
   pub chosen : AreChosenFrom path (failed_job_names rule found.report.rows)
       (jobs_without_row jobs found.report.rows) pattern words jobs marks failed
 
--- beside a pattern: from a report where one is asked, else by exact names alone, with nothing said
+-- the jobs chosen with a pattern: from a report if one is given, else by exact names alone, without notes
 abbrev pub AreChosenBeside : Option FileContents → Option (Bor (List ℕ)) → Option Re → RunArgs → Rule → List Job
     → Option (List Bool) → List ℕ → Type 0
 AreChosenBeside known None pattern words rule jobs marks notes =
@@ -49,8 +49,8 @@ abbrev pub AreChosenBy : Option FileContents → Option Re → RunArgs → Rule 
 AreChosenBy known pattern words rule jobs marks notes =
     AreChosenBeside known words.failed pattern words rule jobs marks notes
 
--- the jobs that words want, before any is left out: each exact name is a job's; with the pattern that their text is read as where
--- they have one, which is found in the name of some job
+-- the jobs that the arguments request before any are left out: each exact name is that of a job; a pattern, if given, is what its text
+-- parses as, and it matches the name of some job
 pub record AreWanted (known : Option FileContents) (words : RunArgs) (rule : Rule) (jobs : List Job)
     (marks : Option (List Bool)) (notes : List ℕ) : Type 0 where
   pub named : unknown_name jobs words.only.items ≡ None
@@ -60,13 +60,13 @@ pub record AreWanted (known : Option FileContents) (words : RunArgs) (rule : Rul
   pub found : IfSome pattern (λ regex. is_found_in_names (regex_pattern regex) jobs ≡ true)
   pub by : AreChosenBy known (option_map regex_pattern pattern) words rule jobs marks notes
 
--- the marks that a pattern leaves, if it is given: at least one, where there was one
+-- the selection that a pattern leaves, if it is given: at least one job, if there was one
 abbrev pub AreLeft : Option Re → List Job → Option (List Bool) → Option (List Bool) → Type 0
 AreLeft (Some pattern) jobs (Some wanted) left =
     (left ≡ Some (left_marks pattern jobs wanted)) × (are_emptied wanted (left_marks pattern jobs wanted) ≡ false)
 AreLeft _ jobs wanted left = left ≡ wanted
 
--- the jobs that words choose: those that they want, without those in whose names the pattern is found by which they leave jobs out
+-- the jobs that the arguments choose: the requested ones, without those whose names the exclusion pattern matches
 pub record IsChoice (known : Option FileContents) (words : RunArgs) (rule : Rule) (jobs : List Job)
     (marks : Option (List Bool)) (notes : List ℕ) : Type 0 where
   pub wanted : Option (List Bool)

@@ -1,4 +1,4 @@
--- That no job of a list has a name: which name is near, or which names there are.
+-- A name that no job of a list has: the nearest name, or the names of the jobs.
 use Rattle.std.specs.Prelude.{◌≡◌, ◌==◌, ◌+◌, ◌-◌, ◌⊎◌, ℕ, List, [], ◌∷◌, ◌++◌, Option, codes, if◌then◌else◌}
 use Rattle.std.specs.Prelude.{length, nat_lt, not, option_map, take}
 use Rattle.std.specs.Borrow.{Bor}
@@ -20,40 +20,40 @@ abbrev pub no_such_job : List ℕ → List ℕ → List ℕ
 no_such_job list name =
     codes "rvtest: " ++ printable_text list ++ codes ": no job named \"" ++ printable_value name
 
--- what stands before the name of the job at a place, counted from 0, of so many
+-- the separator before the name of the job at an index, counted from 0, in a list of a number of names
 abbrev pub text_before_name : ℕ → ℕ → List ℕ
 text_before_name place count =
     if place == 0 then codes "\"; the names are " else if place + 1 == count then codes " and " else codes ", "
 
--- the names of jobs from a place on, of so many
+-- the names of jobs from an index on, in a list of a number of names
 unfoldable pub names_from : ℕ → ℕ → List Job → List ℕ
 names_from place count [] = []
 names_from place count (job ∷ jobs) = (text_before_name place count ++ job.name) ++ names_from (place + 1) count jobs
 
--- how many names stand beside the first 20 of so many
+-- how many more names there are after the first 20
 abbrev pub names_left : ℕ → List ℕ
 names_left count = if nat_lt 20 count then codes " and " ++ decimal (count - 20) ++ codes " more" else []
 
--- the first 20 names, and how many there are beside them
+-- the first 20 names, and how many more there are
 abbrev pub told_names : List Job → List ℕ
 told_names jobs = names_from 0 (length jobs) (take 20 jobs) ++ names_left (length jobs)
 
--- the job at a place is the one that a person probably meant
+-- the job at this index is the one that was probably meant
 abbrev pub IsMeant : List Job → List ℕ → ℕ → Type 0
 IsMeant jobs name place = IsNearestJob jobs name place × IsNearJob jobs name place
 
--- the name of the job that a person probably meant; or that there is none, and then the names that there are
+-- the name of the job that was probably meant; or, if there is none, the names of the jobs
 abbrev pub IsNameHint : List Job → List ℕ → List ℕ → Type 0
 IsNameHint jobs name hint =
     ((place : ℕ) × IsMeant jobs name place × (hint ≡ codes "\"; a similar name exists: " ++ job_name jobs place))
     ⊎ (((place : ℕ) → IsMeant jobs name place → ⊥) × (hint ≡ told_names jobs))
 
--- no job of the list is called so, with a hint
+-- no job of the list has this name, with a hint
 abbrev pub IsUnknownNameMessage : List ℕ → List Job → List ℕ → List ℕ → Type 0
 IsUnknownNameMessage list jobs name message =
     (hint : List ℕ) × IsNameHint jobs name hint × (message ≡ no_such_job list name ++ hint ++ codes "\n")
 
--- memory was wanting, or that is told
+-- out of memory, or the message for the unknown name
 abbrev pub IsUnknownNameStop : List ℕ → List Job → List ℕ → Stop → Type 0
 IsUnknownNameStop list jobs name stop = (stop ≡ why.OutOfMemory)
     ⊎ ((message : List ℕ) × IsUnknownNameMessage list jobs name message × IsStop 2 message stop)

@@ -1,4 +1,4 @@
-//! Refusals of values that `clap` takes as texts.
+//! Errors in values that `clap` accepts as text.
 
 ghost use Rattle.std.specs.Prelude.{◌≡◌, IfOk, string_bytes};
 ghost use Rattle.rv_choice.specs.BadValues.{IsBadValueStop, bad_value_text};
@@ -8,7 +8,7 @@ use rv_command::Stop;
 use rvtest_cli::{ChoosingCommand, usage_error};
 use std::alloc::{AllocError, Global};
 
-/// That a value of an option is none, and why. The option is written as in its help.
+/// Returns the message that a value of an option is invalid, and why. The option is written as in its help.
 pub(crate) fn bad_value_text(
     alloc: Global,
     option: &str,
@@ -26,7 +26,7 @@ pub(crate) fn bad_value_text(
     Ok(text)
 }
 
-/// The refusal of a value of a command, as these words say, where there was memory for them.
+/// Returns the error for an invalid value of a command, with this text if there was memory for it.
 pub(crate) fn bad_value_stop(
     alloc: Global,
     command: ChoosingCommand,

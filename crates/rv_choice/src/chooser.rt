@@ -1,4 +1,4 @@
-//! The jobs that words choose.
+//! Choosing the jobs that the arguments request.
 
 ghost use Rattle.std.specs.Prelude.{◌≡◌, ◌⊎◌, ◌++◌, IfErr, IfOk, IfSome, IsSomeAnd, None, OnOk, codes, string_bytes, true};
 ghost use Rattle.std.specs.Prelude.{false, is_some, length, option_map};
@@ -29,30 +29,29 @@ use rv_text::{Span, text_of_spans};
 use rvtest_cli::{ChoosingCommand, RunArgs};
 use std::alloc::{AllocError, Global};
 
-/// What chooses the jobs of a list: words, and by which rule the jobs of a report failed.
+/// What chooses the jobs of a list: the arguments, and the rule by which jobs in a report failed.
 #[derive(Drop)]
 pub struct Chooser<'x, D> {
     pub inputs: &'x D,
     pub alloc: Global,
     pub asked: &'x RunArgs<'x>,
-    /// Which rows are failures.
+    /// The rule by which rows are failures.
     pub rule: Rule,
-    /// The command whose words they are.
+    /// The command whose arguments they are.
     pub command: ChoosingCommand,
 }
 
-/// The jobs of a list that are chosen.
+/// The chosen jobs of a list.
 #[derive(Drop)]
 pub struct Choice {
-    /// A mark for each job, which is set where the job is to run. There are none where the jobs that failed in a report are asked
-    /// for, and in no other way, and none failed.
+    /// The selection: which jobs are to run. `None` if only the jobs that failed in a report are requested, and none failed.
     pub marks: Option<Vec<bool>>,
-    /// What is to be said of the jobs that failed in a report: lines, or nothing.
+    /// The notes about the jobs that failed in a report: lines, or empty.
     pub notes: Vec<u8>,
 }
 
 impl Choice {
-    // The same, with a note before the others.
+    // Returns the choice with a note before its others.
     fn behind_note(self, note: Vec<u8>) -> Result<Choice, AllocError>
         ensures marks { IfOk result (λ choice. choice.marks ≡ self.marks) }
         ensures notes { IfOk result (λ choice. choice.notes.items ≡ note.items ++ self.notes.items) }
@@ -67,7 +66,7 @@ impl Choice {
 }
 
 impl<'x, D: Inputs> Chooser<'x, D> {
-    /// The jobs that words choose.
+    /// Returns the jobs that the arguments choose.
     pub fn choose(&self, jobs: &[Job]) -> Result<Choice, Stop>
         ensures chosen { IfOk result (λ choice. IsChoice (D.contents self.now.inputs.now) self.now.asked.now
             self.now.rule jobs.now (option_map (λ marks. marks.items) choice.marks) choice.notes.items) }
@@ -80,7 +79,7 @@ impl<'x, D: Inputs> Chooser<'x, D> {
         Ok(Choice { marks, notes })
     }
 
-    // The jobs that words want, before any is left out.
+    // Returns the jobs that the arguments request, before any are left out.
     fn wanted_jobs(&self, jobs: &[Job]) -> Result<Choice, Stop>
         ensures wanted { IfOk result (λ choice. AreWanted (D.contents self.now.inputs.now) self.now.asked.now
             self.now.rule jobs.now (option_map (λ marks. marks.items) choice.marks) choice.notes.items) }
@@ -92,7 +91,7 @@ impl<'x, D: Inputs> Chooser<'x, D> {
         self.choose_by_pattern(pattern.as_ref(), jobs)
     }
 
-    // Each exact name is one of the list's.
+    // Rejects an exact name that no job of the list has.
     fn check_exact_names(&self, jobs: &[Job]) -> Result<(), Stop>
         ensures known { OnOk result (unknown_name jobs.now self.now.asked.now.only.items ≡ None) }
         ensures unknown { IfErr result (λ stop. IsSomeAnd (unknown_name jobs.now self.now.asked.now.only.items)
@@ -104,7 +103,7 @@ impl<'x, D: Inputs> Chooser<'x, D> {
         }
     }
 
-    // The pattern that jobs' names are asked for, which is found in the name of some job.
+    // Returns the pattern for job names, if given, which must match the name of some job.
     fn requested_pattern(&self, jobs: &[Job]) -> Result<Option<Regex>, Stop>
         ensures source { IfOk result (λ pattern.
             option_map regex_source pattern ≡ borrowed_text self.now.asked.now.pattern) }
@@ -125,7 +124,7 @@ impl<'x, D: Inputs> Chooser<'x, D> {
         }
     }
 
-    // The pattern by which jobs are left out.
+    // Returns the pattern by which jobs are left out.
     fn requested_exclusion(&self) -> Result<Option<Regex>, Stop>
         ensures source { IfOk result (λ excluded.
             option_map regex_source excluded ≡ borrowed_text self.now.asked.now.exclude) }
@@ -139,7 +138,7 @@ impl<'x, D: Inputs> Chooser<'x, D> {
         }
     }
 
-    // The marks without those of the jobs in whose names a pattern is found, if one is given.
+    // Returns the selection without the jobs whose names the pattern matches, if one is given.
     fn leave_out(
         &self,
         excluded: Option<&Regex>,
@@ -163,7 +162,7 @@ impl<'x, D: Inputs> Chooser<'x, D> {
         Ok(Some(left))
     }
 
-    // The marks that a pattern leaves, of which there is one where there was one.
+    // Returns the selection that a pattern leaves, which must not be empty unless it was.
     fn left_marks(&self, marks: &[bool], excluded: &Regex, jobs: &[Job]) -> Result<Vec<bool>, Stop>
         requires counted { length marks.now ≡ length jobs.now }
         ensures left { IfOk result (λ left. left.items ≡ left_marks (regex_pattern excluded.now) jobs.now marks.now) }
@@ -178,7 +177,7 @@ impl<'x, D: Inputs> Chooser<'x, D> {
         Ok(left)
     }
 
-    // The choice by a pattern, or by none, that the jobs' names were asked for.
+    // Chooses by a pattern, if one is given.
     fn choose_by_pattern(&self, pattern: Option<&Regex>, jobs: &[Job]) -> Result<Choice, Stop>
         requires { is_some pattern ≡ is_some self.now.asked.now.pattern }
         ensures chosen { IfOk result (λ choice. AreChosenBy (D.contents self.now.inputs.now)
@@ -206,7 +205,7 @@ impl<'x, D: Inputs> Chooser<'x, D> {
         Ok(choice.behind_note(note)?)
     }
 
-    // The same among the jobs that failed in the rows of the report at a path.
+    // Chooses among the jobs that failed in the rows of the report at a path.
     fn choose_from_failed_rows(
         &self,
         path: &str,
@@ -224,7 +223,7 @@ impl<'x, D: Inputs> Chooser<'x, D> {
         self.choose_from_failed_names(path, failed.as_slice(), missing, pattern, jobs)
     }
 
-    // The same among the jobs of these names, which failed in the report at a path, where so many jobs have no row.
+    // Chooses among the jobs of these names, which failed in the report at a path, in which `missing` jobs have no row.
     fn choose_from_failed_names(
         &self,
         path: &str,
@@ -246,7 +245,7 @@ impl<'x, D: Inputs> Chooser<'x, D> {
         Ok(Choice { marks, notes })
     }
 
-    // The pattern that an option's text is read as.
+    // Parses the text of an option as a pattern.
     fn compile_pattern(&self, option: &str, text: &str) -> Result<Regex, Stop>
         ensures source { IfOk result (λ pattern. regex_source pattern ≡ text.now) }
         ensures read { IfOk result IsReadByDefault }
@@ -280,7 +279,7 @@ impl<'x, D: Inputs> Chooser<'x, D> {
     }
 }
 
-// The refusal of a text that is no pattern.
+// Returns the error for a text that is not a pattern.
 fn bad_pattern_stop(
     alloc: Global,
     command: ChoosingCommand,
@@ -294,7 +293,7 @@ fn bad_pattern_stop(
     bad_value_stop(alloc, command, what)
 }
 
-// That a text is no pattern, and why.
+// Returns the message that a text is not a pattern, and why.
 fn bad_pattern_text(
     alloc: Global,
     option: &str,
@@ -307,7 +306,7 @@ fn bad_pattern_text(
     bad_value_text(alloc, option, text, reason.as_str())
 }
 
-// The exact names, where there are any.
+// Returns the exact names, if there are any.
 fn requested_names<'a>(asked: &'a RunArgs<'_>) -> Option<&'a [&'a str]>
     ensures { optional_names result ≡ requested_names asked.now.only.items }
 {
@@ -318,7 +317,7 @@ fn requested_names<'a>(asked: &'a RunArgs<'_>) -> Option<&'a [&'a str]>
     }
 }
 
-// A pattern is found in the name of some job.
+// Whether the pattern matches the name of some job.
 #[tactic(auto, using(crate::proofs::Names::found_marks))]
 fn is_found_in_job_names(alloc: Global, pattern: &Regex, jobs: &[Job]) -> Result<bool, AllocError>
     ensures { IfOk result
@@ -333,7 +332,7 @@ fn is_found_in_job_names(alloc: Global, pattern: &Regex, jobs: &[Job]) -> Result
     Ok(has_mark(marks.as_slice()))
 }
 
-// Some mark is set.
+// Whether some job is selected.
 fn has_mark(marks: &[bool]) -> bool
     ensures { result ≡ has_mark marks.now }
 {

@@ -13,7 +13,7 @@ use rv_rows::Row;
 use rv_text::{Span, push_spans};
 use std::alloc::{AllocError, Global};
 
-/// The names of the jobs that failed.
+/// Returns the names of the failed jobs.
 pub(crate) fn failed_job_names(
     alloc: Global,
     rule: Rule,
@@ -30,7 +30,7 @@ pub(crate) fn failed_job_names(
     Ok(names)
 }
 
-/// How many jobs have no row.
+/// Returns the number of jobs without a row.
 pub(crate) fn jobs_without_row(jobs: &[Job], rows: &[Row]) -> usize
     ensures { result ≡ jobs_without_row jobs.now rows.now }
 {
@@ -45,8 +45,8 @@ fn has_row_named(rows: &[Row], name: &str) -> bool
     rows.iter().any(|row| row.name.as_str() == name)
 }
 
-/// What is said of the jobs that failed in the report at a path: that there are none, or which of them are no jobs of the list any
-/// more; and how many jobs of the list have no row there.
+/// Returns the notes about the jobs that failed in the report at a path: that there are none, or which of them are no longer in the list;
+/// and how many jobs of the list have no row there.
 pub(crate) fn failed_job_notes(
     alloc: Global,
     path: &str,
@@ -66,7 +66,7 @@ pub(crate) fn failed_job_notes(
     Ok(notes)
 }
 
-// Where rows are missing, more jobs may have failed than the report says.
+// If rows are missing, more jobs may have failed than the report says.
 fn none_failed_note(alloc: Global, path: &str, missing: usize) -> Result<Vec<u8>, AllocError>
     ensures { IfOk result (λ note. note.items ≡ none_failed_note path.now missing) }
 {
@@ -77,7 +77,7 @@ fn none_failed_note(alloc: Global, path: &str, missing: usize) -> Result<Vec<u8>
     }
 }
 
-// How many jobs of the list have no row, if there are any.
+// Returns a note with the number of jobs in the list without a row, if there are any.
 fn missing_rows_note(alloc: Global, path: &str, missing: usize) -> Result<Vec<u8>, AllocError>
     ensures { IfOk result (λ note. note.items ≡ missing_rows_note path.now missing) }
 {
@@ -103,7 +103,7 @@ fn removed_job_notes(
     Ok(notes)
 }
 
-// Appends a note where no job has the name of one that failed.
+// Appends a note if no job has the name of a failed one.
 fn push_note_of_failed_job(
     notes: &mut Vec<u8>,
     path: &str,

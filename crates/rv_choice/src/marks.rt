@@ -1,4 +1,4 @@
-//! The jobs that are chosen, by a mark for each.
+//! The selection of the chosen jobs.
 
 ghost use Rattle.std.specs.Prelude.{◌≡◌, IfOk, length, option_map};
 ghost use Rattle.regex.specs.Strings.{matcher_pattern, regex_pattern};
@@ -10,18 +10,18 @@ use regex::{Matcher, Regex};
 use rv_jobs::Job;
 use std::alloc::{AllocError, Global};
 
-/// What chooses jobs: a job is chosen where one of them chooses it. Where nothing is given, each job is chosen.
+/// What chooses jobs: a job is chosen if any of these chooses it. If none is given, every job is chosen.
 #[derive(Clone, Copy)]
 pub(crate) struct Wanted<'a> {
     /// The exact names of jobs.
     pub(crate) only: Option<&'a [&'a str]>,
-    /// A pattern: it chooses the jobs in whose names it is found, wherever it is.
+    /// A pattern: it chooses the jobs whose names it matches anywhere.
     pub(crate) pattern: Option<&'a Regex>,
-    /// The names of the jobs that failed in a report; where there is none among them, the report chooses no job.
+    /// The names of the jobs that failed in a report; if there are none, the report chooses no job.
     pub(crate) failed: Option<&'a [&'a str]>,
 }
 
-/// A mark for each job, in list order, which is set where the job is chosen.
+/// Returns the selection of the chosen jobs, in list order.
 pub(crate) fn chosen_marks(
     alloc: Global,
     jobs: &[Job],
@@ -38,7 +38,7 @@ pub(crate) fn chosen_marks(
     Ok(marks)
 }
 
-/// A mark for each job, which is set where it was and where a pattern is not found in the job's name.
+/// Returns the selection without the jobs whose names the pattern matches.
 pub(crate) fn left_marks(
     alloc: Global,
     jobs: &[Job],
@@ -57,7 +57,7 @@ pub(crate) fn left_marks(
     Ok(left)
 }
 
-// Whether a mark is left, of a job in whose name the pattern is found or not.
+// Whether a selected job remains selected, given whether the pattern matches its name.
 fn is_left(mark: bool, is_found: bool) -> bool
     ensures { result ≡ is_left mark is_found }
 {
@@ -87,8 +87,8 @@ fn is_chosen_name(wanted: Wanted<'_>, matcher: &mut Option<Matcher<'_>>, name: &
     )
 }
 
-// Whether a job is chosen, by what three ways to choose say of it, where they are asked: exact names, a pattern, and the failures
-// of a report. It is where one of them chooses it, and where none is asked.
+// Whether a job is chosen, given the choices of those of the three that are given: exact names, a pattern, and the failures of a report. It
+// is if any of them chooses it, or if none is given.
 fn is_chosen(by_name: Option<bool>, by_pattern: Option<bool>, by_report: Option<bool>) -> bool
     ensures { result ≡ is_chosen by_name by_pattern by_report }
 {
@@ -125,7 +125,7 @@ fn choice_by_pattern(matcher: &mut Option<Matcher<'_>>, name: &str) -> Option<bo
     }
 }
 
-/// The first of these names that no job has.
+/// Returns the first of these names that no job has.
 pub(crate) fn first_unknown_name<'a>(jobs: &[Job], names: &[&'a str]) -> Option<&'a str>
     ensures { option_map (λ name. name.now) result ≡ unknown_name jobs.now names.now }
 {

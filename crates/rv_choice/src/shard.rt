@@ -1,4 +1,4 @@
-//! The part of a list that words ask for, and its stamp.
+//! The requested shard of a list, and its stamp.
 
 ghost use Rattle.std.specs.Prelude.{◌≡◌, ◌≤◌, ◌<◌, ◌^◌, IfErr, IfNone, IfOk, IfSome, MatchOption, string_bytes, take, true};
 ghost use Rattle.std.specs.Char.{is_ascii_digit};
@@ -20,7 +20,7 @@ use rvtest_cli::{ChoosingCommand, RunArgs};
 use sha2::{Digest, Sha256};
 use std::alloc::{AllocError, Global};
 
-/// The shard that is asked for of a list of so many jobs, if one is. Without a stamp it has the first 16 digits of the SHA-256 of the
+/// Returns the requested shard of a list of `jobs` jobs, if there is one. The default stamp is the first 16 digits of the SHA-256 of the
 /// list's text.
 pub fn requested_shard(
     alloc: Global,
@@ -58,7 +58,7 @@ pub fn requested_shard(
     }))
 }
 
-// K and N of `K/N`, where 1 <= K <= N <= 4096.
+// Parses K and N of `K/N`, where 1 <= K <= N <= 4096.
 fn shard_numbers(words: &str) -> Option<(u32, u32)>
     ensures numbers { IfSome result (λ n. (n.0 ≡ number_before_slash words.now)
         × (n.1 ≡ number_behind_slash words.now)) }
@@ -75,7 +75,7 @@ fn shard_numbers(words: &str) -> Option<(u32, u32)>
     }
 }
 
-// A number of digits alone.
+// Parses a number that consists only of digits.
 fn parse_digits(words: &str) -> Option<u32>
     ensures { MatchOption result (IsNumeral 10 words.now → 2 ^ 32 ≤ digits_value 10 words.now)
         (λ number. IsNumeral 10 words.now × (number ≡ digits_value 10 words.now)) }

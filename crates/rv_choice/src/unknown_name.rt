@@ -1,4 +1,4 @@
-//! That no job of a list has a name.
+//! A name that no job of a list has.
 
 ghost use Rattle.std.specs.Prelude.{◌≡◌, ◌++◌, ◌<◌, ◌≤◌, ℕ, IfOk, List, OnOk, codes, length};
 ghost use Rattle.rv_choice.specs.UnknownName.{IsNameHint, IsUnknownNameStop, names_from, names_left, no_such_job, told_names};
@@ -10,7 +10,7 @@ use rv_list_errors::near_job;
 use rv_text::{Span, push_spans, push_text, text_of_spans};
 use std::alloc::{AllocError, Global};
 
-/// That no job of a list has a name, and which name is nearest, or which names there are where none is near.
+/// Returns the error that no job of a list has a name, with the nearest name or, if none is near, the names of the jobs.
 pub fn unknown_name_stop(alloc: Global, list: &str, jobs: &[Job], name: &str) -> Stop
     ensures { IsUnknownNameStop list.now jobs.now name.now result }
 {
@@ -49,7 +49,7 @@ fn no_such_job_message<'a>(
     )
 }
 
-// Appends the name of the job that a person probably meant, or else the names that there are.
+// Appends the name of the job that was probably meant, or else the names of the jobs.
 fn push_name_hint(
     message: &mut Vec<u8>,
     alloc: Global,
@@ -75,10 +75,10 @@ fn push_near_name<'a>(message: &mut Vec<u8>, near: &'a str) -> Result<(), AllocE
     )
 }
 
-// How many names are told at most.
+// The greatest number of names that are shown.
 const MOST_TOLD: usize = 20;
 
-// Appends the names of jobs, the first of them where there are many, and how many there are beside them.
+// Appends the names of jobs, only the first ones if there are many, and how many more there are.
 fn push_names(message: &mut Vec<u8>, jobs: &[Job]) -> Result<(), AllocError>
     ensures { OnOk result (message.new.items ≡ message.old.items ++ told_names jobs.now) }
 {
@@ -87,7 +87,7 @@ fn push_names(message: &mut Vec<u8>, jobs: &[Job]) -> Result<(), AllocError>
     push_names_left(message, jobs.len())
 }
 
-// Appends the names of jobs, which are the first of so many.
+// Appends the names of jobs, which are the first of `count`.
 fn push_first_names(message: &mut Vec<u8>, jobs: &[Job], count: usize) -> Result<(), AllocError>
     requires { length jobs.now ≤ count }
     ensures { OnOk result (message.new.items ≡ message.old.items ++ names_from 0 count jobs.now) }
@@ -123,7 +123,7 @@ fn text_before_name(place: usize, count: usize) -> &'static str
     }
 }
 
-// Appends how many names stand beside the told ones of so many.
+// Appends how many of `count` names were not shown.
 fn push_names_left(message: &mut Vec<u8>, count: usize) -> Result<(), AllocError>
     ensures { OnOk result (message.new.items ≡ message.old.items ++ names_left count) }
 {

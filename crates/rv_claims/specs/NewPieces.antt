@@ -1,19 +1,19 @@
--- What a pass draws in a call.
+-- The chunks that a pass draws during a call.
 use Rattle.std.specs.Prelude.{◌≡◌, ℕ, nat_lt, List, ◌++◌, length, drop}
 use Rattle.std.specs.List.{filter}
 use Rattle.rv_claims.specs.declared.view.Entry.{Entry}
 use Rattle.rv_claims.specs.Draws.{numbers}
 use Rattle.rv_claims.specs.Passes.{PassView}
 
--- the same pass, with more draws behind those that it had
+-- the same pass with further draws appended
 abbrev pub Grew : PassView → PassView → Type 0
 Grew p q = (q.draw ≡ p.draw) × (q.places ≡ p.places)
     × ((more : List Entry) × (q.draws ≡ p.draws ++ more))
 
--- the numbers below that of the pieces, in order
+-- the drawn numbers that are below the number of chunks, in order
 abbrev pub pieces_among : ℕ → List Entry → List ℕ
 pieces_among pieces draws = filter (λ n. nat_lt n pieces) (numbers draws)
 
--- the pieces among the new draws, in the order drawn
+-- the chunks among the new draws, in the order drawn
 abbrev pub new_pieces : PassView → PassView → List ℕ
 new_pieces p q = pieces_among p.draw.pieces (drop (length p.draws) q.draws)

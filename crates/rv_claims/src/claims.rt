@@ -1,4 +1,4 @@
-//! The shared draw of pieces.
+//! The shared counter from which workers draw chunks.
 ghost use Rattle.std.specs.Prelude.{◌≡◌, ℕ, ◌+◌, ◌<◌, ◌≤◌, [], ◌∷◌, ◌++◌, true, false, IfOk, IfErr, IfSome, None};
 ghost use Rattle.std.specs.Mem.Slots.{slots_items, slots_len, IsFull};
 ghost use Rattle.std.specs.Int.{bit_at};
@@ -16,14 +16,13 @@ use atomic_table::{Closed, Seat, Table};
 use std::alloc::{AllocError, Global};
 use std::marker::Model;
 
-/// A shared draw of the numbers of pieces, from 0 on. Up to 64 passes draw from it at the same time, each by one atomic
-/// addition, and no number is drawn twice.
+/// A shared draw of chunk numbers, counted from 0. Up to 64 passes draw from it concurrently, each by one atomic addition, and no number is
+/// drawn twice.
 ///
-/// Contracts see which shared draw it is, and how many pieces it has. A pass is of the shared draw whose value it
-/// names.
+/// Contracts see its identity and its number of chunks. A pass belongs to the shared draw whose value it names.
 #[derive(Drop)]
 pub struct Claims {
-    // Word 0 counts the draws, and word p + 1 is 1 where place p was given.
+    // Word 0 counts the draws; word p + 1 is 1 if pass index p was assigned.
     table: Table<(), View, u64, Running, Global>,
     pieces: u64,
 }
@@ -41,11 +40,11 @@ impl Model for Claims {
         × (c.pieces ≤ 4096) };
 }
 
-/// The places that a shared draw has, which are never given back.
+/// The number of pass indices. An index is never reused.
 const PLACES: usize = 64;
 
 impl Claims {
-    /// A shared draw of at most 4,096 pieces, and its first pass, which has place 0.
+    /// Creates a shared draw of at most 4,096 chunks, and its first pass, which has index 0.
     pub fn new(alloc: Global, pieces: u64) -> Result<(Claims, Pass), AllocError>
         requires { pieces ≤ 4096 }
         ensures { IfOk result (λ t. (t.0.pieces ≡ pieces) × (t.1 ≡ pass_of t.0 (0 ∷ []) [])) }
@@ -60,8 +59,8 @@ impl Claims {
         Ok((Claims { table, pieces }, pass))
     }
 
-    /// One draw: its number, where that is a piece's. A number past the last piece ends the pass, and a pass that has
-    /// ended draws no more.
+    /// Draws a number and returns it if it is that of a chunk. A number past the last chunk ends the pass; a pass that has ended draws no
+    /// more.
     pub fn take(&self, pass: &mut Pass) -> Option<u64>
         requires { pass.old.draw ≡ self.now }
         ensures none { has_ended pass.old ≡ true → (result ≡ None) × (pass.new ≡ pass.old) }
@@ -81,7 +80,7 @@ impl Claims {
         }
     }
 
-    /// The pass as it was, and a second one with a place of its own and no draws.
+    /// Returns the pass unchanged, and a second one with an index of its own and no draws.
     pub fn split(&self, mut pass: Pass) -> Result<(Pass, Pass), SplitError>
         requires { pass.draw ≡ self.now }
         ensures ok { IfOk result (λ t. (t.0 ≡ pass)
@@ -96,8 +95,8 @@ impl Claims {
         }
     }
 
-    /// One pass with the places and draws of both, those of the first before those of the second. It has ended where
-    /// either has.
+    /// Merges two passes into one with the indices and draws of both, those of the first before those of the second. It has ended if either
+    /// has.
     pub fn join(&self, mut first: Pass, second: Pass) -> Pass
         requires first { first.draw ≡ self.now }
         requires second { second.draw ≡ self.now }
@@ -111,7 +110,7 @@ impl Claims {
         first
     }
 
-    /// Both passes as they were: their draws stand in one history, and no number is in both.
+    /// Returns both passes unchanged and shows that their draws are in one history and that no number is in both.
     pub fn meet(&self, mut first: Pass, mut second: Pass) -> (Pass, Pass)
         requires first { first.draw ≡ self.now }
         requires second { second.draw ≡ self.now }
@@ -120,7 +119,7 @@ impl Claims {
         ensures history { InOneHistory first.draws second.draws }
         ensures apart { NoneInBoth (numbers first.draws) (numbers second.draws) }
     {
-        // Never so, since a joined pass would have a place twice: the look says that it has not.
+        // Unreachable, since a joined pass would have an index twice: the look rules that out.
         if first.bits & second.bits != 0 {
             let mut all = self.join(first, second);
             self.table.shared.load::<Look>(&mut all.seat, 0);
@@ -132,8 +131,8 @@ impl Claims {
         (first, second)
     }
 
-    /// Ends the shared draw: whether the pass holds every place that was given. Then its draws are all that there were;
-    /// if it has ended too, it holds each piece once.
+    /// Closes the shared draw and returns whether the pass holds every assigned index. If so, its draws are all draws; if it has ended as
+    /// well, it holds each chunk once.
     pub fn finish(self, pass: Pass) -> bool
         requires { pass.draw ≡ self }
         ensures all { result ≡ true → AreAll pass.draws }
@@ -153,7 +152,7 @@ impl Claims {
         all
     }
 
-    /// A pass for a place that is not in `taken`, by a seat that has no place yet.
+    /// Returns a pass with an index that is not in `taken`, for a seat that has no index yet.
     fn take_seat(&self, mut seat: Seat<(), View>, taken: u64) -> Option<Pass>
         requires table { seat.table_id ≡ self.now.table }
         requires blank { seat.me ≡ (view self.now.pieces [] [] [], []) }
@@ -174,7 +173,7 @@ impl Claims {
     }
 }
 
-/// The words of a new shared draw: no draw, and place 0 given.
+/// Returns the words of a new shared draw: no draws, and index 0 assigned.
 fn opening_words() -> [u64; 65]
     ensures { result ≡ opening_row }
 {
@@ -183,7 +182,7 @@ fn opening_words() -> [u64; 65]
     words
 }
 
-/// Whether each place whose word is 1 is among the bits.
+/// Whether each index whose word is 1 is among the bits.
 fn has_all_seats(closed: &Closed<(), Global>, bits: u64) -> bool
     requires { (slots_len closed.now.words ≡ 65) × IsFull closed.now.words }
     ensures held { result ≡ true → (p : ℕ) → p < 64

@@ -1,9 +1,8 @@
-//! The shared draw by which workers take the pieces of a list: an atomic counter, and the passes that draw from it.
+//! A shared draw, from which workers take the chunks of a list: an atomic counter and the passes that draw from it.
 //!
-//! A [`Claims`] has so many pieces, numbered from 0. Each worker holds a [`Pass`], and [`Claims::take`] gives it the
-//! number of the next piece. Over all interleavings of up to 64 passes no number is drawn twice, and a pass that holds
-//! every place that was given and has ended holds each piece exactly once. Nothing here waits, and nothing knows what a
-//! piece is.
+//! A [`Claims`] has a fixed number of chunks, numbered from 0. Each worker holds a [`Pass`], and [`Claims::take`] returns the number of the
+//! next chunk. Under every interleaving of up to 64 passes no number is drawn twice, and a pass that holds every assigned index and has
+//! ended holds each chunk exactly once. Nothing here blocks, and nothing depends on what a chunk is.
 #![tactic(auto)]
 
 mod claims;

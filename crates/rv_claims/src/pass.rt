@@ -1,4 +1,4 @@
-//! What a worker draws with.
+//! The handle by which a worker draws.
 ghost use Rattle.std.specs.Prelude.{◌≡◌};
 ghost use Rattle.rv_claims.specs.Passes.{has_ended};
 
@@ -6,14 +6,14 @@ use crate::view::View;
 use atomic_table::Seat;
 use std::marker::Model;
 
-/// The right to draw, for one or more of the 64 places of a [`Claims`](crate::Claims).
+/// The right to draw, under one or more of the 64 pass indices of a [`Claims`](crate::Claims).
 ///
-/// Contracts see which shared draw it is of, its places, and its draws in order, those past the last piece too. A pass
-/// that is dropped takes its places and draws with it.
+/// Contracts see which shared draw it belongs to, its indices, and its draws in order, including those past the last chunk. Dropping a pass
+/// loses its indices and draws.
 #[derive(Drop)]
 pub struct Pass {
     pub(crate) seat: Seat<(), View>,
-    // Bit p is set where the pass has place p.
+    // Bit p is set if the pass has index p.
     pub(crate) bits: u64,
     pub(crate) ended: bool,
 }
@@ -28,15 +28,15 @@ impl Model for Pass {
     ghost invariant = { λ p. IsPass p.seat.me p.bits p.ended };
 }
 
-/// Why a pass is not split.
+/// Why a pass could not be split.
 #[derive(Drop)]
 pub enum SplitError {
-    /// Each of the 64 places was found taken. The pass comes back as it was.
+    /// All 64 indices are in use. The pass is returned unchanged.
     Full(Pass),
 }
 
 impl Pass {
-    /// Whether it drew a number past the last piece: it draws no more.
+    /// Whether the pass drew a number past the last chunk. It draws no more then.
     pub fn ended(&self) -> bool
         ensures { result ≡ has_ended self.now }
     {

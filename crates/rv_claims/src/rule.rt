@@ -1,12 +1,11 @@
-//! The rule that every step at the table of a shared draw keeps, and what each kind of step tells the seat that takes
-//! it.
+//! The rule that every step at the table of a shared draw obeys, and what a seat learns from each kind of step.
 //!
-//! Word 0 of the table counts the draws, and word p + 1 is 1 where place p was given.
+//! Word 0 of the table counts the draws; word p + 1 is 1 if pass index p was assigned.
 
 use crate::view::View;
 use atomic_table::{Join, Play, Split, TableRule};
 
-/// The running rule: words and views show one history of draws, whose j-th number is j.
+/// The invariant: words and views agree on one history of draws, whose j-th number is j.
 pub(crate) struct Running;
 
 impl TableRule<(), View, u64> for Running {
@@ -17,7 +16,7 @@ impl TableRule<(), View, u64> for Running {
     ghost first = { first_view };
 }
 
-/// A draw: 1 is added to word 0, and what was found there is the number.
+/// A draw: adds 1 to word 0; the number found there is the one drawn.
 pub(crate) struct Draw;
 
 impl Play<(), View> for Draw {
@@ -26,7 +25,7 @@ impl Play<(), View> for Draw {
     ghost then = { Drew };
 }
 
-/// Sitting: 1 is put into the word of a place, which is the seat's where 0 was found.
+/// Sitting down: writes 1 to the word of an index. The seat gets the index if it found 0.
 pub(crate) struct Sit;
 
 impl Play<(), View> for Sit {
@@ -35,7 +34,7 @@ impl Play<(), View> for Sit {
     ghost then = { Sat };
 }
 
-/// A look: word 0 is read, and the seat learns what the rule says of its view.
+/// A look: reads word 0; the seat learns what the rule states about its view.
 pub(crate) struct Look;
 
 impl Play<(), View> for Look {
@@ -44,7 +43,7 @@ impl Play<(), View> for Look {
     ghost then = { Looked };
 }
 
-/// A new seat, with no place and no draws.
+/// A new seat, without an index and without draws.
 pub(crate) struct Fresh;
 
 impl Split<View> for Fresh {
@@ -55,7 +54,7 @@ impl Split<View> for Fresh {
     ghost right = { new_seat_view };
 }
 
-/// A seat that carries a copy of the draws to another seat.
+/// A seat that carries a copy of one seat's draws to another.
 pub(crate) struct Note;
 
 impl Split<View> for Note {
@@ -66,7 +65,7 @@ impl Split<View> for Note {
     ghost right = { note_of };
 }
 
-/// One seat with what both hold; the other is spent.
+/// One seat with what both hold; the other is left empty.
 pub(crate) struct Both;
 
 impl Join<View> for Both {

@@ -1,14 +1,13 @@
-//! What the proofs follow of a shared draw: what each seat at its table holds. No value of these types is ever made.
+//! The ghost state of a shared draw: what each seat at its table holds. No value of these types exists at run time.
 use std::collections::LinkedList;
 
-/// One draw: the place that drew, and the number.
+/// One draw: the index it was made under, and the number.
 pub struct Entry {
     pub place: u64,
     pub number: u64,
 }
 
-/// What a seat holds: its places, the latest first, and its draws in order; and the draws of others that it was told
-/// of.
+/// What a seat holds: its pass indices, the latest first; its draws in order; and the draws of other seats that it has noted.
 pub struct View {
     pub pieces: u64,
     pub places: LinkedList<u64>,

@@ -25,7 +25,7 @@ use Rattle.rv_cli.proofs.Matching.{there_if_given, there_if_had, value_good, val
 use Rattle.rv_cli.proofs.Numerals.{test_gives, test_holds}
 use Rattle.rv_cli.specs.declared.rvfleet.Request.{Request as Value}
 use Rattle.rv_cli.specs.RvfleetRequests.{request}
-use Rattle.rv_cli.specs.RvfleetCommand.{budget_rule, fleet_app, are_words_taken, one_request}
+use Rattle.rv_cli.specs.RvfleetCommand.{budget_rule, fleet_app, are_arguments_accepted, one_request}
 use Rattle.rv_cli.specs.Values.{number_value, parsed_decimal, number_in_range}
 use Rattle.rv_cli.specs.RvfleetCommand.{raw_request, subcommand_request, request_of, run_request}
 
@@ -174,8 +174,8 @@ subcommand_met s names words false required e =
     let met = both (not s.subcommand_required || false) _ helped.1 in
     rw required at met.0
 
-pub taken_asks : (words : List Text) → are_words_taken words ≡ true → is_some (request_of words) ≡ true
-unfolding are_words_taken
+pub taken_asks : (words : List Text) → are_arguments_accepted words ≡ true → is_some (request_of words) ≡ true
+unfolding are_arguments_accepted
 taken_asks words taken =
     let passes = both (is_simple fleet_app)
     (built_takes (built fleet_app) nothing_held (argument_words fleet_app words)) taken in
@@ -188,6 +188,6 @@ taken_asks words taken =
 
 -- where a request is read, something is asked
 pub some_asked : (asked : Option Value) (words : List Text) → option_map request asked ≡ request_of words
-    → are_words_taken words ≡ true → is_some asked ≡ true
+    → are_arguments_accepted words ≡ true → is_some asked ≡ true
 some_asked (Some asked) words reads taken = refl
 some_asked None words reads taken = ap is_some reads ∙ taken_asks words taken

@@ -1,4 +1,4 @@
--- What a call has come to that builds a command, and the rules of arguments that both programs have.
+-- The results of calls that build a command, and the rules of the arguments that both programs have.
 use Rattle.std.specs.Prelude.{◌≡◌, ℕ, List, [], ◌∷◌, true, false, IfOk, IsSomeAnd, Result, Some, string_bytes}
 use Rattle.std.specs.Borrow.{Bor}
 use Rattle.std.specs.declared.alloc.AllocError.{AllocError}
@@ -8,16 +8,16 @@ use Rattle.clap.specs.declared.builder.arg.Arg.{Arg}
 use Rattle.clap.specs.declared.builder.command.Command.{Command}
 use Rattle.clap.specs.declared.builder.command.Command.TheViews.{out-Command}
 
--- a command of these rules, or none for want of memory
+-- the command has these rules, unless memory ran out
 abbrev pub HasApp : App → Result Command AllocError → Type 0
 HasApp app built = IfOk built (λ command. app_of command ≡ app)
 
--- the same, and no argument of it is one of the commands below it too
+-- the command has these rules, and none of its arguments applies to its subcommands too
 abbrev pub IsBuilt : App → Result Command AllocError → Type 0
 IsBuilt app built =
     IfOk built (λ command. (app_of command ≡ app) × ((out-Command command).has_globals ≡ false))
 
--- the version that such a command shows, how its usage begins, and what its help ends with
+-- the version that the command shows, the beginning of its usage, and the end of its help
 abbrev pub HasVersion : List ℕ → Result Command AllocError → Type 0
 HasVersion text built = IfOk built (λ command. IsSomeAnd (out-Command command).version (λ version. version.now ≡ text))
 
@@ -28,7 +28,7 @@ HasUsageOf text built =
 abbrev pub HasHelpEnd : List ℕ → Result Command AllocError → Type 0
 HasHelpEnd text built = IfOk built (λ command. IsSomeAnd (out-Command command).after_help (λ after. after.now ≡ text))
 
--- a word that stands for itself, as <LIST>, required
+-- a required positional argument, such as `<LIST>`
 abbrev pub word_rule : Text → Rule
 word_rule name = record (new_rule name) { required = true; value_names = 1 }
 
@@ -36,6 +36,6 @@ word_rule name = record (new_rule name) { required = true; value_names = 1 }
 abbrev pub option_rule : Text → Rule
 option_rule name = record (new_rule name) { long = Some name; value_names = 1 }
 
--- help shows the argument with this name of its value and this text
+-- the help shows the argument with this value name and this text
 abbrev pub IsShownAs : Bor Text → Bor Text → Arg → Type 0
 IsShownAs value text argument = (items_of argument.val_names ≡ value ∷ []) × (argument.help ≡ Some text)

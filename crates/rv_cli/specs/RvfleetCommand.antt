@@ -1,4 +1,4 @@
--- The command line: the rules that `clap` reads words by, and what words ask for.
+-- The command line: the rules by which `clap` parses arguments, and the requests that they make.
 use Rattle.std.specs.Prelude.{◌≡◌, ◌⊎◌, is_some, ℕ, Bool, true, List, [], ◌∷◌, Option, Some}
 use Rattle.std.specs.Prelude.{None, pos, codes, option_map, option_and_then, if◌then◌else◌}
 use Rattle.std.specs.Str.{bytes_eq}
@@ -35,7 +35,7 @@ input_rule = record (new_rule (codes "input-hex")) {
 abbrev pub jobs_rule : Rule
 jobs_rule = record (new_rule (codes "jobs")) { required = true; value_names = 1 }
 
--- --workers <N>: from 1 to 64, else 1
+-- --workers <N>: from 1 to 64, by default 1
 abbrev pub workers_rule : Rule
 workers_rule = record (new_rule (codes "workers")) {
   long = Some (codes "workers");
@@ -44,7 +44,7 @@ workers_rule = record (new_rule (codes "workers")) {
   defaults = codes "1" ∷ [];
 }
 
--- --group <N>: from 1 to 4,096, else 1
+-- --group <N>: from 1 to 4,096, by default 1
 abbrev pub group_rule : Rule
 group_rule = record (new_rule (codes "group")) {
   long = Some (codes "group");
@@ -67,7 +67,7 @@ abbrev pub run_app : App
 run_app =
     with_rule (with_rule (with_rule (new_app (codes "run")) jobs_rule) workers_rule) group_rule
 
--- a subcommand is required, and none is called help
+-- a subcommand is required, and none is called `help`
 abbrev pub top_app : App
 top_app = let app = new_app (codes "rvfleet") in
     record app {
@@ -81,8 +81,8 @@ fleet_app =
 
 -- ---- what words ask for
 
--- a flat image within a budget; an image at a path, within a budget, with the digits of its input;
--- a list at a path, with the workers and the group
+-- a flat image with a budget; an image at a path, with a budget and the digits of its input; a list at a path, with the number of workers
+-- and the group size
 pub data Request : Type 0 where
   raw : ℕ → Request
   one : Text → ℕ → Option Text → Request
@@ -104,35 +104,35 @@ run_request rows = option_and_then (λ path. option_and_then
     (λ workers. option_map (run path workers) (number_value (codes "group") 1 most_group rows))
     (number_value (codes "workers") 1 most_workers rows)) (first_of (codes "jobs") rows)
 
--- what a subcommand with these values asks for
+-- the request of a subcommand with these values
 abbrev pub subcommand_request : Text → List Row → Option Request
 subcommand_request name rows = if bytes_eq name (codes "raw") then raw_request rows
     else if bytes_eq name (codes "one") then one_request rows
     else if bytes_eq name (codes "run") then run_request rows
     else None
 
--- the subcommand and the values are the matches that `clap` defines for the words
+-- the request of the subcommand and the values that `clap` defines as the matches for the arguments
 abbrev pub request_of : List Text → Option Request
 request_of words =
     option_and_then (λ found. subcommand_request found.0 found.1) (subcommand_of fleet_app words)
 
--- the command takes the words
-unfoldable pub are_words_taken : List Text → Bool
-are_words_taken words = takes fleet_app words
+-- whether the command accepts the arguments
+unfoldable pub are_arguments_accepted : List Text → Bool
+are_arguments_accepted words = takes fleet_app words
 
--- what words ask for in which these faults are found: none, or nothing is asked for
+-- the request, unless the arguments have errors
 abbrev pub request_beside_faults : Kinds → Option Request → Option Request
 request_beside_faults [] request = request
 request_beside_faults (fault ∷ more) request = None
 
--- what words ask for in which the command finds no fault
+-- the request of arguments in which the command finds no error
 unfoldable pub faultless_request : List Text → Option Request
 faultless_request words = request_beside_faults (fault_of fleet_app words) (request_of words)
 
--- the command takes the words, or finds no fault in them and something is asked for
+-- the command accepts the arguments, or finds no error in them and they make a request
 abbrev pub IsToAnswer : List Text → Type 0
-IsToAnswer words = (are_words_taken words ≡ true) ⊎ (is_some (faultless_request words) ≡ true)
+IsToAnswer words = (are_arguments_accepted words ≡ true) ⊎ (is_some (faultless_request words) ≡ true)
 
--- the words ask for help
+-- the arguments request help
 abbrev pub AsksHelp : List Text → Type 0
 AsksHelp words = IsAmong kind.DisplayHelp (fault_of fleet_app words)

@@ -1,4 +1,4 @@
--- What the program's own value of a request stands for.
+-- What the program's own value of a request represents.
 use Rattle.std.specs.Prelude.{◌≤◌, option_map}
 use Rattle.rv_base.specs.Limits.{most_budget, most_group, most_workers}
 use Rattle.rv_cli.specs.declared.rvfleet.Request.{Request as Value}

@@ -1,4 +1,4 @@
-//! Arguments that the command lines of both programs have, each with its rule.
+//! Arguments that both command lines have, each with its rule.
 
 ghost use Rattle.std.specs.Prelude.{◌≡◌, false};
 ghost use Rattle.clap.specs.Words.{rule_of};
@@ -8,10 +8,10 @@ ghost use Rattle.rv_cli.specs.RvfleetCommand.{group_rule};
 use clap::{Arg, value_parser};
 use std::alloc::Global;
 
-/// A word that stands for itself.
+/// Returns a required positional argument.
 pub fn word_argument<'a>(alloc: Global, name: &'a str, value: &'a str, help: &'a str) -> Arg<'a>
     ensures rule { (rule_of result ≡ word_rule name.entry.now) × (result.global ≡ false) }
-    // Help shows it by this value and this text.
+    // The help shows it with this value name and this text.
     ensures shown { IsShownAs value.entry help.entry result }
 {
     Arg::new(alloc, name)
@@ -20,10 +20,10 @@ pub fn word_argument<'a>(alloc: Global, name: &'a str, value: &'a str, help: &'a
         .help(help)
 }
 
-/// An option with a value.
+/// Returns an option with a value.
 pub fn option_argument<'a>(alloc: Global, name: &'a str, value: &'a str, help: &'a str) -> Arg<'a>
     ensures rule { (rule_of result ≡ option_rule name.entry.now) × (result.global ≡ false) }
-    // Help shows it by this value and this text.
+    // The help shows it with this value name and this text.
     ensures shown { IsShownAs value.entry help.entry result }
 {
     Arg::new(alloc, name)
@@ -32,7 +32,7 @@ pub fn option_argument<'a>(alloc: Global, name: &'a str, value: &'a str, help: &
         .help(help)
 }
 
-/// How many jobs a thread takes at once.
+/// Returns the option for the number of jobs in a chunk, which a thread takes at once.
 pub fn group_argument<'a>(alloc: Global) -> Arg<'a>
     ensures { (rule_of result ≡ group_rule) × (result.global ≡ false) }
 {

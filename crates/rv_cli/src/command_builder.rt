@@ -1,4 +1,4 @@
-//! Commands on their way, for `clap`.
+//! Building commands for `clap`.
 
 ghost use Rattle.std.specs.Prelude.{◌≡◌, false};
 ghost use Rattle.clap.specs.Words.{App, Rule, rule_of, with_rule, with_subcommand};
@@ -7,10 +7,10 @@ ghost use Rattle.rv_cli.specs.CommandBuilder.{HasApp, IsBuilt};
 use clap::{Arg, Command};
 use std::alloc::AllocError;
 
-/// A command on its way. It goes through all calls as it is, since each `?` beside a command costs the prover ten seconds.
+/// A command being built. It is passed through all calls as a result, because each `?` on a command costs the prover ten seconds.
 pub type Built<'a> = Result<Command<'a>, AllocError>;
 
-/// A command with one more below it.
+/// Adds a subcommand to a command.
 pub fn with_subcommand<'a>(command: Built<'a>, below: Built<'a>) -> Built<'a>
     ensures { (app : App) → (under : App) → HasApp app command.entry → IsBuilt under below.entry
         → HasApp (with_subcommand app under.top) result }
@@ -19,7 +19,7 @@ pub fn with_subcommand<'a>(command: Built<'a>, below: Built<'a>) -> Built<'a>
     command.subcommand(below?)
 }
 
-/// A command with one more argument.
+/// Adds an argument to a command.
 pub fn with_argument<'a>(command: Built<'a>, argument: Arg<'a>) -> Built<'a>
     ensures { (app : App) → (rule : Rule)
         → (rule_of argument.entry ≡ rule) × (argument.entry.global ≡ false)

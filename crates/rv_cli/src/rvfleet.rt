@@ -1,4 +1,4 @@
-//! The words of `rvfleet`: its command line, and what they ask for.
+//! The arguments of `rvfleet`: its command line, and the requests that they make.
 
 ghost use Rattle.std.specs.Prelude.{◌≡◌, ◌≤◌, IfOk, IfErr, IfSome, is_some, true, false, map};
 ghost use Rattle.std.specs.Prelude.{option_map};
@@ -8,7 +8,7 @@ ghost use Rattle.rv_cli.specs.CommandBuilder.{IsBuilt};
 ghost use Rattle.rv_cli.specs.RvfleetCommand.{budget_rule, workers_rule, raw_app, one_app, run_app};
 ghost use Rattle.rv_cli.specs.RvfleetCommand.{top_app, fleet_app, requested_budget};
 ghost use Rattle.rv_cli.specs.RvfleetCommand.{raw_request, one_request, run_request, subcommand_request};
-ghost use Rattle.rv_cli.specs.RvfleetCommand.{request_of, are_words_taken};
+ghost use Rattle.rv_cli.specs.RvfleetCommand.{request_of, are_arguments_accepted};
 ghost use Rattle.rv_cli.specs.RvfleetRequests.{IsRequestInRange, request};
 
 use crate::arguments::{group_argument, option_argument, word_argument};
@@ -20,20 +20,20 @@ use rv_base::limits::{MOST_BUDGET, MOST_GROUP, MOST_WORKERS};
 use std::alloc::{AllocError, Global};
 use std::convert::AsStr;
 
-/// What words ask for.
+/// A request that arguments make.
 #[derive(Clone, Copy)]
 pub enum Request<'a> {
-    /// The flat image on the input, with a budget of 1 to 1,000,000,000 steps.
+    /// Run the flat image on the input, with a budget of 1 to 1,000,000,000 steps.
     Raw {
         budget: u32,
     },
-    /// The ELF image at a path, with such a budget, and the console's script as hexadecimal digits.
+    /// Run the ELF image at a path, with a budget of 1 to 1,000,000,000 steps, and the console's input as hexadecimal digits.
     One {
         image: &'a str,
         budget: u32,
         input_hex: Option<&'a str>,
     },
-    /// The job list at a path, with 1 to 64 workers and 1 to 4,096 jobs a piece.
+    /// Run the job list at a path, with 1 to 64 workers and chunks of 1 to 4,096 jobs.
     Run {
         jobs: &'a str,
         workers: u32,
@@ -41,21 +41,21 @@ pub enum Request<'a> {
     },
 }
 
-/// Reads words, the first of which is the program's name. `None` stands where words name no request; those that the
-/// command takes name one. An error is `clap`'s own; help is one, of the kind DisplayHelp.
+/// Parses the arguments, the first of which is the program's name. Returns `None` if they name no request; arguments that the command
+/// accepts name one. An error is `clap`'s own; a request for help is one, of the kind `DisplayHelp`.
 pub fn read_words<'a, T: AsStr>(alloc: Global, words: &'a [T]) -> Result<Option<Request<'a>>, Error>
-    // What is read is what the words ask for.
+    // The result is the request that the arguments make.
     ensures value { IfOk result
         (λ asked. option_map request asked ≡ request_of (map T.text words.entry.now)) }
     // Each number is within the range of its argument.
     ensures within { IfOk result (λ asked. IfSome asked IsRequestInRange) }
-    // Words that the command takes ask for something.
-    ensures asked { are_words_taken (map T.text words.entry.now) ≡ true
+    // Arguments that the command accepts make a request.
+    ensures asked { are_arguments_accepted (map T.text words.entry.now) ≡ true
         → IfOk result (λ asked. is_some asked ≡ true) }
-    // They fail for want of memory alone.
-    ensures taken { IfErr result (λ error. are_words_taken (map T.text words.entry.now) ≡ true
+    // Arguments that the command accepts fail only if memory runs out.
+    ensures taken { IfErr result (λ error. are_arguments_accepted (map T.text words.entry.now) ≡ true
         → kind_of error ≡ ErrorKind.OutOfMemory) }
-    // Any words fail by a fault that is found in them, or for want of memory, and else have none.
+    // Arguments fail because of an error that is found in them or because memory runs out; otherwise they have no error.
     ensures kinds { FailsBy (fault_of fleet_app (map T.text words.entry.now)) result }
 {
     let command = fleet_command(alloc)?;

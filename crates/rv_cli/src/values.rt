@@ -1,4 +1,4 @@
-//! Values that `clap` found for arguments.
+//! The values that `clap` found for arguments.
 
 ghost use Rattle.std.specs.Prelude.{◌≡◌, ◌≤◌, IfOk, IfSome, map, option_map};
 ghost use Rattle.clap.specs.Words.{first_of, found_of, rows_of};
@@ -7,8 +7,8 @@ ghost use Rattle.rv_cli.specs.Values.{argument_values, is_flag_set, is_option_gi
 use clap::ArgMatches;
 use std::alloc::{AllocError, Global};
 
-/// The number that stands for an argument, where it is from `low` to `high`. `clap` has tested the range already; here it is the
-/// caller's to know.
+/// Returns the number given for an argument, if it is from `low` to `high`. `clap` has checked the range already; here the caller can rely
+/// on it.
 pub fn number_value(values: &ArgMatches<'_>, id: &str, low: u32, high: u32) -> Option<u32>
     ensures value { result ≡ number_value id.now low high (rows_of (found_of values.now)) }
     ensures within { IfSome result (λ number. (low ≤ number) × (number ≤ high)) }
@@ -27,7 +27,7 @@ fn parsed_number_value(values: &ArgMatches<'_>, id: &str) -> Option<u32>
     values.get_one::<u32>(id)
 }
 
-/// The first value that stands for an argument, as it was written.
+/// Returns the first value given for an argument, as it was written.
 pub fn text_value<'a>(values: &ArgMatches<'a>, id: &str) -> Option<&'a str>
     ensures { option_map (λ text. text.now) result
         ≡ first_of id.now (rows_of (found_of values.now)) }
@@ -35,7 +35,7 @@ pub fn text_value<'a>(values: &ArgMatches<'a>, id: &str) -> Option<&'a str>
     values.get_str(id)
 }
 
-/// Whether an option without a value is there.
+/// Whether an option without a value is given.
 pub fn is_flag_set(values: &ArgMatches<'_>, id: &str) -> bool
     ensures { result ≡ is_flag_set id.now (rows_of (found_of values.now)) }
 {
@@ -45,14 +45,14 @@ pub fn is_flag_set(values: &ArgMatches<'_>, id: &str) -> bool
     }
 }
 
-/// Whether an option with a value is there.
+/// Whether an option with a value is given.
 pub fn is_option_given(values: &ArgMatches<'_>, id: &str) -> bool
     ensures { result ≡ is_option_given id.now (rows_of (found_of values.now)) }
 {
     text_value(values, id).is_some()
 }
 
-/// All values of an argument, in order.
+/// Returns all values of an argument, in order.
 pub fn argument_values<'a>(
     alloc: Global,
     values: &ArgMatches<'a>,

@@ -1,4 +1,4 @@
--- The messages that go to standard error.
+-- The messages on standard error.
 use Rattle.std.specs.Prelude.{◌≡◌, ◌⊎◌, ◌++◌, if◌then◌else◌, ℕ, Bool, true, List, [], Option, codes, length}
 use Rattle.std.specs.Fmt.{decimal}
 use Rattle.std.specs.Io.KnownBytes.{Appends}
@@ -9,35 +9,35 @@ use Rattle.rv_text.specs.Printable.{printable_text}
 use Rattle.rv_command.specs.declared.stop.Stop.{Stop}
 use Rattle.rv_command.specs.declared.stop.Stop.TheVariants as stop
 
--- the whole message went out and no put failed; or one put failed, and a beginning of it went out
-abbrev pub IsMessagePut : Option (List ℕ) → Option (List ℕ) → ℕ → ℕ → List ℕ → Type 0
-IsMessagePut before after failures_before failures_after text =
+-- the whole message was written and no write failed; or one write failed, and a prefix of the message was written
+abbrev pub IsMessageWritten : Option (List ℕ) → Option (List ℕ) → ℕ → ℕ → List ℕ → Type 0
+IsMessageWritten before after failures_before failures_after text =
     (Appends before after text × (failures_after ≡ failures_before))
     ⊎ (AppendsBeginning before after text × (failures_after ≡ one_more failures_before))
 
--- what is wrong with what stands at a path
+-- what is wrong with the file at a path
 abbrev pub path_message : List ℕ → List ℕ → List ℕ
 path_message path what = codes "rvtest: " ++ printable_text path ++ codes ": " ++ what ++ codes "\n"
 
--- what is wrong with a line or a job of it
+-- what is wrong with a line or a job in the file at a path
 abbrev pub path_number_message : List ℕ → List ℕ → ℕ → List ℕ → List ℕ
 path_number_message path place number what =
     codes "rvtest: " ++ printable_text path ++ place ++ decimal number ++ what
 
--- how many whole rows a report has that is cut off, and of another one nothing
+-- the number of complete rows in a truncated report; empty for a complete one
 abbrev pub cut_off_note : List ℕ → PartialReport → List ℕ
 cut_off_note path read = if read.is_cut_off
     then path_number_message path (codes ": the report is truncated; complete rows: ") (length read.report.rows) (codes "\n")
     else []
 
--- why a command ended before its work was done
+-- why a command stopped before its work was done
 abbrev pub stop_message : Stop → List ℕ
 stop_message (stop.Told lines text) = text.items
 stop_message stop.OutOfMemory = codes "rvtest: out of memory\n"
 stop_message stop.NoWorker = codes "rvtest: no thread could be started\n"
 stop_message stop.WriteFailed = codes "rvtest: standard output: write failed\n"
 
--- the same where the reader of the results closed them, or did not: who reads no more is told nothing
+-- the message, given whether the reader of the results closed them: if it did, nothing is reported
 abbrev pub end_message : Bool → Stop → List ℕ
 end_message true stop.WriteFailed = []
 end_message _ why = stop_message why

@@ -1,5 +1,5 @@
--- What is told of a text that should be a report, or a part of one, and has a line that none has there: the line and what is
--- wanted in its place; or that the text is a job list.
+-- What is reported about a text that should be a report, or a shard's report, and has a line that is invalid there: the line and what was
+-- expected instead; or that the text is a job list.
 use Rattle.std.specs.Prelude.{◌-◌, ◌+◌, ◌==◌, ◌||◌, ◌++◌, ℕ, zero, suc, Bool, true, false, List, [], ◌∷◌, Option, Some, None, codes, drop}
 use Rattle.std.specs.Prelude.{if◌then◌else◌, length, nat_eq, nat_lt, position, take}
 use Rattle.std.specs.Fmt.{decimal}
@@ -13,12 +13,12 @@ use Rattle.rv_text.specs.Printable.{printable_text, printable_value}
 
 -- ---- the lines of a text
 
--- what stands before a place, or the whole text
+-- the text before an offset, or the whole text
 abbrev pub text_up_to : Option ℕ → List ℕ → List ℕ
 text_up_to (Some place) text = take place text
 text_up_to None text = text
 
--- what stands behind the byte at a place; nothing where there is none
+-- the text after the byte at an offset; empty if there is no such byte
 abbrev pub text_behind : Option ℕ → List ℕ → List ℕ
 text_behind (Some place) text = drop (place + 1) text
 text_behind None text = []
@@ -29,28 +29,28 @@ first_line text = text_up_to (position is_feed text) text
 abbrev pub after_line : List ℕ → List ℕ
 after_line text = text_behind (position is_feed text) text
 
--- behind so many lines
-unfoldable pub behind_lines : ℕ → List ℕ → List ℕ
-behind_lines zero text = text
-behind_lines (suc count) text = after_line (behind_lines count text)
+-- the text after a number of lines
+unfoldable pub after_lines : ℕ → List ℕ → List ℕ
+after_lines zero text = text
+after_lines (suc count) text = after_line (after_lines count text)
 
--- the line of a number, counted from 1, without its line feed; nothing where there is none
+-- the line with a number, counted from 1, without its line feed; empty if there is no such line
 abbrev pub numbered_line : List ℕ → ℕ → List ℕ
-numbered_line text number = first_line (behind_lines (number - 1) text)
+numbered_line text number = first_line (after_lines (number - 1) text)
 
--- the line before it; nothing before the first
+-- the line before it; empty for the first
 abbrev pub line_before : List ℕ → ℕ → List ℕ
 line_before text number = if nat_lt number 2 then [] else numbered_line text (number - 1)
 
 -- ---- lists
 
--- a fault of a document that has jobs
+-- whether the error is one of a document that has jobs
 abbrev pub tells_of_jobs : What → Bool
 tells_of_jobs what.NotToml = false
 tells_of_jobs what.NoJobs = false
 tells_of_jobs _ = true
 
--- by its faults, a text is a document with jobs, be they good or bad
+-- whether its errors show that a text is a document with jobs, valid or not
 abbrev pub are_faults_of_list : List JobError → Bool
 are_faults_of_list [] = true
 are_faults_of_list (fault ∷ faults) = tells_of_jobs fault.what
@@ -63,9 +63,9 @@ is_job_list text = are_faults_of_list (list_faults text)
 abbrev begins : List ℕ → List ℕ → Bool
 begins line words = starts_with nat_eq line words
 
--- what a report has behind a line, and at its beginning
-unfoldable pub wanted_behind : List ℕ → List ℕ
-wanted_behind line =
+-- what a report has after a line, and at its beginning
+unfoldable pub expected_after : List ℕ → List ℕ
+expected_after line =
     if begins line (codes "job ") then codes "\"end\" and how the run ended"
     else if begins line (codes "end ") then codes "\"steps\" and a number"
     else if begins line (codes "steps ") then codes "\"console\" and hexadecimal digits or -"
@@ -78,12 +78,12 @@ wanted_behind line =
 abbrev pub line_message : List ℕ → List ℕ → List ℕ → ℕ → List ℕ
 line_message noun path text number =
     codes "rvtest: " ++ printable_text path ++ codes ":" ++ decimal number ++ codes ": invalid " ++ noun ++ codes " line \""
-    ++ printable_value (numbered_line text number) ++ codes "\": expected " ++ wanted_behind (line_before text number) ++ codes "\n"
+    ++ printable_value (numbered_line text number) ++ codes "\": expected " ++ expected_after (line_before text number) ++ codes "\n"
 
 abbrev pub list_message : List ℕ → List ℕ → List ℕ
 list_message noun path = codes "rvtest: " ++ printable_text path ++ codes ": this is a job list, not a " ++ noun ++ codes "\n"
 
--- of the line of a number in the text at a path, which should be such a thing as a report
+-- the message for the line with a number in the text at a path, which should be a report or a document named by `noun`
 abbrev pub refused_line_message : List ℕ → List ℕ → List ℕ → ℕ → List ℕ
 refused_line_message noun path text number =
     if is_job_list text then list_message noun path else line_message noun path text number

@@ -1,4 +1,4 @@
-//! Files that are read whole.
+//! Reading whole files.
 
 ghost use Rattle.std.specs.Prelude.{◌≡◌, ◌≤◌, ◌<◌, ◌+◌, ◌^◌, IfErr, IfNone, IfOk, IfSome, length};
 ghost use Rattle.rv_command.specs.Stops.{IsFileErrorStop, IsLongAt, IsResultUnreadStop, IsSystemStop, IsUnreadStop, most_result_bytes};
@@ -10,7 +10,7 @@ use rv_files::{FileError, InputError, Inputs, io_error_text, read_whole_up_to};
 use std::alloc::Global;
 use std::io::ErrorKind;
 
-/// The bytes of what stands at a path, where there are at most so many.
+/// Reads the file at a path, if it has at most `most` bytes.
 pub(crate) fn read_file_up_to<D: Inputs>(
     inputs: &D,
     alloc: Global,
@@ -31,10 +31,10 @@ pub(crate) fn read_file_up_to<D: Inputs>(
     }
 }
 
-/// The most bytes of a report, and of a table of counts.
+/// The greatest number of bytes in a report or a table of counts.
 const MOST_RESULT_BYTES: usize = 0x4000_0000;
 
-/// The bytes of the report, or of the table of counts, at a path.
+/// Reads the report or the table of counts at a path.
 pub fn read_result_file<D: Inputs>(inputs: &D, alloc: Global, path: &str) -> Result<Vec<u8>, Stop>
     ensures read { IfOk result (λ bytes. IsTextAt (D.contents inputs.now) path.now bytes.items) }
     ensures within { IfOk result (λ bytes. length bytes.items ≤ most_result_bytes) }
@@ -49,10 +49,10 @@ pub fn read_result_file<D: Inputs>(inputs: &D, alloc: Global, path: &str) -> Res
     }
 }
 
-// More bytes than memory has.
+// More bytes than memory can hold.
 const MOST_OF_MEMORY: usize = usize::MAX - 1;
 
-/// The bytes of what stands at a path, whatever its size: of a file that this command itself has written.
+/// Reads the file at a path, whatever its size: a file that this command has written.
 pub fn read_file<D: Inputs>(inputs: &D, alloc: Global, path: &str) -> Result<Vec<u8>, Stop>
     ensures read { IfOk result (λ bytes. IsTextAt (D.contents inputs.now) path.now bytes.items) }
     ensures unread { IfErr result (IsUnreadStop (D.contents inputs.now) path.now) }
@@ -64,7 +64,7 @@ pub fn read_file<D: Inputs>(inputs: &D, alloc: Global, path: &str) -> Result<Vec
     }
 }
 
-/// The file at a path cannot be written.
+/// Returns the error that the file at a path cannot be written.
 pub fn file_error_stop(alloc: Global, path: &str, error: FileError) -> Stop
     ensures { IsFileErrorStop path.now error result }
 {
@@ -78,7 +78,7 @@ pub fn file_error_stop(alloc: Global, path: &str, error: FileError) -> Stop
     }
 }
 
-// A path cannot be read or written, for a reason of the system's.
+// Returns the error that a path cannot be read or written, with the system's reason.
 fn io_error_stop(alloc: Global, path: &str, reason: ErrorKind) -> Stop
     ensures { IsSystemStop path.now reason result }
 {

@@ -1,6 +1,6 @@
-//! What the commands of `rvtest` share: their statuses, why they end early, and the lists and reports that they read.
+//! What the commands of `rvtest` share: their statuses, why they stop early, and the lists and reports that they read.
 //!
-//! A [`Stop`] says why a command ended before its work was done; [`put_stop_message`] tells it and gives the status, 2 or 3.
+//! A [`Stop`] says why a command stopped before its work was done; [`put_stop_message`] reports it and returns the status, 2 or 3.
 #![tactic(auto)]
 
 mod files;

@@ -1,4 +1,4 @@
-//! The list of jobs that a command is given.
+//! The job list that a command is given.
 
 ghost use Rattle.std.specs.Prelude.{◌≡◌, ◌≤◌, [], Err, IfErr, IfOk, Ok, length};
 ghost use Rattle.rv_base.specs.Limits.{most_bytes};
@@ -18,7 +18,7 @@ use rv_jobs::{JobError, JobList, What, read_jobs};
 use rv_list_errors::{push_all_faults, push_faults};
 use std::alloc::{AllocError, Global};
 
-/// The text of the list at a path, or of the names of the jobs that are known to fail.
+/// Reads the text of the list, or of the file of known failures, at a path.
 pub fn read_list_text<D: Inputs>(inputs: &D, alloc: Global, path: &str) -> Result<Vec<u8>, Stop>
     ensures read { IfOk result (λ text. IsTextAt (D.contents inputs.now) path.now text.items) }
     ensures within { IfOk result (λ text. length text.items ≤ most_bytes) }
@@ -33,7 +33,7 @@ pub fn read_list_text<D: Inputs>(inputs: &D, alloc: Global, path: &str) -> Resul
     }
 }
 
-/// The jobs of a list's text, or what is wrong with the list.
+/// Parses the jobs of a list's text; the error says what is wrong with the list.
 pub fn parse_list(alloc: Global, path: &str, text: &[u8]) -> Result<JobList, Stop>
     ensures jobs { IfOk result (λ jobs. job_list_of text.now ≡ Ok jobs) }
     ensures fault { IfErr result (IsListFaultStop path.now text.now) }
@@ -54,7 +54,7 @@ fn list_fault_stop(alloc: Global, path: &str, text: &[u8], fault: JobError) -> S
     }
 }
 
-/// A line for each fault of a list.
+/// Returns a line for each error of a list.
 pub fn list_faults_text(
     alloc: Global,
     path: &str,
@@ -70,7 +70,7 @@ pub fn list_faults_text(
     Ok(told)
 }
 
-/// The lines of all faults of a list, of which these are the first of each bad job.
+/// Returns the lines for all errors of a list, given the first error of each invalid job.
 pub fn all_faults_text(
     alloc: Global,
     path: &str,

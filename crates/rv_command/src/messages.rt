@@ -1,11 +1,11 @@
-//! What goes to standard error, and the statuses.
+//! The messages on standard error, and the statuses.
 
 ghost use Rattle.std.specs.Prelude.{◌≡◌, ◌≤◌, ◌++◌, OnErr, OnOk, IfErr, IfOk, false};
 ghost use Rattle.std.specs.Io.KnownBytes.{Appends, Keeps};
 ghost use Rattle.rv_base.specs.Counts.{one_more};
 ghost use Rattle.rv_base.specs.Sinks.{AppendsBeginning};
 ghost use Rattle.rv_command.specs.Stops.{end_status, lines_status, stop_status};
-ghost use Rattle.rv_command.specs.Messages.{IsMessagePut, end_message, path_message, path_number_message, stop_message};
+ghost use Rattle.rv_command.specs.Messages.{IsMessageWritten, end_message, path_message, path_number_message, stop_message};
 
 use crate::status::{BROKEN_PIPE, FAILED, REFUSED};
 use crate::stop::{Lines, Stop};
@@ -13,7 +13,7 @@ use rv_rows::{Sink, put_all};
 use rv_text::{Span, text_of_spans};
 use std::alloc::{AllocError, Global};
 
-/// A line that says what is wrong with what stands at a path.
+/// Returns a line that says what is wrong with the file at a path.
 pub fn path_message<'a>(alloc: Global, path: &'a str, what: &'a str) -> Result<Vec<u8>, AllocError>
     ensures { IfOk result (λ text. text.items ≡ path_message path.now what.now) }
 {
@@ -29,7 +29,7 @@ pub fn path_message<'a>(alloc: Global, path: &'a str, what: &'a str) -> Result<V
     )
 }
 
-/// A line that says what is wrong with the line or the job of a number in what stands at a path.
+/// Returns a line that says what is wrong with the numbered line or job in the file at a path.
 pub fn path_number_message<'a>(
     alloc: Global,
     path: &'a str,
@@ -51,15 +51,15 @@ pub fn path_number_message<'a>(
     )
 }
 
-/// Puts a message. Where that fails nothing else changes.
+/// Writes a message. A failure to write it changes nothing else.
 pub fn put_message<E: Sink>(errors: &mut E, text: &[u8])
-    ensures { IsMessagePut (E.taken errors.old) (E.taken errors.new)
+    ensures { IsMessageWritten (E.taken errors.old) (E.taken errors.new)
         (E.failed errors.old) (E.failed errors.new) text.now }
 {
     let _ = put_all(errors, text);
 }
 
-/// Puts results.
+/// Writes results.
 pub fn put_results<O: Sink>(out: &mut O, text: &[u8]) -> Result<(), Stop>
     ensures put { OnOk result (Appends (O.taken out.old) (O.taken out.new) text.now) }
     ensures counted { OnOk result (O.failed out.new ≡ O.failed out.old) }
@@ -73,11 +73,11 @@ pub fn put_results<O: Sink>(out: &mut O, text: &[u8]) -> Result<(), Stop>
     }
 }
 
-/// Says why a command ended before its work was done, and gives the status. Where the reader of its results closed them,
-/// nothing is said, and the status is 141, as of a program that the signal `SIGPIPE` ends.
+/// Reports why a command stopped before its work was done, and returns the status. If the reader of its results closed them, nothing is
+/// reported, and the status is 141, like that of a program ended by the signal `SIGPIPE`.
 pub fn put_end_message<E: Sink>(errors: &mut E, stop: Stop, is_out_closed: bool) -> u8
     ensures status { result ≡ end_status is_out_closed stop }
-    ensures told { IsMessagePut (E.taken errors.old) (E.taken errors.new)
+    ensures told { IsMessageWritten (E.taken errors.old) (E.taken errors.new)
         (E.failed errors.old) (E.failed errors.new) (end_message is_out_closed stop) }
     ensures low { is_out_closed ≡ false → result ≤ 3 }
 {
@@ -87,10 +87,10 @@ pub fn put_end_message<E: Sink>(errors: &mut E, stop: Stop, is_out_closed: bool)
     }
 }
 
-/// Says why a command ended before its work was done, and gives the status: 2 or 3.
+/// Reports why a command stopped before its work was done, and returns the status: 2 or 3.
 pub fn put_stop_message<E: Sink>(errors: &mut E, stop: Stop) -> u8
     ensures status { result ≡ stop_status stop }
-    ensures told { IsMessagePut (E.taken errors.old) (E.taken errors.new)
+    ensures told { IsMessageWritten (E.taken errors.old) (E.taken errors.new)
         (E.failed errors.old) (E.failed errors.new) (stop_message stop) }
     ensures low { result ≤ 3 }
 {
@@ -114,10 +114,10 @@ fn lines_status(lines: Lines) -> u8
     }
 }
 
-/// Says how the system failed, and gives the status.
+/// Reports how the system failed, and returns the status.
 pub fn put_failure_message<E: Sink>(errors: &mut E, text: &str) -> u8
     ensures status { result ≡ FAILED }
-    ensures told { IsMessagePut (E.taken errors.old) (E.taken errors.new)
+    ensures told { IsMessageWritten (E.taken errors.old) (E.taken errors.new)
         (E.failed errors.old) (E.failed errors.new) text.now }
 {
     put_message(errors, text.as_bytes());

@@ -1,17 +1,17 @@
-//! A text that should be a report, or a part of one, and has a line that none has there.
+//! A text that should be a report, or a shard's report, and has a line that is invalid there.
 
 ghost use Rattle.std.specs.Prelude.{◌≡◌, ◌<◌, IfOk, IfSome, length, position};
 ghost use Rattle.rv_list_errors.specs.Places.{is_feed};
-ghost use Rattle.rv_command.specs.RefusedLines.{are_faults_of_list, after_line, behind_lines, first_line, is_job_list};
+ghost use Rattle.rv_command.specs.RefusedLines.{are_faults_of_list, after_line, after_lines, first_line, is_job_list};
 ghost use Rattle.rv_command.specs.RefusedLines.{line_before, line_message, list_message, numbered_line, refused_line_message};
-ghost use Rattle.rv_command.specs.RefusedLines.{wanted_behind};
+ghost use Rattle.rv_command.specs.RefusedLines.{expected_after};
 
 use rv_lists::{JobError, What, read_faults};
 use rv_text::{Span, text_of_spans};
 use std::alloc::{AllocError, Global};
 
-/// A message that the text at a path is no report, or what else it should be, by the line of a number that none has there: the line is
-/// shown, and what is wanted in its place. Of a job list it is told that it is one.
+/// Returns the message that the text at a path is not a report, or what `noun` names, because of the numbered line, which is invalid there:
+/// it shows the line and what was expected instead. If the text is a job list, the message says so.
 pub fn refused_line_message<'a>(
     alloc: Global,
     noun: &'a str,
@@ -64,13 +64,13 @@ fn line_message<'a>(
             Span::Text(" line \""),
             Span::Value(numbered_line(text, number)),
             Span::Text("\": expected "),
-            Span::Text(wanted_behind(line_before(text, number))),
+            Span::Text(expected_after(line_before(text, number))),
             Span::Text("\n"),
         ],
     )
 }
 
-// Whether a text is a document with jobs, be they good or bad.
+// Whether a text is a document with jobs, valid or not.
 fn is_job_list(alloc: Global, text: &[u8]) -> Result<bool, AllocError>
     ensures { IfOk result (λ is_list. is_list ≡ is_job_list text.now) }
 {
@@ -87,11 +87,11 @@ fn are_faults_of_list(faults: &[JobError]) -> bool
     }
 }
 
-// The line of a number, counted from 1, without its line feed; nothing where there is none.
+// Returns the line with a number, counted from 1, without its line feed; empty if there is no such line.
 fn numbered_line(text: &[u8], number: usize) -> &[u8]
     ensures { result.now ≡ numbered_line text.now number }
 {
-    first_line(behind_lines(text, number.saturating_sub(1)))
+    first_line(after_lines(text, number.saturating_sub(1)))
 }
 
 fn line_before(text: &[u8], number: usize) -> &[u8]
@@ -104,9 +104,9 @@ fn line_before(text: &[u8], number: usize) -> &[u8]
     }
 }
 
-#[tactic(auto, unfolding(crate::specs::RefusedLines::behind_lines))]
-fn behind_lines(text: &[u8], count: usize) -> &[u8]
-    ensures { result.now ≡ behind_lines count text.now }
+#[tactic(auto, unfolding(crate::specs::RefusedLines::after_lines))]
+fn after_lines(text: &[u8], count: usize) -> &[u8]
+    ensures { result.now ≡ after_lines count text.now }
 {
     let mut rest = text;
     for _ in 0..count {
@@ -140,10 +140,10 @@ fn line_feed_place(text: &[u8]) -> Option<usize>
     text.iter().position(|byte| *byte == b'\n')
 }
 
-// What a report has behind a line, and at its beginning.
-#[tactic(auto, unfolding(crate::specs::RefusedLines::wanted_behind))]
-fn wanted_behind(line: &[u8]) -> &'static str
-    ensures { result.now ≡ wanted_behind line.now }
+// Returns what a report has after a line, and at its beginning.
+#[tactic(auto, unfolding(crate::specs::RefusedLines::expected_after))]
+fn expected_after(line: &[u8]) -> &'static str
+    ensures { result.now ≡ expected_after line.now }
 {
     if line.starts_with(b"job ") {
         "\"end\" and how the run ended"

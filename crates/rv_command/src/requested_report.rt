@@ -1,4 +1,4 @@
-//! Reports that words name, and that may be cut off where words take one.
+//! Reports named in the arguments, which may be truncated if the arguments allow it.
 
 ghost use Rattle.std.specs.Prelude.{◌≡◌, ◌≤◌, IfErr, IfOk, length};
 ghost use Rattle.rv_base.specs.Limits.{most_jobs};
@@ -15,14 +15,14 @@ use rv_files::Inputs;
 use rv_report::{PartialReport, ReadError, read_partial_report};
 use std::alloc::{AllocError, Global};
 
-/// A report that words name, and whether one that is cut off is taken.
+/// A report named in the arguments, and whether it may be truncated.
 #[derive(Clone, Copy)]
 pub struct RequestedReport<'a> {
     pub path: &'a str,
     pub partial: bool,
 }
 
-/// The report at the path that words name; of one that is cut off its whole rows, where that is taken.
+/// Reads the report at the path in the arguments; of a truncated one, its complete rows, if that is allowed.
 pub fn read_requested_report<D: Inputs>(
     inputs: &D,
     alloc: Global,
@@ -37,7 +37,7 @@ pub fn read_requested_report<D: Inputs>(
     parse_requested_report(alloc, asked, text.as_slice())
 }
 
-/// The same of the text that stands there.
+/// Parses the text of that report.
 pub fn parse_requested_report(
     alloc: Global,
     asked: RequestedReport<'_>,
@@ -65,12 +65,12 @@ fn parse_partial_report(alloc: Global, path: &str, text: &[u8]) -> Result<Partia
     match read_partial_report(alloc, text) {
         Ok(read) => Ok(read),
         Err(ReadError::Line(line)) => Err(report_line_stop(alloc, path, text, line)),
-        // A report that is cut off is read.
+        // A truncated report is accepted.
         Err(ReadError::OutOfMemory | ReadError::CutOff) => Err(Stop::OutOfMemory),
     }
 }
 
-/// A line that says how many whole rows a report has which is cut off; of another one nothing.
+/// Returns a line with the number of complete rows in a truncated report; empty for a complete one.
 pub fn cut_off_note(alloc: Global, path: &str, read: &PartialReport) -> Result<Vec<u8>, AllocError>
     ensures { IfOk result (λ note. note.items ≡ cut_off_note path.now read.now) }
 {

@@ -1,4 +1,4 @@
-//! Reports that are read.
+//! Reading reports.
 
 ghost use Rattle.std.specs.Prelude.{◌≡◌, ◌≤◌, IfErr, IfOk, length};
 ghost use Rattle.rv_base.specs.Limits.{most_jobs};
@@ -13,7 +13,7 @@ use rv_files::Inputs;
 use rv_report::{ReadError, SavedReport, read_report};
 use std::alloc::Global;
 
-/// The report at a path: a whole one, or that of a part of a list.
+/// Reads the report at a path: a whole one, or that of a part of a list.
 pub fn read_report_file<D: Inputs>(
     inputs: &D,
     alloc: Global,
@@ -27,7 +27,7 @@ pub fn read_report_file<D: Inputs>(
     parse_report(alloc, path, text.as_slice())
 }
 
-/// The report that a text is, which was read at a path.
+/// Parses the text of the report that was read from a path.
 pub fn parse_report(alloc: Global, path: &str, text: &[u8]) -> Result<SavedReport, Stop>
     ensures report { IfOk result (IsReportText text.now) }
     ensures few { IfOk result (λ report. length report.rows ≤ most_jobs) }
@@ -44,7 +44,7 @@ pub fn parse_report(alloc: Global, path: &str, text: &[u8]) -> Result<SavedRepor
     }
 }
 
-/// No report has the line of a number in the text at a path.
+/// Returns the error that the numbered line of the text at a path is in no report.
 pub(crate) fn report_line_stop(alloc: Global, path: &str, text: &[u8], line: usize) -> Stop
     ensures { IsLineStop path.now text.now line result }
 {

@@ -6,11 +6,11 @@ pub const DONE: u8 = 0;
 /// Some job failed, or two reports differ.
 pub const SOME_FAIL: u8 = 1;
 
-/// Words, a list or a report are refused.
+/// The arguments, a list or a report are rejected.
 pub const REFUSED: u8 = 2;
 
 /// The system failed.
 pub const FAILED: u8 = 3;
 
-/// The reader of standard output closed it, as of a program that the signal `SIGPIPE` ends.
+/// The reader of standard output closed it; the status is that of a program ended by the signal `SIGPIPE`.
 pub const BROKEN_PIPE: u8 = 141;

@@ -1,4 +1,4 @@
-//! Why a command ends before its work is done.
+//! Why a command stops before its work is done.
 
 ghost use Rattle.std.specs.Prelude.{◌≡◌};
 ghost use Rattle.rv_command.specs.Stops.{IsWordsRefusal, stop_of_lines};
@@ -6,30 +6,30 @@ ghost use Rattle.rv_command.specs.Stops.{IsWordsRefusal, stop_of_lines};
 use rvtest_cli::WordsError;
 use std::alloc::AllocError;
 
-/// Why a command ends before its work is done.
+/// Why a command stops before its work is done.
 #[derive(Drop)]
 pub enum Stop {
-    /// As these lines say.
+    /// For the reason in these lines.
     Told(Lines, Vec<u8>),
-    /// A growth was refused.
+    /// An allocation failed.
     OutOfMemory,
-    /// The start of a thread was refused.
+    /// A thread could not be started.
     NoWorker,
-    /// A put to the stream of results failed.
+    /// A write to the stream of results failed.
     WriteFailed,
 }
 
-/// What the lines say that end a command.
+/// What the lines that end a command say.
 #[derive(Clone, Copy)]
 pub enum Lines {
-    /// Why what is asked for is refused.
+    /// Why the request is rejected.
     Refusal,
     /// How the system failed.
     Failure,
 }
 
 impl Stop {
-    /// Words are refused, as their error says. Help and the version are no stop.
+    /// Rejects the arguments with the text of their error. Requests for help and the version do not stop a command.
     pub fn of_words_error(error: WordsError) -> Stop
         ensures { IsWordsRefusal error result }
     {
@@ -39,14 +39,14 @@ impl Stop {
         }
     }
 
-    /// What is asked for is refused, as these lines say, where there was memory for them.
+    /// Rejects the request with these lines, if there was memory for them.
     pub fn of_refusal(told: Result<Vec<u8>, AllocError>) -> Stop
         ensures { result ≡ stop_of_lines Lines.Refusal told }
     {
         Stop::of_lines(Lines::Refusal, told)
     }
 
-    /// The system failed, as these lines say, where there was memory for them.
+    /// Reports a system failure with these lines, if there was memory for them.
     pub fn of_failure(told: Result<Vec<u8>, AllocError>) -> Stop
         ensures { result ≡ stop_of_lines Lines.Failure told }
     {

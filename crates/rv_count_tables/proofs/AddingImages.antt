@@ -19,7 +19,7 @@ use Rattle.rv_count_tables.specs.SumSteps.{ImagesAddUp, IsNextImage, ImagesHaveN
 use Rattle.rv_call_tree.specs.declared.sum.SpotSumError.{SpotSumError}
 use Rattle.rv_call_tree.specs.declared.sum.SpotSumError.TheVariants as spots
 use Rattle.rv_call_tree.specs.declared.spot.Spot.{Spot as ASpot}
-use Rattle.rv_call_tree.specs.Sums.{FitsSpot, IsSumOfSpots, IsTooGreat}
+use Rattle.rv_call_tree.specs.Sums.{FitsSpot, IsSumOfSpots, Overflows}
 use Rattle.rv_call_tree.specs.Trees.{arrivals_at, steps_at, HasArrivals}
 use Rattle.rv_count_tables.proofs.Adding.{parts}
 use Rattle.rv_count_tables.proofs.Paths.{any_first, before_both, by_two, none_before_itself, none_behind, same_place, second_first}
@@ -401,7 +401,7 @@ no_sum_of_named error a b ns ms p q h = no_sum_of_names error a b
     (subst (λ (xs : List FunctionName). NamesHaveNoSum error a.functions xs) q
     (subst (λ (xs : List FunctionName). NamesHaveNoSum error xs ms) p h))
 
-pub no_sum_of_spots : (why : SpotSumError) (a b : ImageCounts) → IsTooGreat why a.spots b.spots
+pub no_sum_of_spots : (why : SpotSumError) (a b : ImageCounts) → Overflows why a.spots b.spots
     → ImageHasNoSum (sum_error_of why) a b
 no_sum_of_spots spots.OutOfMemory a b h = tt
 no_sum_of_spots (spots.Count f) a b h = h

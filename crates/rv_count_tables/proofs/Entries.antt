@@ -13,7 +13,7 @@ use Rattle.rv_count_tables.specs.ReadSteps.{Entry, OfAddress, OfSpot, IsEntry, e
 use Rattle.rv_count_tables.proofs.NamesOfSpots.{agree_more, first_is_last, further, named_fits, one_list_of_first_names, AgreeWithAll}
 use Rattle.rv_call_tree.specs.Profiles.{is_last_of_some}
 use Rattle.rv_call_tree.specs.declared.spot.Spot.{Spot}
-use Rattle.rv_call_tree.specs.Trees.{last_path, path_behind, StandBehind}
+use Rattle.rv_call_tree.specs.Trees.{last_path, path_after, FollowInPreorder}
 
 abbrev pub all_entries : List AddressCounts → List FunctionName → List Spot → List Entry
 all_entries cs ns ss = map OfAddress cs ++ map (entry_of_spot ns) ss
@@ -97,16 +97,16 @@ abbrev pub StandIn : Place → List Entry → Type 0
 StandIn p [] = Unit {0}
 StandIn p (e ∷ es) = MayStand p e × StandIn (behind_entry p e) es
 
-stand_spots : (a : Option ℕ) (ms ns : List FunctionName) (front : List ℕ) (ss : List Spot) → StandBehind front ss
+stand_spots : (a : Option ℕ) (ms ns : List FunctionName) (front : List ℕ) (ss : List Spot) → FollowInPreorder front ss
     → AgreeWithAll ns ms → StandIn (record { address = a; names = ms; front = Some front }) (map (entry_of_spot ns) ss)
 stand_spots a ms ns front [] h k = tt
 stand_spots a ms ns front (s ∷ ss) h k = (
   (h.0, k s.function),
-  stand_spots None (with_name (function_name (named ns s)) ms) ns (path_behind front s) ss h.1 (agree_more ns ms s k),
+  stand_spots None (with_name (function_name (named ns s)) ms) ns (path_after front s) ss h.1 (agree_more ns ms s k),
 )
 
 stand_addresses : (lowest : ℕ) (cs : List AddressCounts) (ns : List FunctionName) (ss : List Spot) → rise_from lowest cs ≡ true
-    → StandBehind [] ss → StandIn (record { address = Some lowest; names = []; front = Some [] }) (all_entries cs ns ss)
+    → FollowInPreorder [] ss → StandIn (record { address = Some lowest; names = []; front = Some [] }) (all_entries cs ns ss)
 unfolding rise_from
 stand_addresses lowest [] ns ss h m = stand_spots (Some lowest) [] ns [] ss m (λ f. tt)
 stand_addresses lowest (c ∷ cs) ns ss h m =
@@ -150,11 +150,11 @@ spots_place : (a : Option ℕ) (ms ns : List FunctionName) (front : List ℕ) (s
 spots_place a ms ns front [] = refl
 spots_place a ms ns front (s ∷ ss) =
     let more = with_name (function_name (named ns s)) ms in
-    spots_place None more ns (path_behind front s) ss
+    spots_place None more ns (path_after front s) ss
     ∙ (λ i. record {
       address = none_stays ss i;
       names = with_names more (map (named ns) ss);
-      front = Some (last_path (path_behind front s) ss);
+      front = Some (last_path (path_after front s) ss);
     })
 
 entries_place : (lowest : ℕ) (cs : List AddressCounts) (ns : List FunctionName) (ss : List Spot)

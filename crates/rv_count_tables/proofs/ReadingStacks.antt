@@ -17,7 +17,7 @@ use Rattle.rv_count_tables.proofs.LineTexts.{spot_is_line, spot_words}
 use Rattle.rv_count_tables.proofs.NamesOfSpots.{it_has_its_name, names_so_far, no_names_so_far, others_are_named, text_of_named, AreNamesSoFar}
 use Rattle.rv_count_tables.proofs.ReadingLines.{each_push, further_within, lacks_path, line_is_long, lines_push, plain_line, same_words, whole_split}
 use Rattle.rv_call_tree.specs.declared.spot.Spot.{Spot}
-use Rattle.rv_call_tree.specs.Trees.{last_path, path_behind, IsTree, StandsBehind}
+use Rattle.rv_call_tree.specs.Trees.{last_path, path_after, IsTree, FollowsInPreorder}
 use Rattle.rv_call_tree.proofs.Public.{last_parts, stand_of_parts}
 
 -- so many bytes are the lines of so many items
@@ -69,18 +69,18 @@ lines_by_more text ss names more n e h = record {
 }
 
 pub one_spot : (text : List ℕ) (ss : List Spot) (names : List FunctionName) (front : List ℕ) (n m : ℕ) (x : NamedSpot)
-    → SpotsSoFar text ss names front n → IsNamedSpot x → StandsBehind front x.spot
+    → SpotsSoFar text ss names front n → IsNamedSpot x → FollowsInPreorder front x.spot
     → AgreesWith x.name (name_of x.spot.function names) → whole_line (drop n text) ≡ spot_line x
     → m ≡ n + length (whole_line (drop n text))
-    → SpotsSoFar text (ss ++ x.spot ∷ []) (with_name (function_name x) names) (path_behind front x.spot) m
+    → SpotsSoFar text (ss ++ x.spot ∷ []) (with_name (function_name x) names) (path_after front x.spot) m
 one_spot text ss names front n m x h fits stands agrees is e =
     let more = with_name (function_name x) names in record {
       lines = one_line (line_of_spot more) text ss x.spot n m
           (lines_by_more text ss names more n (others_are_named ss names x fits agrees h.named.of_spots) h.lines)
           (is ∙ ap spot_line (sym (it_has_its_name ss names x fits agrees))) e;
       each = each_push IsSpot ss x.spot h.each fits.spot;
-      tree = stand_of_parts [] ss (x.spot ∷ []) h.tree (subst (λ (path : List ℕ). StandsBehind path x.spot) h.path stands, tt);
-      path = ap (λ (path : List ℕ). path_behind path x.spot) h.path ∙ sym (last_parts [] ss (x.spot ∷ []));
+      tree = stand_of_parts [] ss (x.spot ∷ []) h.tree (subst (λ (path : List ℕ). FollowsInPreorder path x.spot) h.path stands, tt);
+      path = ap (λ (path : List ℕ). path_after path x.spot) h.path ∙ sym (last_parts [] ss (x.spot ∷ []));
       named = names_so_far ss names x fits agrees h.named;
     }
 
@@ -105,10 +105,10 @@ plain_name text n e =
 
 pub no_spot_here : (names : List FunctionName) (front text : List ℕ) (read : NamedSpot)
     → ((n : NamedSpot) → IsNamedSpot n → text ≡ spot_line n → read.spot ≡ n.spot)
-    → ((IsSpot read.spot × StandsBehind front read.spot) → ⊥) → IsNoSpot names front text
+    → ((IsSpot read.spot × FollowsInPreorder front read.spot) → ⊥) → IsNoSpot names front text
 no_spot_here names front text read same not n h stands agrees e =
     let s = same n h e in
-    not (subst IsSpot (sym s) h.spot, subst (StandsBehind front) (sym s) stands)
+    not (subst IsSpot (sym s) h.spot, subst (FollowsInPreorder front) (sym s) stands)
 
 pub no_spot_by_name : (names : List FunctionName) (front text : List ℕ) (read : NamedSpot)
     → ((n : NamedSpot) → IsNamedSpot n → text ≡ spot_line n → read.spot ≡ n.spot)

@@ -13,7 +13,7 @@ use Rattle.rv_count_tables.proofs.NamesOfSpots.{first_is, further}
 use Rattle.rv_call_tree.specs.Profiles.{is_last_of_some}
 use Rattle.rv_call_tree.specs.declared.spot.Spot.{Spot}
 use Rattle.rv_call_tree.specs.Sums.{IsSumOfSpots}
-use Rattle.rv_call_tree.specs.Trees.{arrivals_at, arrivals_of, counted_behind, ends_with, path_behind, HasArrivals}
+use Rattle.rv_call_tree.specs.Trees.{arrivals_at, arrivals_of, counted_after, ends_with, path_after, HasArrivals}
 
 -- ---- a function is one of spots where a run came to a list that ends with it
 
@@ -39,37 +39,37 @@ further_counts false n m h k = omega (arith, k)
 pub record IsComeTo (f : ℕ) (front : List ℕ) (ss : List Spot) : Type 0 where
   pub path : List ℕ
   pub ends : ends_with f path ≡ true
-  pub some : 0 < counted_behind arrivals_of path front ss
+  pub some : 0 < counted_after arrivals_of path front ss
 
 come_to : (f : ℕ) (front : List ℕ) (ss : List Spot) → HasArrivals ss → is_last_of_some f ss ≡ true → IsComeTo f front ss
 come_to f front [] h some = absurd (false≢true some)
 come_to f front (s ∷ ss) h some = elim (cases_Bool (s.function == f)) [
   | inl t ↦ record {
-    path = path_behind front s;
+    path = path_after front s;
     ends = ends_with_last f s.function (take s.depth front) ∙ t;
-    some = here_counts (bytes_eq (path_behind front s) (path_behind front s)) s.arrivals
-        (counted_behind arrivals_of (path_behind front s) (path_behind front s) ss) (itself (path_behind front s)) h.0;
+    some = here_counts (bytes_eq (path_after front s) (path_after front s)) s.arrivals
+        (counted_after arrivals_of (path_after front s) (path_after front s) ss) (itself (path_after front s)) h.0;
   }
   | inr t ↦
-      let k = come_to f (path_behind front s) ss h.1 (sym (ap (λ (b : Bool). b || is_last_of_some f ss) t) ∙ some) in
+      let k = come_to f (path_after front s) ss h.1 (sym (ap (λ (b : Bool). b || is_last_of_some f ss) t) ∙ some) in
       record {
         path = k.path;
         ends = k.ends;
-        some = here_or_further (bytes_eq (path_behind front s) k.path) s.arrivals
-            (counted_behind arrivals_of k.path (path_behind front s) ss) k.some;
+        some = here_or_further (bytes_eq (path_after front s) k.path) s.arrivals
+            (counted_after arrivals_of k.path (path_after front s) ss) k.some;
       }
 ]
 
 is_last : (f : ℕ) (path front : List ℕ) (ss : List Spot) → ends_with f path ≡ true
-    → 0 < counted_behind arrivals_of path front ss → is_last_of_some f ss ≡ true
+    → 0 < counted_after arrivals_of path front ss → is_last_of_some f ss ≡ true
 is_last f path front [] ends some = absurd (omega (arith, some))
-is_last f path front (s ∷ ss) ends some = elim (cases_Bool (bytes_eq (path_behind front s) path)) [
+is_last f path front (s ∷ ss) ends some = elim (cases_Bool (bytes_eq (path_after front s) path)) [
   | inl t ↦
-      let e = (bytes_decides (path_behind front s) path).0 t in
+      let e = (bytes_decides (path_after front s) path).0 t in
       let g : (s.function == f) ≡ true = sym (ends_with_last f s.function (take s.depth front)) ∙ ap (ends_with f) e ∙ ends in
       ap (λ (b : Bool). b || is_last_of_some f ss) g
-  | inr t ↦ further f s ss (is_last f path (path_behind front s) ss ends
-      (further_counts (bytes_eq (path_behind front s) path) s.arrivals (counted_behind arrivals_of path (path_behind front s) ss) t some))
+  | inr t ↦ further f s ss (is_last f path (path_after front s) ss ends
+      (further_counts (bytes_eq (path_after front s) path) s.arrivals (counted_after arrivals_of path (path_after front s) ss) t some))
 ]
 
 -- ---- sums

@@ -1,14 +1,14 @@
--- Lines of a text, and where a line is cut.
+-- Lines of a text, and where a line ends.
 use Rattle.std.specs.Prelude.{◌==◌, ◌+◌, ◌-◌, ℕ, Bool, true, not, nat_lt, ◌&&◌, if◌then◌else◌, List, [], ◌∷◌, length, take, drop, Result, Ok, Err}
 use Rattle.hex.specs.Hex.{decode_of}
 use Rattle.hex.specs.declared.error.FromHexError.{FromHexError}
 
--- whether a byte isn't in a text
+-- whether a byte does not occur in a text
 abbrev pub lacks : ℕ → List ℕ → Bool
 lacks byte [] = true
 lacks byte (b ∷ bs) = not (b == byte) && lacks byte bs
 
--- the place of a byte, or the length where it isn't there
+-- the index of a byte's first occurrence, or the length if there is none
 unfoldable pub place_of_byte : ℕ → List ℕ → ℕ
 place_of_byte byte [] = 0
 place_of_byte byte (b ∷ bs) = if b == byte then 0 else place_of_byte byte bs + 1
@@ -19,16 +19,16 @@ text_before_byte byte text = take (place_of_byte byte text) text
 abbrev pub text_after_byte : ℕ → List ℕ → List ℕ
 text_after_byte byte text = drop (place_of_byte byte text + 1) text
 
--- the first line with its line feed, or nothing where there is no line feed
+-- the first line with its line feed, or nothing if there is no line feed
 unfoldable pub whole_line : List ℕ → List ℕ
 whole_line text = if place_of_byte 10 text == length text then [] else take (place_of_byte 10 text + 1) text
 
--- how many line feeds a text has
+-- the number of line feeds in a text
 abbrev pub count_of_line_feeds : List ℕ → ℕ
 count_of_line_feeds [] = 0
 count_of_line_feeds (b ∷ bs) = if b == 10 then count_of_line_feeds bs + 1 else count_of_line_feeds bs
 
--- the first so many lines of a text, each with its line feed if it has one
+-- the first lines of a text, as many as given, each with its line feed if it has one
 unfoldable pub first_lines : ℕ → List ℕ → List ℕ
 first_lines count [] = []
 first_lines count (b ∷ bs) =
@@ -42,6 +42,6 @@ abbrev pub bytes_if_decoded : Result (List ℕ) FromHexError → List ℕ
 bytes_if_decoded (Ok bytes) = bytes
 bytes_if_decoded (Err error) = []
 
--- the bytes that hexadecimal digits write; none where a text has other bytes
+-- the bytes that hexadecimal digits encode; none if the text has other characters
 unfoldable pub hex_bytes : List ℕ → List ℕ
 hex_bytes text = bytes_if_decoded (decode_of text)

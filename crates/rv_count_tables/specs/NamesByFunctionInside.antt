@@ -1,4 +1,4 @@
--- The entries of a map as a list of names.
+-- The entries of a map as a list of function names.
 use Rattle.std.specs.Prelude.{ℕ, List, map}
 use Rattle.rv_count_tables.specs.declared.table.FunctionName.{FunctionName}
 

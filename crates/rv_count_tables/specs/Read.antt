@@ -1,4 +1,4 @@
--- Which line of a text is the first that no table has there.
+-- The first line of a text at which no table has that line.
 use Rattle.std.specs.Prelude.{◌≡◌, ◌==◌, ◌+◌, ◌-◌, if◌then◌else◌, ℕ, List, ◌++◌, length, take, drop, Result, Ok, Err}
 use Rattle.rv_count_tables.specs.declared.table.CountTable.{CountTable}
 use Rattle.rv_count_tables.specs.declared.read.ReadError.{ReadError}
@@ -11,24 +11,24 @@ use Rattle.rv_count_tables.specs.Text.{table_text}
 abbrev pub BeginsTable : List ℕ → Type 0
 BeginsTable bytes = (table : CountTable) × (rest : List ℕ) × IsTable table × (table_text table ≡ bytes ++ rest)
 
--- a table begins with the lines before this one, and none with those and this one
+-- some table begins with the lines before this one, and none with those lines and this one
 pub record IsLeastRefusedLine (line : ℕ) (bytes : List ℕ) : Type 0 where
   pub before : BeginsTable (first_lines (line - 1) bytes)
   pub refused : BeginsTable (first_lines line bytes) → ⊥
 
--- the line that is told is the least that is refused; of a text that is cut off, the lines that end
--- with a line feed begin a table, and the text is none
+-- the error names the first line that is rejected; if the text is truncated, its complete lines begin some table, but the text is not a
+-- table
 abbrev pub IsLeast : ReadError → List ℕ → Type 0
 IsLeast OutOfMemory bytes = Unit {0}
 IsLeast (Line line) bytes = IsLeastRefusedLine line bytes
 IsLeast CutOff bytes = BeginsTable (first_lines (count_of_line_feeds bytes) bytes)
 
--- the answer is this, unless memory ran out
+-- the result is this value, unless memory ran out
 abbrev pub AnswersUnlessMemory : {X : Type 0} → X → Result X ReadError → Type 0
 AnswersUnlessMemory x (Ok y) = y ≡ x
 AnswersUnlessMemory x (Err e) = e ≡ OutOfMemory
 
--- what is told of the line at a place: the text is cut off, or the line's number from 1
+-- the error for the line at an offset: the text is truncated, or the line's number, from 1
 abbrev pub read_error_at : ℕ → List ℕ → ReadError
 read_error_at place bytes =
     if length (whole_line (drop place bytes)) == 0 then CutOff else Line (count_of_line_feeds (take place bytes) + 1)

@@ -1,5 +1,5 @@
--- The sum of two tables of counts: each count of each image is the sum of both. Tables have none where a function of an image
--- has one name in one of them and another in the other.
+-- The sum of two tables of counts: each count of each image is the sum of both counts. Tables have no sum if they give a function of an
+-- image different names.
 use Rattle.std.specs.Prelude.{◌≡◌, ◌+◌, ◌^◌, ◌≤◌, ◌⊎◌, ℕ, true, List, [], ◌∷◌, Option, Some, None}
 use Rattle.rv_count_tables.specs.declared.table.AddressCounts.{AddressCounts}
 use Rattle.rv_count_tables.specs.declared.table.FunctionName.{FunctionName}
@@ -12,26 +12,26 @@ use Rattle.rv_call_tree.specs.Trees.{ends_with}
 use Rattle.rv_call_tree.specs.declared.sum.SpotSumError.{SpotSumError}
 use Rattle.rv_call_tree.specs.declared.sum.SpotSumError.TheVariants as spots
 
--- at each address the sum of both counts
+-- the count at each address is the sum of both counts
 pub record IsSumOfCounts (a b sum : List AddressCounts) : Type 0 where
   pub counts : AreCounts sum
   pub begun : (address : ℕ) → begun_at address sum ≡ begun_at address a + begun_at address b
   pub taken : (address : ℕ) → taken_at address sum ≡ taken_at address a + taken_at address b
 
--- two names of a function are one
+-- two names of a function are equal, or one is missing
 abbrev pub Agree : Option (List ℕ) → Option (List ℕ) → Type 0
 Agree None other = Unit {0}
 Agree (Some name) None = Unit {0}
 Agree (Some name) (Some other) = name ≡ other
 
--- for each function the name of either; both have the same
+-- each function has the name that either list gives it; the lists agree
 pub record IsSumOfNames (a b sum : List FunctionName) : Type 0 where
   pub names : AreNames sum
   pub agree : (function : ℕ) → Agree (name_at function a) (name_at function b)
   pub each : (function : ℕ) → name_at function sum ≡ least_path_of (name_at function a) (name_at function b)
 
--- in the image of each digest the sum of both counts at each address, and of both numbers of each list of functions; of two
--- paths the first in the order of bytes; the name of each function, in which both agree; and the runs of both
+-- for the image of each digest: both counts at each address and both numbers of each call path are added, the path is the first of both in
+-- byte order, and each function has the name on which both tables agree; the runs are added, too
 pub record IsSum (a b sum : CountTable) : Type 0 where
   pub table : IsTable sum
   pub begun : (digest : List ℕ) → (address : ℕ)
@@ -50,23 +50,23 @@ pub record IsSum (a b sum : CountTable) : Type 0 where
       → steps_in digest path sum.images ≡ steps_in digest path a.images + steps_in digest path b.images
   pub runs : sum.runs ≡ a.runs + b.runs
 
--- what is told of spots that were not added
+-- the error reported if call trees cannot be added
 abbrev pub sum_error_of : SpotSumError → SumError
 sum_error_of spots.OutOfMemory = OutOfMemory
 sum_error_of (spots.Count function) = Spot function
 
--- a list has this name of a function
+-- a list gives a function this name
 abbrev pub HasName : ℕ → List ℕ → List FunctionName → Type 0
 HasName function name [] = ⊥
 HasName function name (n ∷ ns) = ((n.function ≡ function) × (n.name ≡ name)) ⊎ HasName function name ns
 
--- an image of a digest has it
+-- the image with a digest gives a function this name
 abbrev pub HasNameIn : List ℕ → ℕ → List ℕ → List ImageCounts → Type 0
 HasNameIn digest function name [] = ⊥
 HasNameIn digest function name (i ∷ is) =
     ((i.digest ≡ digest) × HasName function name i.functions) ⊎ HasNameIn digest function name is
 
--- the number that is told is of 2^64 or more, or the function that is told has another name in each table
+-- the reported number would be 2^64 or more, or the tables give the reported function different names
 abbrev pub HaveNoSum : SumError → CountTable → CountTable → Type 0
 HaveNoSum OutOfMemory a b = Unit {0}
 HaveNoSum (Count address) a b = (digest : List ℕ)
@@ -78,7 +78,7 @@ HaveNoSum (Names function) a b = (digest : List ℕ) × (name : List ℕ) × (ot
     × HasNameIn digest function name a.images × HasNameIn digest function other b.images × (name ≡ other → ⊥)
 HaveNoSum Runs a b = 2 ^ 64 ≤ a.runs + b.runs
 
--- the same of one image's addresses
+-- the addresses of one image have no sum, for the reported reason
 abbrev pub CountsHaveNoSum : SumError → List AddressCounts → List AddressCounts → Type 0
 CountsHaveNoSum OutOfMemory a b = Unit {0}
 CountsHaveNoSum (Count address) a b = 2 ^ 64 ≤ begun_at address a + begun_at address b
@@ -86,7 +86,7 @@ CountsHaveNoSum (Spot function) a b = ⊥
 CountsHaveNoSum (Names function) a b = ⊥
 CountsHaveNoSum Runs a b = ⊥
 
--- of its names
+-- the names of one image have no sum, for the reported reason
 abbrev pub NamesHaveNoSum : SumError → List FunctionName → List FunctionName → Type 0
 NamesHaveNoSum OutOfMemory a b = Unit {0}
 NamesHaveNoSum (Count address) a b = ⊥
@@ -95,6 +95,6 @@ NamesHaveNoSum (Names function) a b = (name : List ℕ) × (other : List ℕ)
     × HasName function name a × HasName function other b × (name ≡ other → ⊥)
 NamesHaveNoSum Runs a b = ⊥
 
--- the table of no run
+-- the table of no runs
 abbrev pub no_counts : CountTable
 no_counts = record { images = []; runs = 0 }

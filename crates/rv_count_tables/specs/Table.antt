@@ -1,4 +1,4 @@
--- Tables of counts: how often each instruction of each image began, in which stacks, and which tables can be.
+-- Tables of counts: how often each instruction of each image was executed, on which call paths, and which tables are valid.
 use Rattle.std.specs.Prelude.{◌≡◌, ◌==◌, ◌+◌, ◌%◌, ◌^◌, ◌<◌, ◌≤◌, ℕ, if◌then◌else◌, List, [], ◌∷◌, length}
 use Rattle.std.specs.Prelude.{Option, Some, None, Bool, true, false, ◌&&◌, ◌||◌, nat_le, nat_lt}
 use Rattle.std.specs.List.{AllByRecursion}
@@ -15,17 +15,17 @@ use Rattle.rv_call_tree.specs.Trees.{arrivals_at, steps_at, IsTree}
 
 -- ---- what a table says
 
--- how often the instruction at an address began
+-- how often the instruction at an address was executed
 abbrev pub begun_at : ℕ → List AddressCounts → ℕ
 begun_at address [] = 0
 begun_at address (c ∷ cs) = (if c.address == address then c.begun else 0) + begun_at address cs
 
--- how often it was a conditional branch that was taken
+-- how often the instruction at an address was a taken conditional branch
 abbrev pub taken_at : ℕ → List AddressCounts → ℕ
 taken_at address [] = 0
 taken_at address (c ∷ cs) = (if c.address == address then c.taken else 0) + taken_at address cs
 
--- the same in the image of a digest
+-- how often the instruction at an address was executed, in the image with a digest
 abbrev pub begun_in : List ℕ → ℕ → List ImageCounts → ℕ
 begun_in digest address [] = 0
 begun_in digest address (i ∷ is) =
@@ -36,13 +36,13 @@ taken_in digest address [] = 0
 taken_in digest address (i ∷ is) =
     (if bytes_eq i.digest digest then taken_at address i.addresses else 0) + taken_in digest address is
 
--- the order of bytes, as words in a dictionary
+-- the lexicographic order of bytes
 unfoldable pub is_before : List ℕ → List ℕ → Bool
 is_before xs [] = false
 is_before [] (y ∷ ys) = true
 is_before (x ∷ xs) (y ∷ ys) = nat_lt x y || ((x == y) && is_before xs ys)
 
--- the one that comes first
+-- the path that comes first in byte order
 abbrev pub least_path : List ℕ → List ℕ → List ℕ
 least_path path other = if is_before other path then other else path
 
@@ -51,7 +51,7 @@ least_path_of None other = other
 least_path_of (Some path) None = Some path
 least_path_of (Some path) (Some other) = Some (least_path path other)
 
--- the path of the image of a digest, if there is such an image
+-- the path of the image with a digest, if there is one
 abbrev pub path_in : List ℕ → List ImageCounts → Option (List ℕ)
 path_in digest [] = None
 path_in digest (i ∷ is) =
@@ -62,13 +62,13 @@ abbrev pub name_at : ℕ → List FunctionName → Option (List ℕ)
 name_at function [] = None
 name_at function (n ∷ ns) = least_path_of (if n.function == function then Some n.name else None) (name_at function ns)
 
--- the same in the image of a digest
+-- the name of a function in the image with a digest, if it has one
 abbrev pub name_in : List ℕ → ℕ → List ImageCounts → Option (List ℕ)
 name_in digest function [] = None
 name_in digest function (i ∷ is) =
     least_path_of (if bytes_eq i.digest digest then name_at function i.functions else None) (name_in digest function is)
 
--- how often runs came to a list of functions of the image of a digest, and how many instructions began in it
+-- in the image with a digest: how often runs entered a call path, and how many instructions they executed there
 abbrev pub arrivals_in : List ℕ → List ℕ → List ImageCounts → ℕ
 arrivals_in digest path [] = 0
 arrivals_in digest path (i ∷ is) =
@@ -81,7 +81,7 @@ steps_in digest path (i ∷ is) =
 
 -- ---- tables that can be
 
--- an instruction that began, at an even address; taken as often as it began, or less often
+-- an instruction at an even address that was executed at least once, and taken at most as often
 pub record IsCounted (c : AddressCounts) : Type 0 where
   pub address : c.address < 2 ^ 32
   pub even : c.address % 2 ≡ 0
@@ -89,33 +89,33 @@ pub record IsCounted (c : AddressCounts) : Type 0 where
   pub fits : c.begun < 2 ^ 64
   pub taken : c.taken ≤ c.begun
 
--- addresses rise, and none is below the lowest
+-- addresses are strictly increasing and at least the lowest
 unfoldable pub rise_from : ℕ → List AddressCounts → Bool
 rise_from lowest [] = true
 rise_from lowest (c ∷ cs) = nat_le lowest c.address && rise_from (c.address + 1) cs
 
--- each address stands once, in order
+-- each address occurs once, in increasing order
 pub record AreCounts (cs : List AddressCounts) : Type 0 where
   pub each : AllByRecursion IsCounted cs
   pub rising : rise_from 0 cs ≡ true
 
--- the name of a function, which ends where its line does
+-- the name of a function; it has no line feed, since the line ends there
 pub record IsName (n : FunctionName) : Type 0 where
   pub function : n.function < 2 ^ 32
   pub name : lacks 10 n.name ≡ true
   pub text : IsUtf8 n.name
 
--- functions rise, and none is below the lowest
+-- functions are strictly increasing and at least the lowest
 unfoldable pub names_rise : ℕ → List FunctionName → Bool
 names_rise lowest [] = true
 names_rise lowest (n ∷ ns) = nat_le lowest n.function && names_rise (n.function + 1) ns
 
--- each function stands once, in order
+-- each function occurs once, in increasing order
 pub record AreNames (ns : List FunctionName) : Type 0 where
   pub each : AllByRecursion IsName ns
   pub rising : names_rise 0 ns ≡ true
 
--- a list of functions that a run came to
+-- a call path that a run entered
 pub record IsSpot (s : Spot) : Type 0 where
   pub depth : s.depth < 2 ^ 64
   pub function : s.function < 2 ^ 32
@@ -123,7 +123,7 @@ pub record IsSpot (s : Spot) : Type 0 where
   pub arrivals : s.arrivals < 2 ^ 64
   pub steps : s.steps < 2 ^ 64
 
--- with the name of its function
+-- a node with the name of its function
 pub record IsNamedSpot (n : NamedSpot) : Type 0 where
   pub spot : IsSpot n.spot
   pub name : lacks 10 n.name ≡ true
@@ -133,21 +133,21 @@ abbrev pub has_name : Option (List ℕ) → Bool
 has_name None = false
 has_name (Some name) = true
 
--- the name that a list has of a function, if it has one
+-- the name that a list gives a function, if it has one
 abbrev pub name_of : ℕ → List FunctionName → Option (List ℕ)
 name_of function [] = None
 name_of function (n ∷ ns) = if n.function == function then Some n.name else name_of function ns
 
--- each function of the spots has a name, and no other one
+-- exactly the functions of the nodes have names
 abbrev pub AreNamesOf : List Spot → List FunctionName → Type 0
 AreNamesOf spots names = (function : ℕ) → has_name (name_of function names) ≡ is_last_of_some function spots
 
--- each list of functions stands once, in order
+-- each call path occurs once, in preorder
 pub record AreSpots (ss : List Spot) : Type 0 where
   pub each : AllByRecursion IsSpot ss
   pub tree : IsTree ss
 
--- a path has no line feed, for it ends where its line does
+-- a valid image; its path has no line feed, since the line ends there
 pub record IsImage (i : ImageCounts) : Type 0 where
   pub digest : length i.digest ≡ 32
   pub bytes : AllByRecursion (λ b. b < 256) i.digest
@@ -158,17 +158,17 @@ pub record IsImage (i : ImageCounts) : Type 0 where
   pub spots : AreSpots i.spots
   pub of_spots : AreNamesOf i.spots i.functions
 
--- a digest stands behind the last one, if there is one
+-- a digest is greater than the previous one, if there is one
 abbrev pub is_behind : Option (List ℕ) → List ℕ → Bool
 is_behind None digest = true
 is_behind (Some last) digest = is_before last digest
 
--- each digest stands once, in order, behind the last one
+-- digests are strictly increasing and greater than the previous one
 unfoldable pub digests_rise : Option (List ℕ) → List ImageCounts → Bool
 digests_rise last [] = true
 digests_rise last (i ∷ is) = is_behind last i.digest && digests_rise (Some i.digest) is
 
--- a table that can be
+-- a valid table
 pub record IsTable (t : CountTable) : Type 0 where
   pub images : AllByRecursion IsImage t.images
   pub rising : digests_rise None t.images ≡ true

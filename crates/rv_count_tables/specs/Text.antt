@@ -1,4 +1,4 @@
--- The text of a table of counts: a first line, each image with its addresses and its stacks, and a last line.
+-- The text of a table of counts: a first line, each image with its addresses and its call tree, and a last line.
 use Rattle.std.specs.Prelude.{ℕ, List, [], ◌∷◌, ◌++◌, Option, Some, None, length, codes}
 use Rattle.std.specs.List.{flat_map}
 use Rattle.std.specs.Fmt.{decimal}
@@ -16,7 +16,7 @@ use Rattle.rv_call_tree.specs.declared.spot.Spot.{Spot}
 abbrev pub line : List ℕ → List ℕ
 line text = text ++ 10 ∷ []
 
--- the format, and its version
+-- the format and its version
 abbrev pub first_line : List ℕ
 first_line = line (codes "rvcounts 1")
 
@@ -36,7 +36,7 @@ abbrev pub name_or_nothing : Option (List ℕ) → List ℕ
 name_or_nothing None = []
 name_or_nothing (Some name) = name
 
--- a spot with the name that a list has of its function
+-- a node with the name that a list gives its function
 abbrev pub named : List FunctionName → Spot → NamedSpot
 named names s = record { spot = s; name = name_or_nothing (name_of s.function names) }
 

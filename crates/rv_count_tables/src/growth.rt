@@ -1,10 +1,10 @@
-//! Vectors that grow by one.
+//! Vectors that grow by one item.
 
 ghost use Rattle.std.specs.Prelude.{◌≡◌, ◌++◌, ◌∷◌, [], OnOk};
 
 use std::alloc::AllocError;
 
-/// Appends an item; where memory runs out it is dropped.
+/// Appends an item. Drops it if memory runs out.
 pub(crate) fn push_item<T: Drop>(items: &mut Vec<T>, item: T) -> Result<(), AllocError>
     ensures { OnOk result (items.new.items ≡ items.old.items ++ item ∷ []) }
 {

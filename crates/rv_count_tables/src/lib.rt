@@ -1,10 +1,10 @@
-//! Tables of counts: how often each instruction of each image began, and in which stacks, their text, that text read back, and their sums.
+//! Tables of counts: how often each instruction of each image was executed and on which call paths, with a text format, a parser for it,
+//! and sums.
 //!
-//! A [`CountTable`] has an entry for each address whose instruction began, by image. [`table_text`] writes a table, and
-//! [`read_table`] answers the table whose text it is given, or names the first line that no table has there
-//! ([`ReadError`]). [`sum_of_tables`] adds two tables, and refuses a sum with a number of 2^64 or more ([`SumError`]);
-//! [`add_table`] does the same with tables that are given away.
-//! A sum does not depend on the order of tables: [`sums_of_counts_commute`] and [`sums_of_counts_associate`].
+//! A [`CountTable`] has an entry for each executed address, by image. [`table_text`] formats a table. [`read_table`] parses it, or names
+//! the first line that no table has there ([`ReadError`]). [`sum_of_tables`] adds two tables and returns a [`SumError`] for a sum with a
+//! number of 2^64 or more; [`add_table`] does the same, but takes the tables by value. A sum does not depend on the order of the tables:
+//! [`sums_of_counts_commute`] and [`sums_of_counts_associate`].
 #![tactic(auto)]
 
 mod growth;
@@ -31,7 +31,7 @@ pub use law::{
     one_table_has_this_text, sums_of_counts_associate, sums_of_counts_commute,
     sums_of_tables_are_sums,
 };
-pub use lookup::{counts_at, has_begun_within, place_of_address};
+pub use lookup::{counts_at, has_begun_within, index_of_address};
 pub use names::{add_name, name_of};
 pub use read::{ReadError, read_table};
 pub use sum::{SumError, add_table, sum_of_tables};

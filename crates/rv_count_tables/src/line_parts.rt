@@ -1,4 +1,4 @@
-//! What the parts of a line say. Any text says something: whether a table has the line is seen by writing it.
+//! The values of the parts of a line. Any text has values; whether a table can have the line is checked by formatting them again.
 
 ghost use Rattle.std.specs.Prelude.{◌≡◌, ◌≤◌, ◌<◌, ◌^◌, ℕ, IfOk, take, length};
 ghost use Rattle.std.specs.Fmt.{decimal};
@@ -9,7 +9,7 @@ use hex::FromHexError;
 use rv_text::tail_from;
 use std::alloc::{AllocError, Global};
 
-/// The first bytes, or all where there are fewer.
+/// Returns the first `count` bytes, or all if there are fewer.
 pub(crate) fn leading_bytes(text: &[u8], count: usize) -> &[u8]
     ensures { result.now ≡ take count text.now }
 {
@@ -20,7 +20,7 @@ pub(crate) fn leading_bytes(text: &[u8], count: usize) -> &[u8]
     }
 }
 
-/// The place of a byte, or the length.
+/// Returns the index of a byte's first occurrence, or the length if there is none.
 pub(crate) fn place_of_byte(byte: u8, text: &[u8]) -> usize
     ensures place { result ≡ place_of_byte byte text.now }
     ensures within { result ≤ length text.now }
@@ -45,7 +45,7 @@ pub(crate) fn text_after_byte(byte: u8, text: &[u8]) -> &[u8]
     tail_from(text, place_of_byte(byte, text) + 1)
 }
 
-/// The first line with its line feed, or nothing where no line feed is ahead.
+/// Returns the first line with its line feed, or nothing if there is no line feed.
 #[tactic(auto, unfolding(crate::specs::Lines::whole_line))]
 pub(crate) fn whole_line(text: &[u8]) -> &[u8]
     ensures { result.now ≡ whole_line text.now }
@@ -58,7 +58,7 @@ pub(crate) fn whole_line(text: &[u8]) -> &[u8]
     }
 }
 
-/// The number that decimal digits write.
+/// Returns the value of decimal digits.
 pub(crate) fn decimal_number(text: &[u8]) -> u64
     ensures { (number : ℕ) → number < 2 ^ 64 → text.now ≡ decimal number → result ≡ number }
 {
@@ -71,7 +71,7 @@ pub(crate) fn decimal_number(text: &[u8]) -> u64
     value
 }
 
-/// The word that lower-case hexadecimal digits write.
+/// Returns the value of lower-case hexadecimal digits.
 pub(crate) fn hex_word(digits: &[u8]) -> u32
     ensures { (word : ℕ) → word < 2 ^ 32 → digits.now ≡ word_digits word → result ≡ word }
 {
@@ -90,7 +90,7 @@ fn hex_digit_value(b: u8) -> u8
     if b < 97 { b.saturating_sub(48) } else { b - 87 }
 }
 
-/// The bytes that hexadecimal digits write; none where they write none.
+/// Returns the bytes that hexadecimal digits encode, or none if the text is not of that form.
 #[tactic(auto, unfolding(crate::specs::Lines::hex_bytes))]
 pub(crate) fn hex_bytes(alloc: Global, text: &[u8]) -> Result<Vec<u8>, AllocError>
     ensures { IfOk result (λ bytes. bytes.items ≡ hex_bytes text.now) }

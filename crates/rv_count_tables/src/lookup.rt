@@ -7,12 +7,12 @@ ghost use Rattle.rv_count_tables.specs.Table.{begun_at, rise_from, taken_at};
 
 use crate::table::AddressCounts;
 
-/// How often the instruction at an address began, and how often it was a branch that was taken.
+/// Returns how often the instruction at an address was executed, and how often it was a taken branch.
 pub fn counts_at(counts: &[AddressCounts], address: u32) -> AddressCounts
     requires { rise_from 0 counts.now ≡ true }
     ensures { result ≡ record { address = address; begun = begun_at address counts.now; taken = taken_at address counts.now } }
 {
-    let place = place_of_address(counts, address);
+    let place = index_of_address(counts, address);
     if place < counts.len() && counts[place].address == address {
         return counts[place];
     }
@@ -23,17 +23,17 @@ pub fn counts_at(counts: &[AddressCounts], address: u32) -> AddressCounts
     }
 }
 
-/// Whether an instruction began at one of the addresses from one on, in front of another.
+/// Whether an instruction was executed at an address from `from` on and below `behind`.
 pub fn has_begun_within(counts: &[AddressCounts], from: u32, behind: u64) -> bool
     requires { rise_from 0 counts.now ≡ true }
     ensures { result ≡ list_any (λ c. nat_le from c.address && nat_lt c.address behind) counts.now }
 {
-    let place = place_of_address(counts, from);
+    let place = index_of_address(counts, from);
     place < counts.len() && u64::from(counts[place].address) < behind
 }
 
-/// How many entries have lower addresses: these stand first.
-pub fn place_of_address(counts: &[AddressCounts], address: u32) -> usize
+/// Returns the number of entries with lower addresses, which come first.
+pub fn index_of_address(counts: &[AddressCounts], address: u32) -> usize
     requires { rise_from 0 counts.now ≡ true }
     ensures within { result ≤ length counts.now }
     ensures lower { (k : ℕ) (d : Counts) → k < result → (slice_index_or counts.now k d).address < address }

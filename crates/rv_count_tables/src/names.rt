@@ -8,7 +8,7 @@ ghost use Rattle.rv_count_tables.specs.Table.{name_of};
 use crate::table::FunctionName;
 use std::alloc::AllocError;
 
-/// The name of a function, if it has one. Takes the time of one pass.
+/// Returns the name of a function, if it has one. Takes time linear in the number of names.
 pub fn name_of(names: &[FunctionName], function: u32) -> Option<&str>
     ensures { option_map (λ name. name.now) result ≡ name_of function names.now }
 {
@@ -24,7 +24,7 @@ fn first_of(names: &[FunctionName], function: u32) -> Option<&FunctionName>
     names.iter().find(|name| name.function == function)
 }
 
-/// Adds a name behind those of lower functions, where its function has none.
+/// Inserts a name after those of lower functions, unless its function has one already.
 pub fn add_name(names: &mut Vec<FunctionName>, name: FunctionName) -> Result<(), AllocError>
     ensures { OnOk result (names.new.items ≡ with_name name names.old.items) }
 {
@@ -36,7 +36,7 @@ pub fn add_name(names: &mut Vec<FunctionName>, name: FunctionName) -> Result<(),
     Ok(())
 }
 
-// How many names of lower functions stand first.
+// Returns the number of names of lower functions, which come first.
 fn lower_functions(names: &[FunctionName], function: u32) -> usize
     ensures { result ≡ prefix_len (λ m. nat_lt m.function function) names.now }
 {

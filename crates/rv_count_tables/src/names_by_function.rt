@@ -1,4 +1,4 @@
-//! The names of one image's functions while its lines are read.
+//! The names of one image's functions while its lines are parsed.
 
 ghost use Rattle.std.specs.Prelude.{◌≡◌, [], IfOk, OnOk, option_map};
 ghost use Rattle.rv_count_tables.specs.ReadSteps.{with_name};
@@ -11,7 +11,7 @@ use std::alloc::{AllocError, Global};
 use std::collections::BTreeMap;
 use std::marker::Model;
 
-/// The names of functions, looked up and added in logarithmic time. Contracts see them as the list in the order of functions.
+/// The names of functions, found and added in logarithmic time. Contracts see them as a list sorted by function.
 #[derive(Drop)]
 pub(crate) struct NamesByFunction {
     names: BTreeMap<u32, Text>,
@@ -36,7 +36,7 @@ impl NamesByFunction {
         }
     }
 
-    /// The name of a function, if it has one.
+    /// Returns the name of a function, if it has one.
     pub(crate) fn find(&self, function: u32) -> Option<&str>
         ensures { option_map (λ name. name.now) result ≡ name_of function self.now }
     {
@@ -46,7 +46,7 @@ impl NamesByFunction {
         }
     }
 
-    /// Adds a name, where its function has none.
+    /// Adds a name unless its function has one already.
     pub(crate) fn add(&mut self, name: FunctionName) -> Result<(), AllocError>
         ensures { OnOk result (self.new ≡ with_name name self.old) }
     {
@@ -56,7 +56,7 @@ impl NamesByFunction {
         Ok(())
     }
 
-    /// The names in the order of their functions.
+    /// Returns the names, sorted by function.
     pub(crate) fn into_names(self, alloc: Global) -> Result<FunctionNames, AllocError>
         ensures { IfOk result (λ names. names ≡ self) }
     {

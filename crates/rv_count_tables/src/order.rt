@@ -1,9 +1,9 @@
-//! The order of bytes.
+//! Byte order.
 
 ghost use Rattle.std.specs.Prelude.{◌≡◌};
 ghost use Rattle.rv_count_tables.specs.Table.{is_before, least_path};
 
-/// Whether bytes come before others, as words do in a dictionary.
+/// Whether `a` precedes `b` in lexicographic order.
 pub(crate) fn is_before(a: &[u8], b: &[u8]) -> bool
     ensures { result ≡ is_before a.now b.now }
 {
@@ -18,7 +18,7 @@ pub(crate) fn is_before(a: &[u8], b: &[u8]) -> bool
     false
 }
 
-/// The path that comes first in the order of bytes.
+/// Returns the path that comes first in byte order.
 pub(crate) fn least_path<'a>(path: &'a str, other: &'a str) -> &'a str
     ensures { result.now ≡ least_path path.now other.now }
 {

@@ -1,4 +1,4 @@
-//! Reading: the table whose text it is, or the first line that no table has there.
+//! Parses a table, or finds the first line that no table has there.
 
 ghost use Rattle.std.specs.Prelude.{◌≡◌, ◌+◌, ◌≤◌, IfOk, IfErr, length, take, drop};
 ghost use Rattle.rv_count_tables.specs.declared.table.CountTable.{CountTable as Counted};
@@ -15,16 +15,16 @@ use rv_text::tail_from;
 use std::alloc::{AllocError, Global};
 use thiserror::Error;
 
-/// Why a text was not read.
+/// Why a text could not be parsed.
 #[derive(Clone, Copy, Debug, Error, PartialEq, Eq)]
 pub enum ReadError {
-    /// A growth was refused.
+    /// An allocation failed.
     #[error("out of memory")]
     OutOfMemory,
     /// The first line, from 1, that no table has there.
     #[error("invalid line {0}")]
     Line(usize),
-    /// The text ends before its table does: its whole lines are those of some table.
+    /// The text is truncated: its complete lines begin some table.
     #[error("the table is truncated")]
     CutOff,
 }
@@ -37,15 +37,15 @@ impl From<AllocError> for ReadError {
     }
 }
 
-/// The table whose text this is. Takes memory for the table, and for one line more.
+/// Parses a table. Allocates the table, and one line.
 pub fn read_table(alloc: Global, bytes: &[u8]) -> Result<CountTable, ReadError>
-    // What is read has this text, and is a table that can be.
+    // The result is a valid table with this text.
     ensures found { IfOk result (λ table. IsTable table) }
     ensures text { IfOk result (λ table. table_text table ≡ bytes.now) }
-    // What has this text is read.
+    // Every valid table with this text is the result.
     ensures only { (table : Counted) → IsTable table → table_text table ≡ bytes.now
         → AnswersUnlessMemory table result }
-    // Some table begins with the lines before the one that the error names, and none with those and it.
+    // Some table begins with the lines before the reported one, and none with those lines and the reported one.
     ensures least { IfErr result (λ error. IsLeast error bytes.now) }
 {
     if whole_line(bytes) != "rvcounts 1\n".as_bytes() {
@@ -70,7 +70,7 @@ pub fn read_table(alloc: Global, bytes: &[u8]) -> Result<CountTable, ReadError>
     }
 }
 
-// What is told where the line at a place is refused.
+// Returns the error for a rejected line that begins at an offset.
 fn refused_at(bytes: &[u8], place: usize) -> ReadError
     ensures { result ≡ read_error_at place bytes.now }
 {
@@ -81,7 +81,7 @@ fn refused_at(bytes: &[u8], place: usize) -> ReadError
     }
 }
 
-// The number of the line at a place, from 1.
+// Returns the number, from 1, of the line that begins at an offset.
 fn number_of_line(bytes: &[u8], place: usize) -> usize
     ensures { result ≡ count_of_line_feeds (take place bytes.now) + 1 }
 {

@@ -1,5 +1,5 @@
-//! Lines of a table, read as far as they can stand there. Each line is taken for what it seems to say, that is written,
-//! and both lines are compared.
+//! Parses the lines of a table as far as they are valid. The values of each line are formatted again, and the result is compared with the
+//! line.
 
 ghost use Rattle.std.specs.Prelude.{◌≡◌, ◌≤◌, ◌<◌, ◌^◌, ℕ, Some, None, IfOk, IfSome, IfNone, length, true, IsTrue, ◌↔◌, ◌&&◌, ◌==◌, nat_le, nat_lt};
 ghost use Rattle.std.specs.List.{AllByRecursion};
@@ -25,28 +25,28 @@ use rv_call_tree::Spots;
 use rv_text::tail_from;
 use std::alloc::{AllocError, Global};
 
-/// Addresses that were read, and how many bytes their lines have.
+/// Parsed addresses, and the number of bytes in their lines.
 #[derive(Drop)]
 pub(crate) struct AddressLines {
     pub(crate) addresses: Addresses,
     pub(crate) length: usize,
 }
 
-/// An image that was read, and how many bytes its lines have.
+/// A parsed image, and the number of bytes in its lines.
 #[derive(Drop)]
 pub(crate) struct OneImage {
     pub(crate) image: ImageCounts,
     pub(crate) length: usize,
 }
 
-/// Images that were read, and how many bytes their lines have.
+/// Parsed images, and the number of bytes in their lines.
 #[derive(Drop)]
 pub(crate) struct ImageLines {
     pub(crate) images: Images,
     pub(crate) length: usize,
 }
 
-/// The images of the first lines, as many as there are.
+/// Parses the images of the first lines, as many as there are.
 pub(crate) fn read_images(alloc: Global, text: &[u8]) -> Result<ImageLines, AllocError>
     ensures { IfOk result (λ read. AreImageLines text.now read) }
 {
@@ -68,7 +68,7 @@ pub(crate) fn read_images(alloc: Global, text: &[u8]) -> Result<ImageLines, Allo
     }
 }
 
-// The image whose lines stand first, if it can stand behind the earlier ones.
+// Parses the image at the start of a text, if it can follow the earlier ones.
 fn read_image(
     alloc: Global,
     text: &[u8],
@@ -95,7 +95,7 @@ fn read_image(
     Ok(Some(OneImage { image, length }))
 }
 
-// Whether it is a digest, and greater than those before.
+// Whether this is a digest, and greater than the earlier ones.
 fn can_follow(digest: &[u8], earlier: &[ImageCounts]) -> bool
     ensures value { result ≡ ((length digest.now == 32) && is_behind (last_digest None earlier.now) digest.now) }
     ensures bytes { AllByRecursion (λ b. b < 256) digest.now }
@@ -107,7 +107,7 @@ fn can_follow(digest: &[u8], earlier: &[ImageCounts]) -> bool
         }
 }
 
-// The addresses of the first lines, as many as there are.
+// Parses the addresses of the first lines, as many as there are.
 fn read_addresses(alloc: Global, text: &[u8]) -> Result<AddressLines, AllocError>
     ensures { IfOk result (λ read. AreAddressLines text.now read) }
 {
@@ -132,7 +132,7 @@ fn read_addresses(alloc: Global, text: &[u8]) -> Result<AddressLines, AllocError
     }
 }
 
-// The counts of a line, if it is of an address that can stand there.
+// Returns the counts of a line if it is that of an address at or above `lowest`.
 fn parse_address_line(
     alloc: Global,
     line: &[u8],
@@ -151,7 +151,7 @@ fn parse_address_line(
     }
 }
 
-// Whether a table can have these counts behind lower addresses.
+// Whether a table can have these counts after those of lower addresses.
 fn can_stand(counts: AddressCounts, lowest: u64) -> bool
     ensures { IsTrue result ↔ (IsCounted counts × (lowest ≤ counts.address)) }
 {
@@ -212,7 +212,7 @@ fn has_image_line(alloc: Global, image: &ImageCounts, line: &[u8]) -> Result<boo
     Ok(line == text.as_bytes())
 }
 
-/// The number of runs, if the line is the last one of so many images.
+/// Returns the number of runs if the line is the last one of a table with this many images.
 pub(crate) fn runs_of_last_line(
     alloc: Global,
     line: &[u8],

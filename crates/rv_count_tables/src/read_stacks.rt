@@ -1,4 +1,4 @@
-//! Lines of spots, read as far as they can stand there, as those of addresses are.
+//! Parses the lines of call-tree nodes as far as they are valid, in the manner of address lines.
 
 ghost use Rattle.std.specs.Prelude.{◌≡◌, ◌≤◌, ◌<◌, ◌^◌, ℕ, List, IfOk, IfSome, IfNone, IsTrue, ◌↔◌};
 ghost use Rattle.std.specs.Str.{bytes_eq, IsUtf8};
@@ -7,7 +7,7 @@ ghost use Rattle.rv_count_tables.specs.Lines.{whole_line};
 ghost use Rattle.rv_count_tables.specs.ReadSteps.{function_name, AgreesWith, AreSpotLines, IsNoSpot};
 ghost use Rattle.rv_count_tables.specs.Table.{name_of, IsNamedSpot, IsSpot};
 ghost use Rattle.rv_count_tables.specs.Text.{spot_line};
-ghost use Rattle.rv_call_tree.specs.Trees.{StandsBehind};
+ghost use Rattle.rv_call_tree.specs.Trees.{FollowsInPreorder};
 
 use crate::growth::push_item;
 use crate::line_parts::{
@@ -21,7 +21,7 @@ use rv_call_tree::{Spot, Spots};
 use rv_text::tail_from;
 use std::alloc::{AllocError, Global};
 
-/// Spots that were read, the names of their functions, and how many bytes their lines have.
+/// Parsed nodes, the names of their functions, and the number of bytes in their lines.
 #[derive(Drop)]
 pub(crate) struct SpotLines {
     pub(crate) spots: Spots,
@@ -29,7 +29,7 @@ pub(crate) struct SpotLines {
     pub(crate) length: usize,
 }
 
-/// The spots of the first lines, as many as there are.
+/// Parses the nodes of the first lines, as many as there are.
 pub(crate) fn read_spots(alloc: Global, text: &[u8]) -> Result<SpotLines, AllocError>
     ensures { IfOk result (λ read. AreSpotLines text.now read) }
 {
@@ -67,7 +67,7 @@ fn function_name(named: NamedSpot) -> FunctionName
     }
 }
 
-// The spot of a line, if it is of one that can stand behind these functions, by a name that these names allow.
+// Returns the node of a line if it can follow the path `front` and its name agrees with `names`.
 fn next_spot(
     alloc: Global,
     line: &[u8],
@@ -75,7 +75,7 @@ fn next_spot(
     names: &NamesByFunction,
 ) -> Result<Option<NamedSpot>, AllocError>
     ensures spot { (text : List ℕ) → line.now ≡ whole_line text → IfOk result (λ read. IfSome read IsNamedSpot) }
-    ensures stands { IfOk result (λ read. IfSome read (λ n. StandsBehind front.now n.spot)) }
+    ensures stands { IfOk result (λ read. IfSome read (λ n. FollowsInPreorder front.now n.spot)) }
     ensures agrees { IfOk result (λ read. IfSome read (λ n. AgreesWith n.name (name_of n.spot.function names.now))) }
     ensures line { IfOk result (λ read. IfSome read (λ n. line.now ≡ spot_line n)) }
     ensures none { IfOk result (λ read. IfNone read (IsNoSpot names.now front.now line.now)) }
@@ -88,9 +88,9 @@ fn next_spot(
     }
 }
 
-// Whether a table can have the spot behind these functions.
+// Whether a table can have the node after this path.
 fn can_stand(spot: Spot, front: &[u32]) -> bool
-    ensures { IsTrue result ↔ (IsSpot spot × StandsBehind front.now spot) }
+    ensures { IsTrue result ↔ (IsSpot spot × FollowsInPreorder front.now spot) }
 {
     0 < spot.arrivals
         && spot.depth <= front.len()

@@ -14,19 +14,19 @@ use thiserror::Error;
 /// Why two tables have no sum.
 #[derive(Clone, Copy, Debug, Error, PartialEq, Eq)]
 pub enum SumError {
-    /// A growth was refused.
+    /// An allocation failed.
     #[error("out of memory")]
     OutOfMemory,
-    /// The instruction at the address began 2^64 times or more, in one image.
+    /// The instruction at this address was executed 2^64 times or more, in one image.
     #[error("the count at {0:08x} does not fit in 64 bits")]
     Count(u32),
-    /// A number of a spot of the function is of 2^64 or more, in one image.
+    /// A number of a node of this function is 2^64 or more, in one image.
     #[error("a count in the stacks of {0:08x} does not fit in 64 bits")]
     Spot(u32),
-    /// The function has one name in one table, and another in the other, in one image.
+    /// The two tables give this function of an image different names.
     #[error("{0:08x} has two names in one image")]
     Names(u32),
-    /// There are 2^64 runs or more.
+    /// The number of runs is 2^64 or more.
     #[error("the number of runs does not fit in 64 bits")]
     Runs,
 }
@@ -50,8 +50,7 @@ impl From<SpotSumError> for SumError {
     }
 }
 
-/// The sum of two tables: an image is known by its digest, and each of its counts is the sum of both. Takes memory for the sum
-/// alone.
+/// Returns the sum of two tables. Images are identified by their digests, and their counts are added. Allocates only the sum.
 pub fn sum_of_tables(alloc: Global, a: &CountTable, b: &CountTable) -> Result<CountTable, SumError>
     requires a { IsTable a.now }
     requires b { IsTable b.now }
@@ -63,7 +62,7 @@ pub fn sum_of_tables(alloc: Global, a: &CountTable, b: &CountTable) -> Result<Co
     Ok(CountTable { images, runs })
 }
 
-/// The same sum of tables that are given away: where one of them has no image, the images of the other are moved, and not copied.
+/// Like [`sum_of_tables`], but takes the tables by value: if one of them has no images, those of the other are moved, not copied.
 pub fn add_table(alloc: Global, sum: CountTable, table: CountTable) -> Result<CountTable, SumError>
     requires sum { IsTable sum }
     requires table { IsTable table }

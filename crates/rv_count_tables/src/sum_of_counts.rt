@@ -12,7 +12,7 @@ use crate::sum::SumError;
 use crate::table::{AddressCounts, Addresses};
 use std::alloc::Global;
 
-/// The sum at each address. Takes memory for the sum alone.
+/// Returns the sum at each address. Allocates only the sum.
 pub(crate) fn sum_of_counts(
     alloc: Global,
     a: &[AddressCounts],
@@ -35,7 +35,7 @@ pub(crate) fn sum_of_counts(
     Ok(Addresses::new(sums))
 }
 
-/// The first entry of a sum, and of how many entries of each list it is the sum.
+/// The first entry of a sum, and how many entries of each list it adds up.
 #[derive(Clone, Copy)]
 pub(crate) struct NextCount {
     pub(crate) sum: AddressCounts,
@@ -43,7 +43,7 @@ pub(crate) struct NextCount {
     pub(crate) of_b: usize,
 }
 
-// The entry of the lowest address in both lists.
+// Returns the entry for the lowest address in both lists.
 fn next_count(a: &[AddressCounts], b: &[AddressCounts]) -> Result<NextCount, SumError>
     requires a { AllByRecursion IsCounted a.now }
     requires b { AllByRecursion IsCounted b.now }
@@ -91,7 +91,7 @@ fn count_of_second(sum: AddressCounts) -> NextCount
     }
 }
 
-// The sum of two counts of one address.
+// Returns the sum of two counts of one address.
 fn sum_at_address(a: AddressCounts, b: AddressCounts) -> Result<AddressCounts, SumError>
     requires a { IsCounted a }
     requires b { IsCounted b }
@@ -103,7 +103,7 @@ fn sum_at_address(a: AddressCounts, b: AddressCounts) -> Result<AddressCounts, S
     ensures fits { IfOk result (λ sum. sum.begun < 2 ^ 64) }
 {
     match a.begun.checked_add(b.begun) {
-        // It was taken as often as it began, or less often: so this sum fits too.
+        // Each count was taken at most as often as executed, so this sum fits, too.
         Some(begun) => Ok(AddressCounts {
             address: a.address,
             begun,

@@ -18,7 +18,7 @@ use rv_base::Text;
 use rv_call_tree::{Spots, sum_of_spots};
 use std::alloc::{AllocError, Global};
 
-/// The images of both tables, each once. Takes memory for the sum alone.
+/// Returns the images of both tables, each once. Allocates only the sum.
 pub(crate) fn sum_of_images(
     alloc: Global,
     a: &[ImageCounts],
@@ -41,7 +41,7 @@ pub(crate) fn sum_of_images(
     Ok(Images::new(sums))
 }
 
-/// The images of both tables, each once: moved where all are of one table, and else copied.
+/// Returns the images of both tables, each once. Moves them if all belong to one table, else copies them.
 pub(crate) fn add_images(alloc: Global, a: Images, b: Images) -> Result<Images, SumError>
     requires a { AllByRecursion IsImage a }
     requires b { AllByRecursion IsImage b }
@@ -57,7 +57,7 @@ pub(crate) fn add_images(alloc: Global, a: Images, b: Images) -> Result<Images, 
     sum_of_images(alloc, a.as_slice(), b.as_slice())
 }
 
-/// The first image of a sum, and of how many images of each list it is the sum.
+/// The first image of a sum, and how many images of each list it adds up.
 #[derive(Drop)]
 pub(crate) struct NextImage {
     pub(crate) image: ImageCounts,
@@ -65,7 +65,7 @@ pub(crate) struct NextImage {
     pub(crate) of_b: usize,
 }
 
-// The image of the first digest in both lists.
+// Returns the image with the lowest digest in both lists.
 fn next_image(alloc: Global, a: &[ImageCounts], b: &[ImageCounts]) -> Result<NextImage, SumError>
     requires a { AllByRecursion IsImage a.now }
     requires b { AllByRecursion IsImage b.now }
@@ -125,7 +125,7 @@ fn is_earlier(a: &ImageCounts, b: &ImageCounts) -> bool
     is_before(a.digest.as_slice(), b.digest.as_slice())
 }
 
-// The sum of two images of one digest.
+// Returns the sum of two images with equal digests.
 fn sum_of_image(alloc: Global, a: &ImageCounts, b: &ImageCounts) -> Result<ImageCounts, SumError>
     requires a { IsImage a.now }
     requires b { IsImage b.now }

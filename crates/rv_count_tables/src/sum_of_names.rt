@@ -13,7 +13,7 @@ use crate::table::{FunctionName, FunctionNames};
 use rv_base::Text;
 use std::alloc::{AllocError, Global};
 
-/// Each function of both lists, by its name. Takes memory for the sum alone.
+/// Returns the functions of both lists with their names. Allocates only the sum.
 pub(crate) fn sum_of_names(
     alloc: Global,
     a: &[FunctionName],
@@ -36,7 +36,7 @@ pub(crate) fn sum_of_names(
     Ok(FunctionNames::new(sums))
 }
 
-/// The first name of a sum, and of how many names of each list it is the sum.
+/// The first name of a sum, and how many names of each list it adds up.
 #[derive(Drop)]
 pub(crate) struct NextName {
     pub(crate) name: FunctionName,
@@ -44,7 +44,7 @@ pub(crate) struct NextName {
     pub(crate) of_b: usize,
 }
 
-// The name of the lowest function in both lists.
+// Returns the name of the lowest function in both lists.
 fn next_name(alloc: Global, a: &[FunctionName], b: &[FunctionName]) -> Result<NextName, SumError>
     requires a { AllByRecursion IsName a.now }
     requires b { AllByRecursion IsName b.now }
@@ -116,7 +116,7 @@ fn copy_of_name(alloc: Global, name: &FunctionName) -> Result<FunctionName, Allo
     })
 }
 
-/// The same names.
+/// Returns a copy of the names.
 pub(crate) fn copy_of_names(
     alloc: Global,
     names: &[FunctionName],

@@ -3,13 +3,13 @@
 use rv_base::{Bytes, Sequence, Text};
 use rv_call_tree::{Spot, Spots};
 
-/// Counts of one image's addresses, of which contracts see their list.
+/// Counts of one image's addresses; contracts see them as a list.
 pub type Addresses = Sequence<AddressCounts>;
 
-/// Names of one image's functions, of which contracts see their list.
+/// Names of one image's functions; contracts see them as a list.
 pub type FunctionNames = Sequence<FunctionName>;
 
-/// Images with their counts, of which contracts see their list.
+/// Images with their counts; contracts see them as a list.
 pub type Images = Sequence<ImageCounts>;
 
 /// The 32 bytes of the SHA-256 digest of an image's file.
@@ -20,9 +20,9 @@ pub type Digest = Bytes;
 pub struct AddressCounts {
     /// The pc, which is even.
     pub address: u32,
-    /// How often the instruction began, once at least.
+    /// How often the instruction was executed, at least once.
     pub begun: u64,
-    /// How often it was a conditional branch that completed and did not go on to the address behind it.
+    /// How often it was a conditional branch that completed and did not continue at the next address.
     pub taken: u64,
 }
 
@@ -30,11 +30,11 @@ pub struct AddressCounts {
 #[derive(Debug, Drop)]
 pub struct FunctionName {
     pub function: u32,
-    /// No line feed is in it.
+    /// The name, without line feeds.
     pub name: Text,
 }
 
-/// A spot with the name of its function, as a line has them.
+/// A node with the name of its function, as in a line of the text.
 #[derive(Debug, Drop)]
 pub struct NamedSpot {
     pub spot: Spot,
@@ -45,21 +45,21 @@ pub struct NamedSpot {
 #[derive(Debug, Drop)]
 pub struct ImageCounts {
     pub digest: Digest,
-    /// The path that lists name the image by: the first in the order of bytes where they name several. No line feed is in it.
+    /// The path by which lists name the image, the first in byte order if there are several. It has no line feed.
     pub path: Text,
-    /// Rising by address.
+    /// Sorted by address.
     pub addresses: Addresses,
-    /// Rising by function: those of the spots, each once.
+    /// The functions of the nodes, each once, sorted by function address.
     pub functions: FunctionNames,
-    /// In which stacks the instructions began; none where that was not counted.
+    /// The call paths on which the instructions were executed; empty if they were not counted.
     pub spots: Spots,
 }
 
-/// How often each instruction of each image began, in some runs.
+/// How often each instruction of each image was executed in some runs.
 #[derive(Debug, Drop)]
 pub struct CountTable {
-    /// Rising by digest, in the order of bytes.
+    /// Sorted by digest, in byte order.
     pub images: Images,
-    /// How many jobs were counted; a refused job is none.
+    /// The number of counted jobs; a refused job does not count.
     pub runs: u64,
 }

@@ -1,4 +1,4 @@
-//! Texts of tables, read, written and added.
+//! Tests that parse, format and add tables.
 
 use crate::{ReadError, SumError, add_table, read_table, sum_of_tables, table_text};
 use std::alloc::Global;
@@ -44,7 +44,7 @@ image fa5d878384b4165ad613c93c06d8e251eb3c2c4230c67ce1306aa610ced287b5 build/han
 done 2 6
 ";
 
-// What comes of the sum of two texts, of tables that are lent and that are given away.
+// Checks the sum of two texts, for tables passed by reference and by value.
 fn sum_is(alloc: Global, a: &str, b: &str, expected: &str) -> Result<(), Fail> {
     let first = read_table(alloc, a.as_bytes())?;
     let second = read_table(alloc, b.as_bytes())?;
@@ -68,7 +68,7 @@ fn adds_tables(rt: HostRuntime) -> Result<(), Fail> {
     sum_is(alloc, B, "rvcounts 1\ndone 0 4\n", B_AND_RUNS)
 }
 
-// A text that is no table, and the line that is refused, or 0 where it is cut off.
+// Texts that are not tables, each with the line that is rejected, or 0 if the text is truncated.
 const REFUSED: [(&str, usize); 16] = [
     ("", 0),
     ("rvcounts 1", 0),
@@ -224,7 +224,7 @@ fn refuses_two_names(rt: HostRuntime) -> Result<(), Fail> {
     }
 }
 
-// What stands behind the line of an image, and which line is refused.
+// What follows the line of an image, and which line is rejected.
 const REFUSED_STACKS: [(&str, usize); 13] = [
     ("spot 1 80000000 1 1 a\n", 3),
     ("spot 0 80000000 0 1 a\n", 3),
@@ -263,7 +263,7 @@ rvcounts 1
 image 428abbe1347171d7e00df3badf31776c1ef4445e0516044cf7a638356db5f470 a
 ";
 
-// A digit may be the first letter of the last line.
+// A hexadecimal address can begin with the first letter of the last line.
 #[test]
 fn reads_addresses_from_end_to_end(rt: HostRuntime) -> Result<(), Fail> {
     sum_is(rt.alloc(), HIGH, "rvcounts 1\ndone 0 0\n", HIGH)

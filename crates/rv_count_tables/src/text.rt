@@ -13,7 +13,7 @@ use rv_call_tree::Spot;
 use std::alloc::{AllocError, Global};
 use std::collections::BTreeMap;
 
-/// The text of a table.
+/// Formats a table.
 #[tactic(auto, unfolding(crate::specs::Text::table_text))]
 pub fn table_text(alloc: Global, table: &CountTable) -> Result<String, AllocError>
     ensures { IfOk result (λ text. string_bytes text ≡ table_text table.now) }
@@ -76,14 +76,14 @@ fn push_spots(
     Ok(())
 }
 
-/// What the lines of a function's spots have in common.
+/// What the lines of one function's nodes have in common.
 #[derive(Drop)]
 pub(crate) struct FunctionWords {
     pub(crate) digits: Text,
     pub(crate) name: Text,
 }
 
-// The words of each function, by its first name.
+// Returns the words of each function, with its first name.
 fn index_of_functions(
     alloc: Global,
     names: &[FunctionName],
@@ -111,7 +111,7 @@ fn words_of_function(alloc: Global, name: &FunctionName) -> Result<FunctionWords
     })
 }
 
-// Each function of a table's spots has a name; one without any has the line of an empty name.
+// Every function of a table's nodes has a name; one without is written with an empty name.
 #[tactic(auto, unfolding(crate::specs::SpotLines::line_by_index))]
 fn push_indexed_line(
     alloc: Global,
@@ -129,7 +129,7 @@ fn push_indexed_line(
     }
 }
 
-/// Appends the line of an image, without its counts.
+/// Appends an image's line, without its counts.
 #[tactic(auto, unfolding(crate::specs::Text::image_line))]
 pub(crate) fn push_image_line(
     alloc: Global,
@@ -144,7 +144,7 @@ pub(crate) fn push_image_line(
     write!(text, "image {digest} {path}\n")
 }
 
-/// Appends the line of an address.
+/// Appends an address's line.
 #[tactic(auto, unfolding(crate::specs::Text::address_line, rv_text::specs::Words::word_digits))]
 pub(crate) fn push_address_line(
     alloc: Global,
@@ -160,7 +160,7 @@ pub(crate) fn push_address_line(
     write!(text, "{address} {begun} {taken}\n")
 }
 
-/// Appends the line of a spot.
+/// Appends a node's line.
 #[tactic(auto, unfolding(crate::specs::SpotLines::line_with_digits, crate::specs::SpotLines::words_with_digits, crate::specs::Text::spot_line, crate::specs::Text::words_of_spot, rv_text::specs::Words::word_digits))]
 pub(crate) fn push_spot_line(
     alloc: Global,
@@ -174,7 +174,7 @@ pub(crate) fn push_spot_line(
     push_line_with_digits(text, spot, digits.as_str(), name)
 }
 
-// Appends the line of a spot whose function has these digits.
+// Appends a node's line, with these digits for its function.
 #[tactic(auto, unfolding(crate::specs::SpotLines::line_with_digits))]
 fn push_line_with_digits(
     text: &mut String,
@@ -207,7 +207,7 @@ fn push_word(text: &mut String, word: &str) -> Result<(), AllocError>
     text.push_str(word)
 }
 
-// With `write!` a line takes about a third longer, and a table can have hundreds of thousands.
+// With `write!` a line takes about a third longer, and a table can have hundreds of thousands of lines.
 fn push_number(text: &mut String, number: u64) -> Result<(), AllocError>
     ensures { OnOk result (string_bytes text.new ≡ string_bytes text.old ++ codes " " ++ decimal number) }
 {
@@ -215,7 +215,7 @@ fn push_number(text: &mut String, number: u64) -> Result<(), AllocError>
     push_word(text, digits.format(number))
 }
 
-/// Appends the last line of a table of so many images and runs.
+/// Appends the last line of a table with these numbers of images and runs.
 #[tactic(auto, unfolding(crate::specs::Text::last_line))]
 pub(crate) fn push_last_line(text: &mut String, images: usize, runs: u64) -> Result<(), AllocError>
     ensures { OnOk result (string_bytes text.new ≡ string_bytes text.old ++ last_line images runs) }

@@ -1,4 +1,4 @@
--- The table of the jobs of a plan: how often each instruction of their images began, and was taken.
+-- The table of a plan's jobs: how often each instruction of their images was executed and taken.
 use Rattle.std.specs.Prelude.{◌≡◌, ◌==◌, ◌*◌, ◌%◌, ◌^◌, ◌<◌, ◌≤◌, ℕ, Bool, false, if◌then◌else◌, is_ok, List, [], ◌∷◌}
 use Rattle.std.specs.Prelude.{Option, Some, None, option_map, map, length, slice_index_or}
 use Rattle.std.specs.List.{filter, sum_by}
@@ -24,12 +24,12 @@ abbrev pub has_digest : List ℕ → Option (List ℕ) → Bool
 has_digest digest None = false
 has_digest digest (Some bytes) = bytes_eq (sha256 bytes) digest
 
--- the state in which the run of a job begins that is not refused, if the digest is that of its image
+-- the state in which a job's run begins, if the job is not refused and its image has the digest
 unfoldable pub start_over : List Answer → List ℕ → Job → Option State
 start_over answers digest job =
     if has_digest digest (image_bytes answers job) then result_ok (start_in answers job) else None
 
--- of an optional run within a budget of n steps
+-- the count in an optional run within a budget of n steps
 abbrev pub begun_from : ℕ → ℕ → Option State → ℕ
 begun_from address n None = 0
 begun_from address n (Some s) = begun_in_run address n s
@@ -38,28 +38,28 @@ abbrev pub taken_from : ℕ → ℕ → Option State → ℕ
 taken_from address n None = 0
 taken_from address n (Some s) = taken_in_run address n s
 
--- how often the instruction at an address of the image of a digest begins in the run of a job
+-- how often a job's run executes the instruction at an address, if its image has the digest
 abbrev pub begun_by : List Answer → List ℕ → ℕ → Job → ℕ
 begun_by answers digest address job = begun_from address job.budget (start_over answers digest job)
 
--- how often it is a branch that is taken
+-- how often a job's run takes the branch at an address, if its image has the digest
 abbrev pub taken_by : List Answer → List ℕ → ℕ → Job → ℕ
 taken_by answers digest address job = taken_from address job.budget (start_over answers digest job)
 
--- the path of that image as it is shown, where the job runs
+-- the image's path as shown, if the job runs and its image has the digest
 abbrev pub path_by : List Answer → List ℕ → Job → Option (List ℕ)
 path_by answers digest job = option_map (λ s. printable_text job.image) (start_over answers digest job)
 
--- a refused job is no run
+-- 1 for a job that runs, 0 for a refused one
 abbrev pub runs_by : List Answer → Job → ℕ
 runs_by answers job = once_if (is_ok (start_in answers job))
 
--- the path of that image which comes first in the order of bytes
+-- the first path, in byte order, of the image with the digest
 abbrev pub first_path : List Answer → List ℕ → List Job → Option (List ℕ)
 first_path answers digest [] = None
 first_path answers digest (j ∷ js) = least_path_of (path_by answers digest j) (first_path answers digest js)
 
--- the table of one run, over the image of a path with these bytes
+-- the table of one run, for the image with this path and these bytes
 abbrev pub table_of_run : List ℕ → List ℕ → List AddressCounts → CountTable
 table_of_run path bytes addresses = record {
   images = record {
@@ -72,7 +72,7 @@ table_of_run path bytes addresses = record {
   runs = 1;
 }
 
--- no stacks were counted
+-- no call paths were counted
 pub record HasNoStacks (t : CountTable) : Type 0 where
   pub names : (digest : List ℕ) (function : ℕ) → name_in digest function t.images ≡ None
   pub arrivals : (digest path : List ℕ) → arrivals_in digest path t.images ≡ 0
@@ -89,17 +89,17 @@ pub record IsTableOfJobs (answers : List Answer) (jobs : List Job) (t : CountTab
   pub runs : t.runs ≡ sum_by (runs_by answers) jobs
   pub stacks : HasNoStacks t
 
--- the jobs at some places of a plan, each of which is that of a job
+-- the jobs at some indices of a plan, each of which is that of a job
 abbrev pub jobs_at : Planned → List ℕ → List Job
 jobs_at plan places = map (λ place. slice_index_or plan.jobs place (single_job [] 0 [])) places
 
--- the table of the jobs at some places
+-- the table of the jobs at some indices
 abbrev pub IsTableOfPlaces : Planned → List ℕ → CountTable → Type 0
 IsTableOfPlaces plan places t = IsTableOfJobs plan.answers (jobs_at plan places) t
 
 -- ---- sums that fit
 
--- the greatest numbers that so many jobs can have
+-- upper bounds on the numbers of a table of this many jobs
 pub record IsTableOfFew (jobs : ℕ) (t : CountTable) : Type 0 where
   pub begun : (digest : List ℕ) (address : ℕ) → begun_in digest address t.images ≤ jobs * 2 ^ 32
   pub runs : t.runs ≤ jobs
@@ -118,12 +118,12 @@ AreTablesOfParts answers [] [] = Unit {0}
 AreTablesOfParts answers (p ∷ ps) (t ∷ ts) = IsTableOfJobs answers p t × AreTablesOfParts answers ps ts
 AreTablesOfParts answers _ _ = ⊥
 
--- a table, and tables that are added to it one after another
+-- a table to which tables are added one after another, and the sum
 abbrev pub SumsTo : CountTable → List CountTable → CountTable → Type 0
 SumsTo sum [] t = sum ≡ t
 SumsTo sum (u ∷ us) t = (next : CountTable) × IsSum sum u next × SumsTo next us t
 
--- a table for each of so many shards: a shard has every so-many-th place
+-- a table for each shard; a shard has the indices with one remainder modulo `shards`
 pub record AreTablesOfShards (plan : Planned) (shards : ℕ) (places : List ℕ) (ts : List CountTable) : Type 0 where
   pub count : length ts ≡ shards
   pub each : (k : ℕ) (d : CountTable) → k < shards

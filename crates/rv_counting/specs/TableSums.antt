@@ -8,7 +8,7 @@ use Rattle.rv_counting.specs.JobTables.{SumsTo}
 use Rattle.rv_engine.specs.declared.engine.RunError.{RunError}
 use Rattle.rv_engine.specs.declared.listener.Flow.{Flow}
 
--- the sum of those that were added, and why the next one was not
+-- the sum of the tables added so far, and why the next one was not added
 pub record Added : Type 0 where
   pub sum : CountTable
   pub failed : Option SumError
@@ -18,7 +18,7 @@ abbrev pub sum_or_error : CountTable → Option SumError → Result CountTable S
 sum_or_error sum None = Ok sum
 sum_or_error sum (Some error) = Err error
 
--- what is told behind a run: memory was wanting where it ended early
+-- the result after a run; a run that ended early ran out of memory
 abbrev pub sum_of_run : Added → Result Flow RunError → Result CountTable SumError
 sum_of_run added (Ok flow) = sum_or_error added.sum added.failed
 sum_of_run added (Err error) = Err OutOfMemory
@@ -31,7 +31,7 @@ pub record EndAdded (sum : CountTable) (error : SumError) (ts : List CountTable)
   pub sums : SumsTo no_counts before sum
   pub refused : HaveNoSum error sum last
 
--- tables were added, or all but the last, which has no sum with the others
+-- all tables were added, or all but the last, which has no sum with the others
 abbrev pub AreAdded : CountTable → Option SumError → List CountTable → Type 0
 AreAdded sum None ts = SumsTo no_counts ts sum
 AreAdded sum (Some error) ts = EndAdded sum error ts

@@ -16,16 +16,16 @@ use rv_rows::machine_at;
 use rv_trace::JobImage;
 use std::alloc::{AllocError, Global};
 
-/// The counts of a machine's run of at most so many steps. It takes the time of that run and more, and a look-up among the addresses so
-/// far for each instruction that is not run as part of a known block. Now and then it sorts the counts by address. Memory is 128 KiB for
-/// what is known of code, and for each address where an instruction began that of its counts and of an index.
+/// Counts a machine's run within a budget of steps. Takes longer than the run alone, and a lookup among the addresses so far for each
+/// instruction that does not run as part of a cached block. From time to time it sorts the counts by address. Takes 128 KiB of memory for
+/// the decode cache, and for each executed address its counts and an index entry.
 pub fn count_run(alloc: Global, machine: Machine, budget: u32) -> Result<Addresses, AllocError>
     ensures { IfOk result (λ counts. AreCountsOf budget (state_of machine) counts) }
 {
     Ok(counter_of_run(alloc, machine, budget)?.into_addresses())
 }
 
-// A counter of the run, which is done.
+// Runs the machine and returns the counter of the run.
 fn counter_of_run(alloc: Global, machine: Machine, budget: u32) -> Result<Counter, AllocError>
     ensures { IfOk result (HasCounted budget (state_of machine)) }
 {
@@ -35,7 +35,7 @@ fn counter_of_run(alloc: Global, machine: Machine, budget: u32) -> Result<Counte
     'steps: while left > 0 {
         let block = counter.find_block(&machine, left);
         if block.steps == 0 {
-            if !counter.step_anew(&mut machine)?.completed {
+            if !counter.step_uncached(&mut machine)?.completed {
                 return Ok(counter);
             }
             left -= 1;
@@ -49,7 +49,7 @@ fn counter_of_run(alloc: Global, machine: Machine, budget: u32) -> Result<Counte
     Ok(counter)
 }
 
-/// The counts of the run of a job within its budget; nothing where the job is refused. They can stand in a table.
+/// Counts the run of a job within its budget; `None` if the job is refused. A table can hold the counts.
 pub fn count_job(alloc: Global, job: &JobImage<'_>) -> Result<Option<Addresses>, AllocError>
     ensures counts { IfOk result (λ counts. (d : AJob) → AreCountsOfJob
         (job_at job.now.plan.now job.now.place d).budget

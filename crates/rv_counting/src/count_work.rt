@@ -29,7 +29,7 @@ impl Model for JobTable {
 }
 
 impl JobTable {
-    /// The table of a run.
+    /// Wraps the table of a run.
     pub fn new(table: CountTable) -> JobTable
         requires { IsTable table }
         ensures { result ≡ table }

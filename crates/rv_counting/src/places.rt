@@ -1,4 +1,4 @@
-//! The table of the jobs at some places of a plan.
+//! The table of the jobs at some indices of a plan.
 
 ghost use Rattle.std.specs.Prelude.{◌≡◌, IfOk};
 ghost use Rattle.rv_count_tables.specs.declared.sum.SumError.TheVariants.{OutOfMemory};
@@ -14,9 +14,9 @@ use std::marker::Brand;
 use std::sync::Wait;
 use std::thread::Threads;
 
-/// The table of the jobs of a batch: the sum of the tables of their runs, the same for every crew. Each job is run once more,
-/// by the threads of the crew; it takes memory for the tables that wait to be added, for two sums, and 128 KiB for what a thread
-/// knows of code. No number of so few jobs reaches 2^64.
+/// Returns the table of a batch's jobs: the sum of their runs' tables, identical for every crew. Each job is run once more, by the threads
+/// of the crew. Takes memory for the tables that wait to be added, for two sums, and 128 KiB for each thread's decode cache. With so few
+/// jobs no number reaches 2^64.
 pub fn count_batch<R: Threads + Wait + Sync>(
     crew: &Crew<'_, R>,
     batch: &Batch<'_>,
@@ -35,7 +35,7 @@ pub fn count_batch<R: Threads + Wait + Sync>(
     }
 }
 
-// Why jobs have no table: their tables have no stacks, and so few of these have a sum unless memory is wanting.
+// Converts the error of a sum. Jobs' tables have no call trees, and for so few of them a sum fails only if memory runs out.
 fn alloc_error_of(error: SumError) -> AllocError
     requires { error ≡ OutOfMemory }
 {

@@ -1,4 +1,4 @@
-//! One instruction of a machine.
+//! Single steps of a machine.
 
 ghost use Rattle.std.specs.Prelude.{◌≡◌};
 ghost use Rattle.rv_machine.specs.Machine.{state_of};
@@ -10,8 +10,7 @@ use rv_isa::Op;
 use rv_machine::{Ending, FaultKind, Machine};
 use rv_trace::{Code, code_length, instr_of};
 
-/// What is counted of a step: whether an instruction began, whether it completed, and whether it was a conditional branch
-/// that was taken.
+/// The count of a step: whether an instruction was executed, whether it completed, and whether it was a taken conditional branch.
 #[derive(Clone, Copy)]
 pub(crate) struct StepCount {
     pub(crate) begun: bool,
@@ -19,7 +18,7 @@ pub(crate) struct StepCount {
     pub(crate) taken: bool,
 }
 
-/// Does the next instruction of a machine, whose code this is, if it completes.
+/// Executes a machine's next instruction, whose encoding is `code`, if it completes.
 pub(crate) fn count_step(machine: &mut Machine, code: Option<Code>) -> StepCount
     requires { code ≡ code_at (state_of machine.old).bus (state_of machine.old).pc }
     ensures { IsStepCount (state_of machine.old) result (state_of machine.new) }
@@ -40,7 +39,7 @@ pub(crate) fn count_step(machine: &mut Machine, code: Option<Code>) -> StepCount
     }
 }
 
-// Whether the code at a pc is that of a conditional branch which went on at another address than that behind it.
+// Whether the encoding at a pc is a conditional branch that did not continue at the next address.
 fn is_taken_code(code: Option<Code>, pc: u32, next: u32) -> bool
     ensures { result ≡ is_taken_code code pc next }
 {
@@ -69,14 +68,14 @@ pub fn is_branch(op: Op) -> bool
     }
 }
 
-/// Whether an instruction lets code be run that was stored.
+/// Whether stored code can be executed after an instruction.
 pub(crate) fn is_fence(op: Op) -> bool
     ensures { result ≡ is_fence op }
 {
     matches!(op, Op::FenceI)
 }
 
-/// Whether an instruction goes on to the one behind it whenever it completes, and lets no stored code be run.
+/// Whether an instruction continues at the next address whenever it completes, and does not make stored code executable.
 pub(crate) fn is_straight(op: Op) -> bool
     ensures { result ≡ is_straight op }
 {
@@ -88,7 +87,7 @@ pub(crate) fn is_straight(op: Op) -> bool
     }
 }
 
-/// Whether a run that ended so had begun an instruction at its end: a fault of the fetch and a used-up budget have none.
+/// Whether a run with this end executed an instruction at its end: not after a fault of the fetch or a used-up budget.
 pub fn begins_at_end(ending: Ending) -> bool
     ensures { result ≡ begins_at_end ending }
 {

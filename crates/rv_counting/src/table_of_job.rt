@@ -21,8 +21,8 @@ use rv_trace::{JobImage, image_bytes, image_of_bytes};
 use sha2::{Digest, Sha256};
 use std::alloc::{AllocError, Global};
 
-/// The table of the job at a place, which has the counts of its run, or that of no run where the job is refused. It takes
-/// the time of one more run and more, and memory for each address where an instruction began.
+/// Returns the table of the job at an index: the counts of its run, or the table of no runs if the job is refused. Takes longer than one
+/// run of the job, and memory for each executed address.
 pub(crate) fn count_place(
     alloc: Global,
     plan: &Plan,
@@ -49,7 +49,7 @@ pub(crate) fn count_place(
     }
 }
 
-/// The table of no run. Takes no memory.
+/// Returns the table of no runs. Does not allocate.
 pub fn empty_table(alloc: Global) -> CountTable
     ensures { result ≡ no_counts }
 {
@@ -59,7 +59,7 @@ pub fn empty_table(alloc: Global) -> CountTable
     }
 }
 
-// The table of one run over the image of some bytes.
+// Returns the table of one run of the image with these bytes.
 fn table_of_run(
     alloc: Global,
     path: &str,
@@ -85,7 +85,7 @@ fn table_of_run(
     Ok(CountTable { images, runs: 1 })
 }
 
-/// A list of one image.
+/// Returns a list of one image.
 pub fn images_of_one(alloc: Global, image: ImageCounts) -> Result<Images, AllocError>
     ensures { IfOk result (λ images. images ≡ image ∷ []) }
 {
@@ -94,7 +94,7 @@ pub fn images_of_one(alloc: Global, image: ImageCounts) -> Result<Images, AllocE
     Ok(Images::new(images))
 }
 
-/// The digest by which a table knows the image of some bytes.
+/// Returns the digest by which a table identifies the image with these bytes.
 pub fn digest_of(alloc: Global, bytes: &[u8]) -> Result<Bytes, AllocError>
     ensures value { IfOk result (λ digest. digest ≡ sha256 bytes.now) }
     ensures long { IfOk result (λ digest. length digest ≡ 32) }
@@ -113,7 +113,7 @@ fn copy_of(alloc: Global, bytes: &[u8]) -> Result<Bytes, AllocError>
     Ok(Bytes::new(copy))
 }
 
-/// A text as a table has it: UTF-8 without line feeds.
+/// Converts a text to the form that a table holds: UTF-8 without line feeds.
 pub fn shown_text(alloc: Global, text: &[u8]) -> Result<Text, AllocError>
     ensures value { IfOk result (λ shown. shown ≡ printable_text text.now) }
     ensures text { IfOk result IsUtf8 }

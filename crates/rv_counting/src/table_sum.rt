@@ -18,12 +18,13 @@ pub trait HasTable {
 
     ghost table: { Self → Counted };
 
+    // Returns the table of counts.
     fn table(&self) -> &CountTable
         ensures value { result.now ≡ table self.now }
         ensures sound { IsTable (table self.now) };
 }
 
-/// Adds the tables of the results that it hears, up to one that has no sum with those before it.
+/// Adds the tables of the results that it receives, up to the first that has no sum with those before it.
 #[derive(Drop)]
 pub struct TableSum {
     alloc: Global,
@@ -43,7 +44,7 @@ impl Model for TableSum {
 }
 
 impl TableSum {
-    /// It has heard nothing yet.
+    /// Creates a sum that has received no tables.
     pub fn new(alloc: Global) -> TableSum
         ensures { result ≡ record { sum = no_counts; failed = None } }
     {
@@ -54,7 +55,7 @@ impl TableSum {
         }
     }
 
-    /// The sum behind a run that it heard, or why there is none. A run ends early where a growth or the start of a thread was refused.
+    /// Returns the sum after a run, or why there is none. A run ends early if an allocation fails or a thread cannot be started.
     pub fn into_sum_of_run(self, ran: Result<Flow, RunError>) -> Result<CountTable, SumError>
         ensures { result ≡ sum_of_run self ran }
     {

@@ -1,4 +1,4 @@
-//! Tests of counts, by what `rv_counting` shows its callers: small programs whose counts a person found, and lists of jobs.
+//! Tests of counts, using what `rv_counting` exports: small programs whose counts were found by hand, and lists of jobs.
 #![tactic(auto)]
 
 #[cfg(test)]

@@ -9,9 +9,8 @@ use std::test::Fail;
 
 const BASE: u32 = 0x8000_0000;
 
-// Each program stands from 80000000 on, and `X` is the exit call. Counts were found by hand: address, how often begun, how
-// often taken. An instruction that ends the run has begun, but for faults of the fetch. label | set | budget | program |
-// counts.
+// Each program starts at 80000000, and `X` is the exit call. Counts were found by hand: address, how often executed, how often taken. An
+// instruction that ends the run counts as executed, except for fetch faults. label | set | budget | program | counts.
 const RUNS: &str = "\
 straight line, and the exit call | imc | 9 | 00500513 X | 80000000 1 0, 80000004 1 0, 80000008 1 0
 loop of three rounds | imc | 99 | 00300293 fff28293 fe029ee3 X | \
@@ -68,7 +67,7 @@ fn machine_of(alloc: Global, isa: Isa, program: &str) -> Result<Machine, Fail> {
     Ok(Machine::new(alloc, bus, BASE, isa)?)
 }
 
-// The counts of a run, as a row tells them.
+// Returns the counts of a run, in the form of a row.
 fn told(alloc: Global, machine: Machine, budget: u32) -> Result<String, AllocError> {
     let mut text = String::new(alloc);
     let addresses = count_run(alloc, machine, budget)?;

@@ -1,4 +1,4 @@
-//! Tables of the jobs of a list, by one thread and by several.
+//! Tables of the jobs of a list, made by one thread and by several.
 ghost use Rattle.std.specs.Prelude.{◌<◌, ◌≤◌, IfOk, None};
 ghost use Rattle.std.specs.List.Sorted.{IsStrictlyIncreasing};
 ghost use Rattle.rv_fleet.specs.Choices.{AreJobIndices};
@@ -14,7 +14,7 @@ use std::sync::Wait;
 use std::test::Fail;
 use std::thread::Threads;
 
-/// Files by their paths: two of one image, which ends by the exit call, one of a loop of three rounds, and one that is no image.
+/// Files by path: two of one image, which ends with the exit call, one with a loop of three rounds, and one that is not an image.
 #[derive(Drop)]
 struct Files {
     faults: u64,
@@ -55,7 +55,7 @@ const LIST: &str = "job = [
 { name = 'n5', image = 'loop', budget = 3, same_as = 'n0', region = [{ base = 0x80000000, size = 4096 }] },
 { name = 'n6', image = \"line\\nfeed\", budget = 2, region = [{ base = 0x80000000, size = 4096 }] }]";
 
-// A choice of the jobs | the text of their table, with a stroke for each line feed. The digests are those of `sha256sum`.
+// A choice of the jobs | the text of their table, with a slash for each line feed. The digests are those of `sha256sum`.
 const TABLES: &str = "\
 ....... | rvcounts 1/done 0 0/
 ...xx.. | rvcounts 1/done 0 0/
@@ -75,7 +75,7 @@ fn marks_of(alloc: Global, choice: &str) -> Result<Vec<bool>, AllocError> {
     Ok(marks)
 }
 
-// The places of the jobs of a plan that are chosen.
+// Returns the indices of the chosen jobs of a plan.
 fn chosen(alloc: Global, plan: &Plan, choice: &str) -> Result<Vec<usize>, Fail>
     ensures within { IfOk result (λ places. AreJobIndices plan.now places.items) }
     ensures rising { IfOk result (λ places. IsStrictlyIncreasing places.items) }
@@ -87,7 +87,7 @@ fn chosen(alloc: Global, plan: &Plan, choice: &str) -> Result<Vec<usize>, Fail>
     Ok(selected_indices(alloc, marks.as_slice())?)
 }
 
-// The text of the table of a choice, by so many threads.
+// Returns the text of the table for a choice, made by `workers` threads.
 fn told<R: Threads + Wait + Sync>(
     rt: &R,
     alloc: Global,

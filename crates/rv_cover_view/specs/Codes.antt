@@ -1,4 +1,4 @@
--- The codes of a function, from its first byte on, each behind the one before.
+-- The encodings in a function's bytes, one after another from the first byte on.
 use Rattle.std.specs.Prelude.{◌+◌, ◌*◌, ◌%◌, ◌==◌, ℕ, zero, suc, if◌then◌else◌, List, [], ◌∷◌, Option, Some, None, drop, length, option_and_then, option_map}
 use Rattle.std.specs.Option.{option_map_or}
 use Rattle.rv_elf.specs.Functions.{Named}
@@ -8,32 +8,32 @@ use Rattle.rv_trace.specs.declared.code.Code.TheVariants.{Half, Word}
 use Rattle.rv_trace.specs.Code.{size_of_code}
 use Rattle.rv_cover_view.specs.Functions.{address_of, bytes_of}
 
--- the halfword at the front of bytes, the low byte first
+-- the halfword at the start of the bytes, little-endian
 abbrev pub front_half : List ℕ → Option ℕ
 front_half (low ∷ high ∷ rest) = Some (low + 0x100 * high)
 front_half _ = None
 
--- a halfword whose low two bits aren't 11 is a whole code, else it is the low half of a word (ISA manual, 1.5)
+-- a halfword whose low two bits are not 11 is a complete encoding; otherwise it is the low half of a word (ISA manual, 1.5)
 abbrev pub code_of_half : List ℕ → ℕ → Option Code
 code_of_half behind low = if field low 1 0 == 3
     then option_map (λ high. Word (low + 0x1_0000 * high)) (front_half behind)
     else Some (Half low)
 
--- the code at the front of bytes; none where it is cut off
+-- the encoding at the start of the bytes; none if it is cut off
 unfoldable pub front_code : List ℕ → Option Code
 front_code bytes = option_and_then (code_of_half (drop 2 bytes)) (front_half bytes)
 
--- a code at its address
+-- an encoding at its address
 abbrev pub Placed : Type 0
 Placed = ℕ × Code
 
--- at most n codes of bytes at an address; addresses go on as a pc does
+-- at most n encodings of bytes at an address; addresses advance as a pc does
 unfoldable pub codes_from : ℕ → ℕ → List ℕ → List Placed
 codes_from zero address bytes = []
 codes_from (suc n) address bytes = option_map_or
     (λ code. (address, code) ∷ codes_from n ((address + size_of_code code) % 0x1_0000_0000) (drop (size_of_code code) bytes))
     (front_code bytes) []
 
--- all of them, since each has a byte at least
+-- all encodings of a function; each has at least one byte
 abbrev pub codes_of : Named → List Placed
 codes_of f = codes_from (length (bytes_of f)) (address_of f) (bytes_of f)

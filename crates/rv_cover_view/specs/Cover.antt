@@ -1,4 +1,4 @@
--- What was run of functions.
+-- Coverage of functions.
 use Rattle.std.specs.Prelude.{◌≡◌, ◌+◌, ◌≤◌, ◌<◌, ◌&&◌, ℕ, Bool, not, nat_le, nat_lt, List, filter, is_some, length}
 use Rattle.std.specs.List.{count_by, flat_map, list_any}
 use Rattle.rv_count_tables.specs.declared.table.AddressCounts.{AddressCounts}
@@ -13,7 +13,7 @@ use Rattle.rv_cover_view.specs.Functions.{address_of, bytes_of}
 
 -- ---- a function
 
--- an instruction began at one of the addresses of its bytes
+-- an instruction was executed at one of the function's addresses
 abbrev pub has_run : List AddressCounts → Named → Bool
 has_run counts f = list_any (λ c. nat_le (address_of f) c.address && nat_lt c.address (address_of f + length (bytes_of f))) counts
 
@@ -22,22 +22,22 @@ never_run counts fs = filter (λ f. not (has_run counts f)) fs
 
 -- ---- a code at its address
 
--- RV32IMC has an instruction for it
+-- RV32IMC has an instruction for the encoding
 abbrev pub is_instruction : Placed → Bool
 is_instruction p = is_some (instr_of p.1)
 
--- an instruction began at its address
+-- an instruction was executed at the encoding's address
 abbrev pub has_begun : List AddressCounts → Placed → Bool
 has_begun counts p = nat_lt 0 (begun_at p.0 counts)
 
 abbrev pub is_run : List AddressCounts → Placed → Bool
 is_run counts p = is_instruction p && has_begun counts p
 
--- it was taken, and began more often than that
+-- the branch was taken, and executed more often than taken
 abbrev pub went_both_ways : List AddressCounts → Placed → Bool
 went_both_ways counts p = nat_lt 0 (taken_at p.0 counts) && nat_lt (taken_at p.0 counts) (begun_at p.0 counts)
 
--- conditional branches that were seen both ways, one way, and never
+-- conditional branches that went both ways, only one way, and were never executed
 abbrev pub is_branch_both_ways : List AddressCounts → Placed → Bool
 is_branch_both_ways counts p = is_branch_code p.1 && went_both_ways counts p
 
@@ -67,7 +67,7 @@ amounts_of counts fs = record {
 
 -- ---- the theorem
 
--- no instruction began at an address of the bytes of the function
+-- no instruction was executed at the function's addresses
 abbrev pub HasNotBegun : List AddressCounts → Named → Type 0
 HasNotBegun counts f = (address : ℕ) → address_of f ≤ address → address < address_of f + length (bytes_of f)
     → begun_at address counts ≡ 0

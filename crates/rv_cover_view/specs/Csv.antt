@@ -1,4 +1,4 @@
--- What ran of images as comma-separated values (RFC 4180), each line with a line feed at its end: a row of names, and a row an image.
+-- Coverage of images as comma-separated values (RFC 4180): a row of column names and a row per image, each terminated by a line feed.
 use Rattle.std.specs.Prelude.{◌++◌, ◌==◌, ◌||◌, ℕ, Bool, if◌then◌else◌, List, [], ◌∷◌, codes}
 use Rattle.std.specs.Fmt.{decimal}
 use Rattle.std.specs.List.{flat_map, list_any}
@@ -18,7 +18,7 @@ quote_twice byte = if byte == 34 then 34 ∷ 34 ∷ [] else byte ∷ []
 abbrev pub with_quotes_twice : List ℕ → List ℕ
 with_quotes_twice field = flat_map quote_twice field
 
--- a field that has one of these stands between quotes, with each of its own twice
+-- a field with a special character is quoted, and its own quotes are doubled
 unfoldable pub csv_field : List ℕ → List ℕ
 csv_field field = if list_any is_special field then codes "\"" ++ with_quotes_twice field ++ codes "\"" else field
 

@@ -1,11 +1,11 @@
--- The functions of an image, each address once.
+-- The functions of an image, one for each address.
 use Rattle.std.specs.Prelude.{◌≡◌, ◌==◌, ℕ, Bool, List, find, length, map}
 use Rattle.std.specs.List.{sum_by}
 use Rattle.std.specs.List.Sorted.{IsStrictlyIncreasing}
 use Rattle.rv_elf.specs.declared.function.Function.{Function}
 use Rattle.rv_elf.specs.Functions.{Named}
 
--- a function by its name, its address and its bytes
+-- a function with its name, its address and its bytes
 abbrev pub named : Function → Named
 named f = (f.name.now, (f.address, f.code.now))
 
@@ -18,11 +18,11 @@ bytes_of f = f.1.1
 abbrev pub stands_at : ℕ → Named → Bool
 stands_at address f = address_of f == address
 
--- by address, and at each address the first of those that there were
+-- sorted by address, with the first of the old functions at each address
 pub record IsEachOnce (old new : List Named) : Type 0 where
   pub rising : IsStrictlyIncreasing (map address_of new)
   pub first : (address : ℕ) → find (stands_at address) new ≡ find (stands_at address) old
 
--- how many bytes they have together
+-- the total size of the functions in bytes
 abbrev pub code_bytes : List Named → ℕ
 code_bytes fs = sum_by (λ f. length (bytes_of f)) fs

@@ -1,4 +1,4 @@
--- The counts that a table has of images: an image is known by the SHA-256 digest of its file.
+-- A table's counts of images, which are identified by the SHA-256 digests of their files.
 use Rattle.std.specs.Prelude.{◌&&◌, ℕ, Bool, List, [], Option, find, not, option_map}
 use Rattle.std.specs.List.{list_any}
 use Rattle.std.specs.Option.{option_map_or}
@@ -10,23 +10,23 @@ use Rattle.rv_count_tables.specs.declared.table.ImageCounts.{ImageCounts}
 use Rattle.rv_text.specs.Printable.{printable_text}
 use Rattle.rv_cover_view.specs.JobImages.{FileImage}
 
--- the image of a digest is one of a table
+-- a table's image has the digest
 abbrev pub is_of_digest : List ℕ → ImageCounts → Bool
 is_of_digest digest counted = bytes_eq counted.digest digest
 
--- the image of a table with the digest of a file, if it has one
+-- the image in a table with the digest of a file, if there is one
 abbrev pub counted_image : CountTable → List ℕ → Option ImageCounts
 counted_image table bytes = find (is_of_digest (sha256 bytes)) table.images
 
--- its counts; none where a table has no such image
+-- the image's counts; none if the table has no such image
 abbrev pub counts_of : CountTable → List ℕ → List AddressCounts
 counts_of table bytes = option_map_or (λ counted. counted.addresses) (counted_image table bytes) []
 
--- a table has counts of another image of the same path, and none of this one
+-- a table has counts of another image with the same path, and none of this one
 abbrev pub is_other_image : CountTable → FileImage → Bool
 is_other_image table image = not (list_any (is_of_digest (sha256 image.bytes)) table.images)
     && list_any (λ counted. bytes_eq counted.path (printable_text image.path)) table.images
 
--- the path of the first image of which it has such counts, if there is one
+-- the path of the first image for which the table has counts of another image only, if there is one
 abbrev pub other_image : CountTable → List FileImage → Option (List ℕ)
 other_image table images = option_map (λ image. image.path) (find (is_other_image table) images)

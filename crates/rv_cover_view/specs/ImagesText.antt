@@ -1,4 +1,4 @@
--- What is shown of images by the counts of a table: a head, and then what ran of each.
+-- The coverage report of images, from a table's counts: a header, then the coverage of each image.
 use Rattle.std.specs.Prelude.{◌≡◌, ◌++◌, ℕ, Bool, false, true, if◌then◌else◌, List, [], ◌∷◌, map}
 use Rattle.rv_count_tables.specs.declared.table.CountTable.{CountTable}
 use Rattle.rv_cover_view.specs.Csv.{csv_head, csv_row}
@@ -9,7 +9,7 @@ use Rattle.rv_cover_view.specs.JobImages.{FileImage}
 use Rattle.rv_cover_view.specs.Text.{cover_head, image_line, never_run_line}
 use Rattle.rv_cover_view.specs.declared.image_cover.ImageCover.{ImageCover}
 
--- of an image, as a row for tools, or as a line with the names of the functions that never ran behind it
+-- an image's coverage, as a CSV row, or as a line followed by the names of the functions that never ran
 abbrev pub image_text : Bool → ImageCover → List ℕ
 image_text true cover = csv_row cover.path.now cover.amounts
 image_text false cover = image_line cover.path.now cover.amounts ++ never_run_line (map named cover.never_run.items)
@@ -17,17 +17,17 @@ image_text false cover = image_line cover.path.now cover.amounts ++ never_run_li
 abbrev pub head_text : Bool → List ℕ
 head_text csv = if csv then csv_head else cover_head
 
--- this is shown of an image, by the counts of a table
+-- the text shows an image's coverage by a table's counts
 abbrev pub IsShownOf : Bool → CountTable → FileImage → List ℕ → Type 0
 IsShownOf csv table image text = (cover : ImageCover)
     × (IsCoverOf image.path image.image image.bytes (counts_of table image.bytes) cover × (text ≡ image_text csv cover))
 
--- of each of some images, one behind the other
+-- the text shows the coverage of each image, one after another
 abbrev pub AreShown : Bool → CountTable → List FileImage → List ℕ → Type 0
 AreShown csv table [] text = text ≡ []
 AreShown csv table (image ∷ images) text = (first : List ℕ) × (IsShownOf csv table image first
     × ((rest : List ℕ) × (AreShown csv table images rest × (text ≡ first ++ rest))))
 
--- a head, and behind it what is shown of images
+-- the text is a header followed by the coverage of the images
 abbrev pub IsCoverText : Bool → CountTable → List FileImage → List ℕ → Type 0
 IsCoverText csv table images text = (lines : List ℕ) × (AreShown csv table images lines × (text ≡ head_text csv ++ lines))

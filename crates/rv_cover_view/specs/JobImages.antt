@@ -1,4 +1,4 @@
--- The images of jobs, each file once.
+-- The images of jobs, one for each file.
 use Rattle.std.specs.Prelude.{◌≤◌, ◌++◌, ℕ, if◌then◌else◌, List, [], ◌∷◌, Option, Some, IfSome, length, map, option_and_then, option_map}
 use Rattle.std.specs.List.{fold, list_any}
 use Rattle.std.specs.Option.{option_map_or}
@@ -11,18 +11,18 @@ use Rattle.rv_rows.specs.Rows.{image_if_read}
 use Rattle.rv_cover_view.specs.declared.image_file.ImageFile.{ImageFile}
 use Rattle.rv_trace.specs.Trace.{image_bytes}
 
--- an image with the path that a list names it by, and its file
+-- an image with the path by which a list names it, and its file
 pub record FileImage : Type 0 where
   pub path : List ℕ
   pub bytes : List ℕ
   pub image : Image
 
--- the image of a job, where its file was read and is one
+-- the image of a job, if its file was read and is a valid image
 abbrev pub image_of_job : List Answer → Job → Option FileImage
 image_of_job answers job = option_and_then (λ bytes. option_map (λ image. record { path = job.image; bytes = bytes; image = image })
     (image_if_read job.isa (Some bytes))) (image_bytes answers job)
 
--- images, and this one, unless the file of one of them is the same
+-- the images with this one added, unless one of them has an equal file
 abbrev pub with_image : List FileImage → FileImage → List FileImage
 with_image images image =
     if list_any (λ other. bytes_eq image.bytes other.bytes) images then images else images ++ image ∷ []
@@ -30,11 +30,11 @@ with_image images image =
 abbrev pub with_image_of : List Answer → List FileImage → Job → List FileImage
 with_image_of answers images job = option_map_or (with_image images) (image_of_job answers job) images
 
--- the images of jobs, in the order of the jobs: each file once, by the path of the first job that has it
+-- the images of jobs, in job order: each file once, with the path of the first job that has it
 abbrev pub images_of : List Answer → List Job → List FileImage
 images_of answers jobs = fold (with_image_of answers) [] jobs
 
--- the files of images are not larger than a store reads
+-- image files are no larger than the store's read limit
 abbrev pub AreSmall : List Answer → Type 0
 AreSmall answers = (job : Job) → IfSome (image_bytes answers job) (λ bytes. length bytes ≤ most_bytes)
 

@@ -1,4 +1,4 @@
--- Amounts as they are added.
+-- Coverage totals as they are added up.
 use Rattle.std.specs.Prelude.{◌+◌, ◌^◌, ◌<◌}
 use Rattle.rv_cover_view.specs.declared.amounts.CodeAmounts.{CodeAmounts}
 
@@ -14,7 +14,7 @@ plus a b = record {
   branches_never = a.branches_never + b.branches_never;
 }
 
--- each of them is a number of 64 bits
+-- each total fits in 64 bits
 pub record Fits (a : CodeAmounts) : Type 0 where
   pub instructions : a.instructions < 2 ^ 64
   pub instructions_run : a.instructions_run < 2 ^ 64

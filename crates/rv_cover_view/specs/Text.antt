@@ -1,4 +1,4 @@
--- What ran of images, as it is shown: a head, and for each image a line in the same columns, and the names of the functions that never ran.
+-- The coverage table: a header, and for each image a line in aligned columns and the names of the functions that never ran.
 use Rattle.std.specs.Prelude.{◌++◌, ◌-◌, ℕ, List, [], ◌∷◌, codes, length, replicate}
 use Rattle.std.specs.Fmt.{decimal}
 use Rattle.std.specs.List.{flat_map}
@@ -7,7 +7,7 @@ use Rattle.rv_text.specs.Printable.{printable_name, printable_text}
 use Rattle.rv_cover_view.specs.declared.amounts.Amounts.{Amounts}
 use Rattle.rv_cover_view.specs.declared.amounts.CodeAmounts.{CodeAmounts}
 
--- a number at the right end of so many places
+-- a number, right-aligned in a column
 unfoldable pub right : ℕ → ℕ → List ℕ
 right places number = replicate (places - length (decimal number)) 32 ++ decimal number
 
@@ -28,7 +28,7 @@ image_line path a = function_columns a ++ code_columns a.code ++ codes "  " ++ p
 abbrev pub further_names : List Named → List ℕ
 further_names fs = flat_map (λ f. codes ", " ++ printable_name f.0) fs
 
--- no line where there are none
+-- the line of functions that never ran; no line if there are none
 unfoldable pub never_run_line : List Named → List ℕ
 never_run_line [] = []
 never_run_line (f ∷ fs) = codes "never run: " ++ printable_name f.0 ++ further_names fs ++ codes "\n"

@@ -1,35 +1,36 @@
-//! How much of functions ran.
+//! Coverage totals of functions.
 
 ghost use Rattle.std.specs.Prelude.{◌≡◌};
 ghost use Rattle.rv_cover_view.specs.Steps.{Fits, no_amounts, plus};
 
-/// Functions, and those that ran.
+/// All functions, and those that ran.
 #[derive(Clone, Copy, Debug, PartialEq)]
 pub struct Amounts {
-    /// How many there are.
+    /// The number of functions.
     pub functions: u64,
-    /// Those with an address where an instruction began.
+    /// The number of functions in which an instruction was executed.
     pub functions_run: u64,
-    /// Of their code: a code of two functions counts twice.
+    /// The totals of their code. Code shared by two functions counts twice.
     pub code: CodeAmounts,
 }
 
-/// Instructions, and those that ran.
+/// All instructions, and those that were executed.
 #[derive(Clone, Copy, Debug, PartialEq)]
 pub struct CodeAmounts {
-    /// Codes that RV32IMC has an instruction for.
+    /// The number of encodings for which RV32IMC has an instruction.
     pub instructions: u64,
-    /// Those that began.
+    /// The number of executed instructions.
     pub instructions_run: u64,
-    /// Conditional branches that were taken, and began more often than that.
+    /// The number of conditional branches that were taken, and executed more often than taken.
     pub branches_both_ways: u64,
-    /// Those that began, and always went the same way.
+    /// The number of executed conditional branches that always went the same way.
     pub branches_one_way: u64,
-    /// Those that never began.
+    /// The number of conditional branches that were never executed.
     pub branches_never: u64,
 }
 
 impl CodeAmounts {
+    /// Returns totals of zero.
     pub(crate) fn none() -> CodeAmounts
         ensures { result ≡ no_amounts }
     {
@@ -42,6 +43,7 @@ impl CodeAmounts {
         }
     }
 
+    /// Returns the sum of two totals, which must fit in 64 bits.
     pub(crate) fn plus(self, other: CodeAmounts) -> CodeAmounts
         requires { Fits (plus self other) }
         ensures { result ≡ plus self other }

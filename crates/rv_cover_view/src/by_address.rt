@@ -1,4 +1,4 @@
-//! The functions of an image, each address once.
+//! The functions of an image, one for each address.
 
 ghost use Rattle.std.specs.Prelude.{◌<◌, ◌≤◌, ◌^◌, IfOk, length, map};
 ghost use Rattle.rv_elf.specs.Functions.{functions};
@@ -8,8 +8,8 @@ ghost use Rattle.rv_cover_view.specs.Functions.{IsEachOnce, code_bytes, named};
 use rv_elf::{Function, Image, functions};
 use std::alloc::{AllocError, Global};
 
-/// The functions of an image by address: of those at one address the first in the table of symbols. A file has at most 16,777,216 bytes,
-/// so that their amounts are numbers of 64 bits.
+/// Returns the functions of an image, sorted by address, with the first one in the symbol table at each address. A file has at most
+/// 16,777,216 bytes, so the totals fit in 64 bits.
 pub fn functions_by_address<'a>(
     alloc: Global,
     image: &Image,
@@ -23,7 +23,7 @@ pub fn functions_by_address<'a>(
     each_address_once(functions(alloc, image, file)?)
 }
 
-/// Functions by address: of those at one address the first.
+/// Sorts functions by address and keeps the first at each address.
 pub fn each_address_once(mut functions: Vec<Function<'_>>) -> Result<Vec<Function<'_>>, AllocError>
     ensures once { IfOk result (λ found. IsEachOnce (map named functions.entry.items) (map named found.items)) }
     ensures fewer { IfOk result (λ found. code_bytes (map named found.items) ≤ code_bytes (map named functions.entry.items)) }

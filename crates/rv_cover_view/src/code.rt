@@ -1,4 +1,4 @@
-//! What ran of the code of a function.
+//! Coverage of the code of a function.
 
 ghost use Rattle.std.specs.Prelude.{◌≡◌, ◌≤◌, ◌∷◌, [], drop, length, true};
 ghost use Rattle.rv_count_tables.specs.Table.{rise_from};
@@ -12,7 +12,7 @@ use rv_counting::is_branch;
 use rv_isa::is_long;
 use rv_trace::{Code, code_length, instr_of};
 
-/// What ran of code that stands at an address.
+/// Returns the coverage of code at an address.
 pub(crate) fn amounts_of_code(address: u32, code: &[u8], counts: &[AddressCounts]) -> CodeAmounts
     requires { rise_from 0 counts.now ≡ true }
     ensures { result ≡ amounts_of_codes counts.now (codes_from (length code.now) address code.now) }
@@ -28,7 +28,7 @@ pub(crate) fn amounts_of_code(address: u32, code: &[u8], counts: &[AddressCounts
     amounts
 }
 
-// What ran of one code: each amount is 0 or 1.
+// Returns the coverage of one encoding; each total is 0 or 1.
 fn amounts_at(address: u32, code: Code, counts: &[AddressCounts]) -> CodeAmounts
     requires { rise_from 0 counts.now ≡ true }
     ensures { result ≡ amounts_of_codes counts.now ((address, code) ∷ []) }
@@ -49,7 +49,7 @@ fn amounts_at(address: u32, code: Code, counts: &[AddressCounts]) -> CodeAmounts
     }
 }
 
-// The code at the front of bytes, unless it is cut off.
+// Returns the encoding at the start of the bytes, unless it is cut off.
 #[tactic(auto, unfolding(crate::specs::Codes::front_code))]
 fn front_code(bytes: &[u8]) -> Option<Code>
     ensures { result ≡ front_code bytes.now }
@@ -62,7 +62,7 @@ fn front_code(bytes: &[u8]) -> Option<Code>
     Some(Code::Word(u32::from(low) + 0x1_0000 * u32::from(high)))
 }
 
-// The halfword at the front of bytes, the low byte first.
+// Returns the halfword at the start of the bytes, little-endian.
 fn front_half(bytes: &[u8]) -> Option<u16>
     ensures { result ≡ front_half bytes.now }
 {
@@ -72,7 +72,7 @@ fn front_half(bytes: &[u8]) -> Option<u16>
     }
 }
 
-// The bytes behind the code at the front.
+// Returns the bytes after the encoding at the start.
 fn bytes_behind(bytes: &[u8], code: Code) -> &[u8]
     requires { size_of_code code ≤ length bytes.now }
     ensures { result.now ≡ drop (size_of_code code) bytes.now }

@@ -1,4 +1,4 @@
-//! What ran of functions.
+//! Coverage of functions.
 
 ghost use Rattle.std.specs.Prelude.{◌≡◌, ◌<◌, ◌^◌, IfOk, map, true};
 ghost use Rattle.std.specs.List.{count_by, flat_map};
@@ -13,8 +13,8 @@ use rv_count_tables::{AddressCounts, has_begun_within};
 use rv_elf::Function;
 use std::alloc::{AllocError, Global};
 
-/// How many functions ran, and how many of their instructions and conditional branches, summed over the functions. Time is that of a
-/// search among the counts for each function and each code.
+/// Counts the functions that ran, and their executed instructions and conditional branches, summed over the functions. Takes one search
+/// among the counts for each function and each encoding.
 pub fn cover_of_functions(functions: &[Function<'_>], counts: &[AddressCounts]) -> Amounts
     requires rising { rise_from 0 counts.now ≡ true }
     requires few { code_bytes (map named functions.now) < 2 ^ 64 }
@@ -27,7 +27,7 @@ pub fn cover_of_functions(functions: &[Function<'_>], counts: &[AddressCounts]) 
     }
 }
 
-/// The functions at no address of which an instruction began, in their order.
+/// Returns the functions at whose addresses no instruction was executed, in their order.
 pub fn never_run<'a>(
     alloc: Global,
     functions: &[Function<'a>],
@@ -70,7 +70,7 @@ fn coverage_of_functions(functions: &[Function<'_>], counts: &[AddressCounts]) -
     amounts
 }
 
-// Whether an instruction began at an address of a function.
+// Whether an instruction was executed at one of a function's addresses.
 fn has_run(function: &Function<'_>, counts: &[AddressCounts]) -> bool
     requires { rise_from 0 counts.now ≡ true }
     ensures { result ≡ has_run counts.now (named function.now) }

@@ -1,4 +1,4 @@
-//! What ran of images, for tools: comma-separated values (RFC 4180), each line with a line feed at its end.
+//! Coverage of images for tools: comma-separated values (RFC 4180), each line terminated by a line feed.
 
 ghost use Rattle.std.specs.Prelude.{◌≡◌, ◌++◌, OnOk};
 ghost use Rattle.std.specs.List.{list_any};
@@ -8,7 +8,7 @@ use crate::amounts::{Amounts, CodeAmounts};
 use rv_text::{Span, push_spans, push_text};
 use std::alloc::AllocError;
 
-/// Appends the row of the columns' names.
+/// Appends the row of column names.
 #[tactic(auto, unfolding(crate::specs::Csv::csv_head))]
 pub fn push_csv_head(bytes: &mut Vec<u8>) -> Result<(), AllocError>
     ensures { OnOk result (bytes.new.items ≡ bytes.old.items ++ csv_head) }
@@ -19,7 +19,7 @@ pub fn push_csv_head(bytes: &mut Vec<u8>) -> Result<(), AllocError>
     )
 }
 
-/// Appends the row of an image: its path as it is, and its amounts.
+/// Appends the row of an image: its path unchanged, and its totals.
 #[tactic(auto, unfolding(crate::specs::Csv::csv_row))]
 pub fn push_csv_row(bytes: &mut Vec<u8>, path: &[u8], amounts: &Amounts) -> Result<(), AllocError>
     ensures { OnOk result (bytes.new.items ≡ bytes.old.items ++ csv_row path.now amounts.now) }
@@ -78,7 +78,7 @@ fn push_csv_branches(bytes: &mut Vec<u8>, amounts: &CodeAmounts) -> Result<(), A
     )
 }
 
-/// Appends a field: between quotes where it needs them.
+/// Appends a field, quoted if necessary.
 #[tactic(auto, unfolding(crate::specs::Csv::csv_field))]
 pub fn push_csv_field(bytes: &mut Vec<u8>, field: &[u8]) -> Result<(), AllocError>
     ensures { OnOk result (bytes.new.items ≡ bytes.old.items ++ csv_field field.now) }
@@ -97,7 +97,7 @@ fn has_special(field: &[u8]) -> bool
     field.iter().any(|byte| is_special(*byte))
 }
 
-// Whether a field that has the byte stands between quotes.
+// Whether a field that contains the byte must be quoted.
 fn is_special(byte: u8) -> bool
     ensures { result ≡ is_special byte }
 {

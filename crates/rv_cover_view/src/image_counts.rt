@@ -1,4 +1,4 @@
-//! The counts that a table has of images.
+//! A table's counts of images.
 
 ghost use Rattle.std.specs.Prelude.{◌≡◌, IfOk, option_map, true};
 ghost use Rattle.std.specs.List.{list_any};
@@ -14,7 +14,7 @@ use rv_text::push_printable_text;
 use sha2::{Digest, Sha256};
 use std::alloc::{AllocError, Global};
 
-/// The path of the first image of which a table has no counts, but has some of another image of that path.
+/// Returns the path of the first image of which a table has no counts, although it has counts of another image with that path.
 pub fn other_image<'a>(
     alloc: Global,
     table: &CountTable,
@@ -62,7 +62,7 @@ fn has_path(table: &CountTable, path: &[u8]) -> bool
         .any(|counted| counted.path.as_str().as_bytes() == path)
 }
 
-/// The counts that a table has of the image with the digest of a file.
+/// Returns a table's counts of the image with the digest of a file.
 pub(crate) fn counts_of<'t>(table: &'t CountTable, bytes: &[u8]) -> &'t [AddressCounts]
     requires { IsTable table.now }
     ensures counts { result.now ≡ counts_of table.now bytes.now }
@@ -74,7 +74,7 @@ pub(crate) fn counts_of<'t>(table: &'t CountTable, bytes: &[u8]) -> &'t [Address
     }
 }
 
-/// What a table has of the image with the digest of a file, if it has that image.
+/// Returns a table's image with the digest of a file, if it has one.
 pub fn counted_image<'t>(table: &'t CountTable, bytes: &[u8]) -> Option<&'t ImageCounts>
     ensures { option_map (λ counted. counted.now) result ≡ counted_image table.now bytes.now }
 {

@@ -1,4 +1,4 @@
-//! What ran of an image.
+//! Coverage of an image.
 
 ghost use Rattle.std.specs.Prelude.{◌≡◌, ◌≤◌, IfOk, length, true};
 ghost use Rattle.rv_count_tables.specs.Table.{rise_from};
@@ -12,18 +12,18 @@ use rv_count_tables::AddressCounts;
 use rv_elf::{Function, Image};
 use std::alloc::{AllocError, Global};
 
-/// What ran of an image.
+/// Coverage of an image.
 #[derive(Drop)]
 pub struct ImageCover<'a> {
-    /// The path that it is shown by.
+    /// The path to show.
     pub path: &'a [u8],
-    /// How much of its functions ran, each address once.
+    /// The totals of the image's functions, one for each address.
     pub amounts: Amounts,
-    /// Those of them that never did, by address.
+    /// The functions that never ran, sorted by address.
     pub never_run: Vec<Function<'a>>,
 }
 
-/// What ran of the image of a file, by the counts of its addresses.
+/// Returns the coverage of a file's image, from the counts of its addresses.
 pub fn cover_of_image<'a>(
     alloc: Global,
     path: &'a [u8],

@@ -1,4 +1,4 @@
-//! What is shown of images, by the counts of a table.
+//! The coverage report of images, from a table's counts.
 
 ghost use Rattle.std.specs.Prelude.{◌≡◌, ◌++◌, IfOk, List, OnOk, ℕ};
 ghost use Rattle.rv_count_tables.specs.Table.{IsTable};
@@ -13,7 +13,7 @@ use crate::text::{push_cover_head, push_image_line, push_never_run_line};
 use rv_count_tables::CountTable;
 use std::alloc::{AllocError, Global};
 
-/// What is shown of images by the counts of a table: a head, and what ran of each, as rows for tools or as lines for people.
+/// Formats the coverage of images by a table's counts: a header, then each image as a CSV row or as lines for people.
 pub fn cover_text(
     alloc: Global,
     csv: bool,
@@ -41,7 +41,7 @@ fn push_head(text: &mut Vec<u8>, csv: bool) -> Result<(), AllocError>
     }
 }
 
-// Appends what is shown of an image.
+// Appends the coverage of an image.
 fn push_image(
     alloc: Global,
     text: &mut Vec<u8>,

@@ -1,10 +1,11 @@
-//! What a run of tests reached of an image: its functions, their instructions and their conditional branches.
+//! Coverage of an image: which of its functions, instructions and conditional branches a run of tests reached.
 //!
-//! [`functions_by_address`] gives the functions of an image, each address once. [`cover_of_functions`] counts how many of them, of their
-//! instructions and of their conditional branches ran, and [`never_run`] gives those that never did: exactly those no address of which
-//! began ([`functions_never_run_have_not_begun`]). [`push_image_line`] and [`push_never_run_line`] show them, and [`push_csv_row`]
-//! writes the amounts for tools. [`cover_of_image`] answers both of an image, and [`cover_text`] shows them of the images of jobs, which
-//! [`images_of_jobs`] gives. Other views of images are shown by the same parts: [`counted_image`], [`push_right`], [`push_csv_field`].
+//! [`functions_by_address`] returns the functions of an image, one for each address. [`cover_of_functions`] counts how many of them, of
+//! their instructions and of their conditional branches ran, and [`never_run`] returns those that never did: exactly those at whose
+//! addresses no instruction was executed ([`functions_never_run_have_not_begun`]). [`push_image_line`] and [`push_never_run_line`] format
+//! them, and [`push_csv_row`] writes the totals for tools. [`cover_of_image`] returns both for an image, and [`cover_text`] formats them
+//! for the images of jobs, which [`images_of_jobs`] returns. Other views of images share [`counted_image`], [`push_right`] and
+//! [`push_csv_field`].
 #![tactic(auto)]
 
 mod amounts;

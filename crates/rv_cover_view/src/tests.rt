@@ -1,4 +1,4 @@
-//! Functions that a person counted.
+//! Tests with functions counted by hand.
 
 use crate::{
     Amounts, CodeAmounts, cover_of_functions, each_address_once, never_run, push_cover_head,
@@ -10,7 +10,7 @@ use std::alloc::{AllocError, Global};
 use std::rt::HostRuntime;
 use std::test::Fail;
 
-// A loop of three rounds, `c.nop`, a halfword of zeros, which is no instruction, and the first half of a word.
+// A loop of three rounds, `c.nop`, a halfword of zeros, which is not an instruction, and the first half of a word.
 const LOOP: [u8; 18] = [
     0x93, 0x02, 0x30, 0x00, 0x93, 0x82, 0xf2, 0xff, 0xe3, 0x9e, 0x02, 0xfe, 0x01, 0x00, 0x00, 0x00,
     0x93, 0x02,
@@ -24,8 +24,8 @@ const BRANCHES: [u8; 14] = [
 // `ret`
 const RETURN: [u8; 2] = [0x82, 0x80];
 
-// Three rounds of the loop; of the branches one was always taken, one never, one sometimes, and one did not begin. Behind the last
-// function an instruction began.
+// Three rounds of the loop. Of the branches one was always taken, one never, one sometimes, and one was not executed. An instruction was
+// executed after the last function.
 const COUNTS: [AddressCounts; 7] = [
     AddressCounts {
         address: 0x8000_0000,
@@ -73,7 +73,7 @@ fn names(alloc: Global, functions: &[Function<'_>]) -> Result<Vec<u8>, AllocErro
     Ok(names)
 }
 
-// As the lines of an image show it.
+// The expected lines of the image.
 const TEXT: &str =
     "   functions run        instructions run  branches both ways   one way     never  image
      2 of      4          6 of        10                   2         2         1  build/a.elf

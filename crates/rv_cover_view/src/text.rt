@@ -1,4 +1,4 @@
-//! What ran of images, as it is shown.
+//! The coverage table.
 
 ghost use Rattle.std.specs.Prelude.{◌≡◌, ◌++◌, OnOk, map, replicate};
 ghost use Rattle.rv_cover_view.specs.Functions.{named};
@@ -9,7 +9,7 @@ use rv_elf::Function;
 use rv_text::{Span, push_number, push_spans, push_text};
 use std::alloc::{AllocError, Global};
 
-/// Appends the line above those of images.
+/// Appends the header line.
 #[tactic(auto, unfolding(crate::specs::Text::cover_head))]
 pub fn push_cover_head(bytes: &mut Vec<u8>) -> Result<(), AllocError>
     ensures { OnOk result (bytes.new.items ≡ bytes.old.items ++ cover_head) }
@@ -20,7 +20,7 @@ pub fn push_cover_head(bytes: &mut Vec<u8>) -> Result<(), AllocError>
     )
 }
 
-/// Appends the line of an image: its amounts, each at the right end of its column, and its path.
+/// Appends the line of an image: its totals, each right-aligned in its column, and its path.
 #[tactic(auto, unfolding(crate::specs::Text::image_line))]
 pub fn push_image_line(
     alloc: Global,
@@ -38,7 +38,7 @@ pub fn push_image_line(
     )
 }
 
-/// Appends the line of the functions that never ran, if there are some: `never run: NAME, NAME`.
+/// Appends the line of the functions that never ran, if there are any: `never run: NAME, NAME`.
 #[tactic(auto, unfolding(crate::specs::Text::never_run_line))]
 pub fn push_never_run_line(
     bytes: &mut Vec<u8>,
@@ -92,7 +92,7 @@ fn push_code_columns(
     push_right(alloc, bytes, 10, amounts.branches_never)
 }
 
-/// Appends a number at the right end of so many places, or of more where it has more digits.
+/// Appends a number, right-aligned in a column of width `places`. A longer number widens the column.
 #[tactic(auto, unfolding(crate::specs::Text::right))]
 pub fn push_right(
     alloc: Global,
@@ -108,7 +108,7 @@ pub fn push_right(
     bytes.extend_from_slice(&digits)
 }
 
-/// Appends so many spaces.
+/// Appends `count` spaces.
 pub fn push_spaces(bytes: &mut Vec<u8>, count: usize) -> Result<(), AllocError>
     ensures { OnOk result (bytes.new.items ≡ bytes.old.items ++ replicate count 32) }
 {

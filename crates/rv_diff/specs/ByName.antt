@@ -1,9 +1,9 @@
--- Rows by their names.
+-- Rows by name.
 use Rattle.std.specs.Prelude.{ℕ, List, Option}
 use Rattle.std.specs.List.{find}
 use Rattle.std.specs.Str.{bytes_eq}
 use Rattle.rv_rows.specs.declared_row.Row.{Row}
 
--- the first row of a name
+-- the first row with a name
 abbrev pub row_named : List Row → List ℕ → Option Row
 row_named rows name = find (λ row. bytes_eq row.name name) rows

@@ -1,4 +1,4 @@
--- Whether two rows of one name agree, and what became of a job from one report to another.
+-- Whether two rows with the same name agree, and how a job changed from one report to another.
 use Rattle.std.specs.Prelude.{◌==◌, ◌&&◌, ◌*◌, ◌-◌, ℕ, Bool, true, nat_lt, not, Option, Some, None, if◌then◌else◌}
 use Rattle.std.specs.Str.{bytes_eq}
 use Rattle.rv_rows.specs.declared_row.Row.{Row}
@@ -14,8 +14,7 @@ use Rattle.rv_diff.specs.declared.change.Change.TheVariants.{Gone, Added, Change
 
 -- ---- which rows differ
 
--- both ended by the same code, by the same kind of fault, by their budgets, or were refused for the
--- same
+-- both ended with the same code, with the same kind of fault, by their budgets, or with the same refusal
 abbrev pub are_same_end_kinds : RowEnd → RowEnd → Bool
 are_same_end_kinds (ending.Refused why) (ending.Refused because) =
     bytes_eq (refusal_name why) (refusal_name because)
@@ -26,13 +25,13 @@ abbrev pub agree_in_fault_pc_and_value : RowEnd → RowEnd → Bool
 agree_in_fault_pc_and_value (ending.Fault kind pc value) (ending.Fault other at met) = pc == at && value == met
 agree_in_fault_pc_and_value old new = true
 
--- where steps are not compared, nor are the addresses and the values of faults
+-- addresses and values of faults are compared only if steps are
 abbrev pub are_same_endings : Compare → RowEnd → RowEnd → Bool
 are_same_endings Outcomes old new = are_same_end_kinds old new
 are_same_endings (Slower percent) old new = are_same_end_kinds old new
 are_same_endings Steps old new = are_same_end_kinds old new && agree_in_fault_pc_and_value old new
 
--- a job takes more steps than it took, by more than so many percent of these
+-- whether a job takes more steps than before, by more than a percentage of the old number
 abbrev pub is_slower : ℕ → ℕ → ℕ → Bool
 is_slower percent old new = nat_lt (old * percent) ((new - old) * 100)
 
@@ -47,7 +46,7 @@ have_same_console old new = bytes_eq old.console new.console
 abbrev pub are_same_verdicts : Verdict → Verdict → Bool
 are_same_verdicts old new = bytes_eq (verdict_name old) (verdict_name new)
 
--- two rows agree, by all that is compared
+-- two rows agree in everything that is compared
 unfoldable pub rows_agree : Compare → Row → Row → Bool
 rows_agree compare old new = are_same_endings compare old.ending new.ending && agree_in_steps compare old new
     && have_same_console old new && are_same_signatures old.signature new.signature
@@ -55,7 +54,7 @@ rows_agree compare old new = are_same_endings compare old.ending new.ending && a
 
 -- ---- what became of a job
 
--- by its row in the old report and in the new one
+-- how a job changed, given its rows in the old and in the new report
 abbrev pub change_of : Compare → Option Row → Option Row → Change
 change_of compare None None = Same
 change_of compare None (Some new) = Added

@@ -30,7 +30,7 @@ abbrev pub changes_of_row : Compare → Option Row → Row → List ℕ
 changes_of_row compare None new = line (codes "+ " ++ new.name)
 changes_of_row compare (Some old) new = change_lines compare old new
 
--- rows of whose jobs others have some, too
+-- the rows whose jobs also occur in the other report
 abbrev pub rows_beside : List Row → List Row → List Row
 rows_beside others rows = filter (λ row. not (is_alone_in others row)) rows
 
@@ -48,7 +48,7 @@ differing_count counts = counts.gone + counts.added + counts.changed
 
 -- ---- the text
 
--- jobs that are gone, in the order of the old report; then the others, in that of the new one
+-- first the jobs that are gone, in the order of the old report; then the others, in that of the new one
 abbrev pub difference_lines : Compare → List Row → List Row → List ℕ
 difference_lines compare old new =
     flat_map (λ row. gone_line (row_named new row.name) row) old
@@ -58,12 +58,12 @@ unfoldable pub change_counts_words : Differing → List ℕ
 change_counts_words counts = decimal counts.gone ++ codes " gone, " ++ decimal counts.added
     ++ codes " new, " ++ decimal counts.changed ++ codes " changed"
 
--- so many of so many jobs
+-- how many of how many jobs differ
 unfoldable pub differing_words : ℕ → ℕ → List ℕ
 differing_words count jobs = decimal count ++ codes " of " ++ decimal jobs
     ++ codes " jobs differ: "
 
--- the steps of all rows of each report, where it is asked which jobs are slower
+-- the total steps of each report, if slower jobs are looked for
 abbrev pub total_steps : List Row → ℕ
 total_steps rows = sum_by (λ row. row.steps) rows
 
@@ -76,7 +76,7 @@ abbrev pub sums_words : Option StepSums → List ℕ
 sums_words None = []
 sums_words (Some sums) = codes ", steps " ++ decimal sums.old ++ codes " -> " ++ decimal sums.new
 
--- jobs that are not compared, since a report leaves them out
+-- the jobs that are not compared, since a report leaves them out
 abbrev pub left_out_words : ℕ → List ℕ
 left_out_words count = if count == 0 then [] else codes ", " ++ decimal count ++ codes " left out"
 
@@ -84,7 +84,7 @@ unfoldable pub count_line : ℕ → Differing → ℕ → Option StepSums → Li
 count_line jobs counts left_out sums = line (differing_words (differing_count counts) jobs ++ change_counts_words counts
     ++ left_out_words left_out ++ sums_words sums)
 
--- the jobs are those that are in either report, but for so many that one of them leaves out
+-- compares the jobs in either report, except for a number of jobs that one of them leaves out
 unfoldable pub diff_text : Compare → List Row → List Row → ℕ → List ℕ
 diff_text compare old new left_out = let counts = counts_of_differing compare old new in
     difference_lines compare old new

@@ -1,4 +1,4 @@
--- What differs between two rows of one name.
+-- How two rows with the same name differ.
 use Rattle.std.specs.Prelude.{◌==◌, ◌*◌, ◌-◌, ◌/◌, ℕ, Bool, not, List, [], ◌++◌, Option, Some, None}
 use Rattle.std.specs.Prelude.{if◌then◌else◌, codes, drop, length, position, slice_index}
 use Rattle.std.specs.Fmt.{decimal}
@@ -25,33 +25,32 @@ ending_words (ending.Fault kind pc value) = codes "fault " ++ fault_name kind
 ending_words ending.Budget = codes "budget"
 ending_words (ending.Refused why) = codes "refused " ++ refusal_name why
 
--- one thing, and what is there in its place
+-- the old value, and the new one that replaces it
 abbrev pub becomes : List ℕ → List ℕ → List ℕ
 becomes old new = old ++ codes " -> " ++ new
 
 abbrev pub value_in_quotes : List ℕ → List ℕ
 value_in_quotes value = codes "\"" ++ printable_value value ++ codes "\""
 
--- the first place where both lists have an element and these differ
-abbrev pub first_differing_place : List ℕ → List ℕ → Option ℕ
-first_differing_place old new = position (λ pair. not (pair.0 == pair.1)) (zip old new)
+-- the first index at which both lists have elements and these differ
+abbrev pub first_differing_index : List ℕ → List ℕ → Option ℕ
+first_differing_index old new = position (λ pair. not (pair.0 == pair.1)) (zip old new)
 
 abbrev pub count_words : ℕ → List ℕ → List ℕ
 count_words count what = decimal count ++ codes " " ++ what
 
--- how many there are of each
+-- the number of each
 abbrev pub counts_words : List ℕ → List ℕ → List ℕ → List ℕ
 counts_words what old new = becomes (count_words (length old) what) (count_words (length new) what)
 
--- the bytes from the first on that differs; where there is none, one console is the beginning of
--- the other
+-- the bytes from the first difference on; if there is none, one console is a prefix of the other
 abbrev pub byte_change_words : Option ℕ → List ℕ → List ℕ → List ℕ
 byte_change_words (Some place) old new = codes "byte " ++ decimal place ++ codes ": "
     ++ becomes (value_in_quotes (drop place old)) (value_in_quotes (drop place new))
 byte_change_words None old new = counts_words (codes "bytes") old new
 
 unfoldable pub console_words : List ℕ → List ℕ → List ℕ
-console_words old new = codes "console " ++ byte_change_words (first_differing_place old new) old new
+console_words old new = codes "console " ++ byte_change_words (first_differing_index old new) old new
 
 -- the first word that differs
 abbrev pub word_change_words : Option ℕ → List ℕ → List ℕ → List ℕ
@@ -63,15 +62,15 @@ abbrev pub size_words : Option (List ℕ) → List ℕ
 size_words None = codes "none"
 size_words (Some words) = count_words (length words) (codes "words")
 
--- of two signatures of which one is absent the sizes are told
+-- the sizes, if one of the two signatures is missing
 abbrev pub signature_change_words : Option (List ℕ) → Option (List ℕ) → List ℕ
-signature_change_words (Some old) (Some new) = word_change_words (first_differing_place old new) old new
+signature_change_words (Some old) (Some new) = word_change_words (first_differing_index old new) old new
 signature_change_words old new = becomes (size_words old) (size_words new)
 
 unfoldable pub signature_words : Option (List ℕ) → Option (List ℕ) → List ℕ
 signature_words old new = codes "signature " ++ signature_change_words old new
 
--- by how many percent of the old steps there are more, where that is asked
+-- the increase in percent of the old steps, if requested
 abbrev pub percent_words : Compare → ℕ → ℕ → List ℕ
 percent_words Outcomes old new = []
 percent_words Steps old new = []
@@ -90,11 +89,11 @@ verdict_words old new = codes "verdict " ++ becomes (verdict_name old) (verdict_
 abbrev pub change_begin : List ℕ → List ℕ
 change_begin name = codes "! " ++ name ++ codes ": "
 
--- a line where a part is not the same
+-- a line if a part differs
 abbrev pub change_line : List ℕ → Bool → List ℕ → List ℕ
 change_line name same words = if same then [] else line (change_begin name ++ words)
 
--- for each part that differs: the ending, the steps, the console, the signature, the verdict
+-- a line for each part that differs: the ending, the steps, the console, the signature, the verdict
 unfoldable pub change_lines : Compare → Row → Row → List ℕ
 change_lines compare old new =
     change_line new.name (are_same_endings compare old.ending new.ending)

@@ -1,4 +1,4 @@
-//! Rows by their names.
+//! Rows by name.
 
 ghost use Rattle.std.specs.Prelude.{◌≡◌, IfOk, option_map};
 ghost use Rattle.rv_diff.specs.ByName.{row_named};
@@ -9,7 +9,7 @@ use std::collections::HashMap;
 use std::hash::{BuildHasherDefault, FoldHasher};
 use std::marker::Model;
 
-/// Rows that are found by their names, of which contracts see their list. Of rows of one name the first is found.
+/// Rows that can be looked up by name, seen by contracts as a list. Among rows with the same name the first is found.
 #[derive(Drop)]
 pub(crate) struct ByName<'a> {
     rows: &'a [Row],
@@ -38,7 +38,7 @@ impl<'a> ByName<'a> {
             rows.len(),
             BuildHasherDefault::new(),
         )?;
-        // From the last on, so that the first of a name is the one that stays.
+        // Inserted from the last to the first, so that the first row with a name remains.
         let mut left = rows.len();
         while left > 0 {
             left -= 1;
@@ -48,7 +48,7 @@ impl<'a> ByName<'a> {
         Ok(ByName { rows, found })
     }
 
-    /// The row of a name.
+    /// Returns the row with a name.
     pub(crate) fn find(&self, name: &str) -> Option<&'a Row>
         ensures { option_map (λ row. row.now) result ≡ row_named self.now name.now }
     {

@@ -1,4 +1,4 @@
-//! What became of a job from one report to another.
+//! How a job changed from one report to another.
 
 ghost use Rattle.std.specs.Prelude.{◌≡◌, option_map};
 ghost use Rattle.rv_diff.specs.Change.{change_of, rows_agree, have_same_console, are_same_endings, are_same_end_kinds, agree_in_fault_pc_and_value};
@@ -6,31 +6,31 @@ ghost use Rattle.rv_diff.specs.Change.{agree_in_steps, are_same_verdicts, is_slo
 
 use rv_rows::{Row, RowEnd, Verdict, are_alike_endings, are_same_signatures};
 
-/// What became of a job from one report to another.
+/// How a job changed from one report to another.
 #[derive(Clone, Copy)]
 pub enum Change {
     /// Only the old report has it.
     Gone,
     /// Only the new report has it.
     Added,
-    /// Both have it, with rows that do not agree.
+    /// Both have it, with rows that differ.
     Changed,
     /// Both have it, with rows that agree; or neither has it.
     Same,
 }
 
-/// What two rows of a job are compared by.
+/// What is compared in two rows of a job.
 #[derive(Clone, Copy)]
 pub enum Compare {
-    /// How they ended, their consoles, signatures and verdicts.
+    /// How they ended, and their consoles, signatures and verdicts.
     Outcomes,
-    /// Steps as well, and the addresses and values of faults.
+    /// Also the steps, and the addresses and values of faults.
     Steps,
-    /// Whether a job takes more steps than before by more than so many percent.
+    /// Also whether a job takes more steps than before, by more than this percentage.
     Slower(u32),
 }
 
-/// What became of a job, by its rows in two reports.
+/// Returns how a job changed, given its rows in two reports.
 pub fn change_of(compare: Compare, old: Option<&Row>, new: Option<&Row>) -> Change
     ensures { result ≡ change_of compare (option_map (λ row. row.now) old.entry)
         (option_map (λ row. row.now) new.entry) }
@@ -43,7 +43,7 @@ pub fn change_of(compare: Compare, old: Option<&Row>, new: Option<&Row>) -> Chan
     }
 }
 
-// Whether two rows agree by all that is compared.
+// Whether two rows agree in everything that is compared.
 #[tactic(auto, unfolding(crate::specs::Change::rows_agree))]
 fn rows_agree(compare: Compare, old: &Row, new: &Row) -> bool
     ensures { result ≡ rows_agree compare old.now new.now }
@@ -55,8 +55,8 @@ fn rows_agree(compare: Compare, old: &Row, new: &Row) -> bool
         && are_same_verdicts(old.verdict, new.verdict)
 }
 
-/// Whether two rows ended the same way: by the same code, the same kind of fault, their budgets, or the same refusal; and
-/// where steps are compared, a fault with the same address and value.
+/// Whether two rows ended alike: with the same code, the same kind of fault, by their budgets, or with the same refusal; and, if steps are
+/// compared, a fault with the same address and value.
 pub fn are_same_endings(compare: Compare, old: RowEnd, new: RowEnd) -> bool
     ensures { result ≡ are_same_endings compare old new }
 {
@@ -84,7 +84,7 @@ fn agree_in_fault_pc_and_value(old: RowEnd, new: RowEnd) -> bool
     }
 }
 
-/// Whether two rows have the same steps, or new ones that are not slower, where these are compared.
+/// Whether two rows have the same steps, or the new one is not slower, if these are compared.
 pub fn agree_in_steps(compare: Compare, old: &Row, new: &Row) -> bool
     ensures { result ≡ agree_in_steps compare old.now new.now }
 {
@@ -95,6 +95,7 @@ pub fn agree_in_steps(compare: Compare, old: &Row, new: &Row) -> bool
     }
 }
 
+// Whether a job takes more steps than before, by more than a percentage of the old number.
 fn is_slower(percent: u32, old: u32, new: u32) -> bool
     ensures { result ≡ is_slower percent old new }
 {

@@ -15,19 +15,19 @@ use rv_rows::Row;
 use rv_text::{Span, push_spans, push_text};
 use std::alloc::{AllocError, Global};
 
-/// How many jobs of two reports differ.
+/// The number of differing jobs of two reports.
 #[derive(Clone, Copy)]
 pub struct Differing {
     /// Those that only the old report has.
     pub gone: usize,
     /// Those that only the new report has.
     pub added: usize,
-    /// Those that both have, with rows that do not agree.
+    /// Those that both have, with rows that differ.
     pub changed: usize,
 }
 
 impl Differing {
-    /// Whether any job differs, so that a line is due.
+    /// Whether any job differs, so that there is a line.
     pub fn has_differences(&self) -> bool
         ensures { result ≡ not (differing_count self.now == 0) }
     {
@@ -35,26 +35,26 @@ impl Differing {
     }
 }
 
-/// The rows of two reports that are compared.
+/// The compared rows of two reports.
 #[derive(Clone, Copy)]
 pub struct Compared<'a> {
     pub old: &'a [Row],
     pub new: &'a [Row],
-    /// How many others one of the reports has, since the other one leaves out their jobs.
+    /// The number of other rows that one of the reports has, whose jobs the other report leaves out.
     pub left_out: usize,
 }
 
-/// The steps of all rows of two reports.
+/// The total steps of two reports.
 #[derive(Clone, Copy)]
 pub struct StepSums {
     pub old: u64,
     pub new: u64,
 }
 
-/// Appends in what the rows of two reports differ: `- NAME` for a job that only the old one has, in its order, then in the
-/// order of the new one `+ NAME` for a job that only that has, and `! NAME: ` and what changed for one whose rows do not
-/// agree; and last how many jobs differ, and how many are left out. Of rows of one name the first counts; the reports that can be
-/// read have none.
+/// Appends how the rows of two reports differ: first `- NAME` for each job that only the old report has, in its order; then, in the order
+/// of the new report, `+ NAME` for each job that only the new one has, and `! NAME: ` and the change for each job whose rows differ; and
+/// last how many jobs differ, and how many are left out. Among rows with the same name only the first counts; reports that can be read have
+/// no such rows.
 #[tactic(auto, unfolding(crate::specs::Diff::diff_text))]
 pub fn push_diff(
     alloc: Global,
@@ -82,7 +82,7 @@ pub fn push_diff(
     Ok(counts)
 }
 
-/// The rows of whose jobs others have some, too, in their order.
+/// Returns the rows whose jobs also occur in `others`, in order.
 pub fn rows_beside(alloc: Global, rows: Vec<Row>, others: &[Row]) -> Result<Vec<Row>, AllocError>
     ensures { IfOk result (λ kept. kept.items ≡ rows_beside others.now rows.items) }
 {
@@ -92,7 +92,7 @@ pub fn rows_beside(alloc: Global, rows: Vec<Row>, others: &[Row]) -> Result<Vec<
     Ok(rows)
 }
 
-// The steps of all rows, where it is asked which jobs are slower.
+// Returns the total steps of both reports, if slower jobs are looked for.
 fn step_sums(compare: Compare, old: &[Row], new: &[Row]) -> Option<StepSums>
     requires old { length old.now < 2 ^ 32 }
     requires new { length new.now < 2 ^ 32 }
@@ -107,7 +107,7 @@ fn step_sums(compare: Compare, old: &[Row], new: &[Row]) -> Option<StepSums>
     }
 }
 
-// No row has more steps than a budget allows, so the sum has room.
+// No row has more steps than a budget allows, so the sum does not overflow.
 fn total_steps(rows: &[Row]) -> u64
     requires { length rows.now < 2 ^ 32 }
     ensures { result ≡ total_steps rows.now }
@@ -115,7 +115,7 @@ fn total_steps(rows: &[Row]) -> u64
     rows.iter().map(|row| u64::from(row.steps)).sum()
 }
 
-// Appends the lines of the jobs that are gone, and counts these.
+// Appends the lines of the jobs that are gone, and returns their number.
 fn push_gone_lines(
     alloc: Global,
     text: &mut Vec<u8>,
@@ -139,7 +139,7 @@ fn push_gone_lines(
     Ok(gone)
 }
 
-// Appends the lines of the jobs of the new report, and counts those that only it has and those that changed.
+// Appends the lines of the jobs of the new report, and returns how many were added and how many changed.
 fn push_added_and_changed_lines(
     alloc: Global,
     text: &mut Vec<u8>,
@@ -184,7 +184,7 @@ fn push_changes_of_row(
     }
 }
 
-// Appends a line of a sign and the name of a job.
+// Appends a line with a sign and the name of a job.
 fn push_sign_line<'a>(text: &mut Vec<u8>, sign: &'a str, row: &'a Row) -> Result<(), AllocError>
     ensures { OnOk result
         (text.new.items ≡ text.old.items ++ line (sign.now ++ row.now.name)) }
@@ -199,7 +199,7 @@ fn push_sign_line<'a>(text: &mut Vec<u8>, sign: &'a str, row: &'a Row) -> Result
     )
 }
 
-// Appends how many of so many jobs differ, how many are left out, and the steps of both reports where they are asked.
+// Appends how many of the jobs differ, how many are left out, and the total steps of both reports if requested.
 #[tactic(auto, unfolding(crate::specs::Diff::count_line))]
 fn push_count_line(
     text: &mut Vec<u8>,

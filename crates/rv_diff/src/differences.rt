@@ -1,9 +1,9 @@
-//! The lines that say in what two rows of one name differ.
+//! The lines that describe how two rows with the same name differ.
 
 ghost use Rattle.std.specs.Prelude.{◌≡◌, ◌++◌, OnOk};
 ghost use Rattle.rv_diff.specs.Change.{have_same_console, are_same_endings, agree_in_steps, are_same_verdicts};
 ghost use Rattle.rv_diff.specs.Differences.{becomes, change_line, change_lines, console_words};
-ghost use Rattle.rv_diff.specs.Differences.{ending_words, first_differing_place, percent_words, steps_words, verdict_words};
+ghost use Rattle.rv_diff.specs.Differences.{ending_words, first_differing_index, percent_words, steps_words, verdict_words};
 
 use crate::change::{
     Compare, agree_in_steps, are_same_endings, are_same_verdicts, have_same_console,
@@ -13,7 +13,7 @@ use rv_rows::{Row, RowEnd};
 use rv_text::{Span, push_spans, push_text, tail_from};
 use std::alloc::AllocError;
 
-/// Appends a line for each part in which two rows do not agree.
+/// Appends a line for each part in which two rows differ.
 #[tactic(auto, unfolding(crate::specs::Differences::change_lines))]
 pub(crate) fn push_change_lines(
     text: &mut Vec<u8>,
@@ -56,7 +56,7 @@ fn push_ending_change(
     push_ending(text, new.ending, "\n")
 }
 
-// Appends how a row ended, as a report has it, and what stands behind it.
+// Appends how a row ended, as in a report, followed by `end`.
 #[tactic(auto, unfolding(crate::specs::Differences::ending_words))]
 fn push_ending<'a>(text: &mut Vec<u8>, ending: RowEnd, end: &'a str) -> Result<(), AllocError>
     ensures { OnOk result (text.new.items
@@ -125,7 +125,7 @@ fn push_steps_change(
     push_text(text, "\n")
 }
 
-// Appends by how many percent of the old steps there are more, where that is asked.
+// Appends the increase in percent of the old steps, if requested.
 fn push_percent(text: &mut Vec<u8>, compare: Compare, old: u32, new: u32) -> Result<(), AllocError>
     ensures { OnOk result (text.new.items ≡ text.old.items ++ percent_words compare old new) }
 {
@@ -141,7 +141,7 @@ fn push_percent(text: &mut Vec<u8>, compare: Compare, old: u32, new: u32) -> Res
     }
 }
 
-// The line tells from which byte on two consoles differ, or their lengths where one is the beginning of the other.
+// Appends the first byte at which two consoles differ, or their lengths if one is a prefix of the other.
 #[tactic(auto, unfolding(crate::specs::Differences::console_words))]
 fn push_console_change<'a>(text: &mut Vec<u8>, old: &'a Row, new: &'a Row) -> Result<(), AllocError>
     ensures { OnOk result (text.new.items ≡ text.old.items
@@ -184,7 +184,7 @@ fn push_console_change<'a>(text: &mut Vec<u8>, old: &'a Row, new: &'a Row) -> Re
 }
 
 fn first_differing_byte(old: &[u8], new: &[u8]) -> Option<usize>
-    ensures { result ≡ first_differing_place old.now new.now }
+    ensures { result ≡ first_differing_index old.now new.now }
 {
     old.iter().zip(new).position(|(x, y)| x != y)
 }

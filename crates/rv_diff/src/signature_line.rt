@@ -1,15 +1,15 @@
-//! The line that says in what two signatures differ.
+//! The line that describes how two signatures differ.
 
 ghost use Rattle.std.specs.Prelude.{◌≡◌, ◌++◌, OnOk, codes, slice_index};
 ghost use Rattle.rv_rows.specs.Report.{line};
 ghost use Rattle.rv_rows.specs.Verdict.{are_same_signatures};
-ghost use Rattle.rv_diff.specs.Differences.{change_begin, change_line, first_differing_place, signature_words, word_change_words};
+ghost use Rattle.rv_diff.specs.Differences.{change_begin, change_line, first_differing_index, signature_words, word_change_words};
 
 use rv_rows::{Row, Words, are_same_signatures};
 use rv_text::{Span, push_spans};
 use std::alloc::AllocError;
 
-/// Appends the line of two rows whose signatures differ: in which word they do first, or their sizes where they do in those.
+/// Appends the line for two rows whose signatures differ: the first word that differs, or the sizes if these differ.
 pub(crate) fn push_signature_change(
     text: &mut Vec<u8>,
     old: &Row,
@@ -77,7 +77,7 @@ fn push_words_change<'a>(
     new: &[u32],
 ) -> Result<(), AllocError>
     ensures { OnOk result (text.new.items ≡ text.old.items ++ line (change_begin name.now
-        ++ (codes "signature " ++ word_change_words (first_differing_place old.now new.now) old.now new.now))) }
+        ++ (codes "signature " ++ word_change_words (first_differing_index old.now new.now) old.now new.now))) }
 {
     match first_differing_word(old, new) {
         Some(place) => push_spans(
@@ -110,7 +110,7 @@ fn push_words_change<'a>(
 }
 
 fn first_differing_word(old: &[u32], new: &[u32]) -> Option<usize>
-    ensures { result ≡ first_differing_place old.now new.now }
+    ensures { result ≡ first_differing_index old.now new.now }
 {
     old.iter().zip(new).position(|(x, y)| x != y)
 }

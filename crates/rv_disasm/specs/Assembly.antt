@@ -1,5 +1,4 @@
--- The assembly text of a code that was fetched at an address: the name of its row, and the operands
--- that the instruction has there.
+-- The assembly text of a code that was fetched at an address: the name of its row and its operands at that address.
 use Rattle.std.specs.Prelude.{ℕ, List, [], ◌++◌, codes, Option, Some, None}
 use Rattle.rv_isa.specs.Words.{meaning32}
 use Rattle.rv_isa.specs.Halfwords.{meaning16}
@@ -13,7 +12,7 @@ use Rattle.rv_disasm.specs.Forms.{Form, form16, form32}
 use Rattle.rv_disasm.specs.Illegal.{unsimulated_text}
 use Rattle.rv_disasm.specs.Unsimulated.{unsimulated16, unsimulated32}
 
--- behind a space, with commas between them
+-- the operands after a space, separated by commas
 unfoldable pub operands_text : Operands → Fetched → List ℕ
 operands_text Absent f = []
 operands_text (One a) f = codes " " ++ operand_text a f
@@ -28,7 +27,7 @@ form_text form f = form.mnemonic ++ operands_text form.operands f
 abbrev pub fetched_instr : Instr → ℕ → ℕ → Fetched
 fetched_instr i code pc = record { instr = i; code = code; pc = pc }
 
--- the text of a word's instruction, by the form of its name, or of a word that has none
+-- the text of a word's instruction, from the form of its name, or the text of a word that has none
 abbrev pub text_by_name : Option Instr → ℕ → ℕ → List ℕ
 text_by_name None word pc = unsimulated_text (unsimulated32 word)
 text_by_name (Some i) word pc = form_text (form32 i.op) (fetched_instr i word pc)
@@ -36,7 +35,7 @@ text_by_name (Some i) word pc = form_text (form32 i.op) (fetched_instr i word pc
 unfoldable pub assembly32 : ℕ → ℕ → List ℕ
 assembly32 word pc = text_by_name (meaning32 set.Imc word) word pc
 
--- the text of a halfword's instruction, by the form of its row, or of a halfword that has none
+-- the text of a halfword's instruction, from the form of its row, or the text of a halfword that has none
 abbrev pub text_by_row : Option Form → Option Instr → ℕ → ℕ → List ℕ
 text_by_row None i half pc = unsimulated_text (unsimulated16 half)
 text_by_row (Some form) None half pc = unsimulated_text (unsimulated16 half)

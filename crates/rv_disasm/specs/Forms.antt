@@ -1,5 +1,5 @@
--- How each row of the listings is written: its name, and the operands behind it in their order
--- (RISC-V Unprivileged ISA 20191213, chapters 2, 3, 7 and 16).
+-- How each row of the listings is written: its name, followed by its operands in order (RISC-V Unprivileged ISA 20191213, chapters 2, 3, 7
+-- and 16).
 use Rattle.std.specs.Prelude.{ℕ, List, [], ◌∷◌, codes, Option, not, ◌==◌, if◌then◌else◌}
 use Rattle.std.specs.List.{zip}
 use Rattle.rv_isa.specs.Halfwords.{fits16, immediate_ci, rd, rows16}
@@ -13,7 +13,7 @@ use Rattle.rv_disasm.specs.declared.form.Operand.TheVariants.{Target, Predecesso
 use Rattle.rv_disasm.specs.declared.form.Operands.{Operands}
 use Rattle.rv_disasm.specs.declared.form.Operands.TheVariants.{Absent, One, Two, Three}
 
--- a name, and the operands behind it
+-- a name followed by its operands
 pub record Form : Type 0 where
   pub mnemonic : List ℕ
   pub operands : Operands
@@ -22,13 +22,13 @@ pub record Form : Type 0 where
 abbrev pub form_row : List ℕ → Operands → Form
 form_row mnemonic operands = record { mnemonic = mnemonic; operands = operands }
 
--- a form of the code, as contracts see it
+-- a form in the code, as contracts see it
 abbrev pub form_of_code : CodesForm → Form
 form_of_code seen = form_row seen.0.now seen.1
 
 -- ---- the 32-bit rows
 
--- the operands of the formats R and I (chapters 2 and 7)
+-- the operands of formats R and I (chapters 2 and 7)
 abbrev pub register_operands : Operands
 register_operands = Three Rd Rs1 Rs2
 
@@ -42,7 +42,7 @@ load_operands = Two Rd Address
 abbrev pub store_operands : Operands
 store_operands = Two Rs2 Address
 
--- the formats B, U and J (chapter 2)
+-- the operands of formats B, U and J (chapter 2)
 abbrev pub branch_operands : Operands
 branch_operands = Three Rs1 Rs2 Target
 
@@ -52,11 +52,11 @@ upper_immediate_operands = Two Rd Upper
 abbrev pub jump_operands : Operands
 jump_operands = Two Rd Target
 
--- section 2.7
+-- the operands of FENCE (section 2.7)
 abbrev pub fence_operands : Operands
 fence_operands = Two Predecessors Successors
 
--- the row of a name
+-- the form of a name
 abbrev pub form32 : Op → Form
 form32 op.Lui = form_row (codes "lui") upper_immediate_operands
 form32 op.Auipc = form_row (codes "auipc") upper_immediate_operands
@@ -110,7 +110,7 @@ form32 op.Remu = form_row (codes "remu") register_operands
 
 -- ---- the 16-bit rows
 
--- those that write the register that they read, or read x0, name it once (chapter 16)
+-- instructions that write the register that they read, or that read x0, name it once (chapter 16)
 abbrev pub register_immediate : Operands
 register_immediate = Two Rd Imm
 
@@ -120,14 +120,14 @@ two_registers = Two Rd Rs2
 abbrev pub test_of_zero : Operands
 test_of_zero = Two Rs1 Target
 
--- C.ADDI, or with x0 as its register C.NOP, of which a hint has an immediate (section 16.5)
+-- C.ADDI, or C.NOP if its register is x0; a hint form of C.NOP shows an immediate (section 16.5)
 abbrev pub addi_or_nop : ℕ → Form
 addi_or_nop h =
     if not (rd h == 0) then form_row (codes "c.addi") register_immediate
     else if not (immediate_ci h == 0) then form_row (codes "c.nop") (One Imm)
     else form_row (codes "c.nop") Absent
 
--- a form for each row of the listing, in its order
+-- a form for each row of the listing, in order
 abbrev pub forms16 : ℕ → List Form
 forms16 h =
     form_row (codes "c.addi4spn") immediate_operands ∷
@@ -158,6 +158,6 @@ forms16 h =
     form_row (codes "c.swsp") store_operands ∷
     []
 
--- the form of the row that fits a halfword
+-- the form of the row that matches a halfword
 unfoldable pub form16 : ℕ → Option Form
 form16 h = first_of (λ r. fits16 set.Imc h r.0) (λ r. r.1) (zip rows16 (forms16 h))

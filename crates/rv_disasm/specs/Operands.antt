@@ -1,5 +1,5 @@
--- How an operand of an instruction is written (RISC-V Unprivileged ISA 20191213, chapter 25): a
--- register by its name, an immediate as a decimal number, an address as `offset(base)`.
+-- How an operand of an instruction is written (RISC-V Unprivileged ISA 20191213, chapter 25): a register by its name, an immediate in
+-- decimal, an address as `offset(base)`.
 use Rattle.std.specs.Prelude.{ℕ, List, [], ◌∷◌, ◌++◌, codes, slice_index_or, false, pos, ◌+ℤ◌, ℤ}
 use Rattle.std.specs.Prelude.{◌/◌, ◌^◌, ◌==◌, if◌then◌else◌}
 use Rattle.std.specs.Fmt.{digits, signed_decimal}
@@ -8,7 +8,7 @@ use Rattle.rv_disasm.specs.declared.form.Fetched.{Fetched}
 use Rattle.rv_disasm.specs.declared.form.Operand.{Operand}
 use Rattle.rv_disasm.specs.declared.form.Operand.TheVariants as operand
 
--- the registers from x0 to x31, by the names of the ABI
+-- the ABI names of the registers x0 to x31
 abbrev pub register_names : List (List ℕ)
 register_names =
     codes "zero" ∷ codes "ra" ∷ codes "sp" ∷ codes "gp" ∷ codes "tp" ∷ codes "t0" ∷ codes "t1"
@@ -21,22 +21,21 @@ register_names =
 abbrev pub register_name : ℕ → List ℕ
 register_name number = slice_index_or register_names number []
 
--- a set of a FENCE (section 2.7): of its four bits, from the highest, the letter of each that is
--- set; `0` where none is
+-- a set of a FENCE (section 2.7): the letters of its set bits, from the highest of the four; `0` if none is set
 abbrev pub fence_set_name : ℕ → List ℕ
 fence_set_name bits = if bits == 0 then codes "0" else
     (if bit bits 3 == 1 then codes "i" else []) ++ (if bit bits 2 == 1 then codes "o" else [])
     ++ (if bit bits 1 == 1 then codes "r" else []) ++ (if bit bits 0 == 1 then codes "w" else [])
 
--- lower-case digits, without zeros in front
+-- lower-case digits without leading zeros
 abbrev pub prefixed_hexadecimal : ℕ → List ℕ
 prefixed_hexadecimal number = codes "0x" ++ digits 16 false number
 
--- a register and what is added to it
+-- a base register and the offset added to it
 unfoldable pub offset_and_base : ℤ → ℕ → List ℕ
 offset_and_base offset base = signed_decimal offset ++ codes "(" ++ register_name base ++ codes ")"
 
--- an operand of an instruction
+-- the text of an operand of an instruction
 unfoldable pub operand_text : Operand → Fetched → List ℕ
 operand_text operand.Rd f = register_name f.instr.rd
 operand_text operand.Rs1 f = register_name f.instr.rs1

@@ -1,5 +1,5 @@
--- Instructions that are not simulated, by their rows in the manuals' listings (RISC-V Unprivileged ISA
--- 20191213, chapters 16 and 24; RISC-V bit manipulation 1.0.0; Privileged ISA 20190608).
+-- Instructions that are not simulated, as rows of the manuals' listings (RISC-V Unprivileged ISA 20191213, chapters 16 and 24; RISC-V bit
+-- manipulation 1.0.0; Privileged ISA 20190608).
 use Rattle.std.specs.Prelude.{ℕ, List, [], ◌∷◌, ◌++◌, Option, Bool, codes, bit_and, find, ◌==◌}
 use Rattle.rv_disasm.specs.declared.unsimulated.Row.{Row as CodesRow}
 
@@ -10,16 +10,16 @@ pub record Row : Type 0 where
   pub mnemonic : List ℕ
   pub extension : List ℕ
 
--- a row of these parts
+-- a row from its parts
 abbrev pub row : ℕ → ℕ → List ℕ → List ℕ → Row
 row mask pattern mnemonic extension =
     record { mask = mask; pattern = pattern; mnemonic = mnemonic; extension = extension }
 
--- a row of the code, as contracts see it
+-- a row in the code, as contracts see it
 abbrev pub row_of_code : CodesRow → Row
 row_of_code seen = row seen.0 seen.1 seen.2.now seen.3.now
 
--- the code has the row's values at the bits that the row fixes
+-- whether the code has the row's values at the bits that the row fixes
 abbrev pub is_row_of : ℕ → Row → Bool
 is_row_of code r = bit_and code r.mask == r.pattern
 
@@ -52,7 +52,7 @@ atomics =
     row 0xf800_707f 0xe000_202f (codes "amomaxu.w") (codes "A") ∷
     []
 
--- floating point of single precision (chapter 11): every field but registers and the rounding mode
+-- single-precision floating point (chapter 11): every field except registers and the rounding mode
 abbrev pub single_precision : List Row
 single_precision =
     row 0x0000_707f 0x0000_2007 (codes "flw") (codes "F") ∷
@@ -83,7 +83,7 @@ single_precision =
     row 0xfff0_707f 0xf000_0053 (codes "fmv.w.x") (codes "F") ∷
     []
 
--- of double precision (chapter 12)
+-- double-precision floating point (chapter 12)
 abbrev pub double_precision : List Row
 double_precision =
     row 0x0000_707f 0x0000_3007 (codes "fld") (codes "D") ∷
@@ -114,7 +114,7 @@ double_precision =
     row 0xfff0_007f 0xd210_0053 (codes "fcvt.d.wu") (codes "D") ∷
     []
 
--- bit manipulation 1.0.0: shifts and sums
+-- bit manipulation 1.0.0: address generation
 abbrev pub address_generation : List Row
 address_generation =
     row 0xfe00_707f 0x2000_2033 (codes "sh1add") (codes "Zba") ∷
@@ -145,7 +145,7 @@ basic_bit_manipulation =
     row 0xfff0_707f 0x6980_5013 (codes "rev8") (codes "Zbb") ∷
     []
 
--- carry-less products
+-- carry-less multiplication
 abbrev pub carry_less_products : List Row
 carry_less_products =
     row 0xfe00_707f 0x0a00_1033 (codes "clmul") (codes "Zbc") ∷
@@ -153,7 +153,7 @@ carry_less_products =
     row 0xfe00_707f 0x0a00_2033 (codes "clmulr") (codes "Zbc") ∷
     []
 
--- single bits
+-- single-bit instructions
 abbrev pub single_bits : List Row
 single_bits =
     row 0xfe00_707f 0x4800_1033 (codes "bclr") (codes "Zbs") ∷
@@ -166,21 +166,21 @@ single_bits =
     row 0xfe00_707f 0x2800_1013 (codes "bseti") (codes "Zbs") ∷
     []
 
--- conditional zeros (Zicond 1.0)
+-- conditional zeroing (Zicond 1.0)
 abbrev pub conditional_zeros : List Row
 conditional_zeros =
     row 0xfe00_707f 0x0e00_5033 (codes "czero.eqz") (codes "Zicond") ∷
     row 0xfe00_707f 0x0e00_7033 (codes "czero.nez") (codes "Zicond") ∷
     []
 
--- waits for a reservation (Zawrs 1.0)
+-- waiting on a reservation (Zawrs 1.0)
 abbrev pub waits : List Row
 waits =
     row 0xffff_ffff 0x00d0_0073 (codes "wrs.nto") (codes "Zawrs") ∷
     row 0xffff_ffff 0x01d0_0073 (codes "wrs.sto") (codes "Zawrs") ∷
     []
 
--- cache blocks (CMO 1.0)
+-- cache block management (CMO 1.0)
 abbrev pub cache_blocks : List Row
 cache_blocks =
     row 0xfff0_7fff 0x0000_200f (codes "cbo.inval") (codes "Zicbom") ∷
@@ -188,13 +188,13 @@ cache_blocks =
     row 0xfff0_7fff 0x0020_200f (codes "cbo.flush") (codes "Zicbom") ∷
     []
 
--- a cache block of zeros (CMO 1.0)
+-- zeroing a cache block (CMO 1.0)
 abbrev pub zeroed_cache_blocks : List Row
 zeroed_cache_blocks =
     row 0xfff0_7fff 0x0040_200f (codes "cbo.zero") (codes "Zicboz") ∷
     []
 
--- of privileged modes (Privileged ISA 20190608)
+-- privileged instructions (Privileged ISA 20190608)
 abbrev pub privileged : List Row
 privileged =
     row 0xffff_ffff 0x1020_0073 (codes "sret") (codes "privileged") ∷
@@ -203,7 +203,7 @@ privileged =
     row 0xfe00_7fff 0x1200_0073 (codes "sfence.vma") (codes "privileged") ∷
     []
 
--- all of them
+-- all 32-bit rows
 unfoldable pub rows32 : List Row
 rows32 =
     zicsr ++
@@ -220,7 +220,7 @@ rows32 =
     (zeroed_cache_blocks ++
     privileged)))))))))))
 
--- the first row of a word
+-- the first row that matches a word
 unfoldable pub unsimulated32 : ℕ → Option Row
 unsimulated32 word = find (is_row_of word) rows32
 
@@ -239,6 +239,6 @@ rows16 =
     row 0xe003 0xe002 (codes "c.fswsp") (codes "F") ∷
     []
 
--- the first row of a halfword
+-- the first row that matches a halfword
 unfoldable pub unsimulated16 : ℕ → Option Row
 unsimulated16 half = find (is_row_of half) rows16

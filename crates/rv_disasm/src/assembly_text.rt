@@ -1,4 +1,4 @@
-//! The text of an instruction.
+//! The assembly text of an instruction.
 ghost use Rattle.std.specs.Prelude.{◌≡◌, ◌++◌, OnOk};
 ghost use Rattle.rv_isa.specs.Words.{IsWellFormed};
 ghost use Rattle.rv_disasm.specs.Assembly.{operands_text, assembly16, assembly32, form_text};
@@ -14,8 +14,8 @@ use crate::unsimulated::{unsimulated16, unsimulated32};
 use rv_isa::{Isa, decode16, decode32};
 use std::alloc::{AllocError, Global};
 
-/// Appends the assembly text of a 32-bit word that was fetched at `pc`, as `lw a0, 8(sp)`. A word without a row in RV32IM
-/// with Zifencei is told as `csrrw (Zicsr: not simulated)`, or `no instruction` where no listing here has it.
+/// Appends the assembly text of a 32-bit word fetched at `pc`, such as `lw a0, 8(sp)`. A word without a row in RV32IM with Zifencei is
+/// shown as `csrrw (Zicsr: not simulated)`, or as `no instruction` if no known listing has it.
 #[tactic(auto, unfolding(crate::specs::Assembly::assembly32))]
 pub fn push_assembly32(
     alloc: Global,
@@ -32,8 +32,8 @@ pub fn push_assembly32(
     }
 }
 
-/// Appends the assembly text of a halfword that was fetched at `pc`, as `c.lw a0, 8(a0)`. A halfword without a row in the C
-/// extension of RV32I is told as `c.flw (F: not simulated)`, or `no instruction`.
+/// Appends the assembly text of a halfword fetched at `pc`, such as `c.lw a0, 8(a0)`. A halfword without a row in the C extension of RV32I
+/// is shown as `c.flw (F: not simulated)`, or as `no instruction`.
 #[tactic(auto, unfolding(crate::specs::Assembly::assembly16))]
 pub fn push_assembly16(
     alloc: Global,
@@ -67,7 +67,7 @@ fn push_form(
     push_operands(alloc, bytes, operands, fetched)
 }
 
-// Appends the operands behind a space, with commas between them.
+// Appends a space and the operands, separated by commas.
 #[tactic(auto, unfolding(crate::specs::Assembly::operands_text))]
 fn push_operands(
     alloc: Global,
@@ -93,7 +93,7 @@ fn push_operands(
     }
 }
 
-// Appends an operand behind what separates it from the one before.
+// Appends a separator and an operand.
 fn push_separated_operand(
     alloc: Global,
     bytes: &mut Vec<u8>,

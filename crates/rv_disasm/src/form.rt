@@ -1,8 +1,8 @@
-//! How a row is written: its name, and which operands stand behind it.
+//! How a row is written: its name and its operands.
 
 use rv_isa::Instr;
 
-/// An instruction, the code that it was fetched as, and its address.
+/// An instruction with its encoding and its address.
 #[derive(Clone, Copy)]
 pub(crate) struct Fetched {
     pub instr: Instr,
@@ -10,23 +10,23 @@ pub(crate) struct Fetched {
     pub pc: u32,
 }
 
-/// What an operand shows of an instruction.
+/// An operand as written.
 #[derive(Clone, Copy)]
 pub(crate) enum Operand {
-    /// The name of the register that is written.
+    /// The name of the destination register.
     Rd,
-    /// The names of the registers that are read.
+    /// The names of the source registers.
     Rs1,
     Rs2,
-    /// The immediate, decimal.
+    /// The immediate, in decimal.
     Imm,
-    /// The immediate and the register that it is added to, as `8(a0)`.
+    /// The immediate and its base register, as in `8(a0)`.
     Address,
-    /// The upper 20 bits of the immediate, hexadecimal.
+    /// The upper 20 bits of the immediate, in hexadecimal.
     Upper,
-    /// The address that the immediate is the way to.
+    /// The target address of a pc-relative immediate.
     Target,
-    /// What a FENCE orders: before it, and behind it.
+    /// The predecessor and successor sets of a FENCE.
     Predecessors,
     Successors,
 }
@@ -44,7 +44,7 @@ pub(crate) enum Operands {
 #[derive(Clone, Copy)]
 pub(crate) struct Form(pub &'static str, pub Operands);
 
-// The operands of the 32-bit rows; of the 16-bit ones some have the same.
+// The operands of the 32-bit rows, some of which the 16-bit rows share.
 
 pub(crate) const REGISTERS: Operands = Operands::Three(Operand::Rd, Operand::Rs1, Operand::Rs2);
 
@@ -62,7 +62,7 @@ pub(crate) const JUMP: Operands = Operands::Two(Operand::Rd, Operand::Target);
 
 pub(crate) const FENCE: Operands = Operands::Two(Operand::Predecessors, Operand::Successors);
 
-// The other operands of the 16-bit rows.
+// The operands that only 16-bit rows have.
 
 pub(crate) const REGISTER_IMMEDIATE: Operands = Operands::Two(Operand::Rd, Operand::Imm);
 

@@ -1,4 +1,4 @@
-//! What is told of a code that has no instruction.
+//! The description of a code that is not an instruction.
 ghost use Rattle.std.specs.Prelude.{◌≡◌, ◌++◌, OnOk, option_map};
 ghost use Rattle.rv_disasm.specs.Illegal.{illegal_text16, illegal_text32, missing_text, name_and_reason, unsimulated_text};
 ghost use Rattle.rv_disasm.specs.Unsimulated.{row_of_code};
@@ -11,8 +11,8 @@ use crate::unsimulated::{Row, unsimulated16, unsimulated32};
 use rv_isa::{Isa, decode32};
 use std::alloc::AllocError;
 
-/// Appends what is told of a 32-bit word for which a job's set has no instruction: its name and its extension, as
-/// `mul (M: not in this job's set)` or `csrrw (Zicsr: not simulated)`, or `no instruction`.
+/// Appends the description of a 32-bit word that is not an instruction of a job's set: its name and its extension, as in `mul (M: not in
+/// this job's set)` or `csrrw (Zicsr: not simulated)`, or `no instruction`.
 #[tactic(auto, unfolding(crate::specs::Illegal::illegal_text32))]
 pub fn push_illegal32(bytes: &mut Vec<u8>, word: u32) -> Result<(), AllocError>
     ensures { OnOk result (bytes.new.items ≡ bytes.old.items ++ illegal_text32 word) }
@@ -23,7 +23,8 @@ pub fn push_illegal32(bytes: &mut Vec<u8>, word: u32) -> Result<(), AllocError>
     }
 }
 
-/// The same of a halfword, as `c.li (C: not in this job's set)` or `c.flw (F: not simulated)`.
+/// Appends the description of a halfword that is not an instruction of a job's set, as in `c.li (C: not in this job's set)` or `c.flw (F:
+/// not simulated)`, or `no instruction`.
 #[tactic(auto, unfolding(crate::specs::Illegal::illegal_text16))]
 pub fn push_illegal16(bytes: &mut Vec<u8>, half: u16) -> Result<(), AllocError>
     ensures { OnOk result (bytes.new.items ≡ bytes.old.items ++ illegal_text16 half) }
@@ -35,7 +36,7 @@ pub fn push_illegal16(bytes: &mut Vec<u8>, half: u16) -> Result<(), AllocError>
     }
 }
 
-// Appends the name of a row that a set leaves out.
+// Appends the name of a row that the set lacks.
 fn push_missing(bytes: &mut Vec<u8>, form: Form, extension: &str) -> Result<(), AllocError>
     ensures { OnOk result (bytes.new.items
         ≡ bytes.old.items ++ missing_text form.0.now extension.now) }
@@ -44,7 +45,7 @@ fn push_missing(bytes: &mut Vec<u8>, form: Form, extension: &str) -> Result<(), 
     push_name_and_reason(bytes, mnemonic, extension, "not in this job's set")
 }
 
-/// Appends the name of a row that is not simulated, or `no instruction` where there is none.
+/// Appends the name of a row that is not simulated, or `no instruction` if there is none.
 pub(crate) fn push_unsimulated(bytes: &mut Vec<u8>, row: Option<Row>) -> Result<(), AllocError>
     ensures { OnOk result (bytes.new.items
         ≡ bytes.old.items ++ unsimulated_text (option_map row_of_code row)) }
@@ -57,6 +58,7 @@ pub(crate) fn push_unsimulated(bytes: &mut Vec<u8>, row: Option<Row>) -> Result<
     }
 }
 
+// Appends a name, followed in parentheses by its extension and the reason.
 #[tactic(auto, unfolding(crate::specs::Illegal::name_and_reason))]
 fn push_name_and_reason(
     bytes: &mut Vec<u8>,

@@ -1,4 +1,4 @@
-//! Laws of what is told of a code, with nothing to run.
+//! Laws on the descriptions of codes, with no code to run.
 ghost use Rattle.std.specs.Prelude.{◌≡◌, ℕ, None, Some, true};
 ghost use Rattle.rv_isa.specs.Extensions.{has, RV32C, RV32M};
 ghost use Rattle.rv_isa.specs.Halfwords.{meaning16};
@@ -8,14 +8,14 @@ ghost use Rattle.rv_isa.specs.declared.sets.Isa.{Isa};
 ghost use Rattle.rv_isa.specs.declared.sets.Isa.TheVariants as set;
 ghost use Rattle.rv_disasm.specs.Unsimulated.{unsimulated16, unsimulated32};
 
-/// No code is told as not simulated that has an instruction in RV32IMC.
+/// No instruction of RV32IMC is described as not simulated.
 pub fn simulated_codes_are_apart()
     ensures words { (w : ℕ) (i : Instr) → meaning32 set.Imc w ≡ Some i → unsimulated32 w ≡ None }
     ensures halfwords { (h : ℕ) (i : Instr) → meaning16 set.Imc h ≡ Some i → unsimulated16 h ≡ None }
 {}
 
-/// A set with M has each word of RV32IMC, and a set with C each halfword. So a word of RV32IMC which a set leaves out is left
-/// out for want of M, and a halfword for want of C.
+/// A set with M has every 32-bit word of RV32IMC, and a set with C has every halfword. A missing word is therefore missing because the set
+/// lacks M, and a missing halfword because it lacks C.
 pub fn missing_codes_are_of_m_or_c()
     ensures words { (isa : Isa) (w : ℕ) (i : Instr) → has isa RV32M ≡ true
         → meaning32 set.Imc w ≡ Some i → meaning32 isa w ≡ Some i }

@@ -1,10 +1,10 @@
 //! The assembly text of an instruction, as the RISC-V Unprivileged ISA 20191213 writes its row.
 //!
-//! [`push_assembly32`] appends the text of a word, and [`push_assembly16`] that of a halfword, which is under the name of its
-//! own row (`c.lw`), as it was fetched at an address. Registers have the names of the ABI ([`register_name`]), immediates are decimal, those
-//! of LUI and AUIPC the upper 20 bits in hexadecimal, and targets are addresses. No row has a second name:
-//! `addi zero, zero, 0` is no `nop`. What has no row is told by its name and its extension, as `mret (privileged: not simulated)`,
-//! or as `no instruction`. [`push_illegal32`] and [`push_illegal16`] tell a code that a job's set of instructions leaves out.
+//! [`push_assembly32`] appends the text of a word and [`push_assembly16`] the text of a halfword, under the name of its own row (`c.lw`),
+//! as fetched at an address. Registers have their ABI names ([`register_name`]), immediates are decimal except those of LUI and AUIPC,
+//! which are shown as their upper 20 bits in hexadecimal, and targets are addresses. There are no pseudoinstructions: `addi zero, zero, 0`
+//! is not written as `nop`. A code without a row is described by its name and extension, as in `mret (privileged: not simulated)`, or as
+//! `no instruction`. [`push_illegal32`] and [`push_illegal16`] describe a code that a job's instruction set lacks.
 #![tactic(auto)]
 
 mod assembly_text;

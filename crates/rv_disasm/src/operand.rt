@@ -38,14 +38,14 @@ pub(crate) fn push_operand(
     }
 }
 
-/// Appends a text as it stands.
+/// Appends a text verbatim.
 pub(crate) fn push_literal(bytes: &mut Vec<u8>, text: &str) -> Result<(), AllocError>
     ensures { OnOk result (bytes.new.items ≡ bytes.old.items ++ text.now) }
 {
     bytes.extend_from_slice(text.as_bytes())
 }
 
-// Appends a number's decimal digits, behind a minus sign where it is below 0.
+// Appends a number in decimal, with a minus sign if it is negative.
 fn push_signed_decimal(bytes: &mut Vec<u8>, number: i32) -> Result<(), AllocError>
     ensures { OnOk result (bytes.new.items ≡ bytes.old.items ++ signed_decimal number) }
 {
@@ -53,7 +53,7 @@ fn push_signed_decimal(bytes: &mut Vec<u8>, number: i32) -> Result<(), AllocErro
     push_literal(bytes, buffer.format(number))
 }
 
-// Appends a number's lower-case hexadecimal digits behind `0x`, without zeros in front.
+// Appends `0x` and a number's lower-case hexadecimal digits, without leading zeros.
 fn push_prefixed_hexadecimal(
     alloc: Global,
     bytes: &mut Vec<u8>,
@@ -77,7 +77,7 @@ fn push_offset_and_base(bytes: &mut Vec<u8>, offset: i32, base: u8) -> Result<()
     push_literal(bytes, ")")
 }
 
-/// The name of a register in the calling convention of the RISC-V ABIs.
+/// Returns the name of a register in the calling convention of the RISC-V ABIs.
 pub fn register_name(number: u8) -> &'static str
     requires { number < 32 }
     ensures { result.now ≡ register_name number }
@@ -118,7 +118,7 @@ pub fn register_name(number: u8) -> &'static str
     }
 }
 
-// What a field of a FENCE orders, by its four bits.
+// Returns the letters of a FENCE set, from its four bits.
 #[tactic(auto, unfolding(rv_isa::specs::Bits::field))]
 fn fence_set_name(bits: u32) -> &'static str
     requires { bits < 16 }

@@ -10,7 +10,7 @@ use crate::form::{
 };
 use rv_isa::field;
 
-/// How the row of a halfword is written, or `None` where it has none.
+/// Returns the form of a halfword's row, or `None` if it has none.
 #[tactic(auto, using(crate::proofs::HalfwordForms::by_quadrant))]
 pub(crate) fn form16(half: u32) -> Option<Form>
     ensures { option_map form_of_code result ≡ form16 half }
@@ -55,14 +55,14 @@ fn quadrant1_form(half: u32) -> Option<Form>
     }
 }
 
-// Whether the immediate of a CI format is not 0. C.ADDI16SP and C.LUI take theirs from the same bits.
+// Whether the immediate of a CI format is nonzero. C.ADDI16SP and C.LUI take theirs from the same bits.
 fn has_ci_immediate(half: u32) -> bool
     ensures { IsTrue result ↔ (immediate_ci half ≢ 0) }
 {
     field(half, 12, 12) != 0 || field(half, 6, 2) != 0
 }
 
-// C.ADDI16SP and C.LUI.
+// Returns the form of C.ADDI16SP or C.LUI.
 #[tactic(auto, using(crate::proofs::HalfwordForms::by_quadrant))]
 fn lui_or_addi16sp_form(half: u32) -> Option<Form>
     requires quadrant { bits_of half 1 0 ≡ 1 }
@@ -112,7 +112,7 @@ fn quadrant2_form(half: u32) -> Option<Form>
     }
 }
 
-// C.JR, C.MV, C.EBREAK, C.JALR and C.ADD.
+// Returns the form of C.JR, C.MV, C.EBREAK, C.JALR or C.ADD.
 #[tactic(auto, using(crate::proofs::HalfwordForms::by_quadrant))]
 fn cr_format_form(half: u32) -> Option<Form>
     requires quadrant { bits_of half 1 0 ≡ 2 }

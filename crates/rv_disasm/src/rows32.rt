@@ -7,14 +7,14 @@ use crate::form::{
 };
 use rv_isa::Op;
 
-/// How the row of a name is written.
+/// Returns the form of a name's row.
 pub(crate) fn form32(op: Op) -> Form
     ensures { form_of_code result ≡ form32 op }
 {
     Form(mnemonic(op), operands_of_op(op))
 }
 
-// The operands of the row of a name.
+// Returns the operands of a name's row.
 fn operands_of_op(op: Op) -> Operands
     ensures { result ≡ (form32 op).operands }
 {
@@ -56,7 +56,7 @@ fn operands_of_op(op: Op) -> Operands
     }
 }
 
-// How a name is written.
+// Returns the mnemonic of a name.
 fn mnemonic(op: Op) -> &'static str
     ensures { result.now ≡ (form32 op).mnemonic }
 {

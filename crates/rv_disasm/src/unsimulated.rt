@@ -2,24 +2,25 @@
 ghost use Rattle.std.specs.Prelude.{◌≡◌, ◌==◌, bit_and, find, map, option_map};
 ghost use Rattle.rv_disasm.specs.Unsimulated.{row_of_code, rows16, rows32, unsimulated16, unsimulated32};
 
-/// A row of a listing: the bits of a code that it fixes, their values, its name, and the extension that it is of.
+/// A row of a listing: the bits of a code that it fixes, their values, its name, and its extension.
 #[derive(Clone, Copy)]
 pub(crate) struct Row(pub u32, pub u32, pub &'static str, pub &'static str);
 
-/// The row of a word that is no instruction of RV32IM, if a listing has one.
+/// Returns the row of a word that is not an instruction of RV32IM, if a listing has one.
 pub(crate) fn unsimulated32(word: u32) -> Option<Row>
     ensures { option_map row_of_code result ≡ unsimulated32 word }
 {
     find_row(rows32(), word).copied()
 }
 
-/// The same of a halfword, which is no instruction of the C extension of RV32I.
+/// Returns the row of a halfword that is not an instruction of the C extension of RV32I, if a listing has one.
 pub(crate) fn unsimulated16(half: u32) -> Option<Row>
     ensures { option_map row_of_code result ≡ unsimulated16 half }
 {
     find_row(rows16(), half).copied()
 }
 
+// Returns the first row that matches a code.
 fn find_row<'a>(rows: &'a [Row], code: u32) -> Option<&'a Row>
     ensures { option_map (λ row. row.now) result
         ≡ find (λ row. bit_and code row.0 == row.1) rows.now }

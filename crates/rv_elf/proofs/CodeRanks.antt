@@ -13,7 +13,7 @@ use Rattle.rv_elf.specs.declared.code_symbols.CodeSymbol.{CodeSymbol}
 use Rattle.rv_elf.specs.declared.error.ImageError.{ImageError}
 use Rattle.rv_elf.specs.declared.image.Image.{Image}
 use Rattle.rv_elf.specs.declared.image.Segment.{Segment}
-use Rattle.rv_elf.specs.declared.symbol_search.Sought.TheVariants.{Code}
+use Rattle.rv_elf.specs.declared.symbol_search.LookupKind.TheVariants.{Code}
 use Rattle.rv_elf.specs.declared.symbols.Symbol.{Symbol}
 use Rattle.rv_elf.specs.CodeSymbols.{code_symbol, is_named_code, name_and_offset_of, named_in_segment, rank, symbol_count, symbol_of_index, AreCodeSymbols, AreNamed, FindSymbols, IsCodeSymbol, IsSymbolFor}
 use Rattle.rv_elf.specs.Rows.{accepted}

@@ -8,8 +8,8 @@ use Rattle.std.proofs.lemmas.Bool.Decides.{nat_tests}
 use Rattle.rv_elf.specs.declared.error.ImageError.{ImageError}
 use Rattle.rv_elf.specs.declared.image.Image.{Image}
 use Rattle.rv_elf.specs.declared.image.Segment.{Segment}
-use Rattle.rv_elf.specs.declared.symbol_search.Sought.{Sought}
-use Rattle.rv_elf.specs.declared.symbol_search.Sought.TheVariants.{Code, Value}
+use Rattle.rv_elf.specs.declared.symbol_search.LookupKind.{LookupKind}
+use Rattle.rv_elf.specs.declared.symbol_search.LookupKind.TheVariants.{Code, Value}
 use Rattle.rv_elf.specs.declared.symbols.Symbol.{Symbol}
 use Rattle.rv_elf.specs.Rows.{accepted}
 use Rattle.rv_elf.specs.Sections.{text_before_zero}
@@ -23,7 +23,7 @@ of_below : (addr value : ℕ) (sized within : Bool) → (value == addr) || (size
 of_below addr value sized within e = grind (arith, nat_tests)
 
 -- a candidate is not above the address
-pub candidate_below : (sought : Sought) (segments : List Segment) (strings : List ℕ) (addr : ℕ) (s : Symbol)
+pub candidate_below : (sought : LookupKind) (segments : List Segment) (strings : List ℕ) (addr : ℕ) (s : Symbol)
     → is_candidate sought segments strings addr s ≡ true → s.value ≤ addr
 candidate_below Code segments strings addr s e =
     let named = has_usable_name strings s && are_in_one_segment segments s.value addr in
@@ -36,7 +36,7 @@ candidate_below Value segments strings addr s e =
     of_below addr s.value (is_function s || is_object s) (ltb addr (s.value + s.size))
     (and_parts (covers_address addr s) (has_usable_name strings s) there).0
 
-module _ (sought : Sought) (image : Image) (file : List ℕ) (addr : ℕ) where
+module _ (sought : LookupKind) (image : Image) (file : List ℕ) (addr : ℕ) where
   -- nothing where the tables are refused
   pub no_tables : (w : ImageError) → table_check file ≡ Err w → nearest_symbol sought image file addr ≡ None
   unfolding nearest_symbol

@@ -12,7 +12,7 @@ use Rattle.rv_elf.specs.declared.image.Image.{Image}
 use Rattle.rv_elf.specs.declared.sections.Section.{Section}
 use Rattle.rv_elf.specs.declared.symbols.Symbol.{Symbol}
 use Rattle.rv_elf.specs.Image.{image_of, IsImageOf}
-use Rattle.rv_elf.specs.ImageParts.{header_rows, image_behind_header}
+use Rattle.rv_elf.specs.ImageParts.{header_rows, image_after_header}
 use Rattle.rv_elf.specs.Rows.{accepted}
 use Rattle.rv_elf.specs.Sections.{e_shnum, e_shoff, e_shentsize, has_bad_section_table, symbol_table_section, string_table_section}
 use Rattle.rv_elf.specs.Sections.{is_bad_symbol_table, is_bad_string_table, section_bytes, symbol_named, HasSections}
@@ -22,9 +22,9 @@ use Rattle.rv_elf.proofs.FirstRow.{none_refused, none_refuses, refusal_stays}
 
 -- the bytes of an image have a whole header
 pub header_there : (file : List ℕ) (image : Image) → IsImageOf file image → 52 ≤ length file
-unfolding image_of image_behind_header
+unfolding image_of image_after_header
 header_there file image e = ltb-false (length file) 52
-    (or_parts (ltb (length file) 52) _ (none_refused (header_rows file) (image_behind_header e.isa file) image e.is).0).0
+    (or_parts (ltb (length file) 52) _ (none_refused (header_rows file) (image_after_header e.isa file) image e.is).0).0
 
 pub sections_there : (file : List ℕ) → 52 ≤ length file → has_bad_section_table file ≡ false → HasSections file
 sections_there file h e =

@@ -6,13 +6,13 @@ use Rattle.std.proofs.lemmas.Bool.{or_parts, and_parts, not-false, both_ways, tr
 use Rattle.std.proofs.lemmas.List.Folds.{list_all_at}
 use Rattle.rv_memory.specs.declared.map.Region.{Region}
 use Rattle.rv_memory.specs.Regions.{in_one}
-use Rattle.rv_memory.specs.Bus.{Contents, new_bus, with_bytes, bytes_put}
+use Rattle.rv_memory.specs.Bus.{Contents, new_bus, with_bytes, with_bytes_written}
 use Rattle.rv_elf.specs.declared.image.Image.{Image}
 use Rattle.rv_elf.specs.declared.image.Segment.{Segment}
 use Rattle.rv_elf.specs.declared.loading.LoadAt.{LoadAt}
 use Rattle.rv_elf.specs.Rows.{accepted}
 use Rattle.rv_elf.specs.Image.{IsImageOf}
-use Rattle.rv_elf.specs.Loading.{load_address, segment_fits, any_segments_overlap, map_rows, map_check, file_bytes, opening_memory}
+use Rattle.rv_elf.specs.Loading.{load_address, segment_fits, any_segments_overlap, map_rows, map_check, file_bytes, initial_memory}
 use Rattle.rv_elf.proofs.FirstRow.{none_refused}
 use Rattle.rv_elf.proofs.Reading.{in_file, in_file_bounds, segments_in_file}
 use Rattle.rv_elf.proofs.Placing.{opening_memory_more}
@@ -36,8 +36,8 @@ all_at p ss i d h l = true_from_ne_false _ (λ e. both_ways _ (list_all_at p ss 
 
 -- a new bus holds the opening memory of no segment
 pub opening_memory_none : (c : Contents) (file : List ℕ) (at : LoadAt) → c ≡ new_bus c.regions c.script c.misaligned
-    → c ≡ record c { memory = opening_memory c.regions [] file at }
-unfolding new_bus opening_memory
+    → c ≡ record c { memory = initial_memory c.regions [] file at }
+unfolding new_bus initial_memory
 opening_memory_none c file at e = let m = ap (λ d. d.memory) e in λ i. record c { memory = m i }
 
 module _ (file : List ℕ) (image : Image) (ss : List Segment) (same : ss ≡ image.segments) (is : IsImageOf file image)
@@ -52,7 +52,7 @@ module _ (file : List ℕ) (image : Image) (ss : List Segment) (same : ss ≡ im
   bytes_there = in_file_bounds (length file) (get_or ss k no_segment) within_file
 
   module _ (c : Contents) (at : LoadAt) (accepts : map_check image.segments c.regions at ≡ accepted) (b : Contents)
-      (before : b ≡ record c { memory = opening_memory c.regions (take k image.segments) file at }) where
+      (before : b ≡ record c { memory = initial_memory c.regions (take k image.segments) file at }) where
     fits_first : IsTrue (in_one c.regions (load_address at (get_or ss k no_segment)) (get_or ss k no_segment).filesz)
     fits_first =
         (and_parts _ _
@@ -68,12 +68,12 @@ module _ (file : List ℕ) (image : Image) (ss : List Segment) (same : ss ≡ im
     -- and once they are placed it holds the opening memory of one segment more
     pub one_more : (new : Contents) → new ≡ with_bytes b (load_address at (get_or ss k no_segment))
         (file_bytes file (get_or ss k no_segment))
-        → new ≡ record c { memory = opening_memory c.regions (take (k + 1) image.segments) file at }
+        → new ≡ record c { memory = initial_memory c.regions (take (k + 1) image.segments) file at }
     one_more new e =
         let s = get_or ss k no_segment in
         let more = opening_memory_more c.regions file at ss k no_segment
         (ap (any_segments_overlap at) same ∙ (map_accepted image.segments c.regions at accepts).1) l fits_first within_file in
-        let m = ap (λ x. bytes_put (opening_memory c.regions (take k x) file at) (load_address at s)
+        let m = ap (λ x. with_bytes_written (initial_memory c.regions (take k x) file at) (load_address at s)
         (file_bytes file s)) (sym same) ∙ sym more
-        ∙ ap (λ x. opening_memory c.regions (take (k + 1) x) file at) same in
+        ∙ ap (λ x. initial_memory c.regions (take (k + 1) x) file at) same in
         e ∙ ap (λ x. with_bytes x (load_address at s) (file_bytes file s)) before ∙ (λ i. record c { memory = m i })

@@ -8,11 +8,11 @@ use Rattle.std.proofs.lemmas.Bool.{false_from_ne_true, both_ways}
 use Rattle.std.proofs.lemmas.List.{get_or-take, get_or-drop, length-take-le, length-drop}
 use Rattle.rv_memory.specs.declared.map.Region.{Region}
 use Rattle.rv_memory.specs.Regions.{covers, in_one, addresses, tabulate}
-use Rattle.rv_memory.specs.Bus.{bytes_put}
+use Rattle.rv_memory.specs.Bus.{with_bytes_written}
 use Rattle.rv_memory.proofs.Public.{among, among_addresses, is_covered, covers_bounds, tabulate-insert, tabulate-same}
 use Rattle.rv_elf.specs.declared.image.Segment.{Segment}
 use Rattle.rv_elf.specs.declared.loading.LoadAt.{LoadAt}
-use Rattle.rv_elf.specs.Loading.{load_address, any_segments_overlap, segment_fills, segment_byte, file_bytes, opening_byte, opening_memory}
+use Rattle.rv_elf.specs.Loading.{load_address, any_segments_overlap, segment_fills, segment_byte, file_bytes, initial_byte, initial_memory}
 use Rattle.rv_elf.proofs.Sharing.{opening_byte_more}
 use Rattle.rv_elf.proofs.Reading.{in_file, in_file_bounds}
 
@@ -52,7 +52,7 @@ first_byte a b q x bs =
 tabulate-put : (keys : List ℕ) (f g : ℕ → ℕ) (a : ℕ) (bytes : List ℕ)
     → ((k : ℕ) → k < length bytes → among (a + k) keys ≡ true)
     → ((q : ℕ) → among q keys ≡ true → g q ≡ cond (has a (length bytes) q) (get_or bytes (q - a) 0) (f q))
-    → tabulate keys g ≡ bytes_put (tabulate keys f) a bytes
+    → tabulate keys g ≡ with_bytes_written (tabulate keys f) a bytes
 tabulate-put keys f g a [] here each =
     tabulate-same keys f g (λ q m. each q m
     ∙ cond-false _ _ _ (false_from_ne_true _ (λ t. (let p = has_bounds a 0 q t in absurd (omega arith)))))
@@ -60,7 +60,7 @@ tabulate-put keys f g a (b ∷ bs) here each =
     let h : ℕ → ℕ = λ q. cond (eqb q a) b (f q) in
     tabulate-put keys h g (a + 1) bs (λ k l. ap (λ x. among x keys) (omega arith) ∙ here (k + 1) (omega arith))
     (λ q m. each q m ∙ first_byte a b q (f q) bs)
-    ∙ ap (λ m. bytes_put m (a + 1) bs)
+    ∙ ap (λ m. with_bytes_written m (a + 1) bs)
     (tabulate-insert keys f h a b (ap (λ x. among x keys) (omega arith) ∙ here 0 (omega arith))
     (cond-true _ _ _ (eq-eqb a a refl)) (λ q m e. cond-false _ _ _ e))
 
@@ -105,22 +105,22 @@ pub opening_memory_more : (rs : List Region) (file : List ℕ) (at : LoadAt) (ss
     → any_segments_overlap at ss ≡ false → i < length ss
     → IsTrue (in_one rs (load_address at (get_or ss i d)) (get_or ss i d).filesz)
     → in_file (length file) (get_or ss i d) ≡ true
-    → opening_memory rs (take (i + 1) ss) file at ≡ bytes_put (opening_memory rs (take i ss) file at)
+    → initial_memory rs (take (i + 1) ss) file at ≡ with_bytes_written (initial_memory rs (take i ss) file at)
     (load_address at (get_or ss i d)) (file_bytes file (get_or ss i d))
-unfolding opening_memory
+unfolding initial_memory
 opening_memory_more rs file at ss i d e l one within =
     let s = get_or ss i d in
     let start = load_address at s in
     let n = length-file_bytes file s within in
-    tabulate-put (addresses rs) (opening_byte (take i ss) file at) (opening_byte (take (i + 1) ss) file at) start
+    tabulate-put (addresses rs) (initial_byte (take i ss) file at) (initial_byte (take (i + 1) ss) file at) start
     (file_bytes file s)
     (λ k less. among_each rs start s.filesz one k (omega arith))
     (λ q m. opening_byte_more at q file ss i d e l
     ∙ elim (segment_fills at q s) as (λ b. segment_fills at q s ≡ b
-    → cond b (segment_byte file at s q) (opening_byte (take i ss) file at q) ≡ cond b
-    (get_or (file_bytes file s) (q - start) 0) (opening_byte (take i ss) file at q)) [
+    → cond b (segment_byte file at s q) (initial_byte (take i ss) file at q) ≡ cond b
+    (get_or (file_bytes file s) (q - start) 0) (initial_byte (take i ss) file at q)) [
       | true ↦ λ f. sym (file_bytes_at file at s q f)
       | false ↦ λ f. refl
     ] refl
-    ∙ ap (λ k. cond (has start k q) (get_or (file_bytes file s) (q - start) 0) (opening_byte (take i ss) file at q))
+    ∙ ap (λ k. cond (has start k q) (get_or (file_bytes file s) (q - start) 0) (initial_byte (take i ss) file at q))
     (sym n))

@@ -12,53 +12,53 @@ use Rattle.rv_elf.specs.declared.image.Image.{Image}
 use Rattle.rv_elf.specs.declared.image.Segment.{Segment}
 use Rattle.rv_elf.specs.declared.program_headers.ProgramHeader.{ProgramHeader}
 use Rattle.rv_elf.specs.Rows.{first_refusal, accepted}
-use Rattle.rv_elf.specs.Image.{program_entries, segments, kept_segments, is_load, is_kept_entry, is_entry_past_file, is_dynamic, has_bad_sizes}
+use Rattle.rv_elf.specs.Image.{program_entries, segments, loaded_segments, is_load, is_loaded_entry, is_entry_past_file, is_dynamic, has_bad_sizes}
 use Rattle.rv_elf.specs.Image.{e_entry, unchecked_image, image_of, IsImageOf}
 use Rattle.rv_elf.specs.ImageParts.{header_rows, entry_rows, image_rows, header_check, entry_check, segments_and_entry_check}
-use Rattle.rv_elf.specs.ImageParts.{image_behind_header}
+use Rattle.rv_elf.specs.ImageParts.{image_after_header}
 use Rattle.rv_elf.proofs.FirstRow.{none_refuses, refusal_stays, none_refused}
 
 -- ---- the parts of reading
 
-pub header_passed : (isa : Isa) (file : List ℕ) → accepted ≡ header_check file → image_of isa file ≡ image_behind_header isa file
-unfolding image_of image_behind_header header_check
-header_passed isa file e = none_refuses (header_rows file) (image_behind_header isa file) (sym e)
+pub header_passed : (isa : Isa) (file : List ℕ) → accepted ≡ header_check file → image_of isa file ≡ image_after_header isa file
+unfolding image_of image_after_header header_check
+header_passed isa file e = none_refuses (header_rows file) (image_after_header isa file) (sym e)
 
 pub header_refused : (isa : Isa) (file : List ℕ) (w : ImageError) → Err w ≡ header_check file
     → image_of isa file ≡ Err w
-unfolding image_of image_behind_header header_check
-header_refused isa file w e = refusal_stays (header_rows file) (image_behind_header isa file) w (sym e)
+unfolding image_of image_after_header header_check
+header_refused isa file w e = refusal_stays (header_rows file) (image_after_header isa file) w (sym e)
 
 pub entries_refused : (isa : Isa) (file : List ℕ) (w : ImageError) → Err w ≡ entry_check file
-    → image_behind_header isa file ≡ Err w
-unfolding image_behind_header entry_check
+    → image_after_header isa file ≡ Err w
+unfolding image_after_header entry_check
 entries_refused isa file w e = refusal_stays (entry_rows file) _ w (sym e)
 
 entries_passed : (isa : Isa) (file : List ℕ) → accepted ≡ entry_check file
-    → image_behind_header isa file ≡ first_refusal (image_rows isa file) (Ok (unchecked_image file))
-unfolding image_behind_header entry_check
+    → image_after_header isa file ≡ first_refusal (image_rows isa file) (Ok (unchecked_image file))
+unfolding image_after_header entry_check
 entries_passed isa file e = none_refuses (entry_rows file) _ (sym e)
 
 pub image_refused : (isa : Isa) (file : List ℕ) (w : ImageError) → accepted ≡ entry_check file
-    → Err w ≡ segments_and_entry_check isa file → image_behind_header isa file ≡ Err w
+    → Err w ≡ segments_and_entry_check isa file → image_after_header isa file ≡ Err w
 unfolding segments_and_entry_check
 image_refused isa file w p e = entries_passed isa file p ∙ refusal_stays (image_rows isa file) _ w (sym e)
 
 pub image_passed : (isa : Isa) (file : List ℕ) (image : Image) → image ≡ unchecked_image file
-    → accepted ≡ entry_check file → accepted ≡ segments_and_entry_check isa file → image_behind_header isa file ≡ Ok image
+    → accepted ≡ entry_check file → accepted ≡ segments_and_entry_check isa file → image_after_header isa file ≡ Ok image
 unfolding segments_and_entry_check
 image_passed isa file image there p e =
     entries_passed isa file p ∙ none_refuses (image_rows isa file) _ (sym e) ∙ ap (λ i. Ok i) (sym there)
 
 -- where the bytes are an image, no refusal applies, and it is what is there
 module _ (isa : Isa) (file : List ℕ) (image : Image) (e : image_of isa file ≡ Ok image) where
-  after_header : image_behind_header isa file ≡ Ok image
-  unfolding image_of image_behind_header
-  after_header = (none_refused (header_rows file) (image_behind_header isa file) image e).1
+  after_header : image_after_header isa file ≡ Ok image
+  unfolding image_of image_after_header
+  after_header = (none_refused (header_rows file) (image_after_header isa file) image e).1
 
   entries_good : (list_any (λ r. r.0) (entry_rows file) ≡ false)
       × (first_refusal (image_rows isa file) (Ok (unchecked_image file)) ≡ Ok image)
-  unfolding image_behind_header
+  unfolding image_after_header
   entries_good = none_refused (entry_rows file) (first_refusal (image_rows isa file) (Ok (unchecked_image file))) image
       after_header
 
@@ -75,13 +75,13 @@ abbrev pub in_file : ℕ → Segment → Bool
 in_file n s = not (ltb 0 s.filesz && ltb n (s.offset + s.filesz))
 
 kept_in_file : (n : ℕ) (found : List ProgramHeader) → list_any (is_entry_past_file n) found ≡ false
-    → list_all (in_file n) (kept_segments found) ≡ true
+    → list_all (in_file n) (loaded_segments found) ≡ true
 kept_in_file n [] e = refl
 kept_in_file n (x ∷ xs) e =
     let p = or_parts (is_entry_past_file n x) _ e in
     let rest = kept_in_file n xs p.1 in
-    elim (is_kept_entry x) as (λ b. is_kept_entry x ≡ b
-    → list_all (in_file n) (map (λ y. y.segment) (cond b (x ∷ filter is_kept_entry xs) (filter is_kept_entry xs))) ≡ true) [
+    elim (is_loaded_entry x) as (λ b. is_loaded_entry x ≡ b
+    → list_all (in_file n) (map (λ y. y.segment) (cond b (x ∷ filter is_loaded_entry xs) (filter is_loaded_entry xs))) ≡ true) [
       | true ↦ λ k. and_from (in_file n x.segment) _
           (not_from_false _
           (sym (ap (λ b. b && (ltb 0 x.segment.filesz && ltb n (x.segment.offset + x.segment.filesz)))
@@ -128,20 +128,20 @@ entry_aligned isa file image e c =
 module _ (isa : Isa) (file : List ℕ) where
   -- an answer of the rest of reading
   abbrev pub IsRead : Result Image ImageError → Type 0
-  IsRead r = MatchResult r (λ image. image_behind_header isa file ≡ Ok image)
-      (λ e. (e ≡ OutOfMemory → ⊥) → image_behind_header isa file ≡ Err e)
+  IsRead r = MatchResult r (λ image. image_after_header isa file ≡ Ok image)
+      (λ e. (e ≡ OutOfMemory → ⊥) → image_after_header isa file ≡ Err e)
 
-  pub read_is : (r : Result Image ImageError) → image_of isa file ≡ image_behind_header isa file → IsRead r
+  pub read_is : (r : Result Image ImageError) → image_of isa file ≡ image_after_header isa file → IsRead r
       → IfOk r (IsImageOf file)
   read_is (Ok image) e is = record { isa = isa; is = e ∙ is }
   read_is (Err why) e is = tt
 
-  pub read_even : (r : Result Image ImageError) → image_of isa file ≡ image_behind_header isa file → IsRead r
+  pub read_even : (r : Result Image ImageError) → image_of isa file ≡ image_after_header isa file → IsRead r
       → IfOk r (λ image. image.entry % 2 ≡ 0)
   read_even (Ok image) e is = entry_even isa file image (e ∙ is)
   read_even (Err why) e is = tt
 
-  pub read_aligned : (r : Result Image ImageError) → image_of isa file ≡ image_behind_header isa file → IsRead r
+  pub read_aligned : (r : Result Image ImageError) → image_of isa file ≡ image_after_header isa file → IsRead r
       → IfOk r (λ image. has isa RV32C ≡ false → image.entry % 4 ≡ 0)
   read_aligned (Ok image) e is = entry_aligned isa file image (e ∙ is)
   read_aligned (Err why) e is = tt

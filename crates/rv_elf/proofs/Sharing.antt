@@ -7,7 +7,7 @@ use Rattle.std.proofs.lemmas.List.Folds.{list_any_at}
 use Rattle.std.proofs.lemmas.List.Sums.{sum_by-cons}
 use Rattle.rv_elf.specs.declared.image.Segment.{Segment}
 use Rattle.rv_elf.specs.declared.loading.LoadAt.{LoadAt}
-use Rattle.rv_elf.specs.Loading.{load_address, segments_overlap, any_segments_overlap, segment_fills, opening_byte, segment_byte}
+use Rattle.rv_elf.specs.Loading.{load_address, segments_overlap, any_segments_overlap, segment_fills, initial_byte, segment_byte}
 
 counts_no : (b : Bool) → b ≡ false → cond {A = ℕ} b 1 0 ≡ 0
 counts_no b e = ap (λ c. cond c 1 0) e
@@ -62,8 +62,8 @@ module _ (at : LoadAt) (a : ℕ) where
   -- so the byte of one more segment comes into an address that it fills, and no other changes
   pub opening_byte_more : (file : List ℕ) (ss : List Segment) (i : ℕ) (d : Segment) → any_segments_overlap at ss ≡ false
       → i < length ss
-      → opening_byte (take (i + 1) ss) file at a ≡ cond (segment_fills at a (get_or ss i d)) (segment_byte file at (get_or ss i d) a)
-      (opening_byte (take i ss) file at a)
+      → initial_byte (take (i + 1) ss) file at a ≡ cond (segment_fills at a (get_or ss i d)) (segment_byte file at (get_or ss i d) a)
+      (initial_byte (take i ss) file at a)
   opening_byte_more file [] i d e l = absurd (omega arith)
   opening_byte_more file (s ∷ ss) zero d e l = refl
   opening_byte_more file (s ∷ ss) (suc j) d e l =
@@ -72,6 +72,6 @@ module _ (at : LoadAt) (a : ℕ) where
       let apart : segments_overlap at s t ≡ false = false_from_ne_true _
       (λ g. both_ways _ p.0 (list_any_at (segments_overlap at s) ss j d (omega arith) g)) in
       let next : suc j + 1 ≡ suc (j + 1) = omega arith in
-      ap (λ k. opening_byte (take k (s ∷ ss)) file at a) next
+      ap (λ k. initial_byte (take k (s ∷ ss)) file at a) next
       ∙ ap (λ x. cond (segment_fills at a s) (segment_byte file at s a) x) (opening_byte_more file ss j d p.1 (omega arith))
       ∙ swapped (segment_fills at a s) (segment_fills at a t) _ _ _ (λ f g. not_both s t apart f g)

@@ -1,4 +1,4 @@
--- The words for the refusals.
+-- The names of the errors.
 use Rattle.std.specs.Prelude.{ℕ, List, codes}
 use Rattle.rv_elf.specs.declared.error.ImageError.{ImageError}
 use Rattle.rv_elf.specs.declared.error.ImageError.TheVariants as image

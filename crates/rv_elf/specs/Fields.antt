@@ -1,16 +1,15 @@
--- The fields of a file: little-endian numbers at given places (System V ABI, "Object Files",
--- ELFDATA2LSB).
+-- The fields of a file: little-endian numbers at given offsets (System V ABI, "Object Files", ELFDATA2LSB).
 use Rattle.std.specs.Prelude.{ℕ, List, drop, slice_index}
 use Rattle.byteorder.specs.Endian.{little_number}
 
--- the byte at a place
+-- the byte at an offset
 abbrev pub byte_at : List ℕ → ℕ → ℕ
 byte_at file at = slice_index file at
 
--- the two-byte number there
+-- the two-byte number at an offset
 unfoldable pub half_at : List ℕ → ℕ → ℕ
 half_at file at = little_number 2 (drop at file)
 
--- the four-byte number there
+-- the four-byte number at an offset
 unfoldable pub word_at : List ℕ → ℕ → ℕ
 word_at file at = little_number 4 (drop at file)

@@ -1,5 +1,5 @@
--- The functions of an image, and their code: those symbols of a file's first symbol table that are functions with a size, and whose
--- bytes an executable segment has in the file (System V ABI, "Symbol Table", "Program Header").
+-- The functions of an image and their code: the symbols of the file's first symbol table that are functions with a size and whose bytes are
+-- in the file part of an executable segment (System V ABI, "Symbol Table", "Program Header").
 use Rattle.std.specs.Prelude.{◌==◌, ◌+◌, ◌-◌, ◌%◌, ◌&&◌, ℕ, Bool, List, [], Option, drop, find, if◌then◌else◌, is_ok, nat_le, nat_lt, None, not, option_map, take, unwrap_or}
 use Rattle.std.specs.List.{filter_map}
 use Rattle.std.specs.Option.{option_map_or}
@@ -14,38 +14,38 @@ use Rattle.rv_elf.specs.Symbols.{symbol_and_string_bytes, table_check}
 abbrev pub is_executable : Segment → Bool
 is_executable segment = segment.flags % 2 == 1
 
--- the bytes that the file has of a segment, if it has some, lie in a file of n bytes
+-- the file bytes of a segment, if any, are within a file of n bytes
 abbrev pub is_in_file : ℕ → Segment → Bool
 is_in_file n segment = not (nat_lt 0 segment.filesz && nat_lt n (segment.offset + segment.filesz))
 
--- the bytes of the symbol are among those that the file has of the segment
+-- the bytes of the symbol are among the segment's file bytes
 abbrev pub has_code_of : Symbol → Segment → Bool
 has_code_of s segment = nat_le segment.vaddr s.value && nat_le (s.value + s.size) (segment.vaddr + segment.filesz)
 
 abbrev pub is_code_segment_of : Symbol → Segment → Bool
 is_code_segment_of s segment = is_executable segment && has_code_of s segment
 
--- the bytes of the file that a symbol stands for, in a segment
+-- the file bytes of a symbol in a segment
 abbrev pub bytes_in_segment : List ℕ → Symbol → Segment → List ℕ
 bytes_in_segment file s segment = take s.size (drop (segment.offset + (s.value - segment.vaddr)) file)
 
--- in the first executable segment that has them
+-- the symbol's bytes in the first executable segment that has them
 abbrev pub code_of_symbol : List Segment → List ℕ → Symbol → Option (List ℕ)
 code_of_symbol segments file s = option_map (bytes_in_segment file s) (find (is_code_segment_of s) segments)
 
--- a function with a size and a name
+-- whether the symbol is a function with a size and a name
 abbrev pub is_sized_function : List ℕ → Symbol → Bool
 is_sized_function strings s = is_function s && (has_section s && (nat_lt 0 s.size && has_usable_name strings s))
 
--- a name has so many bytes at most
+-- the maximum number of bytes shown of a name
 abbrev pub most_name : ℕ
 most_name = 1024
 
--- the bytes in front of the first zero byte, if it is among the first so many; else these
+-- the bytes before the first zero byte, cut off at the maximum
 abbrev pub name_in : List ℕ → List ℕ
 name_in bytes = unwrap_or (text_before_zero (take most_name bytes)) (take most_name bytes)
 
--- the name of a function, its address and its code
+-- a function's name, address and code
 abbrev pub Named : Type 0
 Named = List ℕ × (ℕ × List ℕ)
 
@@ -56,11 +56,11 @@ abbrev pub function_of_symbol : List Segment → List ℕ → List ℕ → Symbo
 function_of_symbol segments file strings s =
     if is_sized_function strings s then option_map (named_code strings s) (code_of_symbol segments file s) else None
 
--- in the order of the table
+-- the functions in table order
 abbrev pub functions_in : List Segment → List ℕ → List ℕ → List ℕ → List Named
 functions_in segments file table strings = filter_map (function_of_symbol segments file strings) (symbols_of table)
 
--- none where the tables are refused
+-- none if the tables are rejected
 unfoldable pub functions : Image → List ℕ → List Named
 functions image file = if is_ok (table_check file)
     then option_map_or (λ t. functions_in image.segments file t.0 t.1) (symbol_and_string_bytes file) [] else []

@@ -1,6 +1,5 @@
--- The image of a file's bytes, or the first refusal of a list that applies. ELF32 of the System V
--- ABI, chapters "Object Files" and "Program Loading"; RISC-V's machine number is that of its ELF
--- psABI.
+-- The image of a file's bytes, or the first error in a list that applies. ELF32 of the System V ABI, chapters "Object Files" and "Program
+-- Loading"; the RISC-V machine number is from its ELF psABI.
 use Rattle.std.specs.Prelude.{◌≡◌, ◌≤◌, ◌<◌, ◌==◌, ◌+◌, ◌*◌, ◌%◌, ℕ, Bool, not, ◌&&◌, ◌||◌, List}
 use Rattle.std.specs.Prelude.{[], ◌∷◌, length, map, filter, Result, Ok, nat_lt}
 use Rattle.std.specs.List.{list_any, range_with_len}
@@ -65,7 +64,7 @@ p_memsz file at = word_at file (at + 20)
 abbrev pub p_flags : List ℕ → ℕ → ℕ
 p_flags file at = word_at file (at + 24)
 
--- the segment of the entry at a place
+-- the segment of the program header at an offset
 unfoldable pub segment_at : List ℕ → ℕ → Segment
 segment_at file at = record {
   offset = p_offset file at;
@@ -79,7 +78,7 @@ segment_at file at = record {
 unfoldable pub program_entry_at : List ℕ → ℕ → ProgramHeader
 program_entry_at file at = record { p_type = p_type file at; segment = segment_at file at }
 
--- the table: e_phnum entries of 32 bytes from e_phoff on
+-- the program header table: e_phnum entries of 32 bytes from e_phoff on
 unfoldable pub program_entries : List ℕ → List ProgramHeader
 program_entries file = map (λ k. program_entry_at file (e_phoff file + 32 * k)) (range_with_len 0 (e_phnum file))
 
@@ -90,11 +89,11 @@ abbrev pub has_magic : List ℕ → Bool
 has_magic file = (byte_at file 0 == 0x7f) && ((byte_at file 1 == 0x45)
     && ((byte_at file 2 == 0x4c) && (byte_at file 3 == 0x46)))
 
--- the version stands twice, in the identification and in e_version, and both are 1
+-- the version, in the identification or in e_version, is not 1
 abbrev pub has_bad_version : List ℕ → Bool
 has_bad_version file = not (byte_at file 6 == 1) || not (e_version file == 1)
 
--- more than 64 entries; or there are some, and they are not of 32 bytes or go past the file
+-- there are more than 64 entries; or there are some, and their size is not 32 bytes or the table extends past the end of the file
 abbrev pub has_bad_program_table : List ℕ → Bool
 has_bad_program_table file = nat_lt 64 (e_phnum file) || (nat_lt 0 (e_phnum file)
     && (not (e_phentsize file == 32) || nat_lt (length file) (e_phoff file + 32 * e_phnum file)))
@@ -107,31 +106,31 @@ is_dynamic e = (e.p_type == 2) || (e.p_type == 3)
 abbrev pub is_load : ProgramHeader → Bool
 is_load e = e.p_type == 1
 
--- it has more bytes in the file than in memory
+-- whether it has more bytes in the file than in memory
 abbrev pub has_bad_sizes : ProgramHeader → Bool
 has_bad_sizes e = is_load e && nat_lt e.segment.memsz e.segment.filesz
 
--- its bytes go past a file of n bytes
+-- whether its bytes extend past the end of a file of n bytes
 abbrev pub is_entry_past_file : ℕ → ProgramHeader → Bool
 is_entry_past_file n e = is_load e
     && (nat_lt 0 e.segment.filesz && nat_lt n (e.segment.offset + e.segment.filesz))
 
--- it has bytes in memory
-abbrev pub is_kept_entry : ProgramHeader → Bool
-is_kept_entry e = is_load e && nat_lt 0 e.segment.memsz
+-- whether it has bytes in memory
+abbrev pub is_loaded_entry : ProgramHeader → Bool
+is_loaded_entry e = is_load e && nat_lt 0 e.segment.memsz
 
-abbrev pub kept_segments : List ProgramHeader → List Segment
-kept_segments found = map (λ e. e.segment) (filter is_kept_entry found)
+abbrev pub loaded_segments : List ProgramHeader → List Segment
+loaded_segments found = map (λ e. e.segment) (filter is_loaded_entry found)
 
--- the PT_LOAD entries with a size in memory, in table order
+-- the PT_LOAD entries with a nonzero memory size, in table order
 unfoldable pub segments : List ℕ → List Segment
-segments file = kept_segments (program_entries file)
+segments file = loaded_segments (program_entries file)
 
 -- ---- the refusals, and the image
 
--- the refusals in their order, each with its condition: of the ELF header, of the place of the
--- program header table, of its entries (each question of all of them before the next one), and of
--- what is read, where only a set of instructions without compressed ones asks for a multiple of 4
+-- the errors in order, each with its condition: of the ELF header, of the location of the program header table, of its entries (each
+-- condition is checked for all entries before the next one), and of the image; only instruction sets without compressed instructions
+-- require the entry to be a multiple of 4
 abbrev pub refusals : Isa → List ℕ → List RefusalRow
 refusals isa file = (nat_lt (length file) 52, ShortHeader)
     ∷ (not (has_magic file), BadMagic)
@@ -149,20 +148,20 @@ refusals isa file = (nat_lt (length file) 52, ShortHeader)
     ∷ (not (has isa RV32C) && not (e_entry file % 4 == 0), EntryAlign)
     ∷ []
 
--- the entry and the kept segments, before any refusal is asked
+-- the entry and the loaded segments, before any check
 abbrev pub unchecked_image : List ℕ → Image
 unchecked_image file = record { entry = e_entry file; segments = segments file }
 
--- the refusal of the first condition in the list that holds; where none does, the image
+-- the error of the first condition in the list that holds, or else the image
 unfoldable pub image_of : Isa → List ℕ → Result Image ImageError
 image_of isa file = first_refusal (refusals isa file) (Ok (unchecked_image file))
 
--- the image is that of the bytes, for some set of instructions
+-- the image is read from these bytes, for some instruction set
 pub record IsImageOf (file : List ℕ) (image : Image) : Type 0 where
   pub isa : Isa
   pub is : image_of isa file ≡ Ok image
 
--- the header is there, and the whole of the program header table
+-- the file contains the header and the whole program header table
 pub record HasTable (file : List ℕ) : Type 0 where
   pub header : 52 ≤ length file
   pub few : e_phnum file ≤ 64

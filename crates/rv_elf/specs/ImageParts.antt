@@ -1,4 +1,4 @@
--- What each step of reading an image asks: its part of the list of refusals.
+-- The checks of each step of reading an image: its part of the list of errors.
 use Rattle.std.specs.Prelude.{ℕ, List, drop, take, Result, Ok}
 use Rattle.rv_isa.specs.declared.sets.Isa.{Isa}
 use Rattle.rv_isa.specs.declared.sets.Isa.TheVariants.{Imc}
@@ -7,16 +7,15 @@ use Rattle.rv_elf.specs.declared.image.Image.{Image}
 use Rattle.rv_elf.specs.Rows.{RefusalRow, first_refusal, accepted}
 use Rattle.rv_elf.specs.Image.{refusals, unchecked_image}
 
--- the first eight are of the header. Only the last of all is asked of the set of instructions, so
--- any set stands here
+-- the first eight concern the header; only the last of all depends on the instruction set, so any set will do here
 abbrev pub header_rows : List ℕ → List RefusalRow
 header_rows file = take 8 (refusals Imc file)
 
--- the next three are of the entries
+-- the next three concern the entries
 abbrev pub entry_rows : List ℕ → List RefusalRow
 entry_rows file = take 3 (drop 8 (refusals Imc file))
 
--- and the last three of what is read
+-- the last three concern the image
 abbrev pub image_rows : Isa → List ℕ → List RefusalRow
 image_rows isa file = drop 11 (refusals isa file)
 
@@ -29,6 +28,6 @@ entry_check file = first_refusal (entry_rows file) accepted
 unfoldable pub segments_and_entry_check : Isa → List ℕ → Result (Unit {0}) ImageError
 segments_and_entry_check isa file = first_refusal (image_rows isa file) accepted
 
--- the answer once the header is not refused
-unfoldable pub image_behind_header : Isa → List ℕ → Result Image ImageError
-image_behind_header isa file = first_refusal (drop 8 (refusals isa file)) (Ok (unchecked_image file))
+-- the result once the header has been accepted
+unfoldable pub image_after_header : Isa → List ℕ → Result Image ImageError
+image_after_header isa file = first_refusal (drop 8 (refusals isa file)) (Ok (unchecked_image file))

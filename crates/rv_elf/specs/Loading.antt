@@ -1,4 +1,4 @@
--- Which images fit a map, and the memory that holds a loaded one (System V ABI, "Program Loading").
+-- Which images fit a map, and the memory that holds a loaded image (System V ABI, "Program Loading").
 use Rattle.std.specs.Prelude.{ℕ, ◌+◌, ◌-◌, ◌&&◌, ◌||◌, Bool, false, not, nat_lt, nat_le, min, max}
 use Rattle.std.specs.Prelude.{if◌then◌else◌, List, [], ◌∷◌, take, drop, slice_index, Result}
 use Rattle.std.specs.Prelude.{Option}
@@ -14,59 +14,57 @@ use Rattle.rv_elf.specs.declared.loading.LoadAt.{LoadAt}
 use Rattle.rv_elf.specs.declared.loading.LoadAt.TheVariants.{Physical, Virtual}
 use Rattle.rv_elf.specs.Rows.{RefusalRow, first_refusal, accepted}
 
--- where the segment's file bytes go
+-- the address at which the segment's file bytes are loaded
 abbrev pub load_address : LoadAt → Segment → ℕ
 load_address Physical s = s.paddr
 load_address Virtual s = s.vaddr
 
--- its file bytes at the load address lie in one region, and so does its memory at the virtual
--- address; no bytes always do
+-- whether its file bytes at the load address are in one region, and its memory at the virtual address is too; true for zero bytes
 abbrev pub segment_fits : List Region → LoadAt → Segment → Bool
 segment_fits regions at s = in_one regions (load_address at s) s.filesz && in_one regions s.vaddr s.memsz
 
--- the first segment that does not fit a map
+-- the first segment that does not fit the map
 abbrev pub unfit_segment : List Region → LoadAt → List Segment → Option Segment
 unfit_segment regions at segments = find (λ segment. not (segment_fits regions at segment)) segments
 
--- the file bytes of both, placed at their load addresses, share a byte: the later start is before
--- the earlier end
+-- whether the file bytes of both, at their load addresses, share a byte: the later start is before the earlier end
 abbrev pub segments_overlap : LoadAt → Segment → Segment → Bool
 segments_overlap at s t = nat_lt (max (load_address at s) (load_address at t))
     (min (load_address at s + s.filesz) (load_address at t + t.filesz))
 
--- some segment of the list shares a byte with a later one
+-- whether some segment of the list shares a byte with a later one
 abbrev pub any_segments_overlap : LoadAt → List Segment → Bool
 any_segments_overlap at [] = false
 any_segments_overlap at (s ∷ ss) = list_any (segments_overlap at s) ss || any_segments_overlap at ss
 
--- the refusals of a map, in their order
+-- the errors of a map, in order
 abbrev pub map_rows : List Segment → List Region → LoadAt → List RefusalRow
 map_rows segments regions at = (not (list_all (segment_fits regions at) segments), SegmentMap)
     ∷ (any_segments_overlap at segments, SegmentOverlap) ∷ []
 
--- the first refusal that applies, if one does
+-- the first error that applies, if any
 unfoldable pub map_check : List Segment → List Region → LoadAt → Result (Unit {0}) ImageError
 map_check segments regions at = first_refusal (map_rows segments regions at) accepted
 
--- a byte of the segment's file bytes goes to the address
+-- whether a byte of the segment's file bytes is loaded at the address
 abbrev pub segment_fills : LoadAt → ℕ → Segment → Bool
 segment_fills at a s = nat_le (load_address at s) a && nat_lt a (load_address at s + s.filesz)
 
--- the file's byte that a segment has for an address that it fills
+-- the file byte that a segment loads at an address
 abbrev pub segment_byte : List ℕ → LoadAt → Segment → ℕ → ℕ
 segment_byte file at s a = slice_index file (s.offset + (a - load_address at s))
 
--- the byte that an address has at the start: the file's byte of the segment that fills it, else 0.
--- Where the map is accepted no two fill the same address, so the first that does is the only one
-abbrev pub opening_byte : List Segment → List ℕ → LoadAt → ℕ → ℕ
-opening_byte [] file at a = 0
-opening_byte (s ∷ ss) file at a =
-    if segment_fills at a s then segment_byte file at s a else opening_byte ss file at a
+-- the initial byte at an address: the file byte of the segment that fills it, else 0. If the map is accepted no two segments fill one
+-- address, so the first that does is the only one
+abbrev pub initial_byte : List Segment → List ℕ → LoadAt → ℕ → ℕ
+initial_byte [] file at a = 0
+initial_byte (s ∷ ss) file at a =
+    if segment_fills at a s then segment_byte file at s a else initial_byte ss file at a
 
--- the memory at the start
-unfoldable pub opening_memory : List Region → List Segment → List ℕ → LoadAt → fin.FinMap nat_cmp ℕ
-opening_memory regions segments file at =
-    tabulate (addresses regions) (opening_byte segments file at)
+-- the initial memory
+unfoldable pub initial_memory : List Region → List Segment → List ℕ → LoadAt → fin.FinMap nat_cmp ℕ
+initial_memory regions segments file at =
+    tabulate (addresses regions) (initial_byte segments file at)
 
 -- the segment's bytes in the file
 abbrev pub file_bytes : List ℕ → Segment → List ℕ

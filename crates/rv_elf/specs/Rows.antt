@@ -1,15 +1,15 @@
--- A table of refusals: rows of a condition and the refusal that it asks for.
+-- A table of errors: rows of a condition and the error that it causes.
 use Rattle.std.specs.Prelude.{Bool, if◌then◌else◌, List, [], ◌∷◌, Result, Ok, Err}
 use Rattle.rv_elf.specs.declared.error.ImageError.{ImageError}
 
 abbrev pub RefusalRow : Type 0
 RefusalRow = Bool × ImageError
 
--- the refusal of the first row whose condition holds; where none does, what follows
+-- the error of the first row whose condition holds, or else the continuation
 abbrev pub first_refusal : {X : Type 0} → List RefusalRow → Result X ImageError → Result X ImageError
 first_refusal [] next = next
 first_refusal (row ∷ rows) next = if row.0 then Err row.1 else first_refusal rows next
 
--- no refusal
+-- no error
 abbrev pub accepted : Result (Unit {0}) ImageError
 accepted = Ok tt

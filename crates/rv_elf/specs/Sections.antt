@@ -39,7 +39,7 @@ sh_link file at = word_at file (at + 24)
 abbrev pub sh_entsize : List ℕ → ℕ → ℕ
 sh_entsize file at = word_at file (at + 36)
 
--- the section header at a place
+-- the section header at an offset
 unfoldable pub section_at : List ℕ → ℕ → Section
 section_at file at = record {
   sh_type = sh_type file at;
@@ -49,20 +49,20 @@ section_at file at = record {
   entsize = sh_entsize file at;
 }
 
--- that of an index
+-- the section header with an index
 abbrev pub section_of_index : List ℕ → ℕ → Section
 section_of_index file index = section_at file (e_shoff file + 40 * index)
 
--- the table: e_shnum entries of 40 bytes from e_shoff on
+-- the section header table: e_shnum entries of 40 bytes from e_shoff on
 abbrev pub sections : List ℕ → List Section
 sections file = map (section_of_index file) (range_with_len 0 (e_shnum file))
 
--- there is none, its entries have another size, or it goes past the file
+-- there is none, its entries have another size, or it extends past the end of the file
 abbrev pub has_bad_section_table : List ℕ → Bool
 has_bad_section_table file = (e_shnum file == 0)
     || (not (e_shentsize file == 40) || nat_lt (length file) (e_shoff file + 40 * e_shnum file))
 
--- the section goes past a file of n bytes
+-- the section extends past the end of a file of n bytes
 abbrev pub is_section_past_file : ℕ → Section → Bool
 is_section_past_file n s = nat_lt n (s.offset + s.size)
 
@@ -80,8 +80,7 @@ is_symbol_section s = s.sh_type == 2
 unfoldable pub symbol_table_section : List ℕ → Option Section
 symbol_table_section file = find is_symbol_section (sections file)
 
--- its entries have another size, its size is no whole number of them, or it goes past a file of n
--- bytes
+-- its entries have another size, its size is not a multiple of theirs, or it extends past the end of a file of n bytes
 abbrev pub is_bad_symbol_table : ℕ → Section → Bool
 is_bad_symbol_table n s = not (s.entsize == 16) || (not (s.size % 16 == 0) || is_section_past_file n s)
 
@@ -101,7 +100,7 @@ st_type table at = byte_at table (at + 12) % 16
 abbrev pub st_shndx : List ℕ → ℕ → ℕ
 st_shndx table at = half_at table (at + 14)
 
--- the symbol at a place of a table's bytes
+-- the symbol at an offset in a table's bytes
 unfoldable pub symbol_entry : List ℕ → ℕ → Symbol
 symbol_entry table at = record {
   name = st_name table at;
@@ -111,39 +110,39 @@ symbol_entry table at = record {
   section = st_shndx table at;
 }
 
--- the symbols of a table's bytes, 16 bytes each
+-- the symbols in a table's bytes, 16 bytes each
 abbrev pub symbols_of : List ℕ → List Symbol
 symbols_of table = map (λ k. symbol_entry table (16 * k)) (range_with_len 0 (length table / 16))
 
 -- ---- its string table
 
--- the section that a symbol table's link names, if there are so many
+-- the section with the index in a symbol table's link, if it exists
 abbrev pub string_table_section : List ℕ → Section → Option Section
 string_table_section file symbols =
     if nat_lt symbols.link (e_shnum file) then Some (section_of_index file symbols.link) else None
 
--- not SHT_STRTAB, or past a file of n bytes
+-- not SHT_STRTAB, or extends past the end of a file of n bytes
 abbrev pub is_bad_string_table : ℕ → Section → Bool
 is_bad_string_table n s = not (s.sh_type == 3) || is_section_past_file n s
 
--- the text that bytes begin with: those up to the first zero byte, if there is one
+-- the bytes before the first zero byte, if there is one
 abbrev pub text_before_zero : List ℕ → Option (List ℕ)
 text_before_zero [] = None
 text_before_zero (b ∷ bs) = if b == 0 then Some [] else option_map (λ text. b ∷ text) (text_before_zero bs)
 
--- the bytes begin with the text and a zero byte
+-- whether the bytes begin with the text followed by a zero byte
 unfoldable pub begins_with_name : List ℕ → List ℕ → Bool
 begins_with_name bytes text = option_map_or (bytes_eq text) (text_before_zero bytes) false
 
--- the symbol is defined, and its name in the string table is the text
+-- whether the symbol is defined and its name in the string table is this text
 abbrev pub is_named : List ℕ → List ℕ → Symbol → Bool
 is_named strings text s = not (s.section == 0) && begins_with_name (drop s.name strings) text
 
--- the first such symbol of a table
+-- the first defined symbol of a table with this name
 unfoldable pub symbol_named : List ℕ → List ℕ → List ℕ → Option Symbol
 symbol_named table strings text = find (is_named strings text) (symbols_of table)
 
--- the section header table is there, in the file
+-- the file contains the whole section header table
 pub record HasSections (file : List ℕ) : Type 0 where
   pub header : 52 ≤ length file
   pub room : e_shoff file + 40 * e_shnum file ≤ length file

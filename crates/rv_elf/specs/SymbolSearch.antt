@@ -1,5 +1,5 @@
--- The symbol that stands nearest before an address of a loaded image, as a disassembler names the
--- place, and the symbol of a value that may be an address (System V ABI, "Symbol Table").
+-- The nearest symbol at or below an address of a loaded image, as a disassembler labels it, and the symbol of a value that may be an
+-- address (System V ABI, "Symbol Table").
 use Rattle.std.specs.Prelude.{◌≡◌, ◌≤◌, ◌==◌, ◌+◌, ◌-◌, ℕ, Bool, not, ◌&&◌, ◌||◌}
 use Rattle.std.specs.Prelude.{nat_lt, nat_le}
 use Rattle.std.specs.Prelude.{List, [], ◌∷◌, length, drop, filter, find, if◌then◌else◌, false}
@@ -8,8 +8,8 @@ use Rattle.std.specs.List.{list_any}
 use Rattle.std.specs.Option.{option_map_or}
 use Rattle.rv_elf.specs.declared.image.Image.{Image}
 use Rattle.rv_elf.specs.declared.image.Segment.{Segment}
-use Rattle.rv_elf.specs.declared.symbol_search.Sought.{Sought}
-use Rattle.rv_elf.specs.declared.symbol_search.Sought.TheVariants.{Code, Value}
+use Rattle.rv_elf.specs.declared.symbol_search.LookupKind.{LookupKind}
+use Rattle.rv_elf.specs.declared.symbol_search.LookupKind.TheVariants.{Code, Value}
 use Rattle.rv_elf.specs.declared.symbols.Symbol.{Symbol}
 use Rattle.rv_elf.specs.Sections.{text_before_zero, symbols_of}
 use Rattle.rv_elf.specs.Symbols.{table_check, symbol_and_string_bytes}
@@ -20,20 +20,19 @@ use Rattle.rv_elf.specs.Symbols.{table_check, symbol_and_string_bytes}
 abbrev pub is_function : Symbol → Bool
 is_function s = s.kind == 2
 
--- a function, or STT_NOTYPE, as a label of assembly is
+-- a function, or STT_NOTYPE, like an assembly label
 abbrev pub may_be_code : Symbol → Bool
 may_be_code s = is_function s || (s.kind == 0)
 
--- it is defined in a section of the file: its index is neither SHN_UNDEF nor reserved, as that of
--- an absolute value is (SHN_ABS)
+-- whether it is defined in a section of the file: its index is neither SHN_UNDEF nor reserved, unlike that of an absolute value (SHN_ABS)
 abbrev pub has_section : Symbol → Bool
 has_section s = nat_lt 0 s.section && nat_lt s.section 0xff00
 
--- its name: the bytes of the string table from its place on, up to a zero byte, if one follows
+-- its name: the bytes at its offset in the string table, up to a zero byte, if there is one
 abbrev pub symbol_name : List ℕ → Symbol → Option (List ℕ)
 symbol_name strings s = text_before_zero (drop s.name strings)
 
--- not empty, and it begins with neither `.` nor `$`, as what an assembler names for itself does
+-- whether it is not empty and begins with neither `.` nor `$`, unlike the names that an assembler makes up
 abbrev pub is_source_name : List ℕ → Bool
 is_source_name [] = false
 is_source_name (b ∷ bs) = not (b == 0x2e) && not (b == 0x24)
@@ -41,11 +40,11 @@ is_source_name (b ∷ bs) = not (b == 0x2e) && not (b == 0x24)
 abbrev pub has_usable_name : List ℕ → Symbol → Bool
 has_usable_name strings s = option_map_or is_source_name (symbol_name strings s) false
 
--- the address lies in the memory of the segment
+-- whether the address is in the memory of the segment
 abbrev pub segment_holds_address : ℕ → Segment → Bool
 segment_holds_address a segment = nat_le segment.vaddr a && nat_lt a (segment.vaddr + segment.memsz)
 
--- both addresses lie in one of the segments
+-- whether both addresses are in one of the segments
 abbrev pub are_in_one_segment : List Segment → ℕ → ℕ → Bool
 are_in_one_segment segments a b = list_any (λ segment. segment_holds_address a segment && segment_holds_address b segment) segments
 
@@ -53,70 +52,68 @@ are_in_one_segment segments a b = list_any (λ segment. segment_holds_address a 
 abbrev pub is_object : Symbol → Bool
 is_object s = s.kind == 1
 
--- the address lies in the bytes that the symbol says to have
+-- whether the address is among the bytes that the symbol's size covers
 abbrev pub symbol_holds_address : ℕ → Symbol → Bool
 symbol_holds_address addr s = nat_le s.value addr && nat_lt addr (s.value + s.size)
 
--- the address is the symbol's value, or lies in a function or an object
+-- whether the address is the symbol's value, or is in a function or an object
 abbrev pub covers_address : ℕ → Symbol → Bool
 covers_address addr s = (s.value == addr) || ((is_function s || is_object s) && symbol_holds_address addr s)
 
--- the symbol may stand for an address: a named symbol that is not above it. Of code, that is a
--- function or an untyped symbol which is in one segment with it; of a value, a function, an object or an
--- untyped symbol which it is of
-abbrev pub is_candidate : Sought → List Segment → List ℕ → ℕ → Symbol → Bool
+-- whether the symbol may name an address: it is a named symbol that is not above it. For code it must be a function or an untyped symbol in
+-- one segment with the address; for a value, a function, an object or an untyped symbol that covers it
+abbrev pub is_candidate : LookupKind → List Segment → List ℕ → ℕ → Symbol → Bool
 is_candidate Code segments strings addr s = may_be_code s && (has_section s && (nat_le s.value addr
     && (has_usable_name strings s && are_in_one_segment segments s.value addr)))
 is_candidate Value segments strings addr s = (may_be_code s || is_object s) && (has_section s
     && (covers_address addr s && has_usable_name strings s))
 
--- the candidates among the symbols of a table's bytes, in their order
-abbrev pub candidates : Sought → List Segment → List ℕ → ℕ → List ℕ → List Symbol
+-- the candidates among the symbols in a table's bytes, in order
+abbrev pub candidates : LookupKind → List Segment → List ℕ → ℕ → List ℕ → List Symbol
 candidates sought segments strings addr table =
     filter (is_candidate sought segments strings addr) (symbols_of table)
 
 -- ---- which of them is taken
 
--- a function goes before an object, and an object before any other symbol
+-- functions come before objects, and objects before other symbols
 abbrev pub precedence : Symbol → ℕ
 precedence s = if is_function s then 2 else if is_object s then 1 else 0
 
--- the first symbol has the greater value; or both have one value, and the first goes before
+-- the first symbol has a greater value, or an equal value and precedence
 abbrev pub is_nearer : Symbol → Symbol → Bool
 is_nearer s t = nat_lt t.value s.value
     || ((s.value == t.value) && nat_lt (precedence t) (precedence s))
 
--- the first symbol of a list that no other one is nearer than
+-- the first symbol of a list such that no other is nearer
 unfoldable pub nearest_candidate : List Symbol → Option Symbol
 nearest_candidate ss = find (λ s. not (list_any (λ t. is_nearer t s) ss)) ss
 
--- the name of a symbol, and how far the address is past its value
+-- the name of a symbol, and the offset of the address from its value
 abbrev pub name_and_offset : List ℕ → ℕ → Symbol → Option (List ℕ × ℕ)
 name_and_offset strings addr s = option_map (λ name. (name, addr - s.value)) (symbol_name strings s)
 
--- those of the nearest candidate of a symbol table and its string table
-abbrev pub symbol_before : Sought → List Segment → ℕ → List ℕ → List ℕ → Option (List ℕ × ℕ)
+-- the name and offset of the nearest candidate in a symbol table and its string table
+abbrev pub symbol_before : LookupKind → List Segment → ℕ → List ℕ → List ℕ → Option (List ℕ × ℕ)
 symbol_before sought segments addr table strings = option_and_then (name_and_offset strings addr)
     (nearest_candidate (candidates sought segments strings addr table))
 
--- those of the first symbol table of an image's file; none where a table is refused
-unfoldable pub nearest_symbol : Sought → Image → List ℕ → ℕ → Option (List ℕ × ℕ)
+-- the name and offset from the first symbol table of an image's file; none if a table is rejected
+unfoldable pub nearest_symbol : LookupKind → Image → List ℕ → ℕ → Option (List ℕ × ℕ)
 nearest_symbol sought image file addr = if is_ok (table_check file)
     then option_and_then (λ t. symbol_before sought image.segments addr t.0 t.1) (symbol_and_string_bytes file)
     else None
 
--- the symbol that an address of code belongs to
+-- the symbol that a code address belongs to
 abbrev pub symbol_at : Image → List ℕ → ℕ → Option (List ℕ × ℕ)
 symbol_at = nearest_symbol Code
 
--- the symbol that a value is the address of, or that it points into
+-- the symbol whose address a value is, or into which it points
 abbrev pub symbol_of_value : Image → List ℕ → ℕ → Option (List ℕ × ℕ)
 symbol_of_value = nearest_symbol Value
 
 -- ---- where names end
 
--- a place behind the last zero byte of a string table: a name begins at each place before it, and
--- at no other
+-- the index after the last zero byte of a string table: a name begins at each index before it, and at no other
 pub record IsNamesEnd (strings : List ℕ) (end : ℕ) : Type 0 where
   pub within : end ≤ length strings
   pub names : (k : ℕ) → is_some (text_before_zero (drop k strings)) ≡ nat_lt k end

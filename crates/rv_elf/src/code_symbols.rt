@@ -1,4 +1,4 @@
-//! The symbols of an image's code in the order of their addresses, for many look-ups.
+//! The code symbols of an image, sorted by address for repeated lookups.
 ghost use Rattle.std.specs.Prelude.{◌≡◌, ◌-◌, ◌^◌, ◌<◌, Some, None, IfOk, MatchOption, length, option_map};
 ghost use Rattle.std.specs.List.Sorted.{IsNonDecreasingBy};
 ghost use Rattle.rv_elf.specs.CodeSymbols.{code_symbol, is_named_code, symbol_count, AreCodeSymbols, AreNamed, FindSymbols, IsSymbolFor};
@@ -10,24 +10,23 @@ use crate::symbol_search::{SymbolAt, are_in_one_segment, names_end, text_before_
 use crate::symbols::{SYMBOL_SIZE, Symbol, bytes_from, symbol_and_string_bytes, symbol_entry};
 use std::alloc::{AllocError, Global};
 
-// What an index keeps of a symbol.
+// The stored form of a symbol.
 #[derive(Clone, Copy)]
 struct CodeSymbol {
-    // Greater where `symbol_at` prefers the symbol.
+    // Greater for symbols that `symbol_at` prefers.
     rank: u64,
     value: u32,
     name: u32,
 }
 
-/// The symbols of an image's code, sorted by value, so that the symbol of an address is found without a
-/// pass over the symbol table.
+/// The code symbols of an image, sorted by value, so that the symbol of an address is found without scanning the symbol table.
 #[derive(Drop)]
 pub struct CodeSymbols<'a> {
-    /// The image that the file was read as.
+    /// The image that was read from the file.
     pub image: &'a Image,
     /// The bytes of the file.
     pub bytes: &'a [u8],
-    // The file's string table, empty where the tables are refused.
+    // The file's string table, empty if the tables are rejected.
     strings: &'a [u8],
     symbols: Vec<CodeSymbol>,
     ghost rising: { IsNonDecreasingBy (λ s. s.value) symbols.items },
@@ -35,14 +34,13 @@ pub struct CodeSymbols<'a> {
     ghost finds: { FindSymbols image.now bytes.now strings.now symbols.items },
 }
 
-// The size of a table has 32 bits, so that it has fewer symbols.
+// A table has fewer symbols than this, since its size has 32 bits.
 const MOST_SYMBOLS: u64 = 0x1000_0000;
 
 impl<'a> CodeSymbols<'a> {
-    /// Sorts the symbols of a file that [`symbol_at`](crate::symbol_at) can return. There are none where
-    /// [`find_symbol`](crate::find_symbol) would refuse the tables. It takes the time of one pass over the
-    /// table, one over the strings and a sort, and memory for 16 bytes a symbol. Of a name it reads the first
-    /// byte.
+    /// Sorts the symbols of a file that [`symbol_at`](crate::symbol_at) can return; there are none if [`find_symbol`](crate::find_symbol)
+    /// would reject the tables. Takes one pass over the table, one over the strings and a sort, and 16 bytes of memory per symbol. Only the
+    /// first byte of each name is read.
     pub fn new(
         alloc: Global,
         image: &'a Image,
@@ -69,9 +67,8 @@ impl<'a> CodeSymbols<'a> {
         })
     }
 
-    /// The symbol that an address of the image belongs to: the one that [`symbol_at`](crate::symbol_at)
-    /// returns. Its time grows with the logarithm of the number of symbols, and with the length of the name
-    /// that it returns. It takes no memory.
+    /// Returns the symbol that an address of the image belongs to, as [`symbol_at`](crate::symbol_at) does. Takes time logarithmic in the
+    /// number of symbols and linear in the length of the returned name. Does not allocate.
     pub fn symbol_at(&self, addr: u32) -> Option<SymbolAt<'a>>
         ensures { MatchOption result (symbol_at self.now.image.now self.now.bytes.now addr ≡ None)
             (λ s. symbol_at self.now.image.now self.now.bytes.now addr ≡ Some (s.name.now, s.offset)) }
@@ -83,16 +80,16 @@ impl<'a> CodeSymbols<'a> {
         })
     }
 
-    /// The value of the symbol that an address of the image belongs to. It reads no name, so its time grows
-    /// only with the logarithm of the number of symbols.
+    /// Returns the value of the symbol that an address of the image belongs to. Reads no name, so its time is logarithmic in the number of
+    /// symbols.
     pub fn symbol_value_at(&self, addr: u32) -> Option<u32>
         ensures { result ≡ option_map (λ s. addr - s.1) (symbol_at self.now.image.now self.now.bytes.now addr) }
     {
         Some(self.nearest_symbol(addr)?.value)
     }
 
-    // A segment that holds a lower symbol and the address holds every value between them. So where the
-    // nearest symbol is in no segment with the address, no lower one is.
+    // A segment that holds both a lower symbol and the address holds every value between them. So if the nearest symbol shares no segment
+    // with the address, no lower one does.
     fn nearest_symbol(&self, addr: u32) -> Option<CodeSymbol>
         ensures { MatchOption result (symbol_at self.now.image.now self.now.bytes.now addr ≡ None)
             (IsSymbolFor (symbol_at self.now.image.now self.now.bytes.now addr) self.now.strings.now addr) }
@@ -110,7 +107,7 @@ impl<'a> CodeSymbols<'a> {
     }
 }
 
-// The symbols of a table that may stand for code, by their ranks.
+// Returns the symbols of a table that may name code, sorted by rank.
 fn sorted_symbols(
     alloc: Global,
     table: &[u8],
@@ -125,7 +122,7 @@ fn sorted_symbols(
     Ok(symbols)
 }
 
-// The symbols of a table that may stand for code, in the order of the table.
+// Returns the symbols of a table that may name code, in table order.
 fn code_symbols(alloc: Global, table: &[u8], strings: &[u8]) -> Result<Vec<CodeSymbol>, AllocError>
     requires { length table.now < 2 ^ 32 }
     ensures { IfOk result (λ symbols. AreCodeSymbols table.now strings.now (symbol_count table.now) symbols.items) }
@@ -142,6 +139,7 @@ fn code_symbols(alloc: Global, table: &[u8], strings: &[u8]) -> Result<Vec<CodeS
 }
 
 impl Symbol {
+    // Whether the symbol may name code: it has a section and a usable name.
     fn is_named_code(&self, strings: &[u8], end: usize) -> bool
         requires { IsNamesEnd strings.now end }
         ensures { result ≡ is_named_code strings.now self.now }
@@ -149,6 +147,7 @@ impl Symbol {
         self.may_be_code() && self.has_section() && self.has_usable_name(strings, end)
     }
 
+    // Returns the stored form of the symbol with an index.
     fn code_symbol(&self, index: usize) -> CodeSymbol
         requires { index < 0x1000_0000 }
         ensures { result ≡ code_symbol index self.now }

@@ -1,17 +1,17 @@
-//! The refusals, in the order in which they are asked.
+//! The errors, in the order in which they are checked.
 ghost use Rattle.std.specs.Prelude.{◌≡◌};
 ghost use Rattle.rv_elf.specs.declared.error.ImageError.TheVariants.{OutOfMemory};
 ghost use Rattle.rv_elf.specs.ErrorNames.{image_error_name};
 
 use std::alloc::{AllocError, AllocFailed};
 
-/// Why bytes are no image, or an image fits no map; of two reasons the one that stands first here.
-/// The fields are those of the System V ABI, "Object Files".
+/// Why bytes are not an image, or why an image does not fit a map. If two reasons apply, the first in this order is reported. The fields
+/// are those of the System V ABI, "Object Files".
 #[derive(Clone, Copy, Debug, PartialEq, Eq)]
 pub enum ImageError {
-    /// The file has fewer bytes than the ELF header's 52.
+    /// The file is shorter than the ELF header's 52 bytes.
     ShortHeader,
-    /// It does not begin with `0x7f 'E' 'L' 'F'`.
+    /// The file does not begin with `0x7f 'E' 'L' 'F'`.
     BadMagic,
     /// The class is not ELFCLASS32, 1.
     Not32Bit,
@@ -23,50 +23,47 @@ pub enum ImageError {
     NotExecutable,
     /// `e_machine` is not EM_RISCV, 243.
     NotRiscv,
-    /// There are more than 64 program headers; or there is one, and `e_phentsize` is not 32 or the
-    /// table goes past the file.
+    /// There are more than 64 program headers; or there is one, and `e_phentsize` is not 32 or the table extends past the end of the file.
     ProgramTable,
     /// A program header is PT_DYNAMIC or PT_INTERP.
     Dynamic,
     /// A PT_LOAD has more bytes in the file than in memory.
     SegmentSizes,
-    /// A PT_LOAD has bytes in the file, and they go past its end.
+    /// A PT_LOAD has bytes in the file, and they extend past its end.
     SegmentFile,
     /// No PT_LOAD has bytes in memory.
     NoSegment,
     /// The entry is odd.
     EntryOdd,
-    /// Without the extension for compressed instructions, the entry is no multiple of 4.
+    /// The entry is not a multiple of 4, in a set without compressed instructions.
     EntryAlign,
-    /// A segment's file bytes at its load address, or its memory at its virtual address, do not lie
-    /// in one region.
+    /// A segment's file bytes at its load address, or its memory at its virtual address, are not in one region.
     SegmentMap,
     /// The file bytes of two segments, at their load addresses, share a byte of memory.
     SegmentOverlap,
-    /// `e_shnum` is 0, `e_shentsize` is not 40, or the section header table goes past the file.
+    /// `e_shnum` is 0, `e_shentsize` is not 40, or the section header table extends past the end of the file.
     SectionTable,
     /// No section is SHT_SYMTAB.
     NoSymbols,
-    /// The first symbol table's entries have not 16 bytes, its size is no multiple of 16, or it goes
-    /// past the file.
+    /// The first symbol table's entries are not 16 bytes long, its size is not a multiple of 16, or it extends past the end of the file.
     SymbolTable,
-    /// The symbol table's link is no index of a section, or of one that is not SHT_STRTAB or goes past
-    /// the file.
+    /// The symbol table's link is not the index of a section, or is the index of one that is not SHT_STRTAB or extends past the end of the
+    /// file.
     StringTable,
-    /// No defined symbol has the name; of a signature, the name of its first address.
+    /// No defined symbol has the name; for a signature, the name of its begin.
     NoBegin,
-    /// No defined symbol has the name of a signature's end. No call of this crate answers it: who asks
-    /// for two symbols says so of the second.
+    /// No defined symbol has the name of a signature's end. This crate never returns it: a caller that looks up both symbols reports it for
+    /// the second.
     NoEnd,
-    /// A signature's begin is above its end, one of them is no multiple of 4, or its bytes lie not in
-    /// one region or are more than 65,536 words.
+    /// A signature's begin is above its end, one of them is not a multiple of 4, or its bytes are not in one region or make up more than
+    /// 65,536 words.
     SignatureRange,
-    /// A growth was refused. Only [`read_image`](crate::read_image) answers it.
+    /// An allocation failed. Only [`read_image`](crate::read_image) returns it.
     OutOfMemory,
 }
 
 impl ImageError {
-    /// The word for it in reports and messages.
+    /// Returns the error's name in reports and messages.
     pub fn name(self) -> &'static str
         ensures { result.now ≡ image_error_name self }
     {

@@ -1,10 +1,10 @@
-//! Where a file has its fields, and the little-endian numbers that stand there.
+//! The offsets of a file's fields, and the little-endian numbers at them.
 ghost use Rattle.std.specs.Prelude.{◌≡◌, ◌+◌, ◌≤◌, length};
 ghost use Rattle.rv_elf.specs.Fields.{half_at, word_at};
 
 use byteorder::{ByteOrder, LittleEndian};
 
-// Where the ELF header has its fields (System V ABI, "ELF Header" and "ELF Identification").
+// Field offsets in the ELF header (System V ABI, "ELF Header" and "ELF Identification").
 pub(crate) const EI_CLASS: usize = 4;
 
 pub(crate) const EI_DATA: usize = 5;
@@ -31,7 +31,7 @@ pub(crate) const E_SHENTSIZE: usize = 46;
 
 pub(crate) const E_SHNUM: usize = 48;
 
-// Where a program header has its fields (System V ABI, "Program Header").
+// Field offsets in a program header (System V ABI, "Program Header").
 pub(crate) const P_TYPE: usize = 0;
 
 pub(crate) const P_OFFSET: usize = 4;
@@ -46,7 +46,7 @@ pub(crate) const P_MEMSZ: usize = 20;
 
 pub(crate) const P_FLAGS: usize = 24;
 
-// Where a section header has its fields (System V ABI, "Sections").
+// Field offsets in a section header (System V ABI, "Sections").
 pub(crate) const SH_TYPE: usize = 4;
 
 pub(crate) const SH_OFFSET: usize = 16;
@@ -57,7 +57,7 @@ pub(crate) const SH_LINK: usize = 24;
 
 pub(crate) const SH_ENTSIZE: usize = 36;
 
-// Where a symbol has its fields (System V ABI, "Symbol Table").
+// Field offsets in a symbol (System V ABI, "Symbol Table").
 pub(crate) const ST_NAME: usize = 0;
 
 pub(crate) const ST_VALUE: usize = 4;
@@ -68,7 +68,7 @@ pub(crate) const ST_INFO: usize = 12;
 
 pub(crate) const ST_SHNDX: usize = 14;
 
-/// The two-byte number at a place.
+/// Reads the two-byte number at an offset.
 #[tactic(auto, unfolding(crate::specs::Fields::half_at))]
 pub(crate) fn half_field(file: &[u8], at: usize) -> u16
     requires { at + 2 ≤ length file.now }
@@ -77,7 +77,7 @@ pub(crate) fn half_field(file: &[u8], at: usize) -> u16
     LittleEndian::read_u16(&file[at..])
 }
 
-/// The four-byte number at a place.
+/// Reads the four-byte number at an offset.
 #[tactic(auto, unfolding(crate::specs::Fields::word_at))]
 pub(crate) fn word_field(file: &[u8], at: usize) -> u32
     requires { at + 4 ≤ length file.now }

@@ -13,20 +13,20 @@ use std::alloc::{AllocError, Global};
 /// A function of an image.
 #[derive(Clone, Copy)]
 pub struct Function<'a> {
-    /// Its name: at most the first 1,024 bytes.
+    /// Its name, cut off at 1,024 bytes.
     pub name: &'a [u8],
     /// The address of its first byte.
     pub address: u32,
-    /// Its bytes, at least one.
+    /// Its bytes; there is at least one.
     pub code: &'a [u8],
 }
 
-// A name is shown by so many bytes at most, so that long names do not cost time for each function.
+// The maximum number of bytes shown of a name, so that long names do not cost time for each function.
 const MOST_NAME: usize = 1_024;
 
-/// The functions of the file's first symbol table that have a size, and whose bytes an executable segment has in the file, in the order
-/// of the table (System V ABI, "Symbol Table"). A symbol is none where [`symbol_at`](crate::symbol_at) passes it over. There are none
-/// where [`find_symbol`](crate::find_symbol) would refuse the tables.
+/// Returns the functions of the file's first symbol table that have a size and whose bytes are in the file part of an executable segment,
+/// in table order (System V ABI, "Symbol Table"). Symbols that [`symbol_at`](crate::symbol_at) ignores are left out. There are none if
+/// [`find_symbol`](crate::find_symbol) would reject the tables.
 pub fn functions<'a>(
     alloc: Global,
     image: &Image,
@@ -41,7 +41,7 @@ pub fn functions<'a>(
     functions_in(alloc, image.segments.as_slice(), file, table, strings)
 }
 
-// The functions among the symbols of a table.
+// Returns the functions among the symbols of a table.
 fn functions_in<'a>(
     alloc: Global,
     segments: &[Segment],
@@ -64,7 +64,7 @@ fn functions_in<'a>(
     Ok(found)
 }
 
-// Appends the function that a symbol is, if an executable segment has its bytes.
+// Appends the function of a symbol, if an executable segment has its bytes.
 fn push_function<'a>(
     found: &mut Vec<Function<'a>>,
     symbol: &Symbol,
@@ -100,7 +100,7 @@ impl Symbol {
             && self.has_usable_name(strings, end)
     }
 
-    // Its bytes in the file, in the first executable segment that has them.
+    // Returns its bytes in the file, in the first executable segment that has them.
     fn code<'a>(&self, segments: &[Segment], file: &'a [u8]) -> Option<&'a [u8]>
         requires in_file { list_all (is_in_file (length file.now)) segments.now ≡ true }
         requires sized { 0 < self.now.size }
@@ -111,13 +111,14 @@ impl Symbol {
         Some(&file[at..at + self.size as usize])
     }
 
+    // Returns the first executable segment that has the function's bytes in the file.
     fn code_segment<'s>(&self, segments: &'s [Segment]) -> Option<&'s Segment>
         ensures { option_map (λ segment. segment.now) result ≡ find (is_code_segment_of self.now) segments.now }
     {
         segments.iter().find(|segment| self.is_code_in(segment))
     }
 
-    // Whether a segment is executable and has its bytes in the file.
+    // Whether a segment is executable and has the function's bytes in the file.
     fn is_code_in(&self, segment: &Segment) -> bool
         ensures { result ≡ is_code_segment_of self.now segment.now }
     {
@@ -128,7 +129,7 @@ impl Symbol {
     }
 }
 
-// The bytes in front of the first zero byte, if it is among the first so many; else these.
+// Returns the bytes before the first zero byte, cut off at the maximum.
 fn name_in(bytes: &[u8]) -> &[u8]
     ensures { result.now ≡ name_in bytes.now }
 {

@@ -1,4 +1,4 @@
-//! The tests of the ELF header, and of the place of the program header table.
+//! The checks of the ELF header, and of the location of the program header table.
 ghost use Rattle.std.specs.Prelude.{◌≡◌, ◌≤◌, OnOk, length};
 ghost use Rattle.rv_elf.specs.Image.{has_magic, has_bad_version, has_bad_program_table, HasTable};
 ghost use Rattle.rv_elf.specs.ImageParts.{header_check};
@@ -11,7 +11,7 @@ use crate::fields::{
 
 const HEADER_SIZE: usize = 52;
 
-/// Of a program header.
+/// The size of a program header.
 const ENTRY_SIZE: u16 = 32;
 
 const MOST_ENTRIES: u16 = 64;
@@ -26,7 +26,7 @@ const ET_EXEC: u16 = 2;
 
 const EM_RISCV: u16 = 243;
 
-/// Asks the refusals of the header, and of the place of the program header table.
+/// Checks the header and the location of the program header table.
 #[tactic(auto, unfolding(crate::specs::ImageParts::header_check))]
 pub(crate) fn check_header(file: &[u8]) -> Result<(), ImageError>
     ensures value { result ≡ header_check file.now }

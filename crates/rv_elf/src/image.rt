@@ -3,29 +3,29 @@ ghost use Rattle.std.specs.Prelude.{◌≡◌, ◌≢◌, ◌≤◌, IfOk, Match
 ghost use Rattle.rv_isa.specs.Extensions.{has, RV32C};
 ghost use Rattle.rv_elf.specs.Image.{image_of, segments, HasTable, IsImageOf};
 ghost use Rattle.rv_elf.specs.Functions.{is_executable};
-ghost use Rattle.rv_elf.specs.ImageParts.{image_behind_header, segments_and_entry_check};
+ghost use Rattle.rv_elf.specs.ImageParts.{image_after_header, segments_and_entry_check};
 ghost use Rattle.rv_elf.specs.declared.error.ImageError.TheVariants.{OutOfMemory};
 
 use crate::error::ImageError;
 use crate::fields::{E_ENTRY, word_field};
 use crate::header::check_header;
-use crate::program_headers::{check_entries, kept_segments, program_entries};
+use crate::program_headers::{check_entries, loaded_segments, program_entries};
 use rv_base::Sequence;
 use rv_isa::Isa;
 use std::alloc::Global;
 
-/// A part of the file that is loaded (System V ABI, "Program Header", PT_LOAD).
+/// A loaded part of the file (System V ABI, "Program Header", PT_LOAD).
 #[derive(Clone, Copy, Debug, PartialEq, Eq)]
 pub struct Segment {
-    /// Where its bytes begin in the file.
+    /// The offset of its bytes in the file.
     pub offset: u32,
-    /// The address of its first byte where it runs.
+    /// The virtual address of its first byte, where it runs.
     pub vaddr: u32,
-    /// The address of its first byte where it is stored.
+    /// The physical address of its first byte, where it is stored.
     pub paddr: u32,
-    /// How many bytes the file has of it.
+    /// The number of its bytes in the file.
     pub filesz: u32,
-    /// How many bytes it has in memory; those past the file's are zero.
+    /// The number of its bytes in memory. Those beyond the file's bytes are zero.
     pub memsz: u32,
     // p_flags: only bit 0 (PF_X) is read, by [`Segment::is_executable`].
     pub(crate) flags: u32,
@@ -40,43 +40,41 @@ impl Segment {
     }
 }
 
-/// Segments in the order of the file's table.
+/// Segments in the order of the file's program header table.
 pub type Segments = Sequence<Segment>;
 
 /// What an executable file loads.
 #[derive(Debug, Drop)]
 pub struct Image {
-    /// The address of the first instruction: even in each image that is read, and a multiple of 4 where
-    /// the set has no 16-bit instructions.
+    /// The address of the first instruction: even in every image that is read, and a multiple of 4 if the set has no 16-bit instructions.
     pub entry: u32,
     /// The segments with bytes in memory.
     pub segments: Segments,
 }
 
-/// Reads a file's bytes as an executable for a hart with a set of instructions, or says why they are
-/// none.
+/// Reads a file's bytes as an executable for a hart with this instruction set, or returns why they are not one.
 pub fn read_image(alloc: Global, file: &[u8], isa: Isa) -> Result<Image, ImageError>
     ensures value { MatchResult result (λ image. image_of isa file.now ≡ Ok image)
         (λ e. e ≢ OutOfMemory → image_of isa file.now ≡ Err e) }
     ensures of_bytes { IfOk result (IsImageOf file.now) }
 
-    // An instruction may stand there.
+    // An instruction may start there.
     ensures even { IfOk result (λ image. image.entry % 2 ≡ 0) }
     ensures aligned { IfOk result (λ image. has isa RV32C ≡ false → image.entry % 4 ≡ 0) }
 {
     check_header(file)?;
-    read_image_behind_header(alloc, file, isa)
+    read_image_after_header(alloc, file, isa)
 }
 
-// The rest of [`read_image`], once the header is accepted.
-fn read_image_behind_header(alloc: Global, file: &[u8], isa: Isa) -> Result<Image, ImageError>
+// Does the rest of [`read_image`] once the header has been accepted.
+fn read_image_after_header(alloc: Global, file: &[u8], isa: Isa) -> Result<Image, ImageError>
     requires { HasTable file.now }
-    ensures { MatchResult result (λ image. image_behind_header isa file.now ≡ Ok image)
-        (λ e. e ≢ OutOfMemory → image_behind_header isa file.now ≡ Err e) }
+    ensures { MatchResult result (λ image. image_after_header isa file.now ≡ Ok image)
+        (λ e. e ≢ OutOfMemory → image_after_header isa file.now ≡ Err e) }
 {
     let found = program_entries(alloc, file)?;
     check_entries(found.as_slice(), file)?;
-    let kept = kept_segments(alloc, found.as_slice())?;
+    let kept = loaded_segments(alloc, found.as_slice())?;
     check_segments_and_entry(file, kept.as_slice(), isa)?;
     Ok(Image {
         entry: word_field(file, E_ENTRY),
@@ -84,7 +82,7 @@ fn read_image_behind_header(alloc: Global, file: &[u8], isa: Isa) -> Result<Imag
     })
 }
 
-// Asks the refusals of what is read: the segments that are kept, and the entry.
+// Checks the loaded segments and the entry.
 #[tactic(auto, unfolding(crate::specs::ImageParts::segments_and_entry_check))]
 fn check_segments_and_entry(file: &[u8], kept: &[Segment], isa: Isa) -> Result<(), ImageError>
     requires header { 52 ≤ length file.now }

@@ -1,26 +1,26 @@
-//! Whether an image fits a map, and how its bytes come into a bus.
+//! Whether an image fits a map, and how it is loaded into a bus.
 ghost use Rattle.std.specs.Prelude.{◌≡◌, ◌+◌, ◌<◌, ◌≤◌, ℕ, IsTrue, OnOk, length, count_by, option_map};
 ghost use Rattle.std.specs.List.{list_all, list_any};
 ghost use Rattle.rv_memory.specs.Regions.{in_one};
 ghost use Rattle.rv_memory.specs.Bus.{new_bus, with_bytes};
 ghost use Rattle.rv_elf.specs.Rows.{accepted};
 ghost use Rattle.rv_elf.specs.Image.{IsImageOf};
-ghost use Rattle.rv_elf.specs.Loading.{load_address, segment_fits, segments_overlap, any_segments_overlap, segment_fills, map_check, opening_memory};
+ghost use Rattle.rv_elf.specs.Loading.{load_address, segment_fits, segments_overlap, any_segments_overlap, segment_fills, map_check, initial_memory};
 ghost use Rattle.rv_elf.specs.Loading.{file_bytes, unfit_segment};
 
 use crate::error::ImageError;
 use crate::image::{Image, Segment};
 use rv_memory::{Bus, Map};
 
-/// Which address of a segment its file bytes go to.
+/// The address at which a segment's file bytes are loaded.
 #[derive(Clone, Copy, Debug, PartialEq, Eq)]
 pub enum LoadAt {
     Physical,
     Virtual,
 }
 
-/// Whether an image fits a map: with [`ImageError::SegmentMap`] or [`ImageError::SegmentOverlap`] it
-/// does not. Where it does, no address gets file bytes of two segments.
+/// Checks that an image fits a map; fails with [`ImageError::SegmentMap`] or [`ImageError::SegmentOverlap`]. If it succeeds, no address
+/// receives file bytes of two segments.
 #[tactic(auto, unfolding(crate::specs::Loading::map_check))]
 pub fn check_map(image: &Image, map: &Map, at: LoadAt) -> Result<(), ImageError>
     ensures value { result ≡ map_check image.now.segments map.now at }
@@ -36,14 +36,14 @@ pub fn check_map(image: &Image, map: &Map, at: LoadAt) -> Result<(), ImageError>
     Ok(())
 }
 
-/// Places the file bytes of an image's segments into a new bus, in regions that are not writable
-/// too. Each other byte is zero, and none counts as stored.
+/// Writes the file bytes of an image's segments to a new bus, in read-only regions too. All other bytes are zero, and none counts as
+/// stored.
 pub fn load(image: &Image, file: &[u8], at: LoadAt, bus: &mut Bus)
     requires image { IsImageOf file.now image.now }
     requires fits { map_check image.now.segments bus.old.regions at ≡ accepted }
     requires new { bus.old ≡ new_bus bus.old.regions bus.old.script bus.old.misaligned }
     ensures { bus.new ≡ record bus.old {
-      memory = opening_memory bus.old.regions image.now.segments file.now at;
+      memory = initial_memory bus.old.regions image.now.segments file.now at;
     } }
 {
     for segment in image.segments.as_slice() {
@@ -52,7 +52,7 @@ pub fn load(image: &Image, file: &[u8], at: LoadAt, bus: &mut Bus)
 }
 
 impl LoadAt {
-    /// Where a segment's file bytes go.
+    /// Returns the address at which a segment's file bytes are loaded.
     pub fn load_address(self, segment: &Segment) -> u32
         ensures { result ≡ load_address self segment.now }
     {
@@ -62,7 +62,7 @@ impl LoadAt {
         }
     }
 
-    /// The address past a segment's last file byte; of a segment without file bytes its load address.
+    /// Returns the address past a segment's last file byte, or its load address if it has no file bytes.
     pub fn load_end(self, segment: &Segment) -> u64
         ensures { result ≡ load_address self segment.now + segment.now.filesz }
     {
@@ -78,7 +78,7 @@ fn all_segments_fit(segments: &[Segment], map: &Map, at: LoadAt) -> bool
         .all(|segment| segment_fits(map, at, segment))
 }
 
-/// The first segment that does not fit a map.
+/// Returns the first segment that does not fit a map.
 pub fn unfit_segment<'a>(map: &Map, at: LoadAt, segments: &'a [Segment]) -> Option<&'a Segment>
     ensures { option_map (λ segment. segment.now) result ≡ unfit_segment map.now at segments.now }
 {
@@ -87,15 +87,14 @@ pub fn unfit_segment<'a>(map: &Map, at: LoadAt, segments: &'a [Segment]) -> Opti
         .find(|segment| !segment_fits(map, at, segment))
 }
 
-/// Whether a segment fits a map: its file bytes at the load address lie in one region, and so does its memory at the
-/// virtual address.
+/// Whether a segment fits a map: its file bytes at the load address are in one region, and its memory at the virtual address is too.
 pub fn segment_fits(map: &Map, at: LoadAt, segment: &Segment) -> bool
     ensures { result ≡ segment_fits map.now at segment.now }
 {
     map.in_one(at.load_address(segment), segment.filesz) && map.in_one(segment.vaddr, segment.memsz)
 }
 
-// Whether two of the segments get a byte of memory in common.
+// Whether two of the segments are loaded to a common byte of memory.
 fn any_segments_overlap(segments: &[Segment], at: LoadAt) -> bool
     ensures { result ≡ any_segments_overlap at segments.now }
 {
@@ -115,7 +114,7 @@ fn overlaps_any_segment(segment: &Segment, others: &[Segment], at: LoadAt) -> bo
         .any(|other| segments_overlap(at, segment, other))
 }
 
-/// Whether the file bytes of two segments get a byte of memory in common.
+/// Whether the file bytes of two segments are loaded to a common byte of memory.
 pub fn segments_overlap(at: LoadAt, one: &Segment, other: &Segment) -> bool
     ensures { result ≡ segments_overlap at one.now other.now }
 {
@@ -123,6 +122,7 @@ pub fn segments_overlap(at: LoadAt, one: &Segment, other: &Segment) -> bool
     u64::from(start) < at.load_end(one).min(at.load_end(other))
 }
 
+// Writes the file bytes of a segment at its load address.
 fn place_segment(segment: &Segment, file: &[u8], at: LoadAt, bus: &mut Bus)
     requires inside { 0 < segment.now.filesz
         → segment.now.offset + segment.now.filesz ≤ length file.now }

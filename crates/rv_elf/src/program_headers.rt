@@ -1,8 +1,8 @@
-//! The program header table: its entries, their tests, and the segments that are kept.
+//! The program header table: its entries, their checks, and the loaded segments.
 ghost use Rattle.std.specs.Prelude.{◌≡◌, ◌+◌, ◌*◌, ◌<◌, ◌≤◌, IfOk, map, length};
 ghost use Rattle.std.specs.List.{list_any, range_with_len};
 ghost use Rattle.rv_elf.specs.Image.{segment_at, program_entry_at, program_entries, is_dynamic, has_bad_sizes, is_entry_past_file};
-ghost use Rattle.rv_elf.specs.Image.{kept_segments, HasTable};
+ghost use Rattle.rv_elf.specs.Image.{loaded_segments, HasTable};
 ghost use Rattle.rv_elf.specs.ImageParts.{entry_check};
 
 use crate::error::ImageError;
@@ -13,7 +13,7 @@ use crate::fields::{
 use crate::image::Segment;
 use std::alloc::{AllocError, Global};
 
-/// A program header, as far as it is looked at.
+/// The fields that are read of a program header.
 #[derive(Clone, Copy)]
 pub(crate) struct ProgramHeader {
     p_type: u32,
@@ -26,7 +26,7 @@ const PT_DYNAMIC: u32 = 2;
 
 const PT_INTERP: u32 = 3;
 
-/// The entries of the program header table.
+/// Returns the entries of the program header table.
 #[tactic(auto, unfolding(crate::specs::Image::program_entries))]
 pub(crate) fn program_entries(alloc: Global, file: &[u8]) -> Result<Vec<ProgramHeader>, AllocError>
     requires { HasTable file.now }
@@ -40,7 +40,7 @@ pub(crate) fn program_entries(alloc: Global, file: &[u8]) -> Result<Vec<ProgramH
     )
 }
 
-/// Asks the refusals of the entries.
+/// Checks the entries.
 #[tactic(auto, unfolding(crate::specs::ImageParts::entry_check))]
 pub(crate) fn check_entries(found: &[ProgramHeader], file: &[u8]) -> Result<(), ImageError>
     requires { found.now ≡ program_entries file.now }
@@ -58,12 +58,12 @@ pub(crate) fn check_entries(found: &[ProgramHeader], file: &[u8]) -> Result<(), 
     Ok(())
 }
 
-/// The segments of the PT_LOAD entries with bytes in memory, in their order.
-pub(crate) fn kept_segments(
+/// Returns the segments of the PT_LOAD entries with bytes in memory, in order.
+pub(crate) fn loaded_segments(
     alloc: Global,
     found: &[ProgramHeader],
 ) -> Result<Vec<Segment>, AllocError>
-    ensures { IfOk result (λ v. v.items ≡ kept_segments found.now) }
+    ensures { IfOk result (λ v. v.items ≡ loaded_segments found.now) }
 {
     let mut kept = Vec::new(alloc);
     for entry in found {

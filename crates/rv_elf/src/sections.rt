@@ -1,4 +1,4 @@
-//! The section header table, and in it the first symbol table and its strings.
+//! The section header table, the first symbol table in it, and its strings.
 ghost use Rattle.std.specs.Prelude.{◌≡◌, ◌+◌, ◌*◌, ◌<◌, ◌≤◌, IfSome, IfOk, IsTrue, false};
 ghost use Rattle.std.specs.Prelude.{length, MatchOption};
 ghost use Rattle.std.specs.List.{find, slice_get};
@@ -11,7 +11,7 @@ use crate::fields::{
     word_field,
 };
 
-/// A section header, as far as it is looked at (System V ABI, "Sections").
+/// The fields that are read of a section header (System V ABI, "Sections").
 #[derive(Clone, Copy)]
 pub(crate) struct Section {
     pub(crate) sh_type: u32,
@@ -21,10 +21,10 @@ pub(crate) struct Section {
     pub(crate) entsize: u32,
 }
 
-/// Of a section header.
+/// The size of a section header.
 const HEADER_SIZE: u16 = 40;
 
-/// Of an entry of a symbol table.
+/// The size of an entry of a symbol table.
 const SYMBOL_SIZE: u32 = 16;
 
 const SHT_SYMTAB: u32 = 2;
@@ -32,8 +32,7 @@ const SHT_SYMTAB: u32 = 2;
 const SHT_STRTAB: u32 = 3;
 
 impl Section {
-    /// Whether a symbol table can't be read: its entries have another size, or it goes past a file of
-    /// `size` bytes.
+    /// Whether a symbol table cannot be read: its entries have another size, or it extends past the end of a file of `size` bytes.
     pub(crate) fn is_bad_symbol_table(&self, size: usize) -> bool
         ensures { result ≡ is_bad_symbol_table size self.now }
     {
@@ -42,14 +41,14 @@ impl Section {
             || self.is_section_past_file(size)
     }
 
-    /// Whether it is no string table within a file of `size` bytes.
+    /// Whether it is not a string table within a file of `size` bytes.
     pub(crate) fn is_bad_string_table(&self, size: usize) -> bool
         ensures { result ≡ is_bad_string_table size self.now }
     {
         self.sh_type != SHT_STRTAB || self.is_section_past_file(size)
     }
 
-    /// The bytes of the section.
+    /// Returns the bytes of the section.
     pub(crate) fn section_bytes<'a>(&self, file: &'a [u8]) -> &'a [u8]
         requires { is_section_past_file (length file.now) self.now ≡ false }
         ensures { result.now ≡ section_bytes file.now self.now }
@@ -64,7 +63,7 @@ impl Section {
     }
 }
 
-/// Whether there is no section header table, or none that can be read.
+/// Whether the section header table is missing or cannot be read.
 pub(crate) fn has_bad_section_table(file: &[u8]) -> bool
     requires { 52 ≤ length file.now }
     ensures { result ≡ has_bad_section_table file.now }
@@ -75,7 +74,7 @@ pub(crate) fn has_bad_section_table(file: &[u8]) -> bool
         || file.len() < word_field(file, E_SHOFF) as usize + HEADER_SIZE as usize * count as usize
 }
 
-/// The first symbol table of the file.
+/// Returns the first symbol table of the file.
 pub(crate) fn symbol_table_section(file: &[u8]) -> Option<Section>
     requires { HasSections file.now }
     ensures { result ≡ symbol_table_section file.now }
@@ -89,7 +88,7 @@ pub(crate) fn symbol_table_section(file: &[u8]) -> Option<Section>
     None
 }
 
-/// The section that a symbol table's link names, where there is one of that index.
+/// Returns the section with the index in a symbol table's link, if it exists.
 pub(crate) fn string_table_section(file: &[u8], symbols: &Section) -> Option<Section>
     requires { HasSections file.now }
     ensures { result ≡ string_table_section file.now symbols.now }
@@ -100,7 +99,7 @@ pub(crate) fn string_table_section(file: &[u8], symbols: &Section) -> Option<Sec
     Some(section_of_index(file, symbols.link))
 }
 
-// The section header of an index.
+// Returns the section header with an index.
 fn section_of_index(file: &[u8], index: u32) -> Section
     requires table { HasSections file.now }
     requires within { index < e_shnum file.now }

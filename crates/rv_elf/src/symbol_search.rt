@@ -1,4 +1,4 @@
-//! The symbol that stands nearest before an address, and the symbol of a value.
+//! The nearest symbol at or below an address, and the symbol of a value.
 ghost use Rattle.std.specs.Prelude.{◌≡◌, ◌==◌, ◌≤◌, Some, None, IfSome, MatchOption, position, drop};
 ghost use Rattle.std.specs.Prelude.{true};
 ghost use Rattle.std.specs.Option.{option_map_or};
@@ -13,19 +13,19 @@ use crate::symbols::{
     SHN_UNDEF, SYMBOL_SIZE, Symbol, bytes_from, symbol_and_string_bytes, symbol_entry,
 };
 
-/// A place by a symbol.
+/// A location relative to a symbol.
 #[derive(Clone, Copy)]
 pub struct SymbolAt<'a> {
-    /// The symbol's name, without the zero byte behind it.
+    /// The symbol's name, without the terminating zero byte.
     pub name: &'a [u8],
-    /// How many bytes the place is past the symbol's value.
+    /// The number of bytes from the symbol's value to the location.
     pub offset: u32,
 }
 
-// What a symbol is sought for.
+// What a symbol is looked up for.
 #[derive(Clone, Copy)]
-enum Sought {
-    // The code that an address lies in.
+enum LookupKind {
+    // The code at an address.
     Code,
     // A value that may be the address of anything.
     Value,
@@ -37,47 +37,44 @@ const STT_OBJECT: u8 = 1;
 
 const STT_FUNC: u8 = 2;
 
-/// The first of the reserved indices of sections.
+/// The first reserved section index.
 const SHN_LORESERVE: u16 = 0xff00;
 
-/// The symbol that an address of an image belongs to: of the functions and untyped symbols of the
-/// file's first symbol table (System V ABI, "Symbol Table") the one of the greatest value that is not
-/// above the address and lies in one loadable segment with it. Of equal values a function goes first,
-/// and then the first in the table. A symbol that has no section of the file, as an absolute value, or
-/// no name, or one that begins with `.` or `$`, is none. There is no answer where
-/// [`find_symbol`](crate::find_symbol) would refuse the tables.
+/// Returns the symbol that an address of an image belongs to. Among the functions and untyped symbols of the file's first symbol table
+/// (System V ABI, "Symbol Table"), it is the one with the greatest value that is not above the address and is in one loadable segment with
+/// it. Among equal values a function comes first, then the first in the table. Symbols without a section of the file, such as absolute
+/// values, and symbols without a name or with one that begins with `.` or `$` are ignored. Returns `None` if
+/// [`find_symbol`](crate::find_symbol) would reject the tables.
 ///
-/// It takes no memory, and its time is that of one pass over the table and one over the strings,
-/// however long the names are: of a symbol it reads the first byte of the name, and only the name of the
-/// answer is looked through.
+/// Does not allocate. Takes one pass over the table and one over the strings, however long the names are: of each symbol only the first
+/// byte of the name is read, and only the name of the result is scanned.
 pub fn symbol_at<'a>(image: &Image, file: &'a [u8], addr: u32) -> Option<SymbolAt<'a>>
     requires image { IsImageOf file.now image.now }
     ensures { MatchOption result (symbol_at image.now file.now addr ≡ None)
         (λ s. symbol_at image.now file.now addr ≡ Some (s.name.now, s.offset)) }
 {
-    nearest_symbol(image, file, addr, Sought::Code)
+    nearest_symbol(image, file, addr, LookupKind::Code)
 }
 
-/// The symbol of a value, as of a register's, that may be an address: of the file's first symbol table the
-/// function, object or untyped symbol at exactly that address, or the function or object in whose bytes
-/// (`st_size`) it lies. Where several do, the one of the greatest value is taken, which is one at exactly
-/// that address if there is one; of equal values a function goes before an object, an object before an
-/// untyped symbol, and then the first in the table. No symbol has a segment to lie in here, so that the
-/// end of a stack has its name too. What is no symbol for [`symbol_at`] is none here, and neither answers
-/// where the tables are refused; memory and time are as there.
+/// Returns the symbol of a value, such as a register's, that may be an address: the function, object or untyped symbol of the file's first
+/// symbol table at exactly that address, or the function or object whose bytes (`st_size`) include it. If there are several, the one with
+/// the greatest value is chosen, which is one at exactly that address if there is one; among equal values a function comes before an
+/// object, an object before an untyped symbol, and then the first in the table. Symbols need not be in a segment here, so that the end of a
+/// stack has its name too. Symbols that [`symbol_at`] ignores are ignored here; rejected tables, memory and time are as for [`symbol_at`].
 pub fn symbol_of_value<'a>(image: &Image, file: &'a [u8], value: u32) -> Option<SymbolAt<'a>>
     requires image { IsImageOf file.now image.now }
     ensures { MatchOption result (symbol_of_value image.now file.now value ≡ None)
         (λ s. symbol_of_value image.now file.now value ≡ Some (s.name.now, s.offset)) }
 {
-    nearest_symbol(image, file, value, Sought::Value)
+    nearest_symbol(image, file, value, LookupKind::Value)
 }
 
+// Returns the nearest symbol at or below an address in the first symbol table, for code or for a value.
 fn nearest_symbol<'a>(
     image: &Image,
     file: &'a [u8],
     addr: u32,
-    sought: Sought,
+    sought: LookupKind,
 ) -> Option<SymbolAt<'a>>
     requires image { IsImageOf file.now image.now }
     ensures { MatchOption result (nearest_symbol sought image.now file.now addr ≡ None)
@@ -93,14 +90,13 @@ fn nearest_symbol<'a>(
     })
 }
 
-// The candidate of a table that no other is nearer than. A symbol that is no nearer than the best so
-// far is not looked at any further.
+// Returns the nearest candidate of a table. A symbol that is not nearer than the best so far is not checked any further.
 fn nearest_candidate(
     table: &[u8],
     strings: &[u8],
     segments: &[Segment],
     addr: u32,
-    sought: Sought,
+    sought: LookupKind,
 ) -> Option<Symbol>
     ensures value { result ≡ nearest_candidate (candidates sought segments.now strings.now addr table.now) }
     ensures below { IfSome result (λ s. s.value ≤ addr) }
@@ -118,7 +114,7 @@ fn nearest_candidate(
     best
 }
 
-// The place behind the last zero byte: a name begins at each place before it, and at no other.
+// Returns the index after the last zero byte: a name begins at each index before it, and at no other.
 pub(crate) fn names_end(strings: &[u8]) -> usize
     ensures { IsNamesEnd strings.now result }
 {
@@ -140,6 +136,7 @@ impl Symbol {
         }
     }
 
+    // Whether it has a greater value than the other symbol, or an equal value and precedence over it.
     fn is_nearer(&self, other: &Symbol) -> bool
         ensures { result ≡ is_nearer self.now other.now }
     {
@@ -147,6 +144,7 @@ impl Symbol {
             || self.value == other.value && other.precedence() < self.precedence()
     }
 
+    /// Returns 2 for a function, 1 for an object and 0 for any other symbol.
     pub(crate) fn precedence(&self) -> u8
         ensures value { result ≡ precedence self.now }
         ensures few { result ≤ 2 }
@@ -160,27 +158,27 @@ impl Symbol {
         }
     }
 
-    // Whether the address may belong to it. There may be 64 segments, so they are asked last.
+    // Whether the address may belong to the symbol. There may be 64 segments, so they are checked last.
     fn is_candidate(
         &self,
         strings: &[u8],
         end: usize,
         segments: &[Segment],
         addr: u32,
-        sought: Sought,
+        sought: LookupKind,
     ) -> bool
         requires { IsNamesEnd strings.now end }
         ensures { result ≡ is_candidate sought segments.now strings.now addr self.now }
     {
         match sought {
-            Sought::Code => {
+            LookupKind::Code => {
                 self.may_be_code()
                     && self.has_section()
                     && self.value <= addr
                     && self.has_usable_name(strings, end)
                     && are_in_one_segment(segments, self.value, addr)
             }
-            Sought::Value => {
+            LookupKind::Value => {
                 (self.may_be_code() || self.is_object())
                     && self.has_section()
                     && self.covers_address(addr)
@@ -189,7 +187,7 @@ impl Symbol {
         }
     }
 
-    // Whether the address is its value, or in the bytes of a function or an object.
+    // Whether the address is the symbol's value, or is among the bytes of a function or an object.
     fn covers_address(&self, addr: u32) -> bool
         ensures { result ≡ covers_address addr self.now }
     {
@@ -212,19 +210,21 @@ impl Symbol {
         self.kind == STT_OBJECT
     }
 
+    /// Whether it is a function or untyped, like an assembly label.
     pub(crate) fn may_be_code(&self) -> bool
         ensures { result ≡ may_be_code self.now }
     {
         self.is_function() || self.kind == STT_NOTYPE
     }
 
+    /// Whether its section index is neither undefined nor reserved.
     pub(crate) fn has_section(&self) -> bool
         ensures { result ≡ has_section self.now }
     {
         SHN_UNDEF < self.section && self.section < SHN_LORESERVE
     }
 
-    // Its name begins in front of the end of all names, and its first byte is no end, `.` or `$`.
+    // Its name begins before the end of all names, and the first byte of the name is not zero, `.` or `$`.
     pub(crate) fn has_usable_name(&self, strings: &[u8], end: usize) -> bool
         requires { IsNamesEnd strings.now end }
         ensures { result ≡ has_usable_name strings.now self.now }
@@ -247,7 +247,7 @@ fn segment_holds_address(addr: u32, segment: &Segment) -> bool
     segment.vaddr <= addr && u64::from(addr) < u64::from(segment.vaddr) + u64::from(segment.memsz)
 }
 
-// The text that bytes begin with, up to a zero byte.
+// Returns the bytes before the first zero byte, if there is one.
 pub(crate) fn text_before_zero(bytes: &[u8]) -> Option<&[u8]>
     ensures { MatchOption result (text_before_zero bytes.now ≡ None) (λ t. text_before_zero bytes.now ≡ Some t.now) }
 {

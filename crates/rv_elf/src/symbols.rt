@@ -13,33 +13,31 @@ use crate::image::Image;
 use crate::sections::{has_bad_section_table, string_table_section, symbol_table_section};
 use rv_memory::Map;
 
-/// An entry of a symbol table, as far as it is looked at (System V ABI, "Symbol Table").
+/// The fields that are read of a symbol table entry (System V ABI, "Symbol Table").
 #[derive(Clone, Copy)]
 pub(crate) struct Symbol {
-    /// Where its name begins in the string table.
+    /// The offset of its name in the string table.
     pub(crate) name: u32,
     pub(crate) value: u32,
-    /// How many bytes it stands for, 0 where that is not known.
+    /// The number of bytes that it covers, or 0 if unknown.
     pub(crate) size: u32,
-    /// What it stands for: 0 (STT_NOTYPE) where that is not said, 1 (STT_OBJECT) for data, 2 (STT_FUNC)
-    /// for a function.
+    /// What it names: 0 (STT_NOTYPE) if unspecified, 1 (STT_OBJECT) for data, 2 (STT_FUNC) for a function.
     pub(crate) kind: u8,
-    /// The index of its section, 0 (SHN_UNDEF) where it is not defined.
+    /// The index of its section, or 0 (SHN_UNDEF) if it is undefined.
     pub(crate) section: u16,
 }
 
-/// The bytes of an entry.
+/// The size of an entry in bytes.
 pub(crate) const SYMBOL_SIZE: usize = 16;
 
 pub(crate) const SHN_UNDEF: u16 = 0;
 
-/// The most bytes of a signature, 65,536 words.
+/// The maximum size of a signature in bytes, 65,536 words.
 const MOST_BYTES: u32 = 0x4_0000;
 
-/// The value of the first defined symbol of a name in the file's first symbol table, or the refusal
-/// of the file's sections that applies first: [`ImageError::SectionTable`], [`ImageError::NoSymbols`],
-/// [`ImageError::SymbolTable`], [`ImageError::StringTable`], and [`ImageError::NoBegin`] for any name
-/// that no defined symbol has.
+/// Returns the value of the first defined symbol of this name in the file's first symbol table, or the first error of the file's sections
+/// that applies: [`ImageError::SectionTable`], [`ImageError::NoSymbols`], [`ImageError::SymbolTable`], [`ImageError::StringTable`], or, for
+/// any name that no defined symbol has, [`ImageError::NoBegin`].
 pub fn find_symbol(image: &Image, file: &[u8], name: &[u8]) -> Result<u32, ImageError>
     requires image { IsImageOf file.now image.now }
     requires named { 0 < length name.now }
@@ -53,8 +51,7 @@ pub fn find_symbol(image: &Image, file: &[u8], name: &[u8]) -> Result<u32, Image
     }
 }
 
-/// Whether the words from `begin` up to `end` can be a signature; with
-/// [`ImageError::SignatureRange`] they can't.
+/// Checks that the words from `begin` up to `end` can be a signature; fails with [`ImageError::SignatureRange`].
 #[tactic(auto, unfolding(crate::specs::Symbols::signature_check))]
 pub fn check_signature(begin: u32, end: u32, map: &Map) -> Result<(), ImageError>
     ensures { result ≡ signature_check begin end map.now }
@@ -74,7 +71,7 @@ fn is_bad_signature_range(begin: u32, end: u32, map: &Map) -> bool
         || begin < end && (!map.in_one(begin, end - begin) || MOST_BYTES < end - begin)
 }
 
-/// The bytes of the first symbol table and of its string table, or the first of their refusals.
+/// Returns the bytes of the first symbol table and of its string table, or their first error.
 pub(crate) fn symbol_and_string_bytes(file: &[u8]) -> Result<(&[u8], &[u8]), ImageError>
     requires { 52 ≤ length file.now }
     ensures checked { MatchResult result (λ _. table_check file.now ≡ accepted)
@@ -100,7 +97,7 @@ pub(crate) fn symbol_and_string_bytes(file: &[u8]) -> Result<(&[u8], &[u8]), Ima
     Ok((symbols.section_bytes(file), strings.section_bytes(file)))
 }
 
-// The value of the first defined symbol of a name, over the bytes of a symbol table and its strings.
+// Returns the value of the first defined symbol of this name in the bytes of a symbol table and its strings.
 fn value_of_symbol_name(table: &[u8], strings: &[u8], name: &[u8]) -> Option<u32>
     ensures { result ≡ option_map (λ s. s.value) (symbol_named table.now strings.now name.now) }
 {
@@ -113,7 +110,7 @@ fn value_of_symbol_name(table: &[u8], strings: &[u8], name: &[u8]) -> Option<u32
     None
 }
 
-/// The entry of a symbol table that begins at a place of its bytes.
+/// Returns the entry at an offset in a symbol table's bytes.
 #[tactic(auto, unfolding(crate::specs::Sections::symbol_entry))]
 pub(crate) fn symbol_entry(table: &[u8], at: usize) -> Symbol
     requires { at + 16 ≤ length table.now }
@@ -129,6 +126,7 @@ pub(crate) fn symbol_entry(table: &[u8], at: usize) -> Symbol
 }
 
 impl Symbol {
+    // Whether it is defined and has this name in the string table.
     fn is_named(&self, strings: &[u8], name: &[u8]) -> bool
         ensures { result ≡ is_named strings.now name.now self.now }
     {
@@ -136,15 +134,15 @@ impl Symbol {
     }
 }
 
-/// The bytes from a place on, none where it is past the end.
+/// Returns the bytes from an offset on, or none if it is past the end.
 pub(crate) fn bytes_from(bytes: &[u8], at: usize) -> &[u8]
     ensures { result.now ≡ drop at bytes.now }
 {
     &bytes[at.min(bytes.len())..]
 }
 
-// Whether bytes begin with a text and a zero byte, where the text has none. The text itself is looked
-// through last, since few bytes come so far.
+// Whether `bytes` begin with `text`, which contains no zero byte, followed by a zero byte. The text itself is compared last, since few
+// candidates get that far.
 fn begins_with_name(bytes: &[u8], text: &[u8]) -> bool
     ensures { result ≡ begins_with_name bytes.now text.now }
 {

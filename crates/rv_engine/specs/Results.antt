@@ -1,4 +1,4 @@
--- Results of jobs, which are made in pieces and heard in order.
+-- Results of jobs, which are made in chunks and delivered in order.
 use Rattle.std.specs.Prelude.{◌≡◌, ◌+◌, ◌-◌, ◌*◌, ◌<◌, ◌≤◌, ℕ, List, length, min, Option, Some, None, IfSome, slice_index_or, Vec}
 use Rattle.std.specs.Prelude.{Result, Ok, Err}
 use Rattle.std.specs.Int.{div_ceil}
@@ -9,13 +9,13 @@ use Rattle.rv_engine.specs.declared.in_order.End.TheVariants.{GaveUp, Stopped}
 use Rattle.rv_engine.specs.declared.listener.Flow.{Flow}
 use Rattle.rv_engine.specs.declared.listener.Flow.TheVariants.{GoOn, Stop}
 
--- the results of the first jobs
+-- the list holds the results of the first jobs
 abbrev pub AreResults : {H : Type 0} → (ℕ → H → Type 0) → List H → Type 0
 AreResults {H} is_result results = (k : ℕ) (any : H) → k < length results → is_result k (slice_index_or results k any)
 
 -- ---- heard in order
 
--- what a listener has heard: the results of the first so many jobs, each once and in order
+-- a listener has received the results of the first `count` jobs, each once and in order
 pub record HasReceived {H : Type 0} (is_result : ℕ → H → Type 0) (jobs : ℕ) (has_received : List H → Type 0) (count : ℕ) : Type 0 where
   pub results : List H
   pub received : has_received results
@@ -23,12 +23,12 @@ pub record HasReceived {H : Type 0} (is_result : ℕ → H → Type 0) (jobs : �
   pub count_is : length results ≡ count
   pub few : count ≤ jobs
 
--- the same of the first jobs, however many
+-- a listener has received the results of the first jobs, however many
 pub record HasReceivedSome {H : Type 0} (is_result : ℕ → H → Type 0) (jobs : ℕ) (has_received : List H → Type 0) : Type 0 where
   pub count : ℕ
   pub hears : HasReceived is_result jobs has_received count
 
--- behind a run: it heard of all jobs, or said stop, or there was an error
+-- after a run: the listener received all results, or it stopped the run, or there was an error
 abbrev pub IsRunDelivered : {H : Type 0} → (ℕ → H → Type 0) → ℕ → (List H → Type 0) → Type 0 → Result Flow RunError → Type 0
 IsRunDelivered is_result jobs has_received stops (Ok GoOn) = HasReceived is_result jobs has_received jobs × (stops → ⊥)
 IsRunDelivered is_result jobs has_received stops (Ok Stop) = HasReceivedSome is_result jobs has_received × stops
@@ -36,41 +36,41 @@ IsRunDelivered is_result jobs has_received stops (Err error) = HasReceivedSome i
 
 -- ---- made in pieces
 
--- how many pieces jobs have
+-- the number of chunks that the jobs are divided into
 abbrev pub piece_count : ℕ → ℕ → ℕ
 piece_count jobs group = div_ceil jobs group
 
--- the results of a piece's jobs: a group of them, or as many as there are from its first on
+-- the results of the jobs in a chunk: `group` of them, or fewer in the last chunk
 pub record IsPiece {H : Type 0} (is_result : ℕ → H → Type 0) (jobs group piece : ℕ) (results : List H) : Type 0 where
   pub each : AreResults (λ k. is_result (piece * group + k)) results
   pub count : length results ≡ min group (jobs - piece * group)
 
--- the results that came early, each piece's at its place
+-- the results that were made before their turn, each chunk's at its index
 abbrev pub ArePending : {H : Type 0} → (ℕ → H → Type 0) → ℕ → ℕ → List (Option (Vec H Global)) → Type 0
 ArePending is_result jobs group pending = (k : ℕ)
     → IfSome (slice_index_or pending k None) (λ results. IsPiece is_result jobs group k results.items)
 
--- a listener has heard of the jobs of the pieces before one, and goes on
+-- a listener has received the results of all chunks before this one, and continues
 abbrev pub HasReceivedUpTo : {H : Type 0} → (ℕ → H → Type 0) → ℕ → ℕ → (List H → Type 0) → Type 0 → ℕ → Type 0
 HasReceivedUpTo is_result jobs group has_received stops piece = HasReceived is_result jobs has_received (min (piece * group) jobs) × (stops → ⊥)
 
--- the same where nothing ended the run, and else of the first jobs
+-- as `HasReceivedUpTo` if the run has not ended, otherwise a listener has received the results of the first jobs
 abbrev pub HasReceivedUntil : {H : Type 0} → (ℕ → H → Type 0) → ℕ → ℕ → (List H → Type 0) → Type 0 → ℕ → Option End → Type 0
 HasReceivedUntil is_result jobs group has_received stops next None = HasReceivedUpTo is_result jobs group has_received stops next
 HasReceivedUntil is_result jobs group has_received stops next (Some Stopped) = HasReceivedSome is_result jobs has_received × stops
 HasReceivedUntil is_result jobs group has_received stops next (Some GaveUp) = HasReceivedSome is_result jobs has_received
 
--- what is known under the lock
+-- the invariant under the lock
 pub record IsInOrder {H : Type 0} (is_result : ℕ → H → Type 0) (jobs group : ℕ) (has_received : List H → Type 0) (stops : Type 0)
     (next : ℕ) (ended : Option End) (pending : List (Option (Vec H Global))) : Type 0 where
   pub received : HasReceivedUntil is_result jobs group has_received stops next ended
   pub waiting : ArePending is_result jobs group pending
 
--- what a listener has heard in front of a piece, or before that where it said stop
+-- a listener has received the results of all chunks before this one, or fewer if it stopped the run
 abbrev pub IsDelivered : {H : Type 0} → (ℕ → H → Type 0) → ℕ → ℕ → (List H → Type 0) → Type 0 → ℕ → Flow → Type 0
 IsDelivered is_result jobs group has_received stops next GoOn = HasReceivedUpTo is_result jobs group has_received stops next
 IsDelivered is_result jobs group has_received stops next Stop = HasReceivedSome is_result jobs has_received × stops
 
--- what a work makes of jobs is what a run speaks of
+-- every result that the work can make of a job is a result in the sense of the run
 abbrev pub AreMade : {H : Type 0} → (ℕ → H → Type 0) → (ℕ → H → Type 0) → Type 0
 AreMade {H} is_made is_result = (number : ℕ) (made : H) → is_made number made → is_result number made

@@ -1,11 +1,11 @@
-//! An observer beside a listener, or beside another observer.
+//! Combines an observer with a listener, or with another observer.
 
 ghost use Rattle.std.specs.Prelude.{◌≡◌, ◌⊎◌};
 ghost use Rattle.rv_engine.specs.declared.listener.Flow.TheVariants.{GoOn, Stop};
 
 use crate::listener::{Flow, Listener, Observer};
 
-/// Two that hear the same results, the first as an observer. A run stops where one of them says so.
+/// Two recipients of the same results, the first of them an observer. A run stops when either says so.
 #[derive(Drop)]
 pub struct Both<A: Drop, B: Drop> {
     pub first: A,
@@ -52,7 +52,7 @@ impl<H, A: Observer<H> + Drop, B: Observer<H> + Drop> Observer<H> for Both<A, B>
     }
 }
 
-// Stop, where either says so.
+// Returns `Stop` if either is `Stop`.
 fn first_stop(first: Flow, second: Flow) -> Flow
     ensures goes { result ≡ GoOn → (first ≡ GoOn) × (second ≡ GoOn) }
     ensures stops { result ≡ Stop → (first ≡ Stop) ⊎ (second ≡ Stop) }

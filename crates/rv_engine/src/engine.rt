@@ -1,4 +1,4 @@
-//! A run of jobs.
+//! Runs jobs in threads.
 
 ghost use Rattle.std.specs.Prelude.{◌≡◌, [], IfOk};
 ghost use Rattle.rv_engine.specs.Results.{ArePending, AreMade, IsRunDelivered, HasReceivedUpTo, IsInOrder, piece_count};
@@ -21,10 +21,10 @@ use thiserror::Error;
 /// Why a run ended before its last job.
 #[derive(Clone, Copy, Debug, Error, PartialEq, Eq)]
 pub enum RunError {
-    /// A growth was refused.
+    /// An allocation failed.
     #[error("out of memory")]
     OutOfMemory,
-    /// The start of a thread was refused.
+    /// A thread could not be started.
     #[error("no worker")]
     NoWorker,
 }
@@ -77,7 +77,7 @@ pub fn run_jobs<
     }
 }
 
-// Has all heard that no worker had heard. A run that ends well has made and heard all, and then this is nothing.
+// Delivers everything that no worker delivered. After a run that ends normally nothing is left.
 fn deliver_rest<J: RunSpec<H>, H: Drop, R, W: Work<H>, L: Listener<H>>(
     crew: &Crew<'_, R>,
     work: &W,
@@ -107,7 +107,7 @@ fn deliver_rest<J: RunSpec<H>, H: Drop, R, W: Work<H>, L: Listener<H>>(
     }
 }
 
-// Has the pieces heard from one on: those that have come, and the others when they are made.
+// Delivers the chunks from `next` on: those that are pending, and the others once they are made here.
 fn deliver_from<J: RunSpec<H>, H: Drop, R, W: Work<H>, L: Listener<H>>(
     crew: &Crew<'_, R>,
     work: &W,

@@ -1,4 +1,4 @@
-//! Results that wait for their turn, and the listener that hears them.
+//! Results that wait for their turn, and the listener that receives them.
 
 ghost use Rattle.std.specs.Prelude.{◌≡◌, ◌+◌, [], ℕ, IfOk, IfSome, None, length, slice_index_or};
 ghost use Rattle.rv_engine.specs.Results.{ArePending, IsDelivered, HasReceivedUpTo, IsInOrder, IsPiece};
@@ -7,7 +7,7 @@ use crate::listener::{Flow, Listener};
 use std::alloc::{AllocError, Global};
 use std::marker::{Brand, Model, PhantomData};
 
-/// Which results are made of jobs, of how many, and in pieces of how many. Each run picks its own.
+/// Specifies a run: which results are made of jobs, the number of jobs, and the chunk size. Each run chooses its own.
 pub trait RunSpec<H> {
     ghost use Rattle.std.specs.Prelude.{ℕ};
 
@@ -29,17 +29,17 @@ impl<H> RunSpec<H> for Brand {
 /// Why a run ends before its last job.
 #[derive(Clone, Copy)]
 pub(crate) enum End {
-    /// The listener said stop.
+    /// The listener stopped the run.
     Stopped,
     /// A growth or the start of a thread was refused.
     GaveUp,
 }
 
-/// What lies under the lock: the listener, and the results of the pieces that came before their turn.
+/// The state under the lock: the listener, and the results of chunks that were made before their turn.
 #[derive(Drop)]
 pub(crate) struct InOrder<J: RunSpec<H>, H: Drop, L: Listener<H> + Drop> {
     listener: L,
-    // The piece that is heard next.
+    // The next chunk to deliver.
     next: usize,
     pending: Vec<Option<Vec<H>>>,
     ended: Option<End>,
@@ -71,7 +71,7 @@ impl<J: RunSpec<H>, H: Drop, L: Listener<H> + Drop> InOrder<J, H, L> {
         }
     }
 
-    /// Takes the results of a piece, and has all heard whose turn has come. Answers whether to go on.
+    /// Stores the results of a chunk and delivers all results whose turn has come. Returns whether to continue.
     pub(crate) fn take_piece(&mut self, piece: u64, results: Vec<H>) -> Flow
         requires { IsPiece J.is_result J.jobs J.group piece results.items }
     {
@@ -94,7 +94,7 @@ impl<J: RunSpec<H>, H: Drop, L: Listener<H> + Drop> InOrder<J, H, L> {
         }
     }
 
-    /// Behind the last of the workers: the listener, and the rest.
+    /// Returns the listener and the undelivered results, after the last worker has ended.
     pub(crate) fn into_parts(self) -> (L, Undelivered<H>)
         ensures { IsInOrder J.is_result J.jobs J.group (L.has_received result.0) (L.stops result.0)
             result.1.next result.1.ended result.1.pending.items }
@@ -117,25 +117,25 @@ impl<J: RunSpec<H>, H: Drop, L: Listener<H> + Drop> InOrder<J, H, L> {
     }
 }
 
-/// What no worker had heard.
+/// The results that no worker delivered.
 #[derive(Drop)]
 pub(crate) struct Undelivered<H: Drop> {
-    /// The piece that is heard next.
+    /// The next chunk to deliver.
     pub(crate) next: usize,
-    /// The results that have come.
+    /// The results that were made but not delivered.
     pub(crate) pending: Vec<Option<Vec<H>>>,
     /// Why the run ended, if it did.
     pub(crate) ended: Option<End>,
 }
 
-// Up to which piece a listener has heard, if it goes on.
+// The first chunk that is not yet delivered, and whether the listener continues.
 #[derive(Clone, Copy)]
 struct DeliveredPieces {
     next: usize,
     flow: Flow,
 }
 
-// Notes the results of a piece, for when its turn comes.
+// Stores the results of a chunk until their turn comes.
 fn note_piece<J: RunSpec<H>, H: Drop>(
     pending: &mut Vec<Option<Vec<H>>>,
     piece: usize,
@@ -150,7 +150,7 @@ fn note_piece<J: RunSpec<H>, H: Drop>(
     }
 }
 
-// The results of pieces are heard from one on, as far as they are there; then the listener pauses, if there were any.
+// Delivers the results of consecutive chunks from `from` on, as far as they are present; then lets the listener pause if there were any.
 fn deliver_ready<J: RunSpec<H>, H: Drop, L: Listener<H>>(
     listener: &mut L,
     pending: &mut Vec<Option<Vec<H>>>,
@@ -171,7 +171,7 @@ fn deliver_ready<J: RunSpec<H>, H: Drop, L: Listener<H>>(
     }
 }
 
-// The results of pieces are heard from one on, as far as they are there.
+// Delivers the results of consecutive chunks from `from` on, as far as they are present.
 fn deliver_pieces<J: RunSpec<H>, H: Drop, L: Listener<H>>(
     listener: &mut L,
     pending: &mut Vec<Option<Vec<H>>>,
@@ -201,7 +201,7 @@ fn deliver_pieces<J: RunSpec<H>, H: Drop, L: Listener<H>>(
     }
 }
 
-/// A listener hears the results of a piece, and answers whether to go on.
+/// Delivers the results of a chunk to a listener, and returns whether to continue.
 pub(crate) fn deliver_piece<J: RunSpec<H>, H: Drop, L: Listener<H>>(
     listener: &mut L,
     piece: usize,
@@ -219,7 +219,7 @@ pub(crate) fn deliver_piece<J: RunSpec<H>, H: Drop, L: Listener<H>>(
     Flow::GoOn
 }
 
-/// Takes the results of a piece, where they have come.
+/// Takes the results of a chunk out of `pending`, if they are present.
 pub(crate) fn take_pending<J: RunSpec<H>, H: Drop>(
     pending: &mut Vec<Option<Vec<H>>>,
     piece: usize,
@@ -236,7 +236,7 @@ pub(crate) fn take_pending<J: RunSpec<H>, H: Drop>(
     }
 }
 
-/// A place for the results of each piece, and none there yet.
+/// Returns a list with an empty entry for the results of each chunk.
 pub(crate) fn no_results<H: Drop>(
     alloc: Global,
     pieces: u64,

@@ -1,31 +1,31 @@
-//! What hears the results of jobs.
+//! Recipients of job results.
 
-/// Whether a run goes on.
+/// Whether a run continues.
 #[derive(Clone, Copy, Debug, PartialEq, Eq)]
 pub enum Flow {
     GoOn,
     Stop,
 }
 
-/// Takes the results of jobs, one after another in the order of the jobs, under a lock of the run.
+/// Receives the results of jobs one by one, in job order, under a lock of the run.
 pub trait Listener<H> {
     ghost use Rattle.std.specs.Prelude.{◌≡◌, ◌∷◌, ◌++◌, [], List};
     ghost use Rattle.rv_engine.specs.declared.listener.Flow.TheVariants.{GoOn, Stop};
 
-    // What is so of it once it has heard these results.
+    // What holds once it has received these results.
     ghost has_received: { Self → List H → Type 0 };
 
-    // What is so of it once it said stop.
+    // What holds once it has returned `Stop`.
     ghost stops: { Self → Type 0 };
 
-    /// Takes the result of the next job, and answers whether to go on. After a stop it hears no more.
+    /// Receives the result of the next job, and returns whether to continue. It receives nothing after a stop.
     fn receive(&mut self, made: H) -> Flow
         requires goes { stops self.old → ⊥ }
         ensures received { (results : List H) → has_received self.old results → has_received self.new (results ++ made ∷ []) }
         ensures goes { result ≡ GoOn → stops self.new → ⊥ }
         ensures stops { result ≡ Stop → stops self.new };
 
-    /// Sends out what it kept back, since the next result is not there yet. Answers whether to go on.
+    /// Flushes what it has buffered, since the next result is not ready yet. Returns whether to continue.
     fn pause(&mut self) -> Flow
         requires goes { stops self.old → ⊥ }
         ensures received { (results : List H) → has_received self.old results → has_received self.new results }
@@ -33,25 +33,25 @@ pub trait Listener<H> {
         ensures stops { result ≡ Stop → stops self.new };
 }
 
-/// Sees the results of jobs before a listener takes them.
+/// Sees the results of jobs before a listener receives them.
 pub trait Observer<H> {
     ghost use Rattle.std.specs.Prelude.{◌≡◌, ◌∷◌, ◌++◌, [], List};
     ghost use Rattle.rv_engine.specs.declared.listener.Flow.TheVariants.{GoOn, Stop};
 
-    // What is so of it once it has seen these results.
+    // What holds once it has seen these results.
     ghost has_seen: { Self → List H → Type 0 };
 
-    // What is so of it once it said stop.
+    // What holds once it has returned `Stop`.
     ghost stops: { Self → Type 0 };
 
-    /// Sees the result of the next job, and answers whether to go on. After a stop it sees no more.
+    /// Sees the result of the next job, and returns whether to continue. It sees nothing after a stop.
     fn see(&mut self, made: &H) -> Flow
         requires goes { stops self.old → ⊥ }
         ensures seen { (results : List H) → has_seen self.old results → has_seen self.new (results ++ made.now ∷ []) }
         ensures goes { result ≡ GoOn → stops self.new → ⊥ }
         ensures stops { result ≡ Stop → stops self.new };
 
-    /// Sends out what it kept back, since the next result is not there yet. Answers whether to go on.
+    /// Flushes what it has buffered, since the next result is not ready yet. Returns whether to continue.
     fn pause(&mut self) -> Flow
         requires goes { stops self.old → ⊥ }
         ensures seen { (results : List H) → has_seen self.old results → has_seen self.new results }

@@ -1,4 +1,4 @@
-//! The pieces in which jobs are run.
+//! The chunks in which jobs are run.
 
 ghost use Rattle.std.specs.Prelude.{◌≡◌, ◌*◌, ◌<◌, ◌≤◌, IfOk, OnOk};
 ghost use Rattle.rv_jobs.specs.Limits.{most_group, most_jobs};
@@ -8,7 +8,7 @@ use crate::work::Work;
 use crate::worker_state::WorkerState;
 use std::alloc::{AllocError, Global};
 
-/// How many pieces jobs are run in: groups of them, in order. The last piece may have fewer.
+/// Returns the number of chunks of `group` jobs each, in order. The last chunk may have fewer.
 pub(crate) fn piece_count(jobs: usize, group: u32) -> u64
     requires few { jobs ≤ most_jobs }
     requires some { 0 < group }
@@ -18,7 +18,7 @@ pub(crate) fn piece_count(jobs: usize, group: u32) -> u64
     jobs.div_ceil(group as usize) as u64
 }
 
-/// The results of the jobs of a piece.
+/// Makes the results of the jobs in a chunk.
 pub(crate) fn make_piece<H: Drop, W: Work<H>>(
     alloc: Global,
     work: &W,

@@ -1,4 +1,4 @@
-//! Threads that draw pieces, each with a pass of its own.
+//! Threads that draw chunks, each with its own pass.
 
 ghost use Rattle.std.specs.Prelude.{◌≡◌, ◌≤◌, IfOk};
 ghost use Rattle.std.specs.List.{All};
@@ -12,24 +12,24 @@ use std::sync::Wait;
 use std::thread;
 use std::thread::Threads;
 
-/// What each of the threads does.
+/// The work of each thread.
 pub(crate) trait Worker: Sync {
     ghost use Rattle.std.specs.Prelude.{◌≡◌};
     ghost use Rattle.rv_claims.specs.Passes.{SharedDraw};
 
-    // Whether the pieces of a shared draw are those that it works on.
+    // Whether a shared draw hands out the chunks that it works on.
     ghost draws: { Self → SharedDraw → Type 0 };
 
-    /// Takes pieces until there is none, or the run ends.
+    /// Takes chunks until none is left or the run ends.
     fn work_on_pieces(&self, claims: &Claims, pass: Pass) -> Result<(), AllocError>
         requires claims { draws self.now claims.now }
         requires pass { pass.draw ≡ claims.now };
 
-    /// Has the others end.
+    /// Tells the other workers to stop.
     fn give_up(&self);
 }
 
-/// As many threads as the crew has, or as there are pieces. It returns when all of them have ended.
+/// Runs as many threads as the crew has, or one per chunk if there are fewer chunks. Returns once all of them have ended.
 pub(crate) fn run_workers<R: Threads + Wait, S: Worker>(
     crew: &Crew<'_, R>,
     worker: &S,
@@ -55,7 +55,7 @@ pub(crate) fn run_workers<R: Threads + Wait, S: Worker>(
                         requires { S.draws worker.now claims.now × (pass.draw ≡ claims.now) }
                     { worker.work_on_pieces(claims, pass) },
                 ) else {
-                    // The others need not go on.
+                    // The others need not continue.
                     worker.give_up();
                     // No worker: `spawn` fails where the start of a thread was refused.
                     return Err(RunError::NoWorker);
@@ -67,7 +67,7 @@ pub(crate) fn run_workers<R: Threads + Wait, S: Worker>(
                 };
             }
             for handle in handles {
-                // What was refused is known under the lock.
+                // Any failed allocation is recorded under the lock.
                 let _made = handle.join(rt);
             }
             Ok(())
@@ -75,7 +75,7 @@ pub(crate) fn run_workers<R: Threads + Wait, S: Worker>(
     )
 }
 
-// A pass for each thread: as many as asked, or as there are free places. The last is the first pass itself.
+// Returns a pass for each thread: `count` of them, or as many as there are free pass indices. The last is the first pass itself.
 fn split_passes(
     alloc: Global,
     claims: &Claims,

@@ -1,32 +1,33 @@
-//! What is made of jobs.
+//! What a run makes of its jobs.
 
 use crate::worker_state::WorkerState;
 use std::alloc::{AllocError, Global};
 
-/// A result made of each of some jobs, which have numbers from 0 on.
+/// Makes a result of each job; jobs are numbered from 0.
 pub trait Work<H> {
     ghost use Rattle.std.specs.Prelude.{◌≡◌, ◌<◌, ◌≤◌, ℕ, IfOk, OnOk};
     ghost use Rattle.rv_jobs.specs.Limits.{most_jobs};
     ghost use Rattle.rv_engine.specs.declared.worker_state.WorkerState.{WorkerState};
 
-    // How many jobs there are.
+    // The number of jobs.
     ghost jobs: { Self → ℕ };
 
-    // What may be made of the job of a number.
+    // Which results the job with a number can have.
     ghost is_made: { Self → ℕ → H → Type 0 };
 
-    // What is so of a worker's bench behind each of its jobs.
+    // What holds of a worker's state after each of its jobs.
     ghost is_worker_state: { Self → WorkerState → Type 0 };
 
+    // Returns the number of jobs.
     fn jobs(&self) -> usize
         ensures value { result ≡ jobs self.now }
         ensures few { result ≤ most_jobs };
 
-    /// A bench behind no job.
+    /// Returns the state of a worker that has not run a job yet.
     fn new_worker_state(&self, alloc: Global) -> WorkerState
         ensures { is_worker_state self.now result };
 
-    /// Makes the result of the job of a number.
+    /// Makes the result of the job with this number.
     fn make(
         &self,
         alloc: Global,

@@ -1,4 +1,4 @@
-//! What a worker does: it draws pieces, makes them, and hands them on.
+//! The loop of a worker: draws chunks, makes their results and delivers them.
 
 ghost use Rattle.rv_jobs.specs.Limits.{most_group};
 ghost use Rattle.std.specs.Prelude.{◌≡◌, ◌<◌, ◌≤◌};
@@ -12,7 +12,7 @@ use rv_claims::{Claims, Pass};
 use std::alloc::{AllocError, Global};
 use std::sync::{Mutex, Wait};
 
-/// What all workers of a run have before them.
+/// What all workers of a run share.
 #[derive(Drop)]
 pub(crate) struct WorkerContext<'a, J: RunSpec<H>, H: Drop, R, W: Work<H>, L: Listener<H> + Drop> {
     pub(crate) rt: &'a R,

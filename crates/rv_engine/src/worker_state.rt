@@ -1,4 +1,4 @@
-//! What a worker has at hand from one job to the next.
+//! What a worker carries over from one job to the next.
 
 ghost use Rattle.rv_jobs.specs.Plans.{Planned};
 ghost use Rattle.rv_rows.specs.Recent.{AreOutcomes};
@@ -14,7 +14,7 @@ pub struct WorkerState {
 }
 
 impl WorkerState {
-    /// Takes no memory.
+    /// Creates a worker's state without allocating.
     pub fn new(alloc: Global) -> WorkerState
         ensures { (plan : Planned) → AreOutcomes plan result.recent }
     {

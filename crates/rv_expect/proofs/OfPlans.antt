@@ -9,7 +9,7 @@ use Rattle.rv_rows.specs.Rows.{expected_console_bytes, named_job_outcome, outcom
 use Rattle.rv_rows.specs.Verdict.{did_run, verdict_of}
 use Rattle.rv_expect.specs.UnmetInPlan.{row_of_same_as_job, sides_in, unmet_in}
 use Rattle.rv_expect.specs.Reference.{IsWord, signature_words_or_empty}
-use Rattle.rv_expect.specs.RowReporter.{HasItsVerdict, TellsWhatDoesNotHold, named_outcome, outcome_in_row, passes}
+use Rattle.rv_expect.specs.RowReporter.{HasItsVerdict, ReportsUnmet, named_outcome, outcome_in_row, passes}
 use Rattle.rv_expect.proofs.Tellings.{passes_where_empty, tells}
 
 outcome_of_row : (plan : Planned) (job : Job) → outcome_in_row (row_of plan job) ≡ outcome_in plan.answers job
@@ -35,7 +35,7 @@ module _ (plan : Planned) (job : Job) where
 
   pub tells_of_a_plan : did_run (row_of plan job).ending ≡ true
       → AllByRecursion IsWord (signature_words_or_empty (row_of plan job).signature)
-      → TellsWhatDoesNotHold (unmet_in plan job (row_of plan job)) job (outcome_in plan.answers job)
+      → ReportsUnmet (unmet_in plan job (row_of plan job)) job (outcome_in plan.answers job)
       (expected_console_bytes plan.answers job) (signature_reference_bytes plan.answers job) (named_job_outcome plan job)
   unfolding named
   tells_of_a_plan runs fit =
@@ -43,9 +43,9 @@ module _ (plan : Planned) (job : Job) where
       let console = expected_console_bytes plan.answers job in
       let reference = signature_reference_bytes plan.answers job in
       let of_row = tells (sides_in plan job (row_of plan job)) runs fit in
-      let of_outcome = subst (λ (o : Outcome). TellsWhatDoesNotHold told job o console reference
+      let of_outcome = subst (λ (o : Outcome). ReportsUnmet told job o console reference
       (named_outcome (row_of_same_as_job plan job))) (outcome_of_row plan job) of_row in
-      subst (λ (o : Option Outcome). TellsWhatDoesNotHold told job (outcome_in plan.answers job) console reference o)
+      subst (λ (o : Option Outcome). ReportsUnmet told job (outcome_in plan.answers job) console reference o)
       (outcome_of_named plan named) of_outcome
 
   pub passes_in_a_plan : did_run (row_of plan job).ending ≡ true

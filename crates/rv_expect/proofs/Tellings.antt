@@ -30,7 +30,7 @@ use Rattle.rv_expect.specs.Difference.{console_difference, difference_of_runs, d
 use Rattle.rv_expect.specs.Difference.{same_as_difference, signatures_difference}
 use Rattle.rv_expect.specs.Reference.{IsWord, difference_from_reference, read_reference}
 use Rattle.rv_expect.specs.Reference.{signature_difference, word_difference, signature_words_or_empty}
-use Rattle.rv_expect.specs.RowReporter.{HasItsVerdict, TellsWhatDoesNotHold, is_console, is_end, is_exit, is_nothing}
+use Rattle.rv_expect.specs.RowReporter.{HasItsVerdict, ReportsUnmet, is_console, is_end, is_exit, is_nothing}
 use Rattle.rv_expect.specs.RowReporter.{is_same, is_signature, named_outcome, outcome_in_row, passes}
 use Rattle.rv_expect.specs.Unmet.{unmet_of, unmet_of_expecting_job}
 use Rattle.rv_expect.proofs.Differences.{is_some-first_difference}
@@ -217,7 +217,7 @@ parts_of p sides a b c d e ha hb hc hd he =
 
 asked : (sides : Sides)
     → did_run sides.row.ending ≡ true → expects_anything sides.job ≡ true → AllByRecursion IsWord (signature_words_or_empty sides.row.signature)
-    → TellsWhatDoesNotHold (unmet_of_expecting_job sides) sides.job (outcome_in_row sides.row) sides.console sides.reference
+    → ReportsUnmet (unmet_of_expecting_job sides) sides.job (outcome_in_row sides.row) sides.console sides.reference
     (named_outcome sides.other)
 asked sides runs asks fit =
     let outcome = outcome_in_row sides.row in
@@ -285,7 +285,7 @@ no_same (Some place) other outcome none = cc
 
 unasked : (sides : Sides)
     → expects_anything sides.job ≡ false
-    → TellsWhatDoesNotHold (option_to_list (cond (has_expected_exit (Some 0) sides.row.ending) None (Some Nothing))) sides.job
+    → ReportsUnmet (option_to_list (cond (has_expected_exit (Some 0) sides.row.ending) None (Some Nothing))) sides.job
     (outcome_in_row sides.row) sides.console sides.reference (named_outcome sides.other)
 unasked sides none =
     let outcome = outcome_in_row sides.row in
@@ -311,7 +311,7 @@ unasked sides none =
 
 by_asked : (sides : Sides) (asks : Bool)
     → expects_anything sides.job ≡ asks → did_run sides.row.ending ≡ true → AllByRecursion IsWord (signature_words_or_empty sides.row.signature)
-    → TellsWhatDoesNotHold (cond asks (unmet_of_expecting_job sides)
+    → ReportsUnmet (cond asks (unmet_of_expecting_job sides)
     (option_to_list (cond (has_expected_exit (Some 0) sides.row.ending) None (Some Nothing)))) sides.job (outcome_in_row sides.row) sides.console
     sides.reference (named_outcome sides.other)
 by_asked sides true asks runs fit = asked sides runs asks fit
@@ -319,7 +319,7 @@ by_asked sides false none runs fit = unasked sides none
 
 pub tells : (sides : Sides)
     → did_run sides.row.ending ≡ true → AllByRecursion IsWord (signature_words_or_empty sides.row.signature)
-    → TellsWhatDoesNotHold (unmet_of sides) sides.job (outcome_in_row sides.row) sides.console sides.reference
+    → ReportsUnmet (unmet_of sides) sides.job (outcome_in_row sides.row) sides.console sides.reference
     (named_outcome sides.other)
 unfolding unmet_of
 tells sides runs fit =

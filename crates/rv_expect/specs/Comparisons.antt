@@ -1,11 +1,11 @@
--- A row of a job beside what it is compared with.
+-- A job's row together with the data it is compared with.
 use Rattle.std.specs.Prelude.{ℕ, List, Option, option_map}
 use Rattle.rv_jobs.specs.declared_job.Job.{Job}
 use Rattle.rv_rows.specs.declared_row.Row.{Row}
 use Rattle.rv_expect.specs.declared.comparison.Comparison.{Comparison}
 
--- the job and its row, the bytes that were read of the files that its console and its signature are
--- compared with, and the row of the job that it names
+-- the job and its row, the bytes read from the files that its console and its signature are compared with, and the row of the job that it
+-- names
 pub record Sides : Type 0 where
   pub job : Job
   pub row : Row

@@ -1,4 +1,4 @@
--- What differs first: between two lists, two consoles and two runs.
+-- The first difference between two lists, two consoles and two runs.
 use Rattle.std.specs.Prelude.{◌≡◌, ◌≢◌, ◌==◌, ◌+◌, ◌<◌, ℕ, List, [], ◌∷◌, length, take}
 use Rattle.std.specs.Prelude.{slice_index, Option, Some, None, option_map}
 use Rattle.std.specs.Prelude.{if◌then◌else◌}
@@ -14,7 +14,7 @@ use Rattle.rv_expect.specs.declared.difference.SameDifference.TheVariants as sam
 
 -- ---- two lists
 
--- what differs first, where the first elements stand at a place
+-- the first difference of two lists, with indices counted from the given one
 unfoldable pub difference_from : ℕ → List ℕ → List ℕ → Option Difference
 difference_from place [] [] = None
 difference_from place [] (y ∷ ys) = Some Lengths
@@ -22,23 +22,23 @@ difference_from place (x ∷ xs) [] = Some Lengths
 difference_from place (x ∷ xs) (y ∷ ys) =
     if x == y then difference_from (place + 1) xs ys else Some (At place)
 
--- what differs first; nothing where the lists are equal
+-- the first difference of two lists; none if they are equal
 abbrev pub first_difference : List ℕ → List ℕ → Option Difference
 first_difference xs ys = difference_from 0 xs ys
 
--- both lists have an element at a place; these differ, and before them the lists are equal
+-- both lists have an element at the index; these elements differ, and all earlier ones are equal
 pub record DifferAt (place : ℕ) (xs ys : List ℕ) : Type 0 where
   pub in_one : place < length xs
   pub in_other : place < length ys
   pub before : take place xs ≡ take place ys
   pub there : slice_index xs place ≢ slice_index ys place
 
--- as far as both lists go they are equal, and one goes further
+-- one list is a proper prefix of the other
 pub record DifferInLength (xs ys : List ℕ) : Type 0 where
   pub before : take (length ys) xs ≡ take (length xs) ys
   pub lengths : length xs ≢ length ys
 
--- what a difference says of two lists, which are both there
+-- a difference describes two lists, both of which are present
 abbrev pub IsDifference : Difference → List ℕ → List ℕ → Type 0
 IsDifference (At place) xs ys = DifferAt place xs ys
 IsDifference Lengths xs ys = DifferInLength xs ys
@@ -46,7 +46,7 @@ IsDifference Absent xs ys = ⊥
 
 -- ---- two consoles
 
--- between a console and the one that is expected, if one is: text, or the bytes of a file
+-- the first difference between a console and the expected one, if one is expected: text, or the bytes of a file
 abbrev pub console_difference :
     Option ExpectedConsole → Option (List ℕ) → List ℕ → Option Difference
 console_difference None file console = None
@@ -56,26 +56,26 @@ console_difference (Some (File path)) (Some bytes) console = first_difference co
 
 -- ---- two runs
 
--- between two signatures, of which one may be absent
+-- the first difference between two signatures, either of which may be missing
 abbrev pub signatures_difference : Option (List ℕ) → Option (List ℕ) → Option Difference
 signatures_difference None None = None
 signatures_difference (Some words) (Some others) = first_difference words others
 signatures_difference (Some words) None = Some Absent
 signatures_difference None (Some others) = Some Absent
 
--- between two rows that ended alike: the consoles come before the signatures
+-- the first difference between two rows with equal ends: consoles are compared before signatures
 abbrev pub difference_of_texts : Row → Row → Option SameDifference
 difference_of_texts row other =
     option_or (option_map same.Console (first_difference row.console other.console))
     (option_map same.Signature (signatures_difference row.signature other.signature))
 
--- between two rows: how they ended comes first
+-- the first difference between two rows: their ends are compared first
 abbrev pub difference_of_runs : Row → Row → Option SameDifference
 difference_of_runs row other =
     if are_alike_endings row.ending other.ending then difference_of_texts row other
     else Some same.Ending
 
--- between a row and that of the job that its job names, if it names one
+-- the first difference between a row and the row of the job that its job names, if it names one
 abbrev pub same_as_difference : Option ℕ → Option Row → Row → Option SameDifference
 same_as_difference None other row = None
 same_as_difference (Some place) None row = Some same.Absent

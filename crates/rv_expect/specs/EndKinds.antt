@@ -1,4 +1,4 @@
--- The kinds of ends that jobs have: exit, budget, each kind of fault, refused.
+-- The kinds of job ends: exit, budget, each kind of fault, refused.
 use Rattle.std.specs.Prelude.{◌==◌, ◌&&◌, ◌+◌, ◌-◌, ℕ, Bool, true, false, if◌then◌else◌}
 use Rattle.std.specs.Prelude.{Option, Some, None, length, slice_get}
 use Rattle.rv_machine.specs.declared.ending.FaultKind.{FaultKind}
@@ -11,22 +11,22 @@ use Rattle.rv_expect.specs.declared.end_kind.EndKind.{EndKind}
 use Rattle.rv_expect.specs.declared.end_kind.EndKind.TheVariants as end_kind
 use Rattle.rv_expect.specs.Judgement.{Judging, fails}
 
--- how many there are
+-- the number of kinds
 abbrev pub end_kind_count : ℕ
 end_kind_count = length fault_kinds + 3
 
--- a kind of fault, or what stands behind the last of them
+-- the end kind of a fault kind, or the kind that follows the last fault kind
 abbrev pub end_kind_of_index : Option FaultKind → EndKind
 end_kind_of_index (Some kind) = end_kind.Fault kind
 end_kind_of_index None = end_kind.Refused
 
--- the kind at a place among them
+-- the kind at an index
 abbrev pub end_kind_at : ℕ → EndKind
 end_kind_at place =
     if place == 0 then end_kind.Exit
     else (if place == 1 then end_kind.Budget else end_kind_of_index (slice_get fault_kinds (place - 2)))
 
--- whether an ending is of the kind
+-- whether a row's end is of the kind
 abbrev pub has_end_kind : EndKind → RowEnd → Bool
 has_end_kind end_kind.Exit (ending.Exit code) = true
 has_end_kind end_kind.Budget ending.Budget = true

@@ -1,4 +1,4 @@
--- What a run counts a row as: by a rule, and by a list of jobs that are known to fail.
+-- How a run counts a row, given a rule and a list of known failures.
 use Rattle.std.specs.Prelude.{ℕ, Bool, true, false, List, Option, Some, None, option_map}
 use Rattle.rv_expect.specs.declared.known_jobs.KnownJobs.{KnownJobs}
 use Rattle.rv_expect.specs.KnownJobs.{reason_of}
@@ -9,7 +9,7 @@ use Rattle.rv_expect.specs.declared.judgement.Judgement.{Judgement}
 use Rattle.rv_expect.specs.declared.judgement.Judgement.TheVariants as counted
 use Rattle.rv_expect.specs.declared.passing.Rule.{Rule}
 
--- a rule, and the known failures, where there are any
+-- a rule, and the known failures if there are any
 pub record Judging : Type 0 where
   pub rule : Rule
   pub known : Option KnownJobs
@@ -20,7 +20,7 @@ judging_of judge = record { rule = judge.rule; known = option_map (λ known. kno
 abbrev pub judging_by_rule : Rule → Judging
 judging_by_rule rule = record { rule = rule; known = None }
 
--- a row passed or failed; or it failed as it is known to, for a reason; or it passed, and the file at a path names it
+-- a row passed or failed; or it is a known failure, with a reason; or it passed although the file at a path lists it as a known failure
 pub data Judged : Type 0 where
   passed : Judged
   failed : Judged
@@ -33,12 +33,12 @@ judged_of counted.Failed = failed
 judged_of (counted.Known reason) = known reason.now
 judged_of (counted.NowPasses path) = now_passes path.now
 
--- by whether the row passed
+-- the judgement of a row that is not a known failure, by whether it passed
 abbrev pub judged_unknown : Bool → Judged
 judged_unknown true = passed
 judged_unknown false = failed
 
--- by whether it passed, and the reason for which it is known to fail in the file at a path, if it is
+-- the judgement by whether a row passed and by the reason that the file at a path gives for its failure, if it lists the job
 abbrev pub judged_in_file : List ℕ → Bool → Option (List ℕ) → Judged
 judged_in_file path has_passed None = judged_unknown has_passed
 judged_in_file path true (Some reason) = now_passes path
@@ -51,7 +51,7 @@ judged_by_known (Some file) has_passed name = judged_in_file file.path has_passe
 abbrev pub judgement : Judging → Row → Judged
 judgement judging row = judged_by_known judging.known (has_passed judging.rule row) row.name
 
--- what counts as a failure, as passed, and as known
+-- which judgements are failures, passes and known failures
 abbrev pub is_failing : Judged → Bool
 is_failing passed = false
 is_failing failed = true
@@ -66,7 +66,7 @@ abbrev pub is_known_failure : Judged → Bool
 is_known_failure (known reason) = true
 is_known_failure _ = false
 
--- it failed, and is not known to
+-- the row failed, and is not a known failure
 abbrev pub is_unknown_failure : Judged → Bool
 is_unknown_failure failed = true
 is_unknown_failure _ = false

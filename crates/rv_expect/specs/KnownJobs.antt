@@ -1,4 +1,4 @@
--- The jobs that a text names as known to fail, among the jobs of a list, or the text's first fault.
+-- The known failures that a text names, among the jobs of a list, or the first error in the text.
 use Rattle.std.specs.Prelude.{◌+◌, ℕ, Bool, List, [], ◌∷◌, ◌++◌, Ok, Err, Option, Some, None, Result}
 use Rattle.std.specs.Prelude.{if◌then◌else◌, is_some, length, map, option_map}
 use Rattle.std.specs.Borrow.{Bor}
@@ -13,7 +13,7 @@ use Rattle.rv_expect.specs.KnownLines.{has_name, lines_of, name_text, reason_tex
 
 -- ---- known jobs
 
--- the known job of a name, and why it is known to fail
+-- the known failure of the given name, with its reason
 abbrev pub known_job_of : List KnownJob → List ℕ → Option KnownJob
 known_job_of known name = find (λ (job : KnownJob). bytes_eq job.name name) known
 
@@ -28,38 +28,38 @@ is_known known name = is_some (known_job_of known name)
 abbrev pub known_job_of_line : List ℕ → KnownJob
 known_job_of_line line = record { name = name_text line; reason = reason_text line }
 
--- the known jobs of lines, one for each line that has a name
+-- the known failures of lines, one for each line that has a name
 abbrev pub known_in : List (List ℕ) → List KnownJob
 known_in lines = map known_job_of_line (filter has_name lines)
 
--- the names of jobs as they are handed over
+-- the names of jobs as passed to the function
 abbrev pub job_names : List (Bor (List ℕ)) → List (List ℕ)
 job_names jobs = map (λ name. name.now) jobs
 
--- a job has the name, where jobs have these
+-- one of these names is the given name
 abbrev pub has_job_named : List (List ℕ) → List ℕ → Bool
 has_job_named jobs name = list_any (λ job. bytes_eq job name) jobs
 
--- what is wrong with a name behind known jobs: it is none, it is known already, or no job has it
+-- what is wrong with a name that follows these known failures: it is invalid, a duplicate, or not the name of a job
 abbrev pub fault_kind : List (List ℕ) → List KnownJob → List ℕ → Option KnownFaultKind
 fault_kind jobs known name = if is_name name
     then (if is_known known name then Some kind.Twice
     else if has_job_named jobs name then None else Some kind.NoJob)
     else Some kind.NoName
 
--- the fault of a line behind these earlier ones: lines count from 1
+-- the error in a line that follows these earlier lines; lines count from 1
 abbrev pub fault_of_line : List (List ℕ) → List (List ℕ) → List ℕ → Option KnownFault
 fault_of_line jobs earlier line = if has_name line
     then option_map (λ kind. record { line = length earlier + 1; name = name_text line; kind = kind })
     (fault_kind jobs (known_in earlier) (name_text line))
     else None
 
--- the first of two, where there is one
+-- the first of two errors, if there is one
 abbrev pub first_of : Option KnownFault → Option KnownFault → Option KnownFault
 first_of (Some fault) more = Some fault
 first_of None more = more
 
--- the first fault of lines behind these earlier ones
+-- the first error in lines that follow these earlier lines
 unfoldable pub first_fault : List (List ℕ) → List (List ℕ) → List (List ℕ) → Option KnownFault
 first_fault jobs earlier [] = None
 first_fault jobs earlier (line ∷ lines) =

@@ -1,4 +1,4 @@
--- The lines of a list of known failures: a name, and behind a `#` the reason.
+-- The lines of a list of known failures: a name, then the reason after a `#`.
 use Rattle.std.specs.Prelude.{◌==◌, ◌-◌, ℕ, Bool, List, drop, length, map, not, take}
 use Rattle.std.specs.Borrow.{Bor}
 use Rattle.std.specs.Char.{is_ascii_whitespace}
@@ -14,11 +14,11 @@ is_hash byte = byte == 35
 abbrev pub lines_of : List ℕ → List (List ℕ)
 lines_of text = slice_split is_line_feed text
 
--- lines as they are handed over
+-- lines as passed to the function
 abbrev pub borrowed_lines : List (Bor (List ℕ)) → List (List ℕ)
 borrowed_lines lines = map (λ line. line.now) lines
 
--- a text without the white space at its start, and without that at its end
+-- a text without leading and without trailing white space
 abbrev pub without_space_before : List ℕ → List ℕ
 without_space_before text = drop (prefix_len is_ascii_whitespace text) text
 
@@ -28,7 +28,7 @@ without_space_behind text = take (length text - suffix_len is_ascii_whitespace t
 abbrev pub trimmed : List ℕ → List ℕ
 trimmed text = without_space_behind (without_space_before text)
 
--- what stands in a line before its first `#`, and what stands behind it
+-- the part of a line before its first `#`, and the part after it
 unfoldable pub name_text : List ℕ → List ℕ
 name_text line = trimmed (before_first is_hash line)
 

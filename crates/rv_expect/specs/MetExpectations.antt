@@ -8,7 +8,7 @@ use Rattle.rv_expect.specs.declared.unmet.Unmet.TheVariants as unmet
 use Rattle.rv_jobs.specs.declared_job.Job.{Job}
 use Rattle.rv_rows.specs.Verdict.{expects_anything}
 
--- a job has an expectation; one that has no other expects exit code 0
+-- a job has an expectation; a job without any other expects exit code 0
 unfoldable pub job_expects : Job → Expectation → Bool
 job_expects job expectation.Exit = is_some job.expect_exit
 job_expects job expectation.End = is_some job.expect_end
@@ -17,7 +17,7 @@ job_expects job expectation.Signature = is_some job.expect_signature
 job_expects job expectation.Same = is_some job.same_as
 job_expects job expectation.Nothing = not (expects_anything job)
 
--- it is the one that is not met
+-- an unmet expectation is of this kind
 unfoldable pub is_same_expectation : Expectation → Unmet → Bool
 is_same_expectation expectation.Exit unmet.Exit = true
 is_same_expectation expectation.End unmet.End = true

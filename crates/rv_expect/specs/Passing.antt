@@ -12,8 +12,7 @@ is_no_fail verdict.Unasked = true
 is_no_fail verdict.Pass = true
 is_no_fail verdict.Fail = false
 
--- strict: the verdict is pass, or the job expects nothing and ended with exit code 0; lenient: the
--- verdict is not fail
+-- strict: the verdict is pass, or the job expects nothing and ended with exit code 0; lenient: the verdict is anything but fail
 abbrev pub has_passed : Rule → Row → Bool
 has_passed Strict row = passes row.verdict row.ending
 has_passed Lenient row = is_no_fail row.verdict

@@ -1,4 +1,4 @@
--- References: the words that their lines write, and what differs from a signature.
+-- References: the words that their lines encode, and how they differ from a signature.
 use Rattle.std.specs.Prelude.{◌≡◌, ◌+◌, ◌<◌, ◌^◌, ℕ, List, [], ◌∷◌, ◌++◌, length, take, Option}
 use Rattle.std.specs.Prelude.{Some, None, Result, Ok, Err, option_map, if◌then◌else◌}
 use Rattle.std.specs.Int.{w32, from_be_bytes}
@@ -25,19 +25,19 @@ word_if_line line (Ok bytes) =
     if bytes_eq line (word_line word) then Some word else None
 word_if_line line (Err error) = None
 
--- the word whose line this is: eight lower-case hexadecimal digits and a line feed
+-- the word encoded by this line: eight lower-case hexadecimal digits and a line feed
 unfoldable pub word_of_line : List ℕ → Option ℕ
 word_of_line line = word_if_line line (decode_sized (take 8 line) 4)
 
 -- ---- all lines
 
--- a line of a word, or of none, and what the lines behind it are
+-- the result of a line, which encodes a word or does not, followed by lines with the given result
 abbrev pub with_reference_line : Option ℕ → Reference → Reference
 with_reference_line None behind = BadLine 1
 with_reference_line (Some word) (Words words) = Words (word ∷ words)
 with_reference_line (Some word) (BadLine line) = BadLine (line + 1)
 
--- the words whose lines a text is, or its first line that is not that of a word
+-- the words that a text's lines encode, or its first line that encodes no word
 unfoldable pub read_reference : List ℕ → Reference
 read_reference [] = Words []
 read_reference (a ∷ b ∷ c ∷ d ∷ e ∷ f ∷ g ∷ h ∷ feed ∷ rest) =
@@ -47,7 +47,7 @@ read_reference _ = BadLine 1
 abbrev pub IsWord : ℕ → Type 0
 IsWord word = word < 2 ^ 32
 
--- words of 32 bits, one a line, stand before a line, which is there and is not that of such a word
+-- the lines before this one encode 32-bit words, one per line; this line exists and does not
 pub record IsFirstBadLine (number : ℕ) (bytes : List ℕ) : Type 0 where
   pub words : List ℕ
   pub rest : List ℕ
@@ -57,7 +57,7 @@ pub record IsFirstBadLine (number : ℕ) (bytes : List ℕ) : Type 0 where
   pub there : rest ≡ [] → ⊥
   pub bad : (word : ℕ) (more : List ℕ) → IsWord word → rest ≡ word_line word ++ more → ⊥
 
--- what a reading says of a text
+-- what the result of reading a text states about the text
 abbrev pub IsReferenceOf : Reference → List ℕ → Type 0
 IsReferenceOf (Words words) text =
     AllByRecursion IsWord words × (text ≡ flat_map word_line words)
@@ -65,24 +65,24 @@ IsReferenceOf (BadLine line) text = IsFirstBadLine line text
 
 -- ---- compared with a signature
 
--- an absent signature counts as one of no words
+-- a missing signature counts as one without words
 abbrev pub signature_words_or_empty : Option (List ℕ) → List ℕ
 signature_words_or_empty None = []
 signature_words_or_empty (Some words) = words
 
--- a difference of words
+-- a difference of words as a difference of signatures
 abbrev pub word_difference : Difference → SignatureDifference
 word_difference (difference.At place) = Word place
 word_difference difference.Lengths = Count
 word_difference difference.Absent = Absent
 
--- between a reference and the words of a signature
+-- the first difference between a reference and the words of a signature
 abbrev pub difference_from_reference : Reference → List ℕ → Option SignatureDifference
 difference_from_reference (Words expected) words =
     option_map word_difference (first_difference words expected)
 difference_from_reference (BadLine line) words = Some (Line line)
 
--- between a signature and the reference that is expected, if one is
+-- the first difference between a signature and the expected reference, if one is expected
 abbrev pub signature_difference :
     Option (List ℕ) → Option (List ℕ) → Option (List ℕ) → Option SignatureDifference
 signature_difference None bytes signature = None

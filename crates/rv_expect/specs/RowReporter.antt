@@ -1,4 +1,4 @@
--- What the unmet expectations say of a row, by the definitions of the verdict.
+-- How a row's unmet expectations relate to the definitions of the verdict.
 use Rattle.std.specs.Prelude.{◌≡◌, ◌&&◌, ℕ, Bool, true, false, not, List, Option}
 use Rattle.std.specs.Prelude.{option_map}
 use Rattle.std.specs.List.{list_any}
@@ -55,9 +55,9 @@ outcome_in_row row = record {
 abbrev pub named_outcome : Option Row → Option Outcome
 named_outcome other = option_map outcome_in_row other
 
--- an expectation is among those that are told exactly where it does not hold, and the one of a job
--- that expects nothing exactly where its run did not end with exit code 0
-pub record TellsWhatDoesNotHold (told : List Unmet) (job : Job) (outcome : Outcome)
+-- an expectation is reported exactly when it does not hold, and the default one of a job that expects nothing exactly when its run did not
+-- end with exit code 0
+pub record ReportsUnmet (told : List Unmet) (job : Job) (outcome : Outcome)
     (file reference : Option (List ℕ)) (other : Option Outcome) : Type 0 where
   pub exit : list_any is_exit told ≡ not (has_expected_exit job.expect_exit outcome.ending)
   pub end : list_any is_end told ≡ not (has_expected_end job.expect_end outcome.ending)
@@ -68,13 +68,13 @@ pub record TellsWhatDoesNotHold (told : List Unmet) (job : Job) (outcome : Outco
   pub nothing : list_any is_nothing told
       ≡ (not (expects_anything job) && not (exits_with 0 outcome.ending))
 
--- the job passes where its verdict is pass, and where it expects nothing and ended with exit code 0
+-- the verdict is pass, or the job expects nothing and ended with exit code 0
 abbrev pub passes : Verdict → RowEnd → Bool
 passes verdict.Pass end = true
 passes verdict.Fail end = false
 passes verdict.Unasked end = exits_with 0 end
 
--- the verdict of a row is the one on its outcome
+-- the row's verdict is the verdict on its outcome
 abbrev pub HasItsVerdict : Sides → Type 0
 HasItsVerdict sides =
     sides.row.verdict ≡ verdict_of sides.job (outcome_in_row sides.row) sides.reference

@@ -1,7 +1,7 @@
--- A job that expects two ends.
+-- Jobs that expect two different ends.
 use Rattle.std.specs.Prelude.{◌&&◌, Bool, is_some}
 use Rattle.rv_jobs.specs.declared_job.Job.{Job}
 
--- the job expects an exit code, and an end that is not by an exit
+-- the job expects an exit code and also an end other than an exit
 abbrev pub expects_two_ends : Job → Bool
 expects_two_ends job = is_some job.expect_exit && is_some job.expect_end

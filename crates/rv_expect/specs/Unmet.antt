@@ -29,11 +29,11 @@ unmet_signature difference = option_map Signature difference
 abbrev pub unmet_same_as : Job → Option Row → Row → Option Unmet
 unmet_same_as job other row = option_map Same (same_as_difference job.same_as other row)
 
--- a job that expects nothing is to end with exit code 0
+-- the unmet default of a job that expects nothing: exit code 0
 abbrev pub unmet_default_exit : RowEnd → Option Unmet
 unmet_default_exit end = if has_expected_exit (Some 0) end then None else Some Nothing
 
--- those of a job that expects something and ran
+-- the unmet expectations of a job that has expectations and ran
 abbrev pub unmet_of_expecting_job : Sides → List Unmet
 unmet_of_expecting_job sides =
     option_to_list (unmet_exit sides.job sides.row.ending)
@@ -43,7 +43,7 @@ unmet_of_expecting_job sides =
     (signature_difference sides.job.expect_signature sides.reference sides.row.signature))
     ++ option_to_list (unmet_same_as sides.job sides.other sides.row)
 
--- those of a row of a job beside what it is compared with; a refused row has none
+-- the unmet expectations of a row, given what it is compared with; a refused row has none
 unfoldable pub unmet_of : Sides → List Unmet
 unmet_of sides =
     if did_run sides.row.ending then

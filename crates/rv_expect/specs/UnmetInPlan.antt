@@ -13,7 +13,7 @@ abbrev pub row_of_same_as_job : Planned → Job → Option Row
 row_of_same_as_job plan job =
     option_map (row_of plan) (option_and_then (slice_get plan.jobs) job.same_as)
 
--- a row of a job, beside what the plan keeps of its files and the row of the job that it names
+-- a job's row together with the contents of its files in the plan and the row of the job that it names
 abbrev pub sides_in : Planned → Job → Row → Sides
 sides_in plan job row = record {
   job = job;

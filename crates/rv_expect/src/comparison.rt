@@ -1,18 +1,17 @@
-//! A row beside what it is compared with.
+//! A row together with the data it is compared with.
 
 use rv_jobs::Job;
 use rv_rows::Row;
 
-/// The row of a job, beside all that its job expects it to be the same as.
+/// A job's row together with everything that its job expects it to equal.
 #[derive(Clone, Copy)]
 pub struct Comparison<'a, 'b> {
     pub job: &'a Job,
-    /// The job's row.
     pub row: &'a Row,
-    /// The bytes of the file that the console is compared with, where one was read.
+    /// The bytes of the file that the console is compared with, if one was read.
     pub console: Option<&'a [u8]>,
-    /// The bytes of the reference that the signature is compared with, where one was read.
+    /// The bytes of the reference that the signature is compared with, if one was read.
     pub reference: Option<&'a [u8]>,
-    /// The row of the job that this one names, where it was run.
+    /// The row of the job that this one names, if that job was run.
     pub other: Option<&'b Row>,
 }

@@ -1,4 +1,4 @@
-//! What differs first.
+//! The first difference between two results.
 
 ghost use Rattle.std.specs.Prelude.{◌≡◌, option_map};
 ghost use Rattle.rv_expect.specs.Difference.{console_difference, difference_of_runs, first_difference};
@@ -7,45 +7,45 @@ ghost use Rattle.rv_expect.specs.Difference.{same_as_difference, signatures_diff
 use rv_jobs::ExpectedConsole;
 use rv_rows::{Row, Words, are_alike_endings};
 
-/// What differs first between two sequences.
+/// The first difference between two sequences.
 #[derive(Clone, Copy)]
 pub enum Difference {
-    /// The elements at this place, counted from 0: the first place where both have one and they differ.
+    /// The elements at this index, counted from 0, are the first that differ.
     At(usize),
-    /// One is a proper beginning of the other.
+    /// One sequence is a proper prefix of the other.
     Lengths,
-    /// One of the two is not there, as of a file that was not read.
+    /// One of the two is missing, for example because a file was not read.
     Absent,
 }
 
-/// What differs first between a reference and a signature.
+/// The first difference between a reference and a signature.
 #[derive(Clone, Copy)]
 pub enum SignatureDifference {
-    /// The first line of the reference, counted from 1, that is not eight lower-case hexadecimal digits and a line
-    /// feed, so that no words are compared.
+    /// The first line of the reference, counted from 1, that is not eight lower-case hexadecimal digits and a line feed. No words are
+    /// compared then.
     Line(usize),
-    /// The words at this place, counted from 0: the first place where both have one and they differ.
+    /// The words at this index, counted from 0, are the first that differ.
     Word(usize),
-    /// The numbers of words, where all that both have are the same.
+    /// The numbers of words differ; the words that both have are equal.
     Count,
     /// The reference was not read.
     Absent,
 }
 
-/// What differs first between a run and that of the job that it is expected to be the same as.
+/// The first difference between a run and the run of the job that it is expected to equal.
 #[derive(Clone, Copy)]
 pub enum SameDifference {
-    /// How they ended.
+    /// The ends of the runs.
     Ending,
-    /// The bytes of their consoles.
+    /// The bytes of the consoles.
     Console(Difference),
-    /// The words of their signatures, of which one may be absent.
+    /// The words of the signatures, either of which may be missing.
     Signature(Difference),
-    /// The row of the named job is not there.
+    /// The row of the named job is missing.
     Absent,
 }
 
-/// What differs first between bytes that were met and those that are expected.
+/// Returns the first difference between actual and expected bytes.
 pub(crate) fn first_byte_difference(met: &[u8], expected: &[u8]) -> Option<Difference>
     ensures { result ≡ first_difference met.now expected.now }
 {
@@ -64,7 +64,7 @@ pub(crate) fn first_byte_difference(met: &[u8], expected: &[u8]) -> Option<Diffe
     }
 }
 
-/// What differs first between words that were met and those that are expected.
+/// Returns the first difference between actual and expected words.
 pub(crate) fn first_word_difference(met: &[u32], expected: &[u32]) -> Option<Difference>
     ensures { result ≡ first_difference met.now expected.now }
 {
@@ -83,7 +83,8 @@ pub(crate) fn first_word_difference(met: &[u32], expected: &[u32]) -> Option<Dif
     }
 }
 
-/// What differs between a console and the one that is expected, if one is, over the bytes of the file that it names.
+/// Returns the difference between a console and the expected one, if one is expected. `file` holds the bytes of the file that the
+/// expectation names.
 pub(crate) fn console_difference(
     expected: &Option<ExpectedConsole>,
     file: Option<&[u8]>,
@@ -100,7 +101,7 @@ pub(crate) fn console_difference(
     }
 }
 
-/// What differs between a row and that of the job that its job names, if it names one.
+/// Returns the difference between a row and the row of the job that its job names, if it names one.
 pub(crate) fn same_as_difference(
     named: Option<usize>,
     other: Option<&Row>,

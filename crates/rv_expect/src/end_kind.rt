@@ -1,4 +1,4 @@
-//! The kinds of ends that jobs have.
+//! The kinds of job ends.
 
 ghost use Rattle.std.specs.Prelude.{◌≡◌, slice_get};
 ghost use Rattle.rv_machine.specs.Faults.{fault_kinds};
@@ -9,25 +9,25 @@ use crate::judgement::Judge;
 use rv_machine::FaultKind;
 use rv_rows::{Row, RowEnd};
 
-/// The kind of a job's end: without the code, the address or the value that it has.
+/// The kind of a job's end, without its exit code, address or value.
 #[derive(Clone, Copy)]
 pub enum EndKind {
-    /// The exit call.
+    /// The job ended with the exit call.
     Exit,
-    /// The budget was used up.
+    /// The job used up its budget.
     Budget,
-    /// A fault of the kind.
+    /// The job ended with a fault of this kind.
     Fault(FaultKind),
-    /// The job was refused, and did not run.
+    /// The job was refused and did not run.
     Refused,
 }
 
 impl EndKind {
-    /// How many there are.
+    /// The number of kinds.
     pub const COUNT: usize = FaultKind::ALL.len() + 3;
 
-    /// The kind at a place below [`COUNT`](EndKind::COUNT), in the order exit, budget, each kind of fault, refused.
-    pub fn from_place(place: usize) -> EndKind
+    /// Returns the kind at an index below [`COUNT`](EndKind::COUNT), in the order exit, budget, each kind of fault, refused.
+    pub fn from_index(place: usize) -> EndKind
         ensures { result ≡ end_kind_at place }
     {
         if place == 0 {
@@ -49,7 +49,7 @@ fn end_kind_of_index(place: usize) -> EndKind
     }
 }
 
-/// Whether a row counts as a failure, and its end is of the kind.
+/// Whether a row counts as a failure and its end is of the kind.
 pub fn fails_with_end_kind(judge: &Judge<'_>, kind: EndKind, row: &Row) -> bool
     ensures { result ≡ fails_with_end_kind (judging_of judge.now) kind row.now }
 {

@@ -1,4 +1,4 @@
-//! What a run counts a row as.
+//! How a run counts its rows: passed, failed or known to fail.
 
 ghost use Rattle.std.specs.Prelude.{◌≡◌};
 ghost use Rattle.std.specs.List.{list_any};
@@ -10,34 +10,34 @@ use crate::known_jobs::KnownJobs;
 use crate::passing::{Rule, has_passed};
 use rv_rows::Row;
 
-/// How the rows of a run are counted.
+/// The rules by which the rows of a run are counted.
 #[derive(Clone, Copy)]
 pub struct Judge<'k> {
     pub rule: Rule,
-    /// The jobs that are known to fail, where a file names them.
+    /// The jobs that are known to fail, if a file lists them.
     pub known: Option<&'k KnownJobs>,
 }
 
-/// What a row counts as.
+/// How a row counts.
 #[derive(Clone, Copy)]
 pub enum Judgement<'k> {
     Passed,
     Failed,
-    /// It failed, as it is known to, for this reason, which may be empty.
+    /// It failed and is known to fail, for this reason, which may be empty.
     Known(&'k [u8]),
-    /// It passed, and the file at this path says that it is known to fail: a failure.
+    /// It passed although the file at this path lists it as a known failure; this counts as a failure.
     NowPasses(&'k str),
 }
 
 impl<'k> Judge<'k> {
-    /// By a rule alone: no job is known to fail.
+    /// Creates a judge that applies only this rule, without known failures.
     pub fn by_rule(rule: Rule) -> Judge<'k>
         ensures { judging_of result ≡ judging_by_rule rule }
     {
         Judge { rule, known: None }
     }
 
-    /// What a row counts as.
+    /// Returns how a row counts.
     pub fn judgement(&self, row: &Row) -> Judgement<'k>
         ensures { judged_of result ≡ judgement (judging_of self.now) row.now }
     {
@@ -55,7 +55,7 @@ impl<'k> Judge<'k> {
         self.judgement(row).is_failing()
     }
 
-    /// Whether some row counts as a failure.
+    /// Whether at least one row counts as a failure.
     pub fn fail_some(&self, rows: &[Row]) -> bool
         ensures { result ≡ list_any (fails (judging_of self.now)) rows.now }
     {
@@ -64,7 +64,7 @@ impl<'k> Judge<'k> {
 }
 
 impl<'k> Judgement<'k> {
-    /// Whether it is a failure.
+    /// Whether this counts as a failure.
     pub fn is_failing(self) -> bool
         ensures { result ≡ is_failing (judged_of self.entry) }
     {
@@ -74,7 +74,7 @@ impl<'k> Judgement<'k> {
         }
     }
 
-    /// Whether it is a row that passed, and is not known to fail.
+    /// Whether the row passed and is not a known failure.
     pub fn is_passed(self) -> bool
         ensures { result ≡ is_passed (judged_of self.entry) }
     {
@@ -84,7 +84,7 @@ impl<'k> Judgement<'k> {
         }
     }
 
-    /// Whether it is a failure that is not known.
+    /// Whether this is a failure that is not a known one.
     pub fn is_unknown_failure(self) -> bool
         ensures { result ≡ is_unknown_failure (judged_of self.entry) }
     {
@@ -94,7 +94,7 @@ impl<'k> Judgement<'k> {
         }
     }
 
-    /// Whether it is a failure that is known.
+    /// Whether this is a known failure.
     pub fn is_known(self) -> bool
         ensures { result ≡ is_known_failure (judged_of self.entry) }
     {

@@ -1,4 +1,4 @@
-//! Jobs that are known to fail, and what is wrong with a text that is to name them.
+//! Jobs that are known to fail, and the errors of a text that lists them.
 
 ghost use Rattle.std.specs.Prelude.{◌≡◌, option_map};
 ghost use Rattle.rv_expect.specs.KnownJobs.{known_job_of, reason_of};
@@ -10,21 +10,21 @@ use rv_base::{Bytes, Sequence, Text};
 pub struct KnownJob {
     /// The job's name: 1 to 64 ASCII letters, digits, `.`, `_` and `-`.
     pub name: Bytes,
-    /// Why it fails, as the text says it: any bytes but a line feed, or none.
+    /// Why it fails, as given in the text: any bytes except a line feed; may be empty.
     pub reason: Bytes,
 }
 
-/// The jobs that a file names as known to fail.
+/// The jobs that a file lists as known failures.
 #[derive(Debug, Drop)]
 pub struct KnownJobs {
-    /// The file's path, as it was given.
+    /// The file's path, as the user gave it.
     pub path: Text,
-    /// In the order of the file, each name once.
+    /// The jobs in the order of the file, each name once.
     pub jobs: Sequence<KnownJob>,
 }
 
 impl KnownJobs {
-    /// Why the job of a name is known to fail. None where it is not known to.
+    /// Returns why the job of this name is known to fail, or `None` if it is not.
     pub fn reason_of(&self, name: &[u8]) -> Option<&[u8]>
         ensures { option_map (λ reason. reason.now) result ≡ reason_of self.now.jobs name.now }
     {
@@ -35,7 +35,7 @@ impl KnownJobs {
     }
 }
 
-/// The known job of a name.
+/// Returns the known failure of this name.
 pub(crate) fn known_job_of<'a>(jobs: &'a [KnownJob], name: &[u8]) -> Option<&'a KnownJob>
     ensures { option_map (λ job. job.now) result ≡ known_job_of jobs.now name.now }
 {
@@ -45,20 +45,20 @@ pub(crate) fn known_job_of<'a>(jobs: &'a [KnownJob], name: &[u8]) -> Option<&'a 
 /// What is wrong with a line.
 #[derive(Clone, Copy, Debug, PartialEq, Eq)]
 pub enum KnownFaultKind {
-    /// What stands before the reason is no name of a job.
+    /// The part before the reason is not a valid job name.
     NoName,
-    /// A line before it has the same name.
+    /// An earlier line has the same name.
     Twice,
-    /// No job of the list has the name.
+    /// The list has no job of this name.
     NoJob,
 }
 
-/// The first fault of a text.
+/// The first error in a text.
 #[derive(Debug, Drop)]
 pub struct KnownFault {
-    /// The number of its line, from 1.
+    /// The line's number, from 1.
     pub line: usize,
-    /// What stands in the line before the reason, without white space around it.
+    /// The part of the line before the reason, without surrounding white space.
     pub name: Bytes,
     pub kind: KnownFaultKind,
 }

@@ -1,4 +1,4 @@
-//! The parts of a line.
+//! The parts of a line in a list of known failures.
 
 ghost use Rattle.std.specs.Prelude.{◌≡◌, ◌≤◌, IfOk, length, position};
 ghost use Rattle.std.specs.List.{position_or_len};
@@ -6,27 +6,27 @@ ghost use Rattle.rv_expect.specs.KnownLines.{borrowed_lines, is_hash, lines_of, 
 
 use std::alloc::{AllocError, Global};
 
-/// The lines of a text, without their line feeds. Takes memory for their places.
+/// Returns the lines of a text, without their line feeds. Allocates the list of slices.
 pub(crate) fn lines_of(alloc: Global, text: &[u8]) -> Result<Vec<&[u8]>, AllocError>
     ensures { IfOk result (λ lines. borrowed_lines lines.items ≡ lines_of text.now) }
 {
     text.split(|byte| *byte == b'\n').collect(alloc)
 }
 
-/// The name that stands in a line, or nothing.
+/// Returns the name in a line, empty if it has none.
 #[tactic(auto, unfolding(crate::specs::KnownLines::name_text))]
 pub(crate) fn name_text(line: &[u8]) -> &[u8]
     ensures { result.now ≡ name_text line.now }
 {
-    trimmed(&line[..hash_place(line)])
+    trimmed(&line[..hash_index(line)])
 }
 
-/// The reason that stands in a line, or nothing.
+/// Returns the reason in a line, empty if it has none.
 #[tactic(auto, unfolding(crate::specs::KnownLines::reason_text))]
 pub(crate) fn reason_text(line: &[u8]) -> &[u8]
     ensures { result.now ≡ reason_text line.now }
 {
-    let place = hash_place(line);
+    let place = hash_index(line);
     if place < line.len() {
         trimmed(&line[place + 1..])
     } else {
@@ -34,8 +34,8 @@ pub(crate) fn reason_text(line: &[u8]) -> &[u8]
     }
 }
 
-// The place of the first `#`, or the length.
-fn hash_place(line: &[u8]) -> usize
+// Returns the index of the first `#`, or the length if there is none.
+fn hash_index(line: &[u8]) -> usize
     ensures place { result ≡ position_or_len is_hash line.now }
     ensures within { result ≤ length line.now }
 {
@@ -51,6 +51,7 @@ fn first_hash(line: &[u8]) -> Option<usize>
     line.iter().position(|byte| *byte == b'#')
 }
 
+// Returns a text without leading and trailing white space.
 fn trimmed(text: &[u8]) -> &[u8]
     ensures { result.now ≡ trimmed text.now }
 {

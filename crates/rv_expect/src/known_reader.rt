@@ -1,4 +1,4 @@
-//! How a text is read as known jobs.
+//! Parses the list of known failures.
 
 ghost use Rattle.std.specs.Prelude.{◌≡◌, ◌+◌, ℕ, IfOk, List, length};
 ghost use Rattle.std.specs.List.{list_any};
@@ -12,8 +12,8 @@ use crate::known_lines::{lines_of, name_text, reason_text};
 use rv_base::{Bytes, Sequence, is_name};
 use std::alloc::{AllocError, Global};
 
-/// Reads a text as the jobs that are known to fail, among the jobs of these names: a name in a line, and behind a `#` the reason. A line
-/// with no name says nothing. The inner error is the first fault of the text.
+/// Parses a list of known failures among jobs of these names: one name per line, then the reason after a `#`. Lines without a name are
+/// ignored. The inner error is the first error in the text.
 pub fn read_known_jobs(
     alloc: Global,
     jobs: &[&str],
@@ -44,7 +44,7 @@ fn read_lines(
     Ok(Ok(Sequence::new(known)))
 }
 
-// What is wrong with the line of a number behind these known jobs, if anything is.
+// Returns the error in the line with this number that follows these known failures, if there is one.
 fn fault_of_line(
     alloc: Global,
     jobs: &[&str],
@@ -70,7 +70,7 @@ fn fault_of_line(
     }))
 }
 
-// What is wrong with a name behind these known jobs, if anything is.
+// Returns what is wrong with a name that follows these known failures, if anything is.
 fn fault_kind(jobs: &[&str], known: &[KnownJob], name: &[u8]) -> Option<KnownFaultKind>
     ensures { result ≡ fault_kind (job_names jobs.now) known.now name.now }
 {

@@ -1,4 +1,4 @@
-//! Laws of what is told, with nothing to run.
+//! Laws about reported differences and expectations; none of them is executed.
 
 ghost use Rattle.std.specs.Prelude.{◌≡◌, ◌==◌, ℕ, List, IsTrue, MatchOption, length};
 ghost use Rattle.std.specs.List.{AllByRecursion, flat_map};
@@ -12,37 +12,37 @@ ghost use Rattle.rv_expect.specs.Comparisons.{Sides};
 ghost use Rattle.rv_expect.specs.Difference.{IsDifference, first_difference};
 ghost use Rattle.rv_expect.specs.UnmetInPlan.{unmet_in};
 ghost use Rattle.rv_expect.specs.Reference.{IsReferenceOf, IsWord, read_reference, signature_words_or_empty};
-ghost use Rattle.rv_expect.specs.RowReporter.{HasItsVerdict, TellsWhatDoesNotHold, named_outcome, outcome_in_row, passes};
+ghost use Rattle.rv_expect.specs.RowReporter.{HasItsVerdict, ReportsUnmet, named_outcome, outcome_in_row, passes};
 ghost use Rattle.rv_expect.specs.Unmet.{unmet_of};
 
-/// What is said to differ between two lists differs, and at the first place: before it they are equal. Where nothing is
-/// said, they are equal.
+/// A reported difference of two lists is a real one, and the first: before it the lists are equal. If none is reported, the lists are
+/// equal.
 pub fn differences_are_first()
     ensures { (xs ys : List ℕ)
         → MatchOption (first_difference xs ys) (xs ≡ ys)
         (λ difference. IsDifference difference xs ys) }
 {}
 
-/// A reference is read as words exactly where it is their lines. Else the first line is named that is not that of a
-/// word of 32 bits.
+/// A reference parses as words exactly when it consists of their lines. Otherwise the result names the first line that does not encode a
+/// 32-bit word.
 pub fn references_are_lines_of_words()
     ensures read { (text : List ℕ) → IsReferenceOf (read_reference text) text }
     ensures written { (words : List ℕ) → AllByRecursion IsWord words
         → read_reference (flat_map word_line words) ≡ Words words }
 {}
 
-/// Of a row that is not refused, with words of 32 bits in its signature, an expectation is told exactly where it does
-/// not hold by the definitions of the verdict.
+/// For a row that is not refused and whose signature has 32-bit words, an expectation is reported exactly when it does not hold by the
+/// definitions of the verdict.
 pub fn unmet_is_what_does_not_hold()
     ensures { (sides : Sides)
         → IsTrue (did_run sides.row.ending)
         → AllByRecursion IsWord (signature_words_or_empty sides.row.signature)
-        → TellsWhatDoesNotHold (unmet_of sides) sides.job (outcome_in_row sides.row)
+        → ReportsUnmet (unmet_of sides) sides.job (outcome_in_row sides.row)
         sides.console sides.reference (named_outcome sides.other) }
 {}
 
-/// Of such a row with its verdict, nothing is told exactly where its job passes: where the verdict is pass, or nothing
-/// is expected and the run ended with exit code 0.
+/// For such a row with its verdict, nothing is reported exactly when its job passes: its verdict is pass, or it expects nothing and ended
+/// with exit code 0.
 pub fn nothing_is_unmet_where_a_job_passes()
     ensures { (sides : Sides)
         → IsTrue (did_run sides.row.ending)
@@ -51,14 +51,14 @@ pub fn nothing_is_unmet_where_a_job_passes()
         → (length (unmet_of sides) == 0) ≡ passes sides.row.verdict sides.row.ending }
 {}
 
-/// Of a plan's job whose row is not refused, with words of 32 bits in its signature, an expectation is told exactly
-/// where it does not hold by the definitions of the verdict, over what the plan keeps of the job's files and the outcome
-/// of the job that it names. Nothing is told exactly where the job passes.
+/// For a plan's job whose row is not refused and whose signature has 32-bit words, an expectation is reported exactly when it does not hold
+/// by the definitions of the verdict, given the plan's contents of the job's files and the outcome of the job that it names. Nothing is
+/// reported exactly when the job passes.
 pub fn unmet_of_a_plan_is_what_does_not_hold()
     ensures told { (plan : Planned) (job : Job)
         → IsTrue (did_run (row_of plan job).ending)
         → AllByRecursion IsWord (signature_words_or_empty (row_of plan job).signature)
-        → TellsWhatDoesNotHold (unmet_in plan job (row_of plan job)) job
+        → ReportsUnmet (unmet_in plan job (row_of plan job)) job
         (outcome_in plan.answers job) (expected_console_bytes plan.answers job) (signature_reference_bytes plan.answers job) (named_job_outcome plan job) }
     ensures passes { (plan : Planned) (job : Job)
         → IsTrue (did_run (row_of plan job).ending)

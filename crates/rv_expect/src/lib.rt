@@ -1,16 +1,14 @@
-//! What a person is told of a row: which expectations of its job the run does not meet, and what differs first.
+//! Explains a row to a person: which expectations of its job the run does not meet, and the first difference for each.
 //!
-//! [`unmet_expectations`] answers them over a [`Comparison`]: the bytes of a job's files, and the row of the job that it names, which
-//! [`row_of_same_as_job`] makes. Their order is exit, end, console, signature, other job. Each is told exactly where it does not hold by the
-//! definitions of the verdict
-//! ([`unmet_is_what_does_not_hold`], [`unmet_of_a_plan_is_what_does_not_hold`]), and none exactly where the job passes
-//! ([`nothing_is_unmet_where_a_job_passes`]). What is said to differ is the first that does ([`differences_are_first`]),
-//! and a reference is words exactly where it is their lines ([`references_are_lines_of_words`]). A job that
-//! [`expects_two_ends`] never passes ([`two_ends_fail`]).
+//! [`unmet_expectations`] returns them for a [`Comparison`]: the bytes of a job's files, and the row of the job that it names, which
+//! [`row_of_same_as_job`] makes. Their order is exit, end, console, signature, other job. Each is reported exactly when it does not hold by
+//! the definitions of the verdict ([`unmet_is_what_does_not_hold`], [`unmet_of_a_plan_is_what_does_not_hold`]), and none exactly when the
+//! job passes ([`nothing_is_unmet_where_a_job_passes`]). A reported difference is the first one ([`differences_are_first`]), and a
+//! reference parses as words exactly when it consists of their lines ([`references_are_lines_of_words`]). A job that [`expects_two_ends`]
+//! never passes ([`two_ends_fail`]).
 //!
-//! [`read_known_jobs`] reads the list of known failures: names of jobs that are known to fail, each with a reason. It gives a
-//! [`KnownJob`] for each, or the first fault of the text ([`KnownFault`]). [`KnownJobs`] are those of a file; they answer why a job is
-//! known to fail.
+//! [`read_known_jobs`] parses the list of known failures: names of jobs, each with a reason. It returns a [`KnownJob`] for each, or the
+//! first error in the text ([`KnownFault`]). [`KnownJobs`] holds those of a file and looks up why a job is known to fail.
 #![tactic(auto)]
 
 mod comparison;

@@ -8,7 +8,7 @@ use crate::unmet::Unmet;
 use rv_jobs::Job;
 use rv_rows::expects_anything;
 
-/// What a job may expect.
+/// The kinds of expectations that a job can have.
 #[derive(Clone, Copy)]
 pub enum Expectation {
     Exit,
@@ -16,11 +16,11 @@ pub enum Expectation {
     Console,
     Signature,
     Same,
-    /// Exit code 0, where it expects nothing else.
+    /// Exit code 0, expected if the job has no other expectation.
     Nothing,
 }
 
-/// Whether a job has an expectation that is not among those that its run does not meet.
+/// Whether a job has this expectation and its run meets it.
 pub fn is_expectation_met(job: &Job, unmet: &[Unmet], one: Expectation) -> bool
     ensures { result ≡ is_expectation_met job.now unmet.now one }
 {

@@ -5,17 +5,17 @@ ghost use Rattle.rv_expect.specs.Passing.{has_passed};
 
 use rv_rows::{Row, Verdict, has_expected_exit};
 
-/// What counts as a failure.
+/// Which rows count as failures.
 #[derive(Clone, Copy)]
 pub enum Rule {
-    /// All but a job that meets what is expected of it, and one that expects nothing and ends with exit code 0: also a
-    /// refused image, and a fault or a used-up budget that nobody expected.
+    /// Every job fails unless it meets its expectations, or expects nothing and ends with exit code 0. So a refused image and an unexpected
+    /// fault or used-up budget count as failures.
     Strict,
-    /// A job that does not meet what is expected of it.
+    /// Only a job that does not meet its expectations fails.
     Lenient,
 }
 
-/// Whether a job passed, by its row.
+/// Whether a job passed, judged by its row.
 pub fn has_passed(rule: Rule, row: &Row) -> bool
     ensures { result ≡ has_passed rule row.now }
 {

@@ -1,4 +1,4 @@
-//! What is wrong with a row that counts as a failure.
+//! The kinds of problem in a row that counts as a failure.
 
 ghost use Rattle.std.specs.Prelude.{◌≡◌};
 ghost use Rattle.rv_expect.specs.Judgement.{judging_of};
@@ -7,14 +7,14 @@ ghost use Rattle.rv_expect.specs.Problem.{is_error, is_failure};
 use crate::judgement::Judge;
 use rv_rows::{Row, did_run};
 
-/// Whether a row counts as a failure, and its job ran.
+/// Whether a row counts as a failure and its job ran.
 pub fn is_failure(judge: &Judge<'_>, row: &Row) -> bool
     ensures { result ≡ is_failure (judging_of judge.now) row.now }
 {
     judge.fails(row) && did_run(row.ending)
 }
 
-/// Whether a row counts as a failure, and its job was refused.
+/// Whether a row counts as a failure because its job was refused.
 pub fn is_error(judge: &Judge<'_>, row: &Row) -> bool
     ensures { result ≡ is_error (judging_of judge.now) row.now }
 {

@@ -1,4 +1,4 @@
-//! References: texts that are the lines of a signature's words.
+//! References: texts with one line for each word of a signature.
 
 ghost use Rattle.std.specs.Prelude.{◌≡◌, IfOk, length, option_map};
 ghost use Rattle.rv_expect.specs.Reference.{difference_from_reference, read_reference, signature_difference};
@@ -9,17 +9,17 @@ use rv_jobs::Text;
 use rv_rows::{LINE, Words, word_line};
 use std::alloc::{AllocError, Global};
 
-/// What a reference's text is.
+/// A parsed reference.
 #[derive(Drop)]
 pub(crate) enum Reference {
-    /// The lines of these words.
+    /// The words that the lines encode.
     Words(Words),
-    /// No such lines: this one, counted from 1, is the first that is not that of a word.
+    /// The first line, counted from 1, that does not encode a word.
     BadLine(usize),
 }
 
-/// What differs between a signature and the reference that is expected, if one is, over the reference's bytes. Takes
-/// memory for the reference's words.
+/// Returns the difference between a signature and the expected reference, if one is expected. `reference` holds the reference's bytes.
+/// Allocates the reference's words.
 pub(crate) fn signature_difference(
     alloc: Global,
     expected: &Option<Text>,
@@ -40,7 +40,7 @@ pub(crate) fn signature_difference(
     }
 }
 
-/// The words of a signature; an absent one counts as one of no words.
+/// Returns the words of a signature; a missing signature has none.
 pub fn signature_words_or_empty(signature: &Option<Words>) -> &[u32]
     ensures { result.now ≡ signature_words_or_empty signature.now }
 {
@@ -84,7 +84,7 @@ fn read_reference(alloc: Global, text: &[u8]) -> Result<Reference, AllocError>
     }
 }
 
-// The word whose line this is. Its digits are read in either case, so what they say is written and compared.
+// Returns the word that a line encodes. Digits are parsed in either case, so the value is written again and compared.
 fn word_of_line(line: &[u8]) -> Option<u32>
     requires { length line.now ≡ LINE }
     ensures { result ≡ word_of_line line.now }

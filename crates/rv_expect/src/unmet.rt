@@ -14,23 +14,23 @@ use rv_jobs::Job;
 use rv_rows::{Row, RowEnd, did_run, expects_anything, has_expected_end, has_expected_exit};
 use std::alloc::{AllocError, Global};
 
-/// An expectation of a job that its run does not meet, and what differs first.
+/// An expectation of a job that its run does not meet, with the first difference.
 #[derive(Clone, Copy)]
 pub enum Unmet {
-    /// The exit code: the run ended with another one, or by no exit call.
+    /// The exit code: the run ended with another one, or without an exit call.
     Exit,
-    /// The end: the run did not use up its budget, or met no fault of the kind.
+    /// The end: the run did not use up its budget, or did not end with a fault of the expected kind.
     End,
     Console(Difference),
     Signature(SignatureDifference),
-    /// To be the same as the named job.
+    /// Equality with the named job.
     Same(SameDifference),
-    /// Exit code 0, of a job that expects nothing else.
+    /// Exit code 0, for a job without any other expectation.
     Nothing,
 }
 
-/// The expectations of a job that the run of its row does not meet, in the order exit, end, console, signature, other
-/// job. A refused row has none: its reason says why nothing ran.
+/// Returns the expectations of a job that its row's run does not meet, in the order exit, end, console, signature, other job. A refused row
+/// has none: its reason explains why nothing ran.
 #[tactic(auto, unfolding(crate::specs::Unmet::unmet_of))]
 pub fn unmet_expectations(
     alloc: Global,

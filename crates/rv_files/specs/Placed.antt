@@ -1,7 +1,7 @@
--- The files that a command puts in their places.
+-- The files that a command has committed to their paths.
 use Rattle.std.specs.Prelude.{◌≡◌, ℕ, List, [], ◌∷◌, ◌++◌, IfSome, Option, Some}
 
--- a path, and the bytes of the file that was put there
+-- a path, and the bytes of the file committed to it
 pub record CommittedFile : Type 0 where
   pub path : List ℕ
   pub bytes : List ℕ
@@ -12,7 +12,7 @@ placed_file path bytes = record {
   bytes = bytes;
 }
 
--- where it is told which files stand in their places, and which bytes this one has, it is told that this is one more now
+-- if the committed files and this file's bytes are known, then this file is now known to be one more of them
 abbrev pub IsOneMorePlaced : Option (List CommittedFile) → Option (List CommittedFile) → List ℕ → Option (List ℕ) → Type 0
 IsOneMorePlaced before after path bytes =
     IfSome before (λ earlier. IfSome bytes (λ known. after ≡ Some (earlier ++ placed_file path known ∷ [])))

@@ -1,10 +1,10 @@
--- Why a file is not written.
+-- Why a file could not be written.
 use Rattle.std.specs.declared.io.ErrorKind.{ErrorKind}
 use Rattle.std.specs.declared.io.ErrorKind.TheVariants as kind
 use Rattle.rv_files.specs.declared.file_error.FileError.{FileError}
 use Rattle.rv_files.specs.declared.file_error.FileError.TheVariants.{OutOfMemory, Failed}
 
--- the error for what the system said
+-- the error for a system error
 abbrev pub file_error : ErrorKind → FileError
 file_error kind.OutOfMemory = OutOfMemory
 file_error reason = Failed reason

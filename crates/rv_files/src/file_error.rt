@@ -1,18 +1,18 @@
-//! Why a file is not written.
+//! Why a file could not be written.
 
 ghost use Rattle.std.specs.Prelude.{◌≡◌};
 
 use std::alloc::AllocError;
 use std::io::{self, ErrorKind};
 
-/// Why a file is not written.
+/// Why a file could not be written.
 #[derive(Clone, Copy, Debug, PartialEq, Eq)]
 pub enum FileError {
-    /// A growth was refused.
+    /// An allocation failed.
     OutOfMemory,
-    /// The system refused to open the file, to hand it to the disk or to put it in its place, for this reason.
+    /// The system failed to open the file, to sync it to disk or to move it to its path, for this reason.
     Failed(ErrorKind),
-    /// The path leads to the place of a file that is written already.
+    /// The path denotes a file that has already been written.
     SamePlace,
 }
 

@@ -1,4 +1,4 @@
-//! Which file a path leads to, however it is spelled.
+//! Which file a path denotes, however it is spelled.
 
 use crate::sink_paths::directory_of;
 use rv_base::Text;
@@ -8,15 +8,15 @@ use std::os::unix::fs::MetadataExt;
 use std::path::{Path, PathBuf};
 use std::rt::Files;
 
-/// A text that two paths share if they lead to the same file of the system, and only then: the device and the inode of what is
-/// there; where nothing is there, the path with its directory as the system resolves it.
+/// Returns a text that two paths share if and only if they denote the same file of the system: the device and inode of an existing file, or
+/// else the path with its directory resolved by the system.
 pub(crate) fn file_identity<R: Files>(
     files: &R,
     alloc: Global,
     path: &str,
 ) -> Result<Text, AllocError> {
     match files.metadata(path) {
-        // Files that are no system's have no inodes.
+        // Files outside the system have no inodes.
         Ok(found) if found.ino() != 0 => {
             let identity = format!(in alloc; "inode {} {}", found.dev(), found.ino())?;
             Ok(Text::new(identity))
@@ -29,7 +29,7 @@ pub(crate) fn file_identity<R: Files>(
     }
 }
 
-/// The path with its directory as the system resolves it; as it is where the system resolves none.
+/// Returns the path with its directory resolved by the system, or unchanged if the system cannot resolve it.
 pub(crate) fn canonical_path<R: Files>(
     files: &R,
     alloc: Global,

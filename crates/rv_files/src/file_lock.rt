@@ -1,11 +1,11 @@
-//! A lock on an open file, which ends with the process that holds it.
+//! A lock on an open file, released when the process that holds it ends.
 
 use std::fs::{File, TryLockError};
 
 /// An open file that one process at a time can lock.
 pub trait FileLock {
-    /// Locks the file until it is closed, and says whether it is locked now: not where another process holds the lock. Where the
-    /// file system has no locks, it passes as locked.
+    /// Locks the file until it is closed, and returns whether it is now locked: false if another process holds the lock. On a file system
+    /// without locks, returns true.
     fn try_to_lock(&self) -> bool;
 }
 

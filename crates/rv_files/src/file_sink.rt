@@ -1,4 +1,4 @@
-//! A file of the system that is being written, as a sink.
+//! A system file being written, as a sink.
 
 ghost use Rattle.std.specs.Prelude.{◌≡◌, ◌≤◌, None, IfOk, IfErr, OnErr, length, take};
 ghost use Rattle.std.specs.Io.KnownBytes.{Appends};
@@ -10,12 +10,11 @@ use crate::streams::StreamSink;
 use rv_base::{Sink, SinkFailed};
 use std::io::{ErrorKind, Write};
 
-/// A file of [`SystemOutputs`](crate::SystemOutputs) that takes bytes. What the world outside took isn't known, so it tells
-/// none.
+/// A file of [`SystemOutputs`](crate::SystemOutputs) that accepts bytes. What the outside world accepted is not known, so it reveals none.
 #[derive(Drop)]
 pub struct FileSink<W: Drop> {
     pub(crate) stream: StreamSink<W>,
-    // Whether a disk has it, as no disk has a pipe.
+    // Whether the file is on a disk, unlike a pipe.
     pub(crate) is_on_disk: bool,
 }
 

@@ -13,14 +13,14 @@ use std::fs;
 use std::io::{ErrorKind, Read};
 use std::rt::Files;
 
-/// Why not all that a reader has was read.
+/// Why a reader was not read to its end.
 #[derive(Clone, Copy, Debug, PartialEq, Eq)]
 pub enum WholeError {
-    /// The file was not opened, or a read failed, for this reason.
+    /// The file could not be opened, or a read failed, for this reason.
     Failed(ErrorKind),
     /// There are more than 16,777,216 bytes.
     TooLong,
-    /// A growth was refused.
+    /// An allocation failed.
     OutOfMemory,
 }
 
@@ -61,8 +61,8 @@ impl From<WholeError> for ReadError {
     }
 }
 
-/// A store over files: an answer is that of `read_whole` to the file that is opened at the path as
-/// it is given. What the world outside holds isn't known, so the store tells no contents.
+/// A store over files: reading a path opens the file at exactly that path and reads it with `read_whole`. What the outside world holds is
+/// not known, so the store reveals no contents.
 #[derive(Drop)]
 pub struct FileStore<'a, R: Files> {
     files: &'a R,
@@ -74,8 +74,7 @@ impl<'a, R: Files> FileStore<'a, R> {
         FileStore { files, faults: 0 }
     }
 
-    // The answer for the file that is opened at the path, whose bytes are all that some file of
-    // the system has.
+    // Reads the file opened at the path; its bytes are those of some file of the system.
     fn read_counting_faults(&mut self, alloc: Global, path: &str) -> Result<Vec<u8>, ReadError>
         ensures opened { IfOk result (λ bytes. (file : R.File)
             × IfSome (R.File.remaining file) (λ known. bytes.items ≡ known)) }
@@ -91,6 +90,7 @@ impl<'a, R: Files> FileStore<'a, R> {
         }
     }
 
+    // Counts an unreadable file, and returns its error.
     fn count_fault(&mut self) -> ReadError
         ensures counted { self.new.faults ≡ one_more self.old.faults }
         ensures value { result ≡ ReadError.Unreadable }
@@ -114,7 +114,7 @@ impl<'a, R: Files> Store for FileStore<'a, R> {
     }
 }
 
-/// The answer of `read_whole` for the file that is opened at the path as it is given.
+/// Opens the file at exactly this path and reads it with `read_whole`.
 pub(crate) fn read_file<R: Files>(
     files: &R,
     alloc: Global,
@@ -132,8 +132,7 @@ pub(crate) fn read_file<R: Files>(
     }
 }
 
-/// All that a reader has left, where that is at most 16,777,216 bytes. One that has more is read one
-/// byte further, and no more.
+/// Returns the remaining bytes of a reader, if there are at most 16,777,216. Of a longer one, only one byte more is read.
 pub fn read_whole<R: Read>(alloc: Global, file: &mut R) -> Result<Vec<u8>, WholeError>
     ensures whole { IfOk result (λ bytes. IfSome (R.remaining file.old)
         (λ known. bytes.items ≡ known)) }

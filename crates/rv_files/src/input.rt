@@ -7,12 +7,12 @@ ghost use Rattle.rv_files.specs.Input.{GrowsByRead};
 use std::alloc::{AllocError, Global};
 use std::io::{ErrorKind, Read};
 
-/// Why a reader's bytes weren't read.
+/// Why a reader could not be read.
 #[derive(Clone, Copy, Debug, PartialEq, Eq)]
 pub enum InputError {
-    /// A growth was refused.
+    /// An allocation failed.
     OutOfMemory,
-    /// A read failed, an interrupted one included, for this reason.
+    /// A read failed, or was interrupted, for this reason.
     Failed(ErrorKind),
 }
 
@@ -26,11 +26,10 @@ impl From<AllocError> for InputError {
     }
 }
 
-// A read asks for as many bytes at most: many for a list or an image of megabytes, since each read is a call of the system.
+// The maximum number of bytes requested per read: large, for lists and images of megabytes, since each read is a system call.
 const CHUNK: usize = 16_384;
 
-/// The reader's bytes to its end, or the first `most` of them where there are more; what is behind
-/// them is left in the reader.
+/// Returns the reader's bytes to its end, or the first `most` of them if there are more; the rest remains in the reader.
 pub fn read_at_most<R: Read>(
     alloc: Global,
     input: &mut R,
@@ -52,7 +51,7 @@ pub fn read_at_most<R: Read>(
     Ok(bytes)
 }
 
-// One read, into a buffer of its own: so a growth that is refused is told from a read that fails.
+// Reads once into a separate buffer, so that a failed allocation can be told from a failed read.
 fn read_chunk<R: Read>(
     input: &mut R,
     chunk: &mut [u8; CHUNK],

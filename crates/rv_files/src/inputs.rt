@@ -1,4 +1,4 @@
-//! Where a command reads texts from: a list, a report, the files of jobs.
+//! The sources that a command reads: a list, a report, the files of jobs.
 
 ghost use Rattle.std.specs.Prelude.{◌≡◌, ◌≢◌, ◌≤◌, ◌<◌, ◌+◌, ◌^◌, None, Option, Some, length, take};
 ghost use Rattle.std.specs.Prelude.{IfErr, IfNone, IfOk, IfSome, IsSomeAnd};
@@ -9,12 +9,12 @@ use std::alloc::Global;
 use std::fs;
 use std::rt::Files;
 
-/// Something that reads what stands at a path.
+/// A source that reads files by path.
 pub trait Inputs {
-    // What each path holds, where that is told. No read changes it.
+    // The contents of each path, if known. Reading does not change them.
     ghost contents: { Self → Option FileContents };
 
-    /// The first `most` bytes of what stands at a path, or all of them where there are fewer.
+    /// Returns the first `most` bytes of the file at a path, or all of them if there are fewer.
     fn read_up_to(&self, alloc: Global, path: &str, most: usize) -> Result<Vec<u8>, InputError>
         ensures within { IfOk result (λ bytes. length bytes.items ≤ most) }
         ensures known { IfOk result (λ bytes. IfSome (contents self.now)
@@ -23,7 +23,7 @@ pub trait Inputs {
             (λ files. files path.now ≡ None)) };
 }
 
-/// The system's files. What the world outside holds is not known, so they tell no contents.
+/// The system's files. What the outside world holds is not known, so they reveal no contents.
 #[derive(Drop)]
 pub struct SystemInputs<'a, R: Files> {
     files: &'a R,
@@ -43,7 +43,7 @@ impl<'a, R: Files> Inputs for SystemInputs<'a, R> {
     fn read_up_to(&self, alloc: Global, path: &str, most: usize) -> Result<Vec<u8>, InputError>
         ensures within { IfOk result (λ bytes. length bytes.items ≤ most) }
 
-        // The bytes are those that some file of the system has.
+        // The bytes are those of some file of the system.
         ensures opened { IfOk result (λ bytes. (file : R.File)
             × IfSome (R.File.remaining file) (λ known. bytes.items ≡ take most known)) }
     {
@@ -54,7 +54,7 @@ impl<'a, R: Files> Inputs for SystemInputs<'a, R> {
     }
 }
 
-/// All that stands at a path, where that is at most `most` bytes, and none where there are more.
+/// Returns all bytes of the file at a path, or `None` if there are more than `most`.
 pub fn read_whole_up_to<D: Inputs>(
     inputs: &D,
     alloc: Global,

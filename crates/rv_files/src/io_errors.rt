@@ -1,11 +1,11 @@
-//! What people are told of an error of the system's.
+//! The text shown for a system error.
 
 ghost use Rattle.std.specs.Prelude.{◌≡◌};
 ghost use Rattle.rv_files.specs.IoErrors.{io_error_text, write_error_text};
 
 use std::io::ErrorKind;
 
-/// What the system said when a file was opened, read or written.
+/// Returns the system's message for a failed open, read or write.
 #[tactic(auto, unfolding(crate::specs::IoErrors::io_error_text))]
 pub fn io_error_text(kind: ErrorKind) -> &'static str
     ensures { result.now ≡ io_error_text kind }
@@ -34,7 +34,7 @@ pub fn io_error_text(kind: ErrorKind) -> &'static str
     }
 }
 
-/// What the system said when a write failed.
+/// Returns the system's message for a failed write.
 #[tactic(auto, unfolding(crate::specs::IoErrors::write_error_text))]
 pub fn write_error_text(kind: ErrorKind) -> &'static str
     ensures { result.now ≡ write_error_text kind }

@@ -2,8 +2,8 @@
 
 use std::io::ErrorKind;
 
-/// A sink that tells why its last put that failed did.
+/// A sink that reports why its last failed write failed.
 pub trait LastError {
-    /// The kind of that error; [`ErrorKind::Other`] where no put failed.
+    /// Returns the kind of that error, or [`ErrorKind::Other`] if no write has failed.
     fn last_error(&self) -> ErrorKind;
 }

@@ -1,10 +1,10 @@
-//! The system's files and streams, and files in memory: what a command reads, and where it writes.
+//! The system's files and streams, and files in memory: what a command reads and writes.
 //!
-//! What the world outside holds is not known, so contracts speak of any reader and any writer: [`read_at_most`] and
-//! [`read_whole`] give what a reader has, and a [`StreamSink`] puts what its writer takes. A command that is generic over
-//! [`Inputs`] and [`Outputs`] says in its contract what it read and which files it wrote: [`SystemInputs`] and
-//! [`SystemOutputs`] are the system's, [`MemoryInputs`] and [`MemoryOutputs`] are for tests. [`FileStore`] opens a file
-//! and reads it; a [`RecordingStore`] reads inputs and notes why a file was unreadable, too.
+//! What the outside world holds is not known, so contracts are about any reader and any writer: [`read_at_most`] and [`read_whole`] return
+//! a reader's bytes, and a [`StreamSink`] writes to a writer. The contract of a command that is generic over [`Inputs`] and [`Outputs`]
+//! states what it read and which files it wrote: [`SystemInputs`] and [`SystemOutputs`] are the system's, [`MemoryInputs`] and
+//! [`MemoryOutputs`] are for tests. A [`FileStore`] opens and reads files; a [`RecordingStore`] reads inputs and also records why a file
+//! was unreadable.
 #![tactic(auto)]
 
 mod file_error;

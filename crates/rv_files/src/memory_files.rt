@@ -1,7 +1,7 @@
-//! Files in memory, as inputs and as outputs. They tell all bytes, so they show that the contracts of both can be met.
+//! Files in memory, as inputs and outputs. They reveal all bytes, which shows that the contracts of both can be met.
 
 ghost use Rattle.std.specs.Prelude.{◌≡◌, ◌+◌, ◌++◌, ◌∷◌, [], Some, MatchResult, OnOk, option_map};
-ghost use Rattle.rv_files.specs.MemoryFiles.{memory_contents, memory_placed};
+ghost use Rattle.rv_files.specs.MemoryFiles.{memory_contents, committed_memory_files};
 
 use crate::file_error::FileError;
 use crate::input::InputError;
@@ -19,14 +19,14 @@ pub struct MemoryFile {
     pub bytes: Vec<u8>,
 }
 
-/// Files that are read. Of several with the same path the first is.
+/// Files to read. If several have the same path, the first is read.
 #[derive(Debug, Drop)]
 pub struct MemoryInputs {
     files: Vec<MemoryFile>,
 }
 
 impl MemoryInputs {
-    /// Takes no memory.
+    /// Creates the inputs without allocating.
     pub fn new(files: Vec<MemoryFile>) -> MemoryInputs
         ensures { result.files ≡ files }
     {
@@ -53,7 +53,7 @@ impl Inputs for MemoryInputs {
     }
 }
 
-/// A file of [`MemoryOutputs`] that takes bytes.
+/// A file of [`MemoryOutputs`] that accepts bytes.
 #[derive(Debug, Drop)]
 pub struct MemorySink {
     bytes: Vec<u8>,
@@ -87,7 +87,7 @@ impl LastError for MemorySink {
     }
 }
 
-/// Files that are written.
+/// Files that have been written.
 #[derive(Debug, Drop)]
 pub struct MemoryOutputs {
     placed: Vec<MemoryFile>,
@@ -95,15 +95,15 @@ pub struct MemoryOutputs {
 }
 
 impl MemoryOutputs {
-    /// Takes no memory.
+    /// Creates empty outputs without allocating.
     pub fn new(alloc: Global) -> MemoryOutputs
         ensures { result.placed.items ≡ [] }
     {
         MemoryOutputs::with_steps(alloc, u64::MAX)
     }
 
-    /// Outputs that take so many steps, and refuse each one behind them. It is a step that a file is created, handed to the
-    /// disk, or placed. Takes no memory.
+    /// Creates outputs that allow `steps` steps and reject all later ones. Creating, syncing and placing a file are one step each. Does not
+    /// allocate.
     pub fn with_steps(alloc: Global, steps: u64) -> MemoryOutputs
         ensures nothing { result.placed.items ≡ [] }
         ensures steps { result.steps_left ≡ steps }
@@ -114,13 +114,14 @@ impl MemoryOutputs {
         }
     }
 
-    /// The files that stand in their places, in the order in which they were put there.
+    /// Returns the files placed at their paths, in the order in which they were placed.
     pub fn placed_files(&self) -> &[MemoryFile]
         ensures { result.now ≡ self.now.placed.items }
     {
         &self.placed
     }
 
+    // Uses up one of the allowed steps, or fails if none is left.
     fn take_step(&mut self) -> Result<(), FileError>
         ensures same { self.new.placed ≡ self.old.placed }
         ensures taken { MatchResult result (λ _. self.new.steps_left + 1 ≡ self.old.steps_left)
@@ -143,7 +144,7 @@ impl Outputs for MemoryOutputs {
 
     type Synced = Vec<u8>;
 
-    ghost placed = { λ outputs. Some (memory_placed outputs.placed.items) };
+    ghost placed = { λ outputs. Some (committed_memory_files outputs.placed.items) };
 
     ghost pending_path = { λ path. path };
 

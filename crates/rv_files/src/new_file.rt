@@ -1,4 +1,4 @@
-//! The file that takes the bytes until it is placed.
+//! The temporary file that receives the bytes until it is placed.
 
 use crate::file_lock::FileLock;
 use crate::sink_paths::{Places, directory_of};
@@ -7,8 +7,8 @@ use std::io::{self, ErrorKind};
 use std::os::unix::fs::MetadataExt;
 use std::rt::Files;
 
-/// A new file at the first of two places, locked, with the mode of the file at the second: one that an earlier run left there
-/// is replaced, and one that another process has locked is refused as busy. A read-only file at the second is refused, too.
+/// Creates a new locked file at the first of two paths, with the mode of the file at the second. A file that an earlier run left there is
+/// replaced; one that another process has locked is rejected as busy. A read-only file at the second path is rejected, too.
 pub(crate) fn create_new_file<R: Files>(files: &R, places: &Places) -> io::Result<R::File>
 where
     R::File: FileLock,
@@ -21,7 +21,7 @@ where
     Ok(file)
 }
 
-// The file that is to be replaced, if one is there.
+// Returns the file to be replaced, if it exists.
 fn replaceable_file<R: Files>(files: &R, path: &str) -> io::Result<Option<Metadata>> {
     match files.metadata(path) {
         Ok(old) if old.permissions().readonly() => Err(io::Error::from(
@@ -32,7 +32,7 @@ fn replaceable_file<R: Files>(files: &R, path: &str) -> io::Result<Option<Metada
     }
 }
 
-// Two processes that come here at once do not both get through: each locks what it removes, and what it made.
+// Creates and locks a file. Of two processes that do this at once only one succeeds: each locks what it removes and what it creates.
 fn create_locked_file<R: Files>(files: &R, path: &str) -> io::Result<R::File>
 where
     R::File: FileLock,
@@ -54,7 +54,7 @@ where
     }
 }
 
-// The file that an earlier run left at a path, locked; none where no regular file is there.
+// Returns the file that an earlier run left at a path, locked, or `None` if no regular file is there.
 fn lock_left_file<R: Files>(files: &R, path: &str) -> io::Result<Option<R::File>>
 where
     R::File: FileLock,
@@ -78,7 +78,7 @@ fn is_still_at<R: Files>(files: &R, file: &R::File, path: &str) -> bool {
     }
 }
 
-// Gives a new file the owner and group of another one, where the system allows it, and its mode.
+// Gives a new file the owner and group of another one, if the system allows it, and its mode.
 fn keep_attributes<R: Files>(
     files: &R,
     path: &str,
@@ -92,14 +92,14 @@ fn keep_attributes<R: Files>(
     file.set_permissions(old.permissions())
 }
 
-/// Hands the entry of a file in its directory to the disk, where the system can.
+/// Syncs a file's directory entry to disk, if the system can.
 pub(crate) fn sync_directory<R: Files>(files: &R, path: &str) {
     if let Ok(directory) = fs::open(files, directory_of(path).as_str()) {
         let _ = directory.sync_all();
     }
 }
 
-/// Whether a file can be placed, as far as that is known before it is created: its directory is there, and no read-only file is.
+/// Checks, as far as possible before the file is created, that it can be placed: its directory exists, and no read-only file is in the way.
 pub(crate) fn check_places<R: Files>(files: &R, places: &Places) -> io::Result<()> {
     replaceable_file(files, places.whole.as_str())?;
     files.metadata(directory_of(places.whole.as_str()).as_str())?;

@@ -1,4 +1,4 @@
-//! Where a command writes its files, each of which stands there whole in the end, or not at all.
+//! The files that a command writes, each of which in the end exists complete or not at all.
 
 ghost use Rattle.std.specs.Prelude.{◌≡◌, ◌≢◌, ◌∷◌, [], List, ℕ, Option, Some, IfErr, IfOk, IfSome, IsTrue, OnErr, OnOk};
 ghost use Rattle.rv_files.specs.Placed.{CommittedFile, IsOneMorePlaced};
@@ -8,67 +8,67 @@ use crate::last_error::LastError;
 use rv_base::{Sink, Text};
 use std::alloc::{AllocError, Global};
 
-/// Something that takes files, each of which is written, handed to the disk, and then put in its place.
+/// A destination for files, each of which is written, synced to disk, and then placed at its path.
 pub trait Outputs {
-    /// Where a file is to stand. No put changes it, as one changes the file.
+    /// The destination of a file. Writing to the file does not change it.
     type Place: Drop;
 
-    /// A file that takes bytes.
+    /// A file that accepts bytes.
     type File: Sink + LastError + Drop;
 
-    /// A file that the disk has, and that stands not yet in its place.
+    /// A file that is synced to disk but not yet placed.
     type Synced: Drop;
 
-    // The files that stand in their places, in the order in which they were put there, where that is told.
+    // The placed files in the order in which they were placed, if known.
     ghost placed: { Self → Option (List CommittedFile) };
 
-    // The path that a place is for.
+    // The path of a destination.
     ghost pending_path: { Self.Place → List ℕ };
 
-    // The bytes of a file that the disk has, where these are told.
+    // The bytes of a synced file, if known.
     ghost synced_bytes: { Self.Synced → Option (List ℕ) };
 
-    /// A text that two paths share if they lead to the same file, however they are spelled, and only then.
+    /// Returns a text that two paths share if and only if they denote the same file, however they are spelled.
     fn identity(&self, alloc: Global, path: &str) -> Result<Text, AllocError>
-        // Where it is told which files are placed, a file has one path.
+        // If the placed files are known, a file has only one path.
         ensures { IfOk result (λ identity. IfSome (placed self.now) (λ _. identity ≡ path.now)) };
 
     /// Whether the file at a path is in a directory or below it, however both are spelled.
     fn is_below(&self, alloc: Global, directory: &str, path: &str) -> Result<bool, AllocError>
-        // Where it is told which files are placed, there are no directories.
+        // If the placed files are known, there are no directories.
         ensures { IfOk result (λ below. IfSome (placed self.now) (λ _. IsTrue below)) };
 
-    /// The identities of the files that writing one for a path replaces or removes. An error where none can be written: its
-    /// directory is missing, or a read-only file is there.
+    /// Returns the identities of the files that writing to a path replaces or removes. Fails if no file can be written there: its directory
+    /// is missing, or a read-only file is in the way.
     fn replaced_files(&self, alloc: Global, path: &str) -> Result<Vec<Text>, FileError>
         ensures { IfOk result (λ replaced. IfSome (placed self.now) (λ _. replaced.items ≡ path.now ∷ [])) };
 
-    /// A new file without bytes for a path, and its place. What stands at the path stays.
+    /// Creates an empty file for a path, and its destination. Any file at the path remains.
     fn create(&mut self, alloc: Global, path: &str) -> Result<(Self::Place, Self::File), FileError>
         ensures same { placed self.new ≡ placed self.old }
         ensures path { IfOk result (λ made. pending_path made.0 ≡ path.now) }
         ensures empty { IfOk result (λ made. IfSome (Self.File.taken made.1) (λ bytes. bytes ≡ [])) }
 
-        // Where it is told which files are placed, it is told which bytes this one takes, too.
+        // If the placed files are known, the bytes that this file accepts are known, too.
         ensures told { IfOk result (λ made. IfSome (placed self.old) (λ _. Self.File.taken made.1 ≡ Some [])) }
         ensures unfailed { IfOk result (λ made. Self.File.failed made.1 ≡ 0) };
 
-    /// Hands a file's bytes to the disk.
+    /// Syncs a file's bytes to disk.
     fn sync(&mut self, file: Self::File) -> Result<Self::Synced, FileError>
-        // Every put went well.
+        // Every write succeeded.
         requires { Self.File.failed file ≡ 0 }
         ensures same { placed self.new ≡ placed self.old }
         ensures synced { IfOk result (λ synced. synced_bytes synced ≡ Self.File.taken file) }
         ensures another_error { IfErr result (λ error. error ≢ FileError.SamePlace) };
 
-    /// Puts a file in its place.
+    /// Places a file at its path.
     fn place(&mut self, place: Self::Place, file: Self::Synced) -> Result<(), FileError>
         ensures placed { OnOk result
             (IsOneMorePlaced (placed self.old) (placed self.new) (pending_path place) (synced_bytes file)) }
         ensures same { OnErr result (placed self.new ≡ placed self.old) }
         ensures another_error { IfErr result (λ error. error ≢ FileError.SamePlace) };
 
-    /// Takes away the file of a place that is not to be there; what stands at the path stays.
+    /// Removes the unplaced file of a destination. Any file at the path remains.
     fn abandon(&mut self, place: Self::Place)
         ensures { placed self.new ≡ placed self.old };
 }

@@ -1,4 +1,4 @@
-//! Standard output as a sink, which a reader may close.
+//! Standard output as a sink that its reader may close.
 
 ghost use Rattle.std.specs.Prelude.{◌≡◌, ◌≤◌, ◌||◌, Bool, None, IfOk, IfErr, OnErr, false, length, take};
 ghost use Rattle.std.specs.Io.KnownBytes.{Appends};
@@ -9,18 +9,18 @@ ghost use Rattle.rv_files.specs.IoErrors.{is_broken_pipe};
 use rv_base::{Sink, SinkFailed};
 use std::io::{ErrorKind, Write};
 
-/// A sink whose reader may close it before all is read, as `head` does.
+/// A sink whose reader may close it before reading everything, as `head` does.
 pub trait Closable: Sink {
-    // Whether a put failed since nobody reads any more.
+    // Whether a write failed because no reader is left.
     ghost closed: { Self → Bool };
 
-    /// Whether a put failed since nobody reads any more.
+    /// Returns whether a write failed because no reader is left.
     fn is_closed(&self) -> bool
         ensures { result ≡ closed self.now };
 }
 
-/// A stream of the process as a sink that may be closed: as a [`StreamSink`](crate::StreamSink), it writes and flushes once a put,
-/// and tells no bytes.
+/// A stream of the process as a sink that may be closed: like a [`StreamSink`](crate::StreamSink), it writes and flushes once per write,
+/// and reveals no bytes.
 #[derive(Drop)]
 pub struct PipeSink<W: Drop> {
     stream: W,
@@ -41,7 +41,7 @@ impl<W: Write + Drop> PipeSink<W> {
         }
     }
 
-    // Counts a failure, and notes whether it says that the reader has closed the pipe.
+    // Counts a failure, and records whether it means that the reader has closed the pipe.
     fn note_failure(&mut self, reason: ErrorKind) -> SinkFailed
         ensures counted { self.new.failures ≡ one_more self.old.failures }
         ensures closed { self.new.is_closed ≡ (self.old.is_closed || is_broken_pipe reason) }
@@ -93,7 +93,7 @@ impl<W: Write + Drop> Closable for PipeSink<W> {
     }
 }
 
-// Writes one or more bytes from the front, once, and flushes them; or says why that failed.
+// Writes one or more bytes from the front in one call and flushes them, or returns why that failed.
 fn write_and_flush<W: Write>(stream: &mut W, bytes: &[u8]) -> Result<usize, ErrorKind>
     ensures within { IfOk result (λ count. (1 ≤ count) × (count ≤ length bytes.now)) }
     ensures written { IfOk result (λ count. Appends (W.contents stream.old) (W.contents stream.new) (take count bytes.now)) }

@@ -1,10 +1,10 @@
-//! A store that notes why a path was unreadable.
+//! A store that records why a path was unreadable.
 
 ghost use Rattle.std.specs.Prelude.{◌≡◌, ◌≤◌, ◌<◌, ◌++◌, ◌∷◌, [], Some, length};
 ghost use Rattle.std.specs.Prelude.{IfErr, IfOk, IfSome, IsSomeAnd, MatchResult, OnErr, OnOk};
 ghost use Rattle.std.specs.Option.{option_copied};
 ghost use Rattle.rv_base.specs.Limits.{most_bytes};
-ghost use Rattle.rv_files.specs.UnreadPaths.{HoldsNothingIfUnreadable, contents_below, unread_entry, unread_entries};
+ghost use Rattle.rv_files.specs.UnreadPaths.{HasNoContentsIfUnreadable, contents_below, unread_entry, unread_entries};
 
 use crate::file_store::WholeError;
 use crate::inputs::{Inputs, read_whole_up_to};
@@ -17,14 +17,14 @@ use std::io::ErrorKind;
 /// A path that was unreadable, and why.
 #[derive(Debug, Drop)]
 pub struct UnreadPath {
-    /// The path as it was asked for.
+    /// The path as requested.
     pub path: Text,
-    /// What the system said when the file was opened or read.
+    /// The system's error when the file was opened or read.
     pub reason: ErrorKind,
 }
 
-/// A store over inputs that notes each path that was unreadable, and why: as often as it counts a fault. Where a folder
-/// is given, paths are taken from there, as std's `Path::join` does: one that begins with `/` stays as it is.
+/// A store over inputs that records each unreadable path and its reason, one entry per counted fault. If a directory is given, paths are
+/// relative to it, as with std's `Path::join`: one that begins with `/` is unchanged.
 #[derive(Drop)]
 pub struct RecordingStore<'a, D: Inputs> {
     inputs: &'a D,
@@ -33,7 +33,7 @@ pub struct RecordingStore<'a, D: Inputs> {
 }
 
 impl<'a, D: Inputs> RecordingStore<'a, D> {
-    /// Takes no memory.
+    /// Creates the store without allocating.
     pub fn new(inputs: &'a D, alloc: Global, folder: Option<&'a str>) -> RecordingStore<'a, D>
         ensures inputs { result.inputs ≡ inputs.entry }
         ensures folder { result.folder ≡ folder.entry }
@@ -46,21 +46,21 @@ impl<'a, D: Inputs> RecordingStore<'a, D> {
         }
     }
 
-    /// The paths that were unreadable, in the order in which they were asked for.
+    /// Returns the unreadable paths, in the order in which they were requested.
     pub fn unread_paths(&self) -> &[UnreadPath]
         ensures { result.now ≡ self.now.unread.items }
     {
         &self.unread
     }
 
-    /// The same, for good.
+    /// Returns the unreadable paths and consumes the store.
     pub fn into_unread_paths(self) -> Vec<UnreadPath>
         ensures { result.items ≡ self.entry.unread.items }
     {
         self.unread
     }
 
-    // What stands at the path's place; a path that is unreadable is noted.
+    // Reads the file that the path denotes, recording the path if it is unreadable.
     fn read_noting_failure(&mut self, alloc: Global, path: &str) -> Result<Vec<u8>, WholeError>
         ensures same { (self.new.inputs ≡ self.old.inputs) × (self.new.folder ≡ self.old.folder) }
         ensures known { IfOk result (λ bytes.
@@ -70,21 +70,21 @@ impl<'a, D: Inputs> RecordingStore<'a, D> {
         ensures long { IfErr result (λ error. error ≡ WholeError.TooLong →
             IfSome (contents_below (option_copied self.old.folder) (D.contents self.old.inputs.now))
             (λ files. IsSomeAnd (files path.now) (λ bytes. most_bytes < length bytes))) }
-        ensures missing { IfErr result (HoldsNothingIfUnreadable
+        ensures missing { IfErr result (HasNoContentsIfUnreadable
             (contents_below (option_copied self.old.folder) (D.contents self.old.inputs.now)) path.now) }
         ensures noted { MatchResult result (λ _. self.new.unread.items ≡ self.old.unread.items)
             (λ error. self.new.unread.items
             ≡ self.old.unread.items ++ unread_entries path.now error) }
     {
-        let answer = self.read_place(alloc, path);
+        let answer = self.read_resolved_path(alloc, path);
         if let Err(WholeError::Failed(reason)) = answer {
             self.note_unread(alloc, path, reason)?;
         }
         answer
     }
 
-    // What stands at the path's place.
-    fn read_place(&self, alloc: Global, path: &str) -> Result<Vec<u8>, WholeError>
+    // Reads the file that the path denotes.
+    fn read_resolved_path(&self, alloc: Global, path: &str) -> Result<Vec<u8>, WholeError>
         ensures known { IfOk result (λ bytes.
             IfSome (contents_below (option_copied self.now.folder) (D.contents self.now.inputs.now))
             (λ files. files path.now ≡ Some bytes.items)) }
@@ -92,7 +92,7 @@ impl<'a, D: Inputs> RecordingStore<'a, D> {
         ensures long { IfErr result (λ error. error ≡ WholeError.TooLong →
             IfSome (contents_below (option_copied self.now.folder) (D.contents self.now.inputs.now))
             (λ files. IsSomeAnd (files path.now) (λ bytes. most_bytes < length bytes))) }
-        ensures missing { IfErr result (HoldsNothingIfUnreadable
+        ensures missing { IfErr result (HasNoContentsIfUnreadable
             (contents_below (option_copied self.now.folder) (D.contents self.now.inputs.now)) path.now) }
     {
         let place = resolved_path(alloc, self.folder, path)?;
@@ -102,6 +102,7 @@ impl<'a, D: Inputs> RecordingStore<'a, D> {
         }
     }
 
+    // Records that a path was unreadable for this reason.
     fn note_unread(
         &mut self,
         alloc: Global,

@@ -1,4 +1,4 @@
-//! Where a file stands while it is written, and in the end.
+//! The path of a file while it is being written, and its final path.
 
 ghost use Rattle.std.specs.Prelude.{◌≡◌, ◌≢◌, ◌↔◌, ◌++◌, IfErr, IfOk, IsTrue, codes};
 ghost use Rattle.std.specs.Fs.{IsFile, file_type};
@@ -13,7 +13,7 @@ use std::io::{self, ErrorKind};
 use std::path::{Path, PathBuf};
 use std::rt::Files;
 
-/// Where a file stands while it is written, and where in the end.
+/// The path of a file while it is being written, and its final path.
 #[derive(Drop)]
 pub(crate) struct Places {
     pub(crate) new: PathBuf,
@@ -21,7 +21,7 @@ pub(crate) struct Places {
 }
 
 impl Places {
-    /// Which files are there.
+    /// Returns the identities of the files at both paths.
     pub(crate) fn identities<R: Files>(
         &self,
         files: &R,
@@ -35,7 +35,7 @@ impl Places {
     }
 }
 
-/// The places of a file that is to stand at a path. None where something is there that is no regular file.
+/// Returns the temporary and final path of a file to be placed at `path`, or `None` if something other than a regular file is there.
 pub(crate) fn temporary_and_final_path<R: Files>(
     files: &R,
     alloc: Global,
@@ -51,26 +51,26 @@ pub(crate) fn temporary_and_final_path<R: Files>(
     Ok(Some(Places { new, whole }))
 }
 
-// Whether nothing is at the path, or a regular file; of a link the place that it leads to is asked.
+// Whether there is nothing or a regular file at the path. A link is followed.
 fn is_replaceable<R: Files>(files: &R, path: &str) -> io::Result<bool> {
     match files.metadata(path) {
-        Ok(met) => Ok(gives_way(&met)),
+        Ok(met) => Ok(may_be_replaced(&met)),
         Err(error) if error.kind() == ErrorKind::NotFound && !path.is_empty() => Ok(true),
         Err(error) => Err(error),
     }
 }
 
-// Whether what is at a path gives way to another file: a regular file does, and nothing else.
-fn gives_way(met: &Metadata) -> bool
+// Whether another file may replace this one: only a regular file may be replaced.
+fn may_be_replaced(met: &Metadata) -> bool
     ensures { IsTrue result ↔ IsFile (file_type met.now) }
 {
     met.is_file()
 }
 
-// Links that are followed, one behind the other: as many as Linux follows.
+// The maximum number of links followed in a chain, the same as on Linux.
 const MOST_LINKS: u32 = 40;
 
-/// The place that a path leads to.
+/// Returns the path that a path leads to when links are followed.
 pub(crate) fn follow_links<R: Files>(
     files: &R,
     alloc: Global,
@@ -96,7 +96,7 @@ fn is_link<R: Files>(files: &R, path: &str) -> bool {
     }
 }
 
-/// The directory of a path's file.
+/// Returns the directory of a path's file.
 pub(crate) fn directory_of(path: &str) -> Path<'_> {
     match Path::new(path).parent() {
         Some(parent) if !parent.as_str().is_empty() => parent,
@@ -104,7 +104,7 @@ pub(crate) fn directory_of(path: &str) -> Path<'_> {
     }
 }
 
-/// The path with `.new` behind it.
+/// Returns the path with `.new` appended.
 pub(crate) fn with_new_suffix(alloc: Global, path: &str) -> Result<PathBuf, AllocError>
     ensures { IfOk result (λ place. path_buf_bytes place ≡ path.now ++ codes ".new") }
 {
@@ -113,7 +113,7 @@ pub(crate) fn with_new_suffix(alloc: Global, path: &str) -> Result<PathBuf, Allo
     PathBuf::from_str(alloc, text.as_str())
 }
 
-/// Whether two paths lead to the same place.
+/// Whether two paths lead to the same location.
 pub(crate) fn is_same_place<R: Files>(
     files: &R,
     alloc: Global,
@@ -125,7 +125,7 @@ pub(crate) fn is_same_place<R: Files>(
     Ok(place.as_str() == other.as_str())
 }
 
-// The place of a path. Where nothing is there, or the system tells no places, it is the path as it stands.
+// Returns the resolved path. If nothing is there, or the system cannot resolve it, returns the path unchanged.
 fn real_path<R: Files>(files: &R, alloc: Global, path: &str) -> io::Result<PathBuf> {
     match files.canonicalize(alloc, path) {
         Err(error) if matches!(error.kind(), ErrorKind::NotFound | ErrorKind::Unsupported) => {

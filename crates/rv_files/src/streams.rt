@@ -9,14 +9,13 @@ use crate::last_error::LastError;
 use rv_base::{Sink, SinkFailed};
 use std::io::{ErrorKind, Write};
 
-/// A stream of the process as a sink: each put is one write and one flush, so nothing is held
-/// back. What the world outside took isn't known, so the sink tells no bytes; of a put that fails,
-/// by its write or by its flush, the stream has a beginning of the bytes, which may be none.
+/// A stream of the process as a sink: each write is one write and one flush, so nothing is buffered. What the outside world accepted is not
+/// known, so the sink reveals no bytes; if a write or its flush fails, the stream has received a possibly empty prefix of the bytes.
 #[derive(Drop)]
 pub struct StreamSink<W: Drop> {
     stream: W,
     failures: u64,
-    // That of the last failure.
+    // The error of the last failure.
     error: ErrorKind,
 }
 

@@ -19,29 +19,28 @@ use std::io::{self, ErrorKind};
 use std::path::PathBuf;
 use std::rt::Files;
 
-/// The system's files. What is at a file's path stays as it is until the file is placed: the bytes go to a file of the
-/// same path with `.new` behind it, which is locked until then. One that an earlier run left there is replaced, and one that
-/// another run has locked is refused. The placed file has the mode of the one that it replaces, and its owner and group where
-/// the system allows it; a read-only file is not replaced. Of a link the place that it leads to is written so, whether
-/// something is there or not. What is there and no regular file, as a pipe, is written as it is. Where a file cannot be placed,
-/// the one that took its bytes is taken away.
+/// The system's files. Whatever is at a file's path remains unchanged until the file is placed: the bytes go to a file with `.new` appended
+/// to the path, which is locked until then. If an earlier run left that file behind, it is replaced; if another run has locked it, it is an
+/// error. The placed file has the mode of the file that it replaces, and its owner and group if the system allows it; a read-only file is
+/// not replaced. A link is followed, and the file that it leads to is written in this way, whether or not it exists. Something other than a
+/// regular file, such as a pipe, is written directly. If a file cannot be placed, its temporary file is removed.
 #[derive(Drop)]
 pub struct SystemOutputs<'a, R: Files> {
     files: &'a R,
-    // The paths, with `.new` behind them, of the files that are neither placed nor abandoned.
+    // The temporary paths, with `.new` appended, of the files that are neither placed nor abandoned.
     unplaced: Vec<PathBuf>,
 }
 
-/// Where a file of the system is to stand.
+/// The destination of a system file.
 #[derive(Drop)]
 pub struct PendingFile {
-    // The path as it was given.
+    // The path as given.
     given: Text,
-    // None where the bytes go to what stands at the path.
+    // None if the bytes are written directly to what is at the path.
     places: Option<Places>,
 }
 
-/// A file of the system that the disk has. It stays open, and so locked, until it is placed.
+/// A system file that is synced to disk. It stays open, and so locked, until it is placed.
 #[derive(Drop)]
 pub struct SyncedFile<W: Drop> {
     file: W,
@@ -51,7 +50,7 @@ impl<'a, R: Files> SystemOutputs<'a, R>
 where
     R::File: FileLock,
 {
-    /// Takes no memory.
+    /// Creates the outputs without allocating.
     pub fn new(files: &'a R, alloc: Global) -> SystemOutputs<'a, R>
         ensures files { result.files ≡ files.entry }
         ensures nothing { result.unplaced.items ≡ [] }
@@ -62,7 +61,7 @@ where
         }
     }
 
-    // Opens the file that takes the bytes.
+    // Opens the file that receives the bytes.
     fn open_file(
         &mut self,
         alloc: Global,
@@ -82,7 +81,7 @@ where
         }
     }
 
-    // A new file at the first of its places, which is noted.
+    // Creates a file at its temporary path, and records it as unplaced.
     fn create_unplaced(&mut self, alloc: Global, places: &Places) -> Result<R::File, FileError>
         ensures first { IfErr result (λ error. error ≡ FileError.SamePlace → 0 < vec_len self.old.unplaced) }
     {
@@ -97,11 +96,11 @@ where
         }
     }
 
-    // No place of a file is one of a file that is not yet placed: neither would be there whole.
+    // Rejects a file if one of its paths is a path of a file that is not yet placed: neither would end up complete.
     fn refuse_same_place(&self, alloc: Global, places: &Places) -> Result<(), FileError>
         ensures first { IfErr result (λ error. error ≡ FileError.SamePlace → 0 < vec_len self.now.unplaced) }
     {
-        // Where the other file is to stand at this one's first place, the other's first place is this.
+        // If the other file's final path is this one's temporary path, this is the other's temporary path.
         let newer = with_new_suffix(alloc, places.new.as_str())?;
         for other in &self.unplaced {
             for path in [&places.new, &places.whole, &newer] {
@@ -113,17 +112,19 @@ where
         Ok(())
     }
 
+    // Records a temporary path as unplaced.
     fn note_unplaced(&mut self, alloc: Global, new: &str) -> Result<(), AllocError> {
         self.unplaced.push(PathBuf::from_str(alloc, new)?)?;
         Ok(())
     }
 
+    // Removes a temporary path from the unplaced ones.
     fn forget_unplaced(&mut self, new: &str) {
         self.unplaced.retain(|path| path.as_str() != new);
     }
 }
 
-// The path as the system resolves it; none where it resolves none.
+// Returns the path resolved by the system, or `None` if it cannot be resolved.
 fn real_path_of<R: Files>(
     files: &R,
     alloc: Global,
@@ -136,8 +137,8 @@ fn real_path_of<R: Files>(
     }
 }
 
-// Where a file is made for a path at which nothing is, or a link that leads to nothing.
-fn place_of_missing_file<R: Files>(
+// Returns the path at which a file is created if nothing is at a path, or only a dangling link.
+fn path_of_missing_file<R: Files>(
     files: &R,
     alloc: Global,
     path: &str,
@@ -149,13 +150,13 @@ fn place_of_missing_file<R: Files>(
     }
 }
 
-// A file that is open. Three of them take the places of standard streams that are closed, so that the file which is
-// opened behind them takes none, and what goes to the streams is not written to it.
+// Opens the null device. Three such files occupy the descriptors of closed standard streams, so that no file opened later occupies one and
+// receives what is written to a stream.
 fn open_null_device<R: Files>(files: &R) -> io::Result<R::File> {
     fs::open(files, "/dev/null")
 }
 
-// What the world outside holds is not known, so it is not told what is placed.
+// What the outside world holds is not known, so the placed files are unknown.
 impl<'a, R: Files> Outputs for SystemOutputs<'a, R>
 where
     R::File: FileLock,
@@ -176,19 +177,19 @@ where
         file_identity(self.files, alloc, path)
     }
 
-    // As the system resolves both: of a link the place that it leads to counts.
+    // Compares the paths as resolved by the system: links are followed.
     fn is_below(&self, alloc: Global, directory: &str, path: &str) -> Result<bool, AllocError> {
         let Some(directory) = real_path_of(self.files, alloc, directory)? else {
             return Ok(false);
         };
         let path = match real_path_of(self.files, alloc, path)? {
             Some(path) => path,
-            None => place_of_missing_file(self.files, alloc, path)?,
+            None => path_of_missing_file(self.files, alloc, path)?,
         };
         Ok(path.starts_with(directory.as_str()))
     }
 
-    // What is at the path, and at the one of the file that takes the bytes. What is there and no regular file stays.
+    // The file at the path, and the one at its temporary path. Anything that is not a regular file remains.
     fn replaced_files(&self, alloc: Global, path: &str) -> Result<Vec<Text>, FileError> {
         match temporary_and_final_path(self.files, alloc, path)? {
             Some(places) => {
@@ -228,7 +229,7 @@ where
     }
 
     fn place(&mut self, place: PendingFile, file: SyncedFile<R::File>) -> Result<(), FileError> {
-        // Its lock ends here, once the file has its own path.
+        // Its lock is released here, once the file has its final path.
         let SyncedFile { file: _locked } = file;
         let Some(places) = &place.places else {
             return Ok(());

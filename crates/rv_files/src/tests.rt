@@ -1,4 +1,4 @@
-//! Files of one command over the system's files, and files in memory.
+//! The files that one command writes, with the system's files and with files in memory.
 
 ghost use Rattle.std.specs.Prelude.{◌≡◌, ◌++◌, ◌∷◌, [], Some, IfSome, OnOk};
 ghost use Rattle.rv_files.specs.Placed.{placed_file};
@@ -16,7 +16,7 @@ use std::process::Abort;
 use std::rt::Files;
 use std::test::Fail;
 
-// Writes a file. The contract shows that the clauses of outputs are enough to name what is written.
+// Writes a file. The contract shows that the clauses of outputs suffice to determine what is written.
 fn write_file<F: Outputs>(
     outputs: &mut F,
     alloc: Global,
@@ -44,8 +44,8 @@ fn answer_text(answer: Result<(), FileError>) -> &'static str {
     }
 }
 
-// Two files of one command, of which the second is written before the first is placed: their paths | what comes of the
-// second | what stands at the first path in the end.
+// Two files of one command, of which the second is written before the first is placed: their paths | the outcome of the second | the final
+// contents at the first path.
 const PAIRS: &str = "\
 report|junit|placed|first
 report|report|the same place|first
@@ -76,7 +76,7 @@ where
     outputs.place(place, synced)?;
     let read = SystemInputs::new(rt).read_up_to(alloc, first, 9)?;
     assert_eq!(rt; read.as_slice(), text.as_bytes(), "{line}");
-    // The place is free again.
+    // The path is available again.
     write_file(&mut outputs, alloc, first, b"again")?;
     Ok(())
 }
@@ -94,7 +94,7 @@ fn files_of_one_command(rt: HostRuntime) -> Result<(), Fail> {
     Ok(())
 }
 
-// A path that is written | a path that is read | whether the first replaces or removes the second.
+// A path that is written | a path that is read | whether writing the first replaces or removes the second.
 const REPLACED: &str = "\
 report|report|yes
 report|./report|yes
@@ -271,7 +271,7 @@ fn a_file_that_cannot_be_placed_is_taken_away(rt: HostRuntime) -> Result<(), Fai
     let (place, mut file) = outputs.create(rt.alloc(), "turned")?;
     put_all(&mut file, b"lost")?;
     let synced = outputs.sync(file)?;
-    // A folder took the place of the file in between.
+    // A directory replaced the file in the meantime.
     fs::remove_file(&rt, "turned")?;
     fs::create_dir(&rt, "turned")?;
     assert!(rt; outputs.place(place, synced).is_err());

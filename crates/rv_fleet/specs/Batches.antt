@@ -5,14 +5,14 @@ use Rattle.rv_jobs.specs.Jobs.{single_job}
 use Rattle.rv_rows.specs.declared_row.Row.{Row}
 use Rattle.rv_rows.specs.Rows.{row_of, rows_at}
 
--- the rows of its jobs, in order
+-- the rows of the batch's jobs, in order
 abbrev pub batch_rows : Batch → List Row
 batch_rows batch = rows_at batch.plan.now batch.places.now
 
--- the place of its job of a number, counted from 0, and the row of that job
-abbrev pub place_of_number : Batch → ℕ → ℕ
-place_of_number batch number = slice_index_or batch.places.now number 0
+-- the index in the plan of a batch's job with a number, counted from 0, and the row of that job
+abbrev pub index_of_number : Batch → ℕ → ℕ
+index_of_number batch number = slice_index_or batch.places.now number 0
 
 abbrev pub row_of_number : Batch → ℕ → Row
 row_of_number batch number =
-    row_of batch.plan.now (slice_index_or batch.plan.now.jobs (place_of_number batch number) (single_job [] 0 []))
+    row_of batch.plan.now (slice_index_or batch.plan.now.jobs (index_of_number batch number) (single_job [] 0 []))

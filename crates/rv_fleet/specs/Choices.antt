@@ -1,8 +1,8 @@
--- A choice of a plan's jobs: those at some places, in order.
+-- A selection of a plan's jobs, as indices in order.
 use Rattle.std.specs.Prelude.{ℕ, ◌<◌, List, length}
 use Rattle.std.specs.List.{All}
 use Rattle.rv_jobs.specs.Plans.{Planned}
 
--- each is the place of a job
+-- each is the index of a job
 abbrev pub AreJobIndices : Planned → List ℕ → Type 0
 AreJobIndices plan places = All (λ place. place < length plan.jobs) places

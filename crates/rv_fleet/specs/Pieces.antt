@@ -1,4 +1,4 @@
--- The pieces of rows: those of jobs in groups, in order.
+-- The chunks of rows: those of groups of jobs, in order.
 use Rattle.std.specs.Prelude.{ℕ, List, length}
 use Rattle.std.specs.Int.{div_ceil}
 use Rattle.std.specs.Fork.{slice_chunk}
@@ -9,34 +9,34 @@ use Rattle.rv_fleet.specs.declared.pieces.Pieces.{Pieces}
 use Rattle.rv_rows.specs.declared_row.Row.{Row}
 use Rattle.rv_rows.specs.Rows.{rows_of}
 
--- how many pieces rows have: the rows divided by the group, rounded up
+-- the number of chunks of rows: the number of rows divided by the group size, rounded up
 abbrev pub piece_count_of_rows : List Row → ℕ → ℕ
 piece_count_of_rows rows group = div_ceil (length rows) group
 
--- piece k: its number, and the rows from k * group on, a group of them or as many as there are
+-- chunk k: its number, and `group` rows from k * group on, or as many as there are
 abbrev pub piece_for : List Row → ℕ → ℕ → Piece
 piece_for rows group k = record { number = k; rows = slice_chunk rows group k }
 
 -- ---- of a plan
 
--- how many pieces a plan has: one row is one job
+-- the number of chunks of a plan; each job has one row
 abbrev pub pieces_of : Planned → ℕ → ℕ
 pieces_of plan group = div_ceil (length plan.jobs) group
 
--- piece k of a plan
+-- chunk k of a plan
 abbrev pub piece_at : Planned → ℕ → ℕ → Piece
 piece_at plan group k = piece_for (rows_of plan) group k
 
 -- ---- of a batch
 
--- how many pieces it has
+-- the number of chunks
 abbrev pub count_of_pieces : Pieces → ℕ
 count_of_pieces pieces = piece_count_of_rows (batch_rows pieces.batch) pieces.group
 
--- the rows of piece k
+-- the rows of chunk k
 abbrev pub piece_rows : Pieces → ℕ → List Row
 piece_rows pieces k = slice_chunk (batch_rows pieces.batch) pieces.group k
 
--- piece k
+-- chunk k
 abbrev pub numbered_piece : Pieces → ℕ → Piece
 numbered_piece pieces k = piece_for (batch_rows pieces.batch) pieces.group k

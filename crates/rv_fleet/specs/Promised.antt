@@ -1,4 +1,4 @@
--- What a worker promises of its result.
+-- A worker's promise about its result.
 use Rattle.std.specs.Prelude.{◌≡◌, ℕ, List, [], map, All, IfOk}
 use Rattle.rv_rows.specs.declared_row.Row.{Row}
 use Rattle.rv_fleet.specs.declared.worker_promise.Worked.{Worked}
@@ -6,16 +6,15 @@ use Rattle.rv_claims.specs.NewPieces.{pieces_among}
 use Rattle.rv_claims.specs.Passes.{SharedDraw, PassView}
 use Rattle.rv_fleet.specs.Pieces.{piece_for}
 
--- a pass of this shared draw, with no draws
+-- a pass of this shared draw, without draws
 abbrev pub IsFresh : SharedDraw → PassView → Type 0
 IsFresh draw pass = (pass.draw ≡ draw) × (pass.draws ≡ [])
 
--- each is such a pass
+-- each is a fresh pass
 abbrev pub AreFresh : SharedDraw → List PassView → Type 0
 AreFresh draw passes = All (IsFresh draw) passes
 
--- the worker's promise: its result is the pieces that its pass drew, each under its number and with
--- its rows
+-- the worker's promise: its result is the chunks that its pass drew, each with its number and its rows
 abbrev pub HasWorked : List Row → ℕ → SharedDraw → Worked → Type 0
 HasWorked rows group draw worked = (worked.pass.draw ≡ draw)
     × IfOk worked.pieces (λ made. made.items

@@ -1,4 +1,4 @@
--- When a thread may be started, and what is known of one that was.
+-- When a thread can be started, and what is known about a started one.
 use Rattle.std.specs.Prelude.{◌≡◌, ◌<◌, ◌≤◌, ℕ, List, length}
 use Rattle.std.specs.List.Sorted.{IsStrictlyIncreasing}
 use Rattle.std.specs.declared.thread.PromisedHandle.{PromisedHandle}
@@ -12,19 +12,19 @@ use Rattle.rv_jobs.specs.Plans.{Planned}
 use Rattle.rv_fleet.specs.Choices.{AreJobIndices}
 use Rattle.rv_fleet.specs.Pieces.{piece_count_of_rows}
 
--- jobs that may be a batch, in groups that may be its pieces
+-- jobs that can form a batch, and a group size that its chunks can have
 pub record AreGrouped (plan : Planned) (places : List ℕ) (group : ℕ) : Type 0 where
   pub within : AreJobIndices plan places
   pub rising : IsStrictlyIncreasing places
   pub few : length places ≤ most_jobs
   pub group_few : (0 < group) × (group ≤ most_group)
 
--- the shared draw is of the pieces of these jobs' rows
+-- the shared draw hands out the chunks of these jobs' rows
 abbrev pub CanWork : Planned → List ℕ → ℕ → SharedDraw → Type 0
 CanWork plan places group draw = AreGrouped plan places group
     × (draw.pieces ≡ piece_count_of_rows (rows_at plan places) group)
 
--- its promise is of these rows, this group and this shared draw
+-- its promise is about these rows, this group size and this shared draw
 abbrev pub IsStarted : List Row → ℕ → SharedDraw → PromisedHandle Worked Works → Type 0
 IsStarted rows group draw handle =
     (rows_at handle.promise.plan.now handle.promise.places.now ≡ rows)

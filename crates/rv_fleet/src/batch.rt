@@ -1,4 +1,4 @@
-//! A choice of a plan's jobs to run.
+//! A selection of a plan's jobs to run.
 
 ghost use Rattle.std.specs.Prelude.{◌≡◌, ◌≤◌, length};
 ghost use Rattle.std.specs.List.Sorted.{IsStrictlyIncreasing};
@@ -7,7 +7,7 @@ ghost use Rattle.rv_fleet.specs.Choices.{AreJobIndices};
 
 use rv_jobs::Plan;
 
-/// The jobs of a plan that are run: those at some places, which rise.
+/// The jobs of a plan to run, given by strictly increasing indices.
 #[derive(Clone, Copy)]
 pub struct Batch<'a> {
     pub plan: &'a Plan,
@@ -18,13 +18,14 @@ pub struct Batch<'a> {
 }
 
 impl<'a> Batch<'a> {
+    /// Selects the jobs at these indices, which must be strictly increasing.
     pub fn new(plan: &'a Plan, places: &'a [usize]) -> Batch<'a>
         requires within { AreJobIndices plan.now places.now }
         requires rising { IsStrictlyIncreasing places.now }
         ensures plan { result.plan.now ≡ plan.now }
         ensures places { result.places.now ≡ places.now }
     {
-        // Places that rise are no more than there are jobs, and a plan has no more of these than a list.
+        // There are at most as many strictly increasing indices as jobs, and a plan has at most as many jobs as a list can.
         let _jobs = plan.jobs();
         let _places = places.len();
         Batch { plan, places }

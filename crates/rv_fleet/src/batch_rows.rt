@@ -1,4 +1,4 @@
-//! The rows of a batch, by the engine.
+//! The rows of a batch, made by the engine.
 
 ghost use Rattle.std.specs.Prelude.{◌≡◌, [], IfOk, false};
 ghost use Rattle.rv_fleet.specs.Batches.{batch_rows};
@@ -48,16 +48,16 @@ impl Work<Row> for BatchRows<'_> {
     }
 }
 
-/// Keeps the rows that it hears.
+/// Collects the rows that it receives.
 #[derive(Drop)]
 pub(crate) struct CollectedRows {
     rows: Vec<Row>,
-    // Whether a growth was refused.
+    // Whether an allocation failed.
     refused: bool,
 }
 
 impl CollectedRows {
-    // It has heard nothing yet.
+    // Creates a collector without rows.
     fn new(alloc: Global) -> CollectedRows
         ensures rows { result.rows.items ≡ [] }
         ensures refused { result.refused ≡ false }
@@ -91,7 +91,7 @@ impl Listener<Row> for CollectedRows {
     }
 }
 
-/// The rows of a batch, in order: the same for every crew.
+/// Returns the rows of a batch, in order. They are identical for every crew.
 pub fn run_batch<R: Threads + Wait + Sync>(
     crew: &Crew<'_, R>,
     batch: &Batch<'_>,

@@ -1,4 +1,4 @@
-//! From what the workers made to the rows in list order.
+//! Puts the workers' results into list order.
 
 ghost use Rattle.std.specs.Prelude.{◌≡◌, ◌<◌, IfOk, IfSome};
 ghost use Rattle.rv_fleet.specs.Batches.{batch_rows};
@@ -15,16 +15,16 @@ use rv_engine::WorkerState;
 use rv_rows::{Row, Rows};
 use std::alloc::{AllocError, Global};
 
-/// What all workers made.
+/// The results of all workers.
 #[derive(Drop)]
 pub(crate) struct Collected {
-    /// The rows of each piece that was made, in the slot of its number.
+    /// The rows of each chunk that was made, in the slot with its number.
     pub(crate) slots: Vec<Option<Rows>>,
-    /// All passes in one, if there are any.
+    /// All passes merged into one, if there are any.
     pub(crate) pass: Option<Pass>,
 }
 
-/// What all workers made, each piece once.
+/// Collects the results of all workers, each chunk once.
 pub(crate) fn collect_pieces(
     alloc: Global,
     claims: &Claims,
@@ -46,7 +46,7 @@ pub(crate) fn collect_pieces(
     Ok(Collected { slots, pass: all })
 }
 
-/// A slot for each piece, and no rows there yet.
+/// Returns an empty slot for each chunk.
 fn empty_slots(alloc: Global, pieces: &Pieces<'_>) -> Result<Vec<Option<Rows>>, AllocError>
     ensures { IfOk result (λ slots. IsFilled pieces.now slots.items) }
 {
@@ -67,7 +67,7 @@ fn keep_pieces(slots: &mut Vec<Option<Rows>>, pieces: &Pieces<'_>, made: Vec<Pie
     }
 }
 
-/// Keeps a piece's rows, unless they are there.
+/// Stores a chunk's rows unless its slot is filled.
 fn keep_piece(slots: &mut Vec<Option<Rows>>, pieces: &Pieces<'_>, piece: Piece)
     requires slots { IsFilled pieces.now slots.old.items }
     requires piece { IsPiece pieces.now piece }
@@ -79,6 +79,7 @@ fn keep_piece(slots: &mut Vec<Option<Rows>>, pieces: &Pieces<'_>, piece: Piece)
     }
 }
 
+// Merges a pass into the earlier ones, if there are any.
 fn join_passes(claims: &Claims, all: Option<Pass>, pass: Pass) -> Pass
     requires all { IfSome all (λ other. other.draw ≡ claims.now) }
     requires pass { pass.draw ≡ claims.now }
@@ -90,7 +91,7 @@ fn join_passes(claims: &Claims, all: Option<Pass>, pass: Pass) -> Pass
     }
 }
 
-/// The rows of all pieces, in order. A piece that no worker made is made here.
+/// Returns the rows of all chunks, in order. A chunk that no worker made is made here.
 pub(crate) fn rows_of_all_pieces<G: Gate>(
     alloc: Global,
     slots: Vec<Option<Rows>>,
@@ -110,7 +111,7 @@ pub(crate) fn rows_of_all_pieces<G: Gate>(
     Ok(Rows::new(rows))
 }
 
-/// The rows in a piece's slot; where there are none, they are made.
+/// Returns the rows in a chunk's slot, or makes them if the slot is empty.
 fn rows_in_slot<G: Gate>(
     alloc: Global,
     slot: Option<Rows>,

@@ -1,4 +1,4 @@
-//! A fleet: the rows of a plan, made by threads that draw its pieces.
+//! A fleet: the rows of a plan, made by threads that draw its chunks.
 
 ghost use Rattle.rv_jobs.specs.Limits.{most_group, most_workers};
 ghost use Rattle.std.specs.Prelude.{◌≡◌, ◌<◌, ◌≤◌, IfOk};
@@ -22,10 +22,10 @@ use thiserror::Error;
 /// Why there is no report.
 #[derive(Clone, Copy, Debug, Error, PartialEq, Eq)]
 pub enum FleetError {
-    /// A growth was refused.
+    /// An allocation failed.
     #[error("out of memory")]
     OutOfMemory,
-    /// The start of a thread was refused.
+    /// A thread could not be started.
     #[error("no worker")]
     NoWorker,
 }
@@ -38,11 +38,11 @@ impl From<AllocError> for FleetError {
     }
 }
 
-/// The rows of all jobs in list order, made by as many threads as `workers` says, or as there are pieces if these are
-/// fewer: the same report for every number of workers, from 1 to 64, and of jobs in a piece, from 1 to 4,096.
+/// Returns the rows of all jobs in list order, made by `workers` threads, or one per chunk if there are fewer chunks. The report is
+/// identical for every number of workers, from 1 to 64, and of jobs in a chunk, from 1 to 4,096.
 ///
-/// Each thread draws the next piece when it is free. It waits for all threads that it started, on a refusal too. The gate is entered
-/// for each piece.
+/// Each thread draws the next chunk when it is free. The function joins all threads that it started, even after an error. The gate is
+/// entered for each chunk.
 pub fn run_fleet<R: Threads + Wait, G: Gate>(
     rt: &R,
     alloc: Global,

@@ -1,12 +1,12 @@
-//! What a worker passes before it makes a piece.
+//! A hook that a worker calls before it makes a chunk.
 
-/// Entered once for each piece that is run, by the worker that has the piece and before its first row.
+/// Entered once for each chunk that is run, by the worker that drew it and before its first row.
 pub trait Gate: Sync {
-    /// `piece` is its number, counted from 0.
+    /// `piece` is the chunk's number, counted from 0.
     fn enter(&self, piece: u64);
 }
 
-/// A gate that holds nobody.
+/// A gate that never blocks.
 #[derive(Clone, Copy, Debug)]
 pub struct FreeGate;
 

@@ -1,4 +1,4 @@
-//! One piece of a batch.
+//! One chunk of a batch.
 
 ghost use Rattle.std.specs.Prelude.{◌≡◌, ◌<◌, IfOk, OnOk};
 ghost use Rattle.rv_rows.specs.Recent.{AreOutcomes};
@@ -10,15 +10,15 @@ use rv_engine::WorkerState;
 use rv_rows::{Rows, row_at_with_recent};
 use std::alloc::{AllocError, Global};
 
-/// The rows of the jobs at the places from `number * group` on: a group of them, or as many as there are.
+/// The rows of the jobs from index `number * group` on: `group` of them, or as many as there are.
 #[derive(Debug, Drop)]
 pub struct Piece {
-    /// Counted from 0.
+    /// The chunk's number, counted from 0.
     pub number: u64,
     pub rows: Rows,
 }
 
-/// Enters the gate for a piece, and makes the piece.
+/// Enters the gate for a chunk, then makes the chunk.
 pub(crate) fn make_piece<G: Gate>(
     alloc: Global,
     pieces: &Pieces<'_>,

@@ -1,15 +1,15 @@
-//! A batch in pieces.
+//! A batch divided into chunks.
 
 ghost use Rattle.rv_jobs.specs.Limits.{most_group, most_jobs};
 ghost use Rattle.std.specs.Prelude.{◌≡◌, ◌<◌, ◌≤◌};
 
 use crate::batch::Batch;
 
-/// The pieces of a batch: its jobs in groups, in order. The last piece may have fewer.
+/// The chunks of a batch: groups of its jobs, in order. The last chunk may have fewer.
 #[derive(Clone, Copy)]
 pub(crate) struct Pieces<'a> {
     pub(crate) batch: Batch<'a>,
-    /// How many jobs a piece has.
+    /// The number of jobs in a chunk.
     pub(crate) group: u32,
     pub(crate) ghost group_few: { (0 < group) × (group ≤ most_group) },
 }
@@ -17,7 +17,7 @@ pub(crate) struct Pieces<'a> {
 impl<'a> Pieces<'a> {
     ghost use Rattle.rv_fleet.specs.Pieces.{count_of_pieces};
 
-    /// How many there are.
+    /// Returns the number of chunks.
     #[tactic(auto, using(crate::proofs::Collects::rows_count))]
     pub(crate) fn count(&self) -> u64
         ensures value { result ≡ count_of_pieces self.now }

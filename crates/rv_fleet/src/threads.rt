@@ -1,4 +1,4 @@
-//! The threads of a fleet: each draws pieces with a pass of its own and makes them.
+//! The threads of a fleet: each draws chunks with its own pass and makes them.
 
 ghost use Rattle.std.specs.Prelude.{◌≡◌, [], IfOk};
 ghost use Rattle.rv_rows.specs.Rows.{rows_at};
@@ -23,7 +23,8 @@ use std::sync::Wait;
 use std::thread;
 use std::thread::Threads;
 
-/// The rows that threads make of pieces, each piece's in the slot of its number: as many threads as the crew has, or as there are pieces.
+/// Makes the rows of all chunks and returns each chunk's in the slot with its number. Runs as many threads as the crew has, or one per
+/// chunk if there are fewer chunks.
 pub(crate) fn make_pieces<R: Threads + Wait, G: Gate>(
     crew: &Crew<'_, R>,
     pieces: &Pieces<'_>,
@@ -38,13 +39,13 @@ pub(crate) fn make_pieces<R: Threads + Wait, G: Gate>(
     let worked = run_workers(crew, &claims, passes, pieces, gate)?;
     let Collected { slots, pass } = collect_pieces(alloc, &claims, worked, pieces)?;
     if let Some(pass) = pass {
-        // The rows rest on what the workers promise, and not on this answer: a piece that nobody made is made later.
+        // The rows depend on the workers' promises and not on this result: a chunk that nobody made is made later.
         let _each_once = claims.finish(pass);
     }
     Ok(slots)
 }
 
-/// A pass for each thread: as many as asked, or as there are free places. The last is the first pass itself.
+/// Returns a pass for each thread: `count` of them, or as many as there are free pass indices. The last is the first pass itself.
 fn split_passes(
     alloc: Global,
     claims: &Claims,
@@ -75,7 +76,7 @@ fn split_passes(
     Ok(passes)
 }
 
-/// A thread for each pass: what each made. It returns when all of them have ended.
+/// Runs a thread for each pass and returns what each made, once all of them have ended.
 fn run_workers<R: Threads + Wait, G: Gate>(
     crew: &Crew<'_, R>,
     claims: &Claims,
@@ -89,7 +90,7 @@ fn run_workers<R: Threads + Wait, G: Gate>(
         (batch_rows pieces.now.batch) pieces.now.group claims.now worked.items) }
 {
     let (rt, alloc) = (crew.rt, crew.alloc);
-    // The closures capture plain references: what a closure ensures is not known where a captured type has a lifetime.
+    // The closures capture plain references: what a closure ensures is not known if a captured type has a lifetime.
     let (plan, places, group) = (pieces.batch.plan, pieces.batch.places, pieces.group);
     thread::scope(
         thread::scope_env(),

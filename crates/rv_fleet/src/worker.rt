@@ -1,4 +1,4 @@
-//! What a worker does: it draws pieces and makes them.
+//! The loop of a worker: draws chunks and makes them.
 
 ghost use Rattle.rv_jobs.specs.Limits.{most_group};
 ghost use Rattle.std.specs.Prelude.{◌≡◌, ◌<◌, ◌≤◌, [], true, map, IfOk};
@@ -19,8 +19,8 @@ use rv_engine::WorkerState;
 use rv_jobs::Plan;
 use std::alloc::{AllocError, Global};
 
-/// Takes pieces until there is none, and makes each before the next is taken: the pieces in the order drawn. `group` is
-/// the number of jobs in a piece, the last piece aside. After a refusal the pass holds what it drew.
+/// Takes chunks until none is left, and makes each before it takes the next. Returns the chunks in the order drawn. `group` is the number
+/// of jobs in a chunk; the last chunk may have fewer. After an error the pass holds what it drew.
 pub fn work<G: Gate>(
     alloc: Global,
     claims: &Claims,
@@ -43,7 +43,7 @@ pub fn work<G: Gate>(
     work_on_pieces(alloc, claims, pass, &pieces, gate)
 }
 
-/// The same for the pieces of a batch.
+/// Like [`work`], for the chunks of a batch.
 pub(crate) fn work_on_pieces<G: Gate>(
     alloc: Global,
     claims: &Claims,
@@ -67,7 +67,7 @@ pub(crate) fn work_on_pieces<G: Gate>(
     Ok(drawn)
 }
 
-/// What one thread does with a pass of its own.
+/// Runs one thread's work with its own pass.
 pub(crate) fn work_with_own_pass<G: Gate>(
     alloc: Global,
     claims: &Claims,

@@ -1,4 +1,4 @@
-//! What a worker gives back, and what it promises of it.
+//! The result of a worker, and its promise about it.
 
 use crate::piece::Piece;
 use rv_claims::{Claims, Pass};
@@ -6,14 +6,14 @@ use rv_jobs::Plan;
 use std::alloc::AllocError;
 use std::thread::Promise;
 
-/// What a worker made, and the pass that it drew with.
+/// The chunks that a worker made, and the pass that it drew with.
 #[derive(Drop)]
 pub(crate) struct Worked {
     pub pass: Pass,
     pub pieces: Result<Vec<Piece>, AllocError>,
 }
 
-/// The promise: each piece that the pass drew is made, and no other.
+/// The promise: exactly the chunks that the pass drew are made.
 #[derive(Clone, Copy)]
 pub(crate) struct Works<'a> {
     pub plan: &'a Plan,

@@ -1,10 +1,10 @@
-//! Where jobs begin in texts that are no TOML: those up to there are noted. No run of a program asks for them.
+//! Where jobs begin in texts that are not TOML: those before the error are noted. No program requests them.
 use rv_list_locations::job_line_numbers;
 use samples::agree;
 use std::alloc::{AllocError, Global};
 use std::test::Fail;
 
-// Texts, and the lines on which their jobs begin. A bar alone parts them.
+// Texts, and the lines on which their jobs begin, separated by a bar.
 const TEXTS: &str = "\
 [[job]]
 = 3

@@ -1,4 +1,4 @@
-//! Plans for all jobs and for a choice: which paths are read, and what is kept of each job's.
+//! Plans for all jobs and for a choice: which paths are read, and what is kept for each job.
 ghost use Rattle.std.specs.Prelude.{◌<◌, ◌≤◌, None, length};
 
 use rv_jobs::{
@@ -8,18 +8,18 @@ use samples::{agree, cell_of, has_lines};
 use std::alloc::{AllocError, Global};
 use std::test::Fail;
 
-// The numbers of the first fault of lists and of the last.
+// The numbers of the first and the last error of lists.
 const _: () = prove!(What::NotToml as u8 == 1 && What::Misaligned as u8 == 18);
 
-/// A store with the files `a`, `b` and `r` of one byte and `A`, `B` and `C` of many, each full of its own name, and one
-/// `l` that is too long. It lists the paths that it was read at.
+/// A store with the files `a`, `b` and `r` of one byte and `A`, `B` and `C` of many, each filled with its own name, and a file `l` that is
+/// too long. It records the paths that were read.
 #[derive(Drop)]
 struct Files {
     log: String,
     faults: u64,
 }
 
-// How many bytes a file has.
+// Returns the number of bytes in a file.
 fn length_of(path: &str) -> usize
     ensures { result ≤ 0x100_0000 }
 {
@@ -82,7 +82,7 @@ fn plan_of(alloc: Global, list: &str, choice: &str, store: &mut Files) -> Result
     chosen(alloc, jobs, &marks_of(alloc, choice)?, store)
 }
 
-// What is kept of a path: nothing, why it has no bytes, its one byte, or how many there are and the last.
+// Appends what is kept for a path: nothing, why it has no bytes, its one byte, or the number of bytes and the last one.
 fn tell_kept(text: &mut String, kept: Option<&Kept>) -> Result<(), AllocError> {
     match kept {
         Some(Kept::Content(bytes)) => tell_bytes(text, bytes.as_slice()),
@@ -101,7 +101,7 @@ fn tell_bytes(text: &mut String, bytes: &[u8]) -> Result<(), AllocError> {
     }
 }
 
-// A job's name, and what is kept of its image, reference and console.
+// Appends a job's name, and what is kept of its image, reference and console.
 fn tell_job(text: &mut String, plan: &Plan, place: usize) -> Result<(), AllocError>
     requires { place < length plan.now.jobs }
 {
@@ -113,7 +113,7 @@ fn tell_job(text: &mut String, plan: &Plan, place: usize) -> Result<(), AllocErr
     tell_kept(text, plan.console_reference(place))
 }
 
-// The paths that were read, how many faults the store has, and what is kept of each job's.
+// Returns the paths that were read, the number of faults of the store, and what is kept for each job.
 fn told(alloc: Global, plan: &Plan, store: &Files) -> Result<String, AllocError> {
     let (log, faults) = (store.log.as_str(), store.faults());
     let mut text = format!(in alloc; "'{log}' {faults} faults")?;
@@ -123,7 +123,7 @@ fn told(alloc: Global, plan: &Plan, store: &Files) -> Result<String, AllocError>
     Ok(text)
 }
 
-// The plan for `all` jobs of a list, or for those that are marked by `x`.
+// Returns the plan for `all` jobs of a list, or for those selected with `x`.
 fn told_of(alloc: Global, list: &str, choice: &str) -> Result<String, Fail> {
     let mut store = Files {
         log: String::new(alloc),
@@ -133,7 +133,7 @@ fn told_of(alloc: Global, list: &str, choice: &str) -> Result<String, Fail> {
     Ok(told(alloc, &plan, &store)?)
 }
 
-// Whether the plan of a list for each choice is what the line says.
+// Checks that the plan of a list for each choice is the one in the line.
 fn check(alloc: Global, list: &str, table: &str, lines: usize) -> Result<(), Fail> {
     has_lines(table, lines)?;
     for row in table.lines() {
@@ -174,8 +174,8 @@ const LIST: &str = "job = [
 { name = 'n3', image = 'y', budget = 1, same_as = 'n2' },
 { name = 'n4', image = 'b', budget = 1, signature = ['s', 's'], expect_signature = 'a' }]";
 
-// The jobs of a choice, each path that was read, and what is kept of each job's image, reference and console. `x.x.x` and `.x.x.`
-// are the two shards of the list.
+// The jobs of a choice, each path that was read, and what is kept of each job's image, reference and console. `x.x.x` and `.x.x.` are the
+// two shards of the list.
 const CHOICES: &str = "\
 ..... | '' 5 faults: n0 unreadable unreadable none, n1 unreadable none unreadable, n2 unreadable none none, \
     n3 unreadable none none, n4 unreadable unreadable none

@@ -1,5 +1,4 @@
-//! Draws, kept outcomes, fleets and streams by the lines of tables: what is made, what it is asked, and what it answers,
-//! which is the last cell.
+//! Draws, kept outcomes, fleets and streams, by the lines of tables: the setup, the requests, and, in the last cell, the expected results.
 ghost use Rattle.std.specs.Prelude.{◌<◌, ◌≤◌, IfOk, None};
 ghost use Rattle.std.specs.List.Sorted.{IsStrictlyIncreasing};
 ghost use Rattle.rv_fleet.specs.Choices.{AreJobIndices};
@@ -19,7 +18,7 @@ mod recent;
 mod streams;
 mod workers;
 
-// The sample of each path: an exit by code 5 after two steps, and the image with a signature, of 16,000 words or one more.
+// Returns the sample for a path: an exit with code 5 after two steps, and the image with a signature, of 16,000 words or one more.
 fn sample_of(path: &str) -> &'static str {
     match path {
         "most-words" => "sign 168=8000fa28",
@@ -28,7 +27,7 @@ fn sample_of(path: &str) -> &'static str {
     }
 }
 
-/// The samples by their paths.
+/// The samples by path.
 #[derive(Drop)]
 struct Samples;
 
@@ -54,7 +53,7 @@ fn plan_in(alloc: Global, list: &str) -> Result<Plan, Fail> {
     Ok(gather(alloc, jobs, &mut Samples)?)
 }
 
-// A plan of jobs with these budgets, which stand with spaces between. Their names are `j0`, `j1` and so on.
+// Returns a plan of jobs with these budgets, separated by spaces. Their names are `j0`, `j1` and so on.
 fn plan_of(alloc: Global, budgets: &str) -> Result<Plan, Fail> {
     let mut list = String::new(alloc);
     for (place, budget) in budgets.split(' ').enumerate() {
@@ -66,7 +65,7 @@ fn plan_of(alloc: Global, budgets: &str) -> Result<Plan, Fail> {
     plan_in(alloc, list.as_str())
 }
 
-// Each row's name, how it ended and its steps.
+// Appends each row's name, how it ended and its steps.
 fn push_rows(text: &mut String, rows: &[Row]) -> Result<(), AllocError> {
     for row in rows {
         let (name, ending, steps) = (row.name.as_str(), row.ending, row.steps);
@@ -75,12 +74,12 @@ fn push_rows(text: &mut String, rows: &[Row]) -> Result<(), AllocError> {
     Ok(())
 }
 
-// What the last cell of a line says.
+// Returns the last cell of a line.
 fn last_cell(line: &str) -> &str {
     line.rsplit_once('|').unwrap_or(("", line)).1.trim()
 }
 
-// A mark for each letter, set for `x`.
+// Returns a selection with a job for each letter, selected by `x`.
 fn marks_of(alloc: Global, choice: &str) -> Result<Vec<bool>, AllocError> {
     let mut marks = Vec::new(alloc);
     for mark in choice.bytes() {
@@ -89,12 +88,12 @@ fn marks_of(alloc: Global, choice: &str) -> Result<Vec<bool>, AllocError> {
     Ok(marks)
 }
 
-// The number in a cell, and 0 where there is none.
+// Returns the number in a cell, or 0 if there is none.
 fn number_in(line: &str, place: usize) -> u64 {
     cell_of(line, place).parse::<u64>().unwrap_or(0)
 }
 
-// The workers and the group of a line.
+// Returns the workers and the chunk size of a line.
 fn crew_of(line: &str) -> (u32, u32)
     ensures workers { (0 < result.0) × (result.0 ≤ 64) }
     ensures group { (0 < result.1) × (result.1 ≤ 4096) }
@@ -104,7 +103,7 @@ fn crew_of(line: &str) -> (u32, u32)
     (workers as u32, group as u32)
 }
 
-// The plan of a line, and the places of the jobs that are chosen of it.
+// Returns the plan of a line, and the indices of its chosen jobs.
 fn chosen(alloc: Global, line: &str) -> Result<(Plan, Vec<usize>), Fail>
     ensures within { IfOk result (λ chosen. AreJobIndices chosen.0 chosen.1.items) }
     ensures rising { IfOk result (λ chosen. IsStrictlyIncreasing chosen.1.items) }
@@ -118,7 +117,7 @@ fn chosen(alloc: Global, line: &str) -> Result<(Plan, Vec<usize>), Fail>
     Ok((plan, places))
 }
 
-/// Which table a line is of.
+/// The table that a line belongs to.
 #[derive(Clone, Copy)]
 enum Table {
     Draws,
@@ -147,7 +146,7 @@ fn told<R: Threads + Wait + Sync>(
     }
 }
 
-// Each line of a table is told as its last cell says.
+// Checks that each line of a table has the result in its last cell.
 fn hold<R: Threads + Wait + Sync>(
     rt: &R,
     alloc: Global,

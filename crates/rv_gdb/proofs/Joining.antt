@@ -9,7 +9,7 @@ use Rattle.rv_session.specs.Incoming.{IsFed, is_interrupted, no_bytes}
 use Rattle.rv_session.specs.Sessions.{MayAsk}
 use Rattle.rv_session.specs.declared.session.Session.{Session}
 use Rattle.rv_session.proofs.Public.{fed_both, fed_byte, fed_move, worked_more, worked_unasked}
-use Rattle.rv_gdb.specs.Chunks.{IsByteAnswered, IsBytePut, IsChunkAnswered, IsMovePut}
+use Rattle.rv_gdb.specs.Chunks.{IsByteAnswered, IsByteReplyWritten, IsChunkAnswered, IsMoveReplyWritten}
 use Rattle.rv_gdb.specs.Conversing.{IsChunkRead, IsConversed, IsReadWhileOpen}
 
 -- ---- within a chunk
@@ -40,7 +40,7 @@ pub record IsHeardAt (end_text : List ℕ) (session : Session) (chunk : List ℕ
   pub put : Appends old new told
 
 pub heard_byte : (end_text : List ℕ) (session standing next : Session) (chunk : List ℕ) (i d : ℕ) (a b c : Option (List ℕ))
-    → i < length chunk → IsHeardIn end_text session chunk i a b standing → IsBytePut standing (get_or chunk i d) b c next
+    → i < length chunk → IsHeardIn end_text session chunk i a b standing → IsByteReplyWritten standing (get_or chunk i d) b c next
     → IsHeardAt end_text session chunk i a c next
 heard_byte end_text session standing next chunk i d a b c within first one = record {
   told = first.told ++ one.told;
@@ -65,7 +65,7 @@ heard_on end_text session next chunk i a b at none = record {
 -- a move is made, behind which another byte waits
 pub heard_move : (end_text : List ℕ) (session standing next : Session) (chunk : List ℕ) (i d : ℕ) (a b c : Option (List ℕ))
     → i + 1 < length chunk → IsHeardAt end_text session chunk i a b standing
-    → IsMovePut end_text (get_or chunk (i + 1) d == 3) standing b c next → IsHeardIn end_text session chunk (i + 1) a c next
+    → IsMoveReplyWritten end_text (get_or chunk (i + 1) d == 3) standing b c next → IsHeardIn end_text session chunk (i + 1) a c next
 heard_move end_text session standing next chunk i d a b c within at move = record {
   told = at.told ++ move.told;
   fed = λ behind. subst (λ (may : Bool). IsFed end_text may session (take (i + 1) chunk) (at.told ++ move.told) next)
@@ -131,7 +131,7 @@ chunk_read end_text session next chunk bytes i x y a b is heard going read =
 
 pub chunk_moved : (end_text : List ℕ) (session standing next : Session) (chunk bytes : List ℕ) (i : ℕ) (x y a b c : Option (List ℕ))
     → i + 1 ≡ length chunk → IsHeardAt end_text session chunk i a b standing → standing.is_over ≡ false
-    → IsMovePut end_text (is_interrupted bytes true) standing b c next → IsChunkRead x y bytes
+    → IsMoveReplyWritten end_text (is_interrupted bytes true) standing b c next → IsChunkRead x y bytes
     → IsChunkAnswered end_text session chunk x y a c (Some bytes) next
 chunk_moved end_text session standing next chunk bytes i x y a b c is at going move read =
     let may = is_interrupted bytes true in
@@ -145,7 +145,7 @@ chunk_moved end_text session standing next chunk bytes i x y a b c is at going m
 
 -- a move that was broken off, as another thread told, was so for what this thread read
 pub put_more : (end_text : List ℕ) (one other : Bool) (session next : Session) (a b : Option (List ℕ)) → (one ≡ true → other ≡ true)
-    → IsMovePut end_text one session a b next → IsMovePut end_text other session a b next
+    → IsMoveReplyWritten end_text one session a b next → IsMoveReplyWritten end_text other session a b next
 put_more end_text one other session next a b more move = record {
   told = move.told;
   made = worked_more end_text one other session next move.told more move.made;

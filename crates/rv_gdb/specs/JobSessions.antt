@@ -1,4 +1,4 @@
--- The session over the run of a job of a plan.
+-- The session over the run of a plan's job.
 use Rattle.std.specs.Prelude.{◌≡◌, ℕ, List, Some, Ok}
 use Rattle.rv_history.specs.Starts.{start_of}
 use Rattle.rv_history.specs.declared.start.Start.{Start}
@@ -9,7 +9,7 @@ use Rattle.rv_session.specs.Sessions.{at_first}
 use Rattle.rv_session.specs.declared.session.Session.{Session}
 use Rattle.rv_trace.specs.Trace.{image_bytes}
 
--- a session at the start of the run of a job that is not refused, before gdb says anything; gdb is told this path of its image
+-- a session at the start of the run of a job that is not refused, before gdb has sent anything; gdb is given this path of the job's image
 pub record IsSessionOf (answers : List Answer) (job : Job) (path : List ℕ) (session : Session) : Type 0 where
   pub start : Start
   pub starts : start_in answers job ≡ Ok (start_of start)

@@ -1,10 +1,10 @@
-//! What gdb sends, and what it is answered.
+//! What gdb sends, and the replies to it.
 
 ghost use Rattle.std.specs.Prelude.{◌≡◌, ◌≢◌, ◌<◌, ◌==◌, IfErr, IfOk, None, OnOk, is_some, length, option_map, true};
 ghost use Rattle.std.specs.Io.KnownBytes.{Appends};
 ghost use Rattle.rv_base.specs.Counts.{one_more};
 ghost use Rattle.rv_gdb.specs.Conversing.{IsChunkRead, IsConversed, IsEnded};
-ghost use Rattle.rv_gdb.specs.Chunks.{IsByteAnswered, IsBytePut, IsChunkAnswered, IsMovePut};
+ghost use Rattle.rv_gdb.specs.Chunks.{IsByteAnswered, IsByteReplyWritten, IsChunkAnswered, IsMoveReplyWritten};
 ghost use Rattle.rv_session.specs.Incoming.{is_interrupted};
 ghost use Rattle.rv_session.specs.Sessions.{IsSameRun, MayAsk};
 
@@ -18,15 +18,15 @@ use std::io::{ErrorKind, Read};
 use std::sync::atomic::AtomicBool;
 use std::thread::{Threads, join_mut};
 
-/// Why a session was broken off.
+/// Why a session was aborted.
 #[derive(Clone, Copy, Debug, PartialEq, Eq)]
 pub enum SessionError {
-    /// A growth was refused.
+    /// An allocation failed.
     OutOfMemory,
     /// A read failed, for this reason.
     UnreadPath(ErrorKind),
-    /// A put failed.
-    Unput,
+    /// A write failed.
+    ReplyWriteFailed,
 }
 
 impl From<AllocError> for SessionError {
@@ -39,21 +39,21 @@ impl From<AllocError> for SessionError {
     }
 }
 
-// The answer to a move for which there is no memory.
+// The reply to a move for which there is not enough memory.
 const NO_MEMORY: &str = "$E.out of memory#79";
 
-/// The means of a conversation.
+/// What a conversation needs besides its session.
 #[derive(Drop)]
 pub struct SessionContext<'a, R, E> {
     pub rt: &'a R,
     pub alloc: Global,
-    /// What is said at the end of the session's run.
+    /// The text about the end of the session's run.
     pub end: &'a E,
 }
 
-/// Hears the bytes of a reader, and puts what the session answers to them, until gdb ends the session or the reader has no more. No
-/// read begins once the session is over. While a move is under way that nothing waits behind, another thread reads on: only 0x03 breaks
-/// the move off, or the end of the bytes.
+/// Receives the bytes of a reader, and writes the session's replies to them, until gdb ends the session or the reader is at its end. No
+/// read begins once the session is over. During a move after which no byte is pending, another thread reads ahead: only 0x03 or the end of
+/// the bytes interrupts the move.
 pub fn serve<R: Threads, E: EndText, I: Read + Send, O: Sink>(
     means: &SessionContext<'_, R, E>,
     session: &mut Session,
@@ -65,8 +65,8 @@ pub fn serve<R: Threads, E: EndText, I: Read + Send, O: Sink>(
     ensures heard { OnOk result (IsConversed (E.end_text means.now.end.now) session.old (I.remaining input.old)
         (I.remaining input.new) (O.taken out.old) (O.taken out.new) session.new) }
     ensures ended { OnOk result (IsEnded session.new (I.remaining input.new)) }
-    ensures failed { IfErr result (λ broken. broken ≡ SessionError.Unput → O.failed out.new ≡ one_more (O.failed out.old)) }
-    ensures unfailed { IfErr result (λ broken. broken ≢ SessionError.Unput → O.failed out.new ≡ O.failed out.old) }
+    ensures failed { IfErr result (λ broken. broken ≡ SessionError.ReplyWriteFailed → O.failed out.new ≡ one_more (O.failed out.old)) }
+    ensures unfailed { IfErr result (λ broken. broken ≢ SessionError.ReplyWriteFailed → O.failed out.new ≡ O.failed out.old) }
     ensures counted { OnOk result (O.failed out.new ≡ O.failed out.old) }
 {
     if session.is_over() {
@@ -82,7 +82,7 @@ pub fn serve<R: Threads, E: EndText, I: Read + Send, O: Sink>(
             None => return Ok(()),
         }
     }
-    // So many reads are never done.
+    // No program performs this many reads.
     Err(SessionError::UnreadPath(ErrorKind::TimedOut))
 }
 
@@ -100,8 +100,8 @@ fn answer_chunk<R: Threads, E: EndText, I: Read + Send, O: Sink>(
         (I.remaining input.old) (I.remaining input.new) (O.taken out.old) (O.taken out.new)
         (option_map (λ bytes. bytes.items) next) session.new) }
     ensures run { OnOk result (IsSameRun session.old session.new) }
-    ensures failed { IfErr result (λ broken. broken ≡ SessionError.Unput → O.failed out.new ≡ one_more (O.failed out.old)) }
-    ensures unfailed { IfErr result (λ broken. broken ≢ SessionError.Unput → O.failed out.new ≡ O.failed out.old) }
+    ensures failed { IfErr result (λ broken. broken ≡ SessionError.ReplyWriteFailed → O.failed out.new ≡ one_more (O.failed out.old)) }
+    ensures unfailed { IfErr result (λ broken. broken ≢ SessionError.ReplyWriteFailed → O.failed out.new ≡ O.failed out.old) }
     ensures counted { OnOk result (O.failed out.new ≡ O.failed out.old) }
 {
     for index in 0..chunk.len() {
@@ -115,7 +115,7 @@ fn answer_chunk<R: Threads, E: EndText, I: Read + Send, O: Sink>(
     Ok(Some(read_chunk(means.alloc, input)?))
 }
 
-// Answers a byte of a chunk, and makes the move that it asks for if another byte waits behind it. It says whether a move waits.
+// Answers a byte of a chunk, and makes the move that it requests if another byte follows. Returns whether a move is pending.
 fn answer_byte<R, E: EndText, O: Sink>(
     means: &SessionContext<'_, R, E>,
     session: &mut Session,
@@ -130,23 +130,23 @@ fn answer_byte<R, E: EndText, O: Sink>(
         (O.taken out.old) (O.taken out.new) session.new) }
     ensures not_over { OnOk result (MayAsk session.new) }
     ensures run { OnOk result (IsSameRun session.old session.new) }
-    ensures failed { IfErr result (λ broken. broken ≡ SessionError.Unput → O.failed out.new ≡ one_more (O.failed out.old)) }
-    ensures unfailed { IfErr result (λ broken. broken ≢ SessionError.Unput → O.failed out.new ≡ O.failed out.old) }
+    ensures failed { IfErr result (λ broken. broken ≡ SessionError.ReplyWriteFailed → O.failed out.new ≡ one_more (O.failed out.old)) }
+    ensures unfailed { IfErr result (λ broken. broken ≢ SessionError.ReplyWriteFailed → O.failed out.new ≡ O.failed out.old) }
     ensures counted { OnOk result (O.failed out.new ≡ O.failed out.old) }
 {
-    put_answer(means.alloc, session, chunk[index], out)?;
+    write_byte_reply(means.alloc, session, chunk[index], out)?;
     if !session.is_asked() {
         return Ok(false);
     }
     if index + 1 == chunk.len() {
         return Ok(true);
     }
-    put_move_before(means, session, chunk[index + 1], out)?;
+    write_move_reply_before(means, session, chunk[index + 1], out)?;
     Ok(false)
 }
 
-// Makes the move behind which a byte waits: 0x03 breaks it off.
-fn put_move_before<R, E: EndText, O: Sink>(
+// Makes the move after which a byte is pending. If that is 0x03, it interrupts the move.
+fn write_move_reply_before<R, E: EndText, O: Sink>(
     means: &SessionContext<'_, R, E>,
     session: &mut Session,
     behind: u8,
@@ -154,41 +154,41 @@ fn put_move_before<R, E: EndText, O: Sink>(
 ) -> Result<(), SessionError>
     requires asked { is_some session.old.asked ≡ true }
     requires of_run { E.start means.now.end.now ≡ session.old.history.start }
-    ensures moved { OnOk result (IsMovePut (E.end_text means.now.end.now) (behind == 3) session.old (O.taken out.old)
+    ensures moved { OnOk result (IsMoveReplyWritten (E.end_text means.now.end.now) (behind == 3) session.old (O.taken out.old)
         (O.taken out.new) session.new) }
     ensures run { OnOk result (IsSameRun session.old session.new) }
-    ensures failed { IfErr result (λ broken. broken ≡ SessionError.Unput → O.failed out.new ≡ one_more (O.failed out.old)) }
-    ensures unfailed { IfErr result (λ broken. broken ≢ SessionError.Unput → O.failed out.new ≡ O.failed out.old) }
+    ensures failed { IfErr result (λ broken. broken ≡ SessionError.ReplyWriteFailed → O.failed out.new ≡ one_more (O.failed out.old)) }
+    ensures unfailed { IfErr result (λ broken. broken ≢ SessionError.ReplyWriteFailed → O.failed out.new ≡ O.failed out.old) }
     ensures counted { OnOk result (O.failed out.new ≡ O.failed out.old) }
 {
     if behind == CTRL_C {
-        put_move(means, session, &mut Raised, out)
+        write_move_reply(means, session, &mut Raised, out)
     } else {
-        put_move(means, session, &mut Unraised, out)
+        write_move_reply(means, session, &mut Unraised, out)
     }
 }
 
-// Puts what the session answers to a byte.
-fn put_answer<O: Sink>(
+// Writes the session's reply to a byte.
+fn write_byte_reply<O: Sink>(
     alloc: Global,
     session: &mut Session,
     byte: u8,
     out: &mut O,
 ) -> Result<(), SessionError>
     requires { session.old.asked ≡ None }
-    ensures answered { OnOk result (IsBytePut session.old byte (O.taken out.old) (O.taken out.new) session.new) }
+    ensures answered { OnOk result (IsByteReplyWritten session.old byte (O.taken out.old) (O.taken out.new) session.new) }
     ensures not_over { OnOk result (MayAsk session.new) }
     ensures run { OnOk result (IsSameRun session.old session.new) }
-    ensures failed { IfErr result (λ broken. broken ≡ SessionError.Unput → O.failed out.new ≡ one_more (O.failed out.old)) }
-    ensures unfailed { IfErr result (λ broken. broken ≢ SessionError.Unput → O.failed out.new ≡ O.failed out.old) }
+    ensures failed { IfErr result (λ broken. broken ≡ SessionError.ReplyWriteFailed → O.failed out.new ≡ one_more (O.failed out.old)) }
+    ensures unfailed { IfErr result (λ broken. broken ≢ SessionError.ReplyWriteFailed → O.failed out.new ≡ O.failed out.old) }
     ensures counted { OnOk result (O.failed out.new ≡ O.failed out.old) }
 {
     let told = session.receive(alloc, byte)?;
-    put_told(out, told.as_slice())
+    write_reply_bytes(out, told.as_slice())
 }
 
-// Makes the move that is asked for, and puts what the session says of it.
-fn put_move<R, E: EndText, J: Interrupt, O: Sink>(
+// Makes the requested move, and writes the session's reply to it.
+fn write_move_reply<R, E: EndText, J: Interrupt, O: Sink>(
     means: &SessionContext<'_, R, E>,
     session: &mut Session,
     interrupt: &mut J,
@@ -196,32 +196,32 @@ fn put_move<R, E: EndText, J: Interrupt, O: Sink>(
 ) -> Result<(), SessionError>
     requires asked { is_some session.old.asked ≡ true }
     requires of_run { E.start means.now.end.now ≡ session.old.history.start }
-    ensures moved { OnOk result (IsMovePut (E.end_text means.now.end.now) (J.was_raised interrupt.new) session.old
+    ensures moved { OnOk result (IsMoveReplyWritten (E.end_text means.now.end.now) (J.was_raised interrupt.new) session.old
         (O.taken out.old) (O.taken out.new) session.new) }
     ensures run { OnOk result (IsSameRun session.old session.new) }
-    ensures failed { IfErr result (λ broken. broken ≡ SessionError.Unput → O.failed out.new ≡ one_more (O.failed out.old)) }
-    ensures unfailed { IfErr result (λ broken. broken ≢ SessionError.Unput → O.failed out.new ≡ O.failed out.old) }
+    ensures failed { IfErr result (λ broken. broken ≡ SessionError.ReplyWriteFailed → O.failed out.new ≡ one_more (O.failed out.old)) }
+    ensures unfailed { IfErr result (λ broken. broken ≢ SessionError.ReplyWriteFailed → O.failed out.new ≡ O.failed out.old) }
     ensures counted { OnOk result (O.failed out.new ≡ O.failed out.old) }
 {
     match session.work(means.alloc, means.end, interrupt) {
-        Ok(told) => put_told(out, told.as_slice()),
+        Ok(told) => write_reply_bytes(out, told.as_slice()),
         Err(error) => {
-            // gdb waits for an answer, and a read for gdb.
-            put_told(out, NO_MEMORY.as_bytes())?;
+            // gdb is waiting for a reply, and a read for gdb.
+            write_reply_bytes(out, NO_MEMORY.as_bytes())?;
             Err(error.into())
         }
     }
 }
 
-fn put_told<O: Sink>(out: &mut O, told: &[u8]) -> Result<(), SessionError>
+fn write_reply_bytes<O: Sink>(out: &mut O, told: &[u8]) -> Result<(), SessionError>
     ensures put { OnOk result (Appends (O.taken out.old) (O.taken out.new) told.now) }
-    ensures failed { IfErr result (λ broken. broken ≡ SessionError.Unput → O.failed out.new ≡ one_more (O.failed out.old)) }
-    ensures unfailed { IfErr result (λ broken. broken ≢ SessionError.Unput → O.failed out.new ≡ O.failed out.old) }
+    ensures failed { IfErr result (λ broken. broken ≡ SessionError.ReplyWriteFailed → O.failed out.new ≡ one_more (O.failed out.old)) }
+    ensures unfailed { IfErr result (λ broken. broken ≢ SessionError.ReplyWriteFailed → O.failed out.new ≡ O.failed out.old) }
     ensures counted { OnOk result (O.failed out.new ≡ O.failed out.old) }
 {
     match put_all(out, told) {
         Ok(()) => Ok(()),
-        Err(_) => Err(SessionError::Unput),
+        Err(_) => Err(SessionError::ReplyWriteFailed),
     }
 }
 
@@ -235,18 +235,18 @@ fn move_while_reading<R: Threads, E: EndText, I: Read + Send, O: Sink>(
     requires asked { is_some session.old.asked ≡ true }
     requires of_run { E.start means.now.end.now ≡ session.old.history.start }
     ensures read { IfOk result (λ chunk. IsChunkRead (I.remaining input.old) (I.remaining input.new) chunk.items) }
-    ensures moved { IfOk result (λ chunk. IsMovePut (E.end_text means.now.end.now) (is_interrupted chunk.items true)
+    ensures moved { IfOk result (λ chunk. IsMoveReplyWritten (E.end_text means.now.end.now) (is_interrupted chunk.items true)
         session.old (O.taken out.old) (O.taken out.new) session.new) }
     ensures run { OnOk result (IsSameRun session.old session.new) }
-    ensures failed { IfErr result (λ broken. broken ≡ SessionError.Unput → O.failed out.new ≡ one_more (O.failed out.old)) }
-    ensures unfailed { IfErr result (λ broken. broken ≢ SessionError.Unput → O.failed out.new ≡ O.failed out.old) }
+    ensures failed { IfErr result (λ broken. broken ≡ SessionError.ReplyWriteFailed → O.failed out.new ≡ one_more (O.failed out.old)) }
+    ensures unfailed { IfErr result (λ broken. broken ≢ SessionError.ReplyWriteFailed → O.failed out.new ≡ O.failed out.old) }
     ensures counted { OnOk result (O.failed out.new ≡ O.failed out.old) }
 {
     let raised = AtomicBool::new(false);
     move_beside_reader(means, session, input, out, &raised)
 }
 
-// Makes the move while another thread reads once, which raises an interrupt where the move is to be broken off.
+// Makes the move while another thread reads once, and raises an interrupt if the move is to be interrupted.
 fn move_beside_reader<R: Threads, E: EndText, I: Read + Send, O: Sink>(
     means: &SessionContext<'_, R, E>,
     session: &mut Session,
@@ -257,11 +257,11 @@ fn move_beside_reader<R: Threads, E: EndText, I: Read + Send, O: Sink>(
     requires asked { is_some session.old.asked ≡ true }
     requires of_run { E.start means.now.end.now ≡ session.old.history.start }
     ensures read { IfOk result (λ chunk. IsChunkRead (I.remaining input.old) (I.remaining input.new) chunk.items) }
-    ensures moved { IfOk result (λ chunk. IsMovePut (E.end_text means.now.end.now) (is_interrupted chunk.items true)
+    ensures moved { IfOk result (λ chunk. IsMoveReplyWritten (E.end_text means.now.end.now) (is_interrupted chunk.items true)
         session.old (O.taken out.old) (O.taken out.new) session.new) }
     ensures run { OnOk result (IsSameRun session.old session.new) }
-    ensures failed { IfErr result (λ broken. broken ≡ SessionError.Unput → O.failed out.new ≡ one_more (O.failed out.old)) }
-    ensures unfailed { IfErr result (λ broken. broken ≢ SessionError.Unput → O.failed out.new ≡ O.failed out.old) }
+    ensures failed { IfErr result (λ broken. broken ≡ SessionError.ReplyWriteFailed → O.failed out.new ≡ one_more (O.failed out.old)) }
+    ensures unfailed { IfErr result (λ broken. broken ≢ SessionError.ReplyWriteFailed → O.failed out.new ≡ O.failed out.old) }
     ensures counted { OnOk result (O.failed out.new ≡ O.failed out.old) }
 {
     let alloc = means.alloc;
@@ -272,7 +272,7 @@ fn move_beside_reader<R: Threads, E: EndText, I: Read + Send, O: Sink>(
     let (read, put) = join_mut(
         means.rt,
         &mut || read_ahead(alloc, input, raised),
-        &mut || put_move(means, session, &mut coming, out),
+        &mut || write_move_reply(means, session, &mut coming, out),
     );
     put?;
     let chunk = read?;

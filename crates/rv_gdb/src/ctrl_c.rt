@@ -1,13 +1,13 @@
-//! Ctrl-C, which gdb sends as the byte 0x03 while a move is under way.
+//! Ctrl-C, which gdb sends as the byte 0x03 while a move is in progress.
 
 use rv_history::Interrupt;
 use std::sync::atomic::AtomicBool;
 use std::sync::atomic::Ordering::SeqCst;
 
-/// What gdb sends for Ctrl-C.
+/// The byte that gdb sends for Ctrl-C.
 pub(crate) const CTRL_C: u8 = 0x03;
 
-/// An interrupt that is raised.
+/// An interrupt that is always raised.
 #[derive(Drop)]
 pub(crate) struct Raised;
 
@@ -21,7 +21,7 @@ impl Interrupt for Raised {
     }
 }
 
-/// An interrupt that is not raised.
+/// An interrupt that is never raised.
 #[derive(Drop)]
 pub(crate) struct Unraised;
 
@@ -39,7 +39,7 @@ impl Interrupt for Unraised {
 #[derive(Drop)]
 pub(crate) struct SharedInterrupt<'a> {
     pub raised: &'a AtomicBool,
-    /// Whether it was seen.
+    /// Whether a move has seen it raised.
     pub was_seen: bool,
 }
 

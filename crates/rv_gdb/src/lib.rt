@@ -1,7 +1,7 @@
-//! A job of a plan under gdb.
+//! Debugs a job of a plan with gdb.
 //!
-//! [`session_at`] is the session over the run of a job, at its first step; [`serve`] hears what a reader has of gdb, and puts what
-//! the session answers. Ctrl-C breaks off a move that is under way.
+//! [`session_at`] returns the session over the run of a job, at its first step. [`serve`] receives gdb's bytes from a reader and writes the
+//! session's replies. Ctrl-C interrupts a move in progress.
 #![tactic(auto)]
 
 mod conversation;

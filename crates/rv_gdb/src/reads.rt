@@ -1,4 +1,4 @@
-//! Reads of what gdb sends, of which some are made while a move is under way.
+//! Reads from gdb, some of which happen during a move.
 
 ghost use Rattle.std.specs.Prelude.{◌≡◌, ◌≢◌, IfErr, IfOk, OnOk, true};
 ghost use Rattle.rv_gdb.specs.Conversing.{IsChunkRead};
@@ -11,13 +11,13 @@ use std::io::{ErrorKind, Read};
 use std::sync::atomic::AtomicBool;
 use std::sync::atomic::Ordering::SeqCst;
 
-// A read asks for as many bytes at most: gdb's packets have up to 16,384.
+// The maximum number of bytes in a read. gdb's packets have up to 16,384.
 const CHUNK: usize = 16_384;
 
-// Reads once: no byte is the end.
+// Reads once. No bytes mean the end.
 pub(crate) fn read_chunk<I: Read>(alloc: Global, input: &mut I) -> Result<Vec<u8>, SessionError>
     ensures read { IfOk result (λ chunk. IsChunkRead (I.remaining input.old) (I.remaining input.new) chunk.items) }
-    ensures failed { IfErr result (λ broken. broken ≢ SessionError.Unput) }
+    ensures failed { IfErr result (λ broken. broken ≢ SessionError.ReplyWriteFailed) }
 {
     let mut buffer = [0u8; CHUNK];
     match input.read(&mut buffer) {
@@ -26,10 +26,11 @@ pub(crate) fn read_chunk<I: Read>(alloc: Global, input: &mut I) -> Result<Vec<u8
     }
 }
 
-// The reading thread raises an interrupt for what it read alone. No clause says what another thread stored, so it is looked at.
+// The reading thread raises an interrupt only for what it read. No contract states what another thread stored, so this is checked at run
+// time.
 pub(crate) fn check_raised(was_seen: bool, chunk: &[u8]) -> Result<(), SessionError>
     ensures raised { OnOk result (was_seen ≡ true → is_interrupted chunk.now true ≡ true) }
-    ensures failed { IfErr result (λ broken. broken ≢ SessionError.Unput) }
+    ensures failed { IfErr result (λ broken. broken ≢ SessionError.ReplyWriteFailed) }
 {
     if was_seen && !is_interrupted(chunk) {
         return Err(SessionError::UnreadPath(ErrorKind::Interrupted));
@@ -37,14 +38,14 @@ pub(crate) fn check_raised(was_seen: bool, chunk: &[u8]) -> Result<(), SessionEr
     Ok(())
 }
 
-// Reads once, and raises an interrupt where a move is to be broken off for it, or where the reader failed.
+// Reads once, and raises an interrupt if the bytes interrupt a move or if the reader failed.
 pub(crate) fn read_ahead<I: Read>(
     alloc: Global,
     input: &mut I,
     raised: &AtomicBool,
 ) -> Result<Vec<u8>, SessionError>
     ensures read { IfOk result (λ chunk. IsChunkRead (I.remaining input.old) (I.remaining input.new) chunk.items) }
-    ensures failed { IfErr result (λ broken. broken ≢ SessionError.Unput) }
+    ensures failed { IfErr result (λ broken. broken ≢ SessionError.ReplyWriteFailed) }
 {
     let read = read_chunk(alloc, input);
     let is_raised = match &read {
@@ -55,7 +56,7 @@ pub(crate) fn read_ahead<I: Read>(
     read
 }
 
-// Whether a move is broken off for bytes that come while it is under way: they begin with 0x03, or are the end.
+// Whether bytes that arrive during a move interrupt it: they begin with 0x03, or are the end.
 fn is_interrupted(bytes: &[u8]) -> bool
     ensures { result ≡ is_interrupted bytes.now true }
 {

@@ -9,7 +9,7 @@ use Rattle.rv_gdb_protocol.proofs.Hearing.{incoming_in-append, incoming_in-empty
 use Rattle.rv_gdb_protocol.specs.Escapes.{begin_mark, changed, data_of, end_mark, escape, escaped, escaped_byte, has_meaning, is_escape}
 use Rattle.rv_gdb_protocol.specs.Frames.{Frame, between, frame_after, incoming_in, most_body}
 use Rattle.rv_gdb_protocol.specs.Readback.{CanBeSent, IsHeardAlone, IsReadBack, heard_in_pieces, is_plain, joined, sent, verdict_of}
-use Rattle.rv_gdb_protocol.specs.Sums.{framed, judged_sum, sum_digits, sum_of, sum_told}
+use Rattle.rv_gdb_protocol.specs.Sums.{framed, judged_sum, sum_digits, sum_of, sum_of_digits}
 use Rattle.rv_gdb_protocol.specs.declared.frame.Incoming.TheVariants.{Packet}
 use Rattle.rv_gdb_protocol.specs.declared.frame.Place.TheVariants as place
 use Rattle.rv_gdb_protocol.specs.declared.frame.Sum.TheVariants as verdict
@@ -145,9 +145,9 @@ sum_right text =
     let small : s < 256 = sum_small text in
     let high : ℕ = s / 16 in
     let low : ℕ = s % 16 in
-    ap (λ (told : Option ℕ). judged_sum s (sum_told told (hex_digit_value (slice_index lower_digits low))))
+    ap (λ (told : Option ℕ). judged_sum s (sum_of_digits told (hex_digit_value (slice_index lower_digits low))))
     (IsDigits-lower_digits high (omega arith))
-    ∙ ap (λ (told : Option ℕ). judged_sum s (sum_told (Some high) told)) (IsDigits-lower_digits low (omega arith))
+    ∙ ap (λ (told : Option ℕ). judged_sum s (sum_of_digits (Some high) told)) (IsDigits-lower_digits low (omega arith))
     ∙ cond-true (high * 16 + low == s) verdict.Right verdict.Wrong (eq-eqb (high * 16 + low) s (omega arith))
 
 framed_alone : (body : List ℕ) → length (escaped body) ≤ most_body → IsHeardAlone (framed body) (escaped body) verdict.Right

@@ -75,7 +75,7 @@ some_byte byte text = ne_eqb (length (byte ∷ text)) 0 (λ is. omega arith)
 -- ---- each packet
 
 pub is_read : (body : List ℕ) (request : Request) → IsRequest body request → packet.request_of body ≡ request
-unfolding packet.request_of packet.light_request packet.bare_query packet.bare_order packet.query packet.reading packet.trapping packet.moving packet.first_action packet.granted packet.detach packet.is_file_call packet.carrying packet.command args.description args.register_of args.write_register args.write_registers args.write_digits args.write_data args.trap_of args.plain_move args.signal_move args.read_file args.image_path args.opened_file behind
+unfolding packet.request_of packet.request_without_bytes packet.bare_query packet.bare_order packet.query packet.reading packet.stoppoint_request packet.moving packet.first_action packet.granted packet.detach packet.is_file_call packet.request_with_bytes packet.command args.description args.register_of args.write_register args.write_registers args.write_digits args.write_data args.trap_of args.plain_move args.signal_move args.read_file args.image_path args.opened_file behind
 is_read body request (features args) = refl
 is_read body request no_acknowledgements = refl
 is_read body request last_stop = refl

@@ -4,7 +4,7 @@ use Rattle.std.specs.List.{list_all}
 use Rattle.std.proofs.lemmas.Bool.{and_from, cond_both, eqb-true, ltb-true, not_from_false, or_from}
 use Rattle.std.proofs.lemmas.List.Folds.{list_all-append}
 use Rattle.rv_gdb_protocol.specs.Escapes.{begin_mark, end_mark}
-use Rattle.rv_gdb_protocol.specs.Frames.{Frame, behind_byte, between, frame_after, incoming_at, heard_at_place, longer_body, most_body, opened, passed_over, signal}
+use Rattle.rv_gdb_protocol.specs.Frames.{Frame, behind_byte, between, frame_after, incoming_at, received_in_state, longer_body, most_body, opened, passed_over, signal}
 use Rattle.rv_gdb_protocol.specs.Readback.{CanBeSent, EndsWithSent, is_plain, sent, verdict_of}
 use Rattle.rv_gdb_protocol.specs.declared.frame.Incoming.TheVariants as heard
 use Rattle.rv_gdb_protocol.specs.declared.frame.Place.{Place}
@@ -109,7 +109,7 @@ no_signal : (byte : ℕ) (text : List ℕ) (sum : Sum) → signal byte ≡ Some 
 no_signal byte text sum is = grind arith
 
 was_sent : (stands : Place) (body bytes text : List ℕ) (byte : ℕ) (sum : Sum) → Tells stands body bytes
-    → heard_at_place stands body byte ≡ Some (heard.Packet text sum) → EndsWithSent (bytes ++ byte ∷ []) text sum
+    → received_in_state stands body byte ≡ Some (heard.Packet text sum) → EndsWithSent (bytes ++ byte ∷ []) text sum
 was_sent place.Between body bytes text byte sum told is = absurd (no_signal byte text sum is)
 was_sent place.Body body bytes text byte sum told is = absurd (cc is)
 was_sent place.FirstDigit body bytes text byte sum told is = absurd (cc is)

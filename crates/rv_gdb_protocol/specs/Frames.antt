@@ -1,23 +1,23 @@
--- What is heard in bytes that come: where the next byte stands, and what each byte ends.
+-- Parsing of received bytes: the parser's state, and what each byte completes.
 use Rattle.std.specs.Prelude.{ℕ, List, [], ◌∷◌, ◌++◌, ◌==◌, Option, Some, None, if◌then◌else◌, length, nat_lt}
 use Rattle.hex.specs.Hex.{hex_digit_value}
 use Rattle.rv_gdb_protocol.specs.Escapes.{begin_mark, end_mark}
-use Rattle.rv_gdb_protocol.specs.Sums.{judged_sum, sum_of, sum_told}
+use Rattle.rv_gdb_protocol.specs.Sums.{judged_sum, sum_of, sum_of_digits}
 use Rattle.rv_gdb_protocol.specs.declared.frame.Incoming.{Incoming}
 use Rattle.rv_gdb_protocol.specs.declared.frame.Incoming.TheVariants as heard
 use Rattle.rv_gdb_protocol.specs.declared.frame.Place.{Place}
 use Rattle.rv_gdb_protocol.specs.declared.frame.Place.TheVariants as place
 
--- the longest body that is kept
+-- the maximum length of a body that is kept
 abbrev pub most_body : ℕ
 most_body = 16384
 
--- where the next byte stands, and the body so far
+-- the parser's state, and the body so far
 pub record Frame : Type 0 where
   pub place : Place
   pub body : List ℕ
 
--- how many bytes of a body are kept at a place, at most
+-- the maximum number of body bytes kept in a state
 abbrev pub room : Place → ℕ
 room place.Body = most_body
 room place.FirstDigit = most_body
@@ -37,12 +37,12 @@ opened = record { place = place.Body; body = [] }
 abbrev pub passed_over : Frame
 passed_over = record { place = place.LongBody; body = [] }
 
--- a body with a byte more, if it still fits
+-- a body with one more byte, if it still fits
 abbrev pub longer_body : List ℕ → ℕ → Frame
 longer_body body byte =
     if nat_lt (length body) most_body then record { place = place.Body; body = body ++ byte ∷ [] } else passed_over
 
--- the frame behind a byte that stands at a place; noise between packets leaves it as it is
+-- the frame after a byte that is received in a state; noise between packets leaves it unchanged
 abbrev pub behind_byte : Place → Frame → ℕ → Frame
 behind_byte place.Between frame byte = if byte == begin_mark then opened else frame
 behind_byte place.Body frame byte =
@@ -61,31 +61,31 @@ behind_byte place.LongSecondDigit frame byte = record { place = place.Between; b
 abbrev pub frame_after : Frame → ℕ → Frame
 frame_after frame byte = behind_byte frame.place frame byte
 
--- what a byte says between packets: 0x03 is Ctrl-C, `+` and `-` acknowledge
+-- the meaning of a byte between packets: 0x03 is Ctrl-C, `+` and `-` acknowledge
 abbrev pub signal : ℕ → Option Incoming
 signal byte = if byte == 3 then Some heard.Interrupt
     else if byte == 43 then Some heard.Arrived
     else if byte == 45 then Some heard.Again else None
 
--- a packet is heard at the second digit of its sum
-abbrev pub heard_at_place : Place → List ℕ → ℕ → Option Incoming
-heard_at_place place.Between body byte = signal byte
-heard_at_place place.Body body byte = None
-heard_at_place place.FirstDigit body byte = None
-heard_at_place (place.SecondDigit high) body byte =
-    Some (heard.Packet body (judged_sum (sum_of body) (sum_told (hex_digit_value high) (hex_digit_value byte))))
-heard_at_place place.LongBody body byte = None
-heard_at_place place.LongFirstDigit body byte = None
-heard_at_place place.LongSecondDigit body byte = Some heard.TooLong
+-- a packet is complete at the second digit of its checksum
+abbrev pub received_in_state : Place → List ℕ → ℕ → Option Incoming
+received_in_state place.Between body byte = signal byte
+received_in_state place.Body body byte = None
+received_in_state place.FirstDigit body byte = None
+received_in_state (place.SecondDigit high) body byte =
+    Some (heard.Packet body (judged_sum (sum_of body) (sum_of_digits (hex_digit_value high) (hex_digit_value byte))))
+received_in_state place.LongBody body byte = None
+received_in_state place.LongFirstDigit body byte = None
+received_in_state place.LongSecondDigit body byte = Some heard.TooLong
 
 abbrev pub incoming_at : Frame → ℕ → Option Incoming
-incoming_at frame byte = heard_at_place frame.place frame.body byte
+incoming_at frame byte = received_in_state frame.place frame.body byte
 
 abbrev pub option_list : Option Incoming → List Incoming
 option_list None = []
 option_list (Some heard) = heard ∷ []
 
--- what is heard in bytes, in their order
+-- what is received in bytes, in order
 unfoldable pub incoming_in : Frame → List ℕ → List Incoming
 incoming_in frame [] = []
 incoming_in frame (byte ∷ rest) = option_list (incoming_at frame byte) ++ incoming_in (frame_after frame byte) rest

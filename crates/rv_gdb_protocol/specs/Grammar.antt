@@ -1,4 +1,5 @@
--- Which packets ask what: a row for each packet of the protocol, in its order of fields. Other texts ask nothing, and are refused.
+-- The grammar of requests: a row for each packet of the protocol, with its fields in order. Any other text is not a request and is
+-- rejected.
 use Rattle.std.specs.Prelude.{ℕ, List, ◌∷◌, ◌++◌, ◌≡◌, ◌≤◌, ◌+◌, ◌==◌, true, Some, codes, length, not}
 use Rattle.std.specs.List.{list_all}
 use Rattle.rv_gdb_protocol.specs.Numbers.{bytes_of, number_of, value_of}
@@ -12,15 +13,15 @@ use Rattle.rv_gdb_protocol.specs.declared.request.Stoppoint.{Stoppoint}
 use Rattle.rv_gdb_protocol.specs.declared.request.Stoppoint.TheVariants as trap
 use Rattle.rv_gdb_protocol.specs.declared.request.Watched.TheVariants as watch
 
--- two texts with a mark between them
+-- two texts separated by a delimiter
 abbrev pub parted : ℕ → List ℕ → List ℕ → List ℕ
 parted mark first second = first ++ mark ∷ second
 
--- a text in which a mark does not stand
+-- a text without a delimiter
 abbrev pub Lacks : ℕ → List ℕ → Type 0
 Lacks mark text = list_all (λ byte. not (byte == mark)) text ≡ true
 
--- two numbers in their digits, with a comma between them
+-- two numbers in their digits, separated by a comma
 pub record TellsTwo (text : List ℕ) (first second : ℕ) : Type 0 where
   pub front : List ℕ
   pub behind : List ℕ
@@ -41,12 +42,12 @@ pub data IsTrap : List ℕ → Stoppoint → Type 0 where
       → address + count ≤ 4294967296
       → IsTrap (codes "4," ++ fields) (trap.Watch watch.Accesses (record { address = address; count = count }))
 
--- `c` and `s` go on and step
+-- `c` continues and `s` steps
 pub data IsMove : List ℕ → Move → Type 0 where
   goes_on : IsMove (codes "c") move.Continue
   steps : IsMove (codes "s") move.Step
 
--- an action of `vCont;`: a signal is passed over, and `r` steps while the pc is within two addresses
+-- an action of `vCont;`: a signal is ignored, and `r` steps while the pc is within two addresses
 pub data IsAction : List ℕ → Move → Type 0 where
   moves : (text : List ℕ) (step : Move) → IsMove text step → IsAction text step
   goes_on_signalled : (signal : List ℕ) (number : ℕ) → number_of signal ≡ Some number

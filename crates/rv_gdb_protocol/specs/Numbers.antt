@@ -5,12 +5,12 @@ use Rattle.std.specs.List.{starts_with}
 use Rattle.hex.specs.Hex.{decode_of, decode_sized, hex_digit_value}
 use Rattle.hex.specs.declared.error.FromHexError.{FromHexError}
 
--- what follows only where there is a value
+-- applies the next step only if there is a value
 infixl 10 ◌>>=◌
 abbrev pub ◌>>=◌ : {A B : Type 0} → Option A → (A → Option B) → Option B
 value >>= next = option_and_then next value
 
--- a number with a digit more
+-- a number with one more digit
 abbrev pub with_digit : Option ℕ → Option ℕ → Option ℕ
 with_digit (Some value) (Some digit) = Some (value * 16 + digit)
 with_digit (Some value) None = None
@@ -19,11 +19,11 @@ with_digit None digit = None
 abbrev pub digit_on : Option ℕ → ℕ → Option ℕ
 digit_on value byte = with_digit value (hex_digit_value byte)
 
--- the number of 1 to 8 hexadecimal digits, in either case
+-- the number written with 1 to 8 hexadecimal digits, in either case
 unfoldable pub number_of : List ℕ → Option ℕ
 number_of text = if nat_le 1 (length text) && nat_le (length text) 8 then fold digit_on (Some 0) text else None
 
--- the bytes of a text of hexadecimal digits, two for each byte
+-- the bytes written as hexadecimal digits, two for each byte
 abbrev pub bytes_if_decoded : Result (List ℕ) FromHexError → Option (List ℕ)
 bytes_if_decoded (Ok bytes) = Some bytes
 bytes_if_decoded (Err refused) = None
@@ -31,7 +31,7 @@ bytes_if_decoded (Err refused) = None
 unfoldable pub bytes_of : List ℕ → Option (List ℕ)
 bytes_of text = bytes_if_decoded (decode_of text)
 
--- the value of a register: eight digits, the low byte first
+-- the value of a register: eight digits, low byte first
 abbrev pub value_if_decoded : Result (List ℕ) FromHexError → Option ℕ
 value_if_decoded (Ok bytes) = Some (from_le_bytes w32 bytes)
 value_if_decoded (Err refused) = None
@@ -39,11 +39,11 @@ value_if_decoded (Err refused) = None
 unfoldable pub value_of : List ℕ → Option ℕ
 value_of text = value_if_decoded (decode_sized text 4)
 
--- the place of the first of a mark
+-- the index of a delimiter's first occurrence
 abbrev pub place_of : ℕ → List ℕ → Option ℕ
 place_of mark text = position (λ byte. byte == mark) text
 
--- two numbers, before the first of a mark and behind it
+-- two numbers, before and after a delimiter's first occurrence
 unfoldable pub numbers_at : ℕ → List ℕ → Option (ℕ × ℕ)
 numbers_at mark text = do
   place ← place_of mark text
@@ -51,7 +51,7 @@ numbers_at mark text = do
   second ← number_of (drop (place + 1) text)
   Some (first, second)
 
--- what stands before the first of a mark: all of it where there is none
+-- the text before a delimiter's first occurrence, or all of it if there is none
 abbrev pub text_to : Option ℕ → List ℕ → List ℕ
 text_to (Some place) text = take place text
 text_to None text = text
@@ -59,6 +59,6 @@ text_to None text = text
 unfoldable pub until : ℕ → List ℕ → List ℕ
 until mark text = text_to (place_of mark text) text
 
--- what stands behind a name that a text begins with
+-- the text after a name, if it begins with the name
 unfoldable pub behind : List ℕ → List ℕ → Option (List ℕ)
 behind name text = if starts_with nat_eq text name then Some (drop (length name) text) else None

@@ -1,22 +1,22 @@
--- What the bodies of gdb's packets ask: a packet has a name, and arguments behind it.
+-- The requests of gdb's packets: a packet has a name, followed by arguments.
 use Rattle.std.specs.Prelude.{ℕ, List, ◌==◌, ◌||◌, Bool, Option, Some, None, codes, if◌then◌else◌, length, nat_eq, option_map, unwrap_or}
 use Rattle.std.specs.List.{starts_with}
 use Rattle.std.specs.Option.{option_or}
 use Rattle.std.specs.Str.{bytes_eq}
 use Rattle.rv_gdb_protocol.specs.Numbers.{behind, bytes_of, until, ◌>>=◌}
-use Rattle.rv_gdb_protocol.specs.Requests.{colon, description, image_path, move_within, open_file, or_refused, plain_move, read_file, read_memory, read_register, semicolon, signal_move, signalled, trap_of, write_data, write_digits, write_register, write_registers}
+use Rattle.rv_gdb_protocol.specs.Requests.{colon, description, image_path, move_within, open_file, or_refused, plain_move, read_file, read_memory, read_register, semicolon, signal_move, move_with_signal, trap_of, write_data, write_digits, write_register, write_registers}
 use Rattle.rv_gdb_protocol.specs.declared.request.Move.{Move}
 use Rattle.rv_gdb_protocol.specs.declared.request.Move.TheVariants as move
 use Rattle.rv_gdb_protocol.specs.declared.request.Refusal.TheVariants as refusal
 use Rattle.rv_gdb_protocol.specs.declared.request.Request.{Request}
 use Rattle.rv_gdb_protocol.specs.declared.request.Request.TheVariants as ask
 
--- the first of several that is there
+-- the first of several that is present
 infixl 5 ◌<|>◌
 abbrev pub ◌<|>◌ : {A : Type 0} → Option A → Option A → Option A
 one <|> other = option_or one other
 
--- a packet by its name: what its arguments ask
+-- a packet by its name: the request that its arguments make
 abbrev pub named : List ℕ → (List ℕ → Request) → List ℕ → Option Request
 named name asked body = option_map asked (behind name body)
 
@@ -51,11 +51,11 @@ query body =
     if starts_with nat_eq body (codes "qSupported") then Some ask.Features
     else if starts_with nat_eq body (codes "qAttached") then Some ask.Attached else None
 
-abbrev pub describing : List ℕ → Option Request
-describing body = named (codes "qXfer:features:read:") description body
+abbrev pub description_request : List ℕ → Option Request
+description_request body = named (codes "qXfer:features:read:") description body
 
-abbrev pub image_naming : List ℕ → Option Request
-image_naming body = named (codes "qXfer:exec-file:read:") image_path body
+abbrev pub image_path_request : List ℕ → Option Request
+image_path_request body = named (codes "qXfer:exec-file:read:") image_path body
 
 unfoldable pub reading : List ℕ → Option Request
 reading body =
@@ -63,8 +63,8 @@ reading body =
     <|> named (codes "P") write_register body
     <|> named (codes "m") read_memory body
 
-unfoldable pub trapping : List ℕ → Option Request
-trapping body = named (codes "Z") (trap_of ask.Set) body <|> named (codes "z") (trap_of ask.Clear) body
+unfoldable pub stoppoint_request : List ℕ → Option Request
+stoppoint_request body = named (codes "Z") (trap_of ask.Set) body <|> named (codes "z") (trap_of ask.Clear) body
 
 -- an action of `vCont;`, without its thread
 unfoldable pub bare_action : List ℕ → Option Move
@@ -73,7 +73,7 @@ bare_action text =
     else if bytes_eq text (codes "s") then Some move.Step else None
 
 abbrev pub signal_action : List ℕ → Move → List ℕ → Option Move
-signal_action name step text = behind name text >>= signalled step
+signal_action name step text = behind name text >>= move_with_signal step
 
 abbrev pub range_action : List ℕ → Option Move
 range_action text = behind (codes "r") text >>= move_within
@@ -82,7 +82,7 @@ unfoldable pub action_of : List ℕ → Option Move
 action_of text = bare_action text <|> signal_action (codes "C") move.Continue text <|> signal_action (codes "S") move.Step text
     <|> range_action text
 
--- the first action is the one that counts, since there is one thread
+-- only the first action counts, since there is one thread
 unfoldable pub first_action : List ℕ → Request
 first_action args = or_refused refusal.Malformed (option_map ask.Move (action_of (until colon (until semicolon args))))
 
@@ -98,7 +98,7 @@ moving body =
 unfoldable pub detach : List ℕ → Request
 detach args = if length args == 0 || starts_with nat_eq args (codes ";") then ask.Detach else ask.Refused refusal.Unknown
 
--- whatever stands behind its name
+-- accepted whatever follows the name
 unfoldable pub granted : List ℕ → Option Request
 granted body =
     if starts_with nat_eq body (codes "H") then Some ask.Accepted
@@ -106,8 +106,8 @@ granted body =
     else if starts_with nat_eq body (codes "vKill") then Some ask.Accepted
     else if starts_with nat_eq body (codes "vRun") then Some ask.Restart else None
 
-abbrev pub detaching : List ℕ → Option Request
-detaching body = named (codes "D") detach body
+abbrev pub detach_request : List ℕ → Option Request
+detach_request body = named (codes "D") detach body
 
 -- a call on a file whose descriptor is the first argument
 unfoldable pub is_file_call : List ℕ → Bool
@@ -115,7 +115,7 @@ is_file_call body =
     starts_with nat_eq body (codes "vFile:pread:") || starts_with nat_eq body (codes "vFile:fstat:")
     || starts_with nat_eq body (codes "vFile:close:") || starts_with nat_eq body (codes "vFile:setfs:")
 
--- descriptor 5 is the one that there is
+-- 5 is the only file descriptor
 abbrev pub file_reading : List ℕ → Option Request
 file_reading body = named (codes "vFile:pread:5,") read_file body
 
@@ -126,8 +126,8 @@ other_file body = if is_file_call body then Some (ask.Refused refusal.OtherFile)
 unfoldable pub command : List ℕ → Request
 command args = or_refused refusal.Failed (option_map ask.Command (bytes_of args))
 
-unfoldable pub carrying : List ℕ → Option Request
-carrying body =
+unfoldable pub request_with_bytes : List ℕ → Option Request
+request_with_bytes body =
     named (codes "G") write_registers body
     <|> named (codes "M") write_digits body
     <|> named (codes "X") write_data body
@@ -135,11 +135,11 @@ carrying body =
     <|> named (codes "qRcmd,") command body
 
 -- packets that carry no bytes
-unfoldable pub light_request : List ℕ → Option Request
-light_request body =
-    bare_query body <|> bare_order body <|> query body <|> describing body <|> image_naming body <|> reading body <|> trapping body
-    <|> moving body <|> granted body <|> detaching body <|> file_reading body <|> other_file body
+unfoldable pub request_without_bytes : List ℕ → Option Request
+request_without_bytes body =
+    bare_query body <|> bare_order body <|> query body <|> description_request body <|> image_path_request body <|> reading body <|> stoppoint_request body
+    <|> moving body <|> granted body <|> detach_request body <|> file_reading body <|> other_file body
 
--- what a body asks; other packets are not known
+-- the request that a body makes; all other packets are unknown
 unfoldable pub request_of : List ℕ → Request
-request_of body = unwrap_or (light_request body <|> carrying body) (ask.Refused refusal.Unknown)
+request_of body = unwrap_or (request_without_bytes body <|> request_with_bytes body) (ask.Refused refusal.Unknown)

@@ -1,10 +1,10 @@
--- What is read back: bodies in frames, in whatever pieces their bytes come.
+-- Round trips: framed bodies as they are received, however their bytes are split.
 use Rattle.std.specs.Prelude.{ℕ, List, [], ◌∷◌, ◌++◌, ◌≡◌, ◌≤◌, ◌==◌, ◌||◌, Bool, true, false, fold, length, not}
 use Rattle.std.specs.List.{flat_map, list_all}
 use Rattle.hex.specs.Hex.{hex_digit_value}
 use Rattle.rv_gdb_protocol.specs.Escapes.{begin_mark, data_of, end_mark, escaped, is_whole}
 use Rattle.rv_gdb_protocol.specs.Frames.{Frame, between, frame_after, incoming_in, most_body}
-use Rattle.rv_gdb_protocol.specs.Sums.{framed, judged_sum, sum_of, sum_told}
+use Rattle.rv_gdb_protocol.specs.Sums.{framed, judged_sum, sum_of, sum_of_digits}
 use Rattle.rv_gdb_protocol.specs.declared.frame.Incoming.{Incoming}
 use Rattle.rv_gdb_protocol.specs.declared.frame.Incoming.TheVariants.{Packet}
 use Rattle.rv_gdb_protocol.specs.declared.frame.Sum.{Sum}
@@ -14,7 +14,7 @@ use Rattle.rv_gdb_protocol.specs.declared.frame.Sum.TheVariants as verdict
 abbrev pub is_plain : ℕ → Bool
 is_plain byte = not (byte == begin_mark || byte == end_mark)
 
--- a text that can stand in a frame, and is kept: it has neither `$` nor `#`, and is no longer than bodies may be
+-- a text that can be in a frame and is kept: it has neither `$` nor `#`, and is at most as long as a body can be
 pub record CanBeSent (text : List ℕ) : Type 0 where
   pub plain : list_all is_plain text ≡ true
   pub fits : length text ≤ most_body
@@ -23,11 +23,11 @@ pub record CanBeSent (text : List ℕ) : Type 0 where
 abbrev pub sent : List ℕ → ℕ → ℕ → List ℕ
 sent text high low = begin_mark ∷ (text ++ end_mark ∷ high ∷ low ∷ [])
 
--- whether two digits are a text's sum
+-- whether two digits are a text's checksum
 abbrev pub verdict_of : List ℕ → ℕ → ℕ → Sum
-verdict_of text high low = judged_sum (sum_of text) (sum_told (hex_digit_value high) (hex_digit_value low))
+verdict_of text high low = judged_sum (sum_of text) (sum_of_digits (hex_digit_value high) (hex_digit_value low))
 
--- what is heard in bytes that come in pieces
+-- what is received in bytes that arrive in fragments
 unfoldable pub heard_in_pieces : Frame → List (List ℕ) → List Incoming
 heard_in_pieces frame [] = []
 heard_in_pieces frame (piece ∷ rest) =
@@ -36,19 +36,18 @@ heard_in_pieces frame (piece ∷ rest) =
 abbrev pub joined : List (List ℕ) → List ℕ
 joined pieces = flat_map (λ piece. piece) pieces
 
--- Between packets, one text is heard in these bytes and nothing else, whatever pieces they come in. The next byte stands between
--- packets again.
+-- Between packets, exactly one text is received from these bytes, however they are split, and the parser is between packets again.
 pub record IsHeardAlone (bytes text : List ℕ) (sum : Sum) : Type 0 where
   pub heard : (pieces : List (List ℕ)) → joined pieces ≡ bytes → heard_in_pieces between pieces ≡ Packet text sum ∷ []
   pub behind : fold frame_after between bytes ≡ between
 
--- a framed body is heard alone and with its sum, and the data of what is heard is the body
+-- a framed body is received by itself with a correct checksum, and its data is the body
 pub record IsReadBack (body : List ℕ) : Type 0 where
   pub alone : IsHeardAlone (framed body) (escaped body) verdict.Right
   pub data_is : data_of false (escaped body) ≡ body
   pub whole : is_whole (escaped body) ≡ true
 
--- bytes end with a text as it is sent, and the verdict is that of its two digits
+-- the bytes end with a text as it is sent, and the verdict is that on its two digits
 pub record EndsWithSent (bytes text : List ℕ) (sum : Sum) : Type 0 where
   pub front : List ℕ
   pub high : ℕ

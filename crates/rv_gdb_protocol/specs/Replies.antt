@@ -1,4 +1,4 @@
--- The bodies of replies that are the same in every session, and the parts of longer texts.
+-- The bodies of replies that are equal in every session, and the parts of longer texts.
 use Rattle.std.specs.Prelude.{ℕ, List, ◌∷◌, Option, Some, None, codes, drop, if◌then◌else◌, length, min, nat_le, take}
 use Rattle.rv_gdb_protocol.specs.declared.request.Part.{Part}
 use Rattle.rv_gdb_protocol.specs.declared.request.Refusal.{Refusal}
@@ -37,11 +37,11 @@ fixed_reply ask.Attached = Some (codes "0")
 fixed_reply (ask.Refused refusal) = Some (refusal_text refusal)
 fixed_reply request = None
 
--- the most bytes of a part
+-- the maximum number of bytes in a part
 abbrev pub most_part : ℕ
 most_part = 8184
 
--- `l` and the rest, or `m` and the bytes where more are behind them
+-- `l` and the rest, or `m` and the bytes if more follow
 abbrev pub part_of_rest : List ℕ → ℕ → List ℕ
 part_of_rest rest count = if nat_le (length rest) count then 108 ∷ rest else 109 ∷ take count rest
 

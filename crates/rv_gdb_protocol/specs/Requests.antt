@@ -1,4 +1,4 @@
--- What the arguments of gdb's packets ask, packet by packet.
+-- The arguments of gdb's packets, packet by packet.
 use Rattle.std.specs.Prelude.{ℕ, List, ◌+◌, ◌==◌, ◌&&◌, Bool, false, Option, Some, None, codes, if◌then◌else◌, length, nat_le, take, drop, option_map, unwrap_or, is_some}
 use Rattle.std.specs.Option.{option_or}
 use Rattle.rv_gdb_protocol.specs.Escapes.{data_of, is_whole}
@@ -18,7 +18,7 @@ use Rattle.rv_gdb_protocol.specs.declared.request.Stoppoint.TheVariants as trap
 use Rattle.rv_gdb_protocol.specs.declared.request.Watched.{Watched}
 use Rattle.rv_gdb_protocol.specs.declared.request.Watched.TheVariants as watch
 
--- the marks within arguments: `,`, `:`, `;` and `=`
+-- the delimiters in arguments: `,`, `:`, `;` and `=`
 abbrev pub comma : ℕ
 comma = 44
 
@@ -49,14 +49,14 @@ description args = unwrap_or
     (option_map (λ part. or_refused refusal.Failed (option_map ask.Description (part_at part))) (behind (codes "target.xml:") args))
     (ask.Refused refusal.OtherAnnex)
 
--- `PROCESS:OFFSET,COUNT`: the process is passed over
+-- `PROCESS:OFFSET,COUNT`; the process is ignored
 unfoldable pub image_path : List ℕ → Request
 image_path args = or_refused refusal.Failed do
   place ← place_of colon args
   part ← part_at (drop (place + 1) args)
   Some (ask.ImagePath part)
 
--- `PATH,FLAGS,MODE`, the path in hexadecimal digits: flags of 0 read
+-- `PATH,FLAGS,MODE` with the path in hexadecimal digits; flags of 0 mean reading
 unfoldable pub opened_file : List ℕ → Option (List ℕ)
 opened_file args = do
   place ← place_of comma args
@@ -131,7 +131,7 @@ whole_data text = if is_whole text then Some (data_of false text) else None
 abbrev pub write_of : Range → Option (List ℕ) → Request
 write_of range bytes = or_refused refusal.Malformed (bytes >>= written range)
 
--- `ADDRESS,COUNT:BYTES`, where the bytes are read in this way
+-- `ADDRESS,COUNT:BYTES`, where the given function parses the bytes
 abbrev pub write_memory : (List ℕ → Option (List ℕ)) → List ℕ → Option Request
 write_memory read args = do
   place ← place_of colon args
@@ -154,7 +154,7 @@ trap_range text = do
   fields ← behind (codes ",") text
   range_at fields
 
--- 1 to 65,536 bytes, none of them past the end of the addresses
+-- 1 to 65,536 bytes, all of them within the address space
 abbrev pub watched : Watched → Range → Option Stoppoint
 watched kind range = if (nat_le 1 range.count && nat_le range.count 65536) && nat_le (range.address + range.count) 4294967296
     then Some (trap.Watch kind range) else None
@@ -167,18 +167,18 @@ watch_at kind text = do
   range ← trap_range text
   watched kind range
 
--- what a kind and its fields ask, if they are a watch of writes, 2, of reads, 3, or of both, 4
+-- the stoppoint of a kind and its fields, if the kind is a watchpoint for writes (2), reads (3) or both (4)
 abbrev pub kind_at : List ℕ → Option (Option Stoppoint)
 kind_at args = option_or (option_map (watch_at watch.Writes) (behind (codes "2") args))
     (option_or (option_map (watch_at watch.Reads) (behind (codes "3") args))
     (option_map (watch_at watch.Accesses) (behind (codes "4") args)))
 
--- the same, or a break, 0 or 1
+-- as `kind_at`, or a breakpoint (0 or 1)
 abbrev pub trap_at : List ℕ → Option (Option Stoppoint)
 trap_at args = option_or (option_map break_at (behind (codes "0") args))
     (option_or (option_map break_at (behind (codes "1") args)) (kind_at args))
 
--- other kinds are not known, and a text with no kind is malformed
+-- other kinds are unknown, and a text without a kind is malformed
 abbrev pub other_kind : List ℕ → Request
 other_kind args = if length args == 0 then ask.Refused refusal.Malformed else ask.Refused refusal.Unknown
 
@@ -188,15 +188,15 @@ trap_of change args = unwrap_or (option_map (λ found. or_refused refusal.Malfor
 
 -- ---- moves
 
--- with an address, a move would begin elsewhere
+-- with an address, a move would begin somewhere else
 abbrev pub elsewhere : Bool → Refusal
 elsewhere is_address = if is_address then refusal.WouldChange else refusal.Malformed
 
--- `c` or `s`, and behind it nothing, or an address
+-- `c` or `s`, followed by nothing or by an address
 unfoldable pub plain_move : Move → List ℕ → Request
 plain_move move args = if length args == 0 then ask.Move move else ask.Refused (elsewhere (is_some (number_of args)))
 
--- `C` or `S`, and behind it a signal, and maybe `;` and an address; the signal is passed over
+-- `C` or `S`, followed by a signal, which is ignored, and optionally `;` and an address
 unfoldable pub signal_move : Move → List ℕ → Request
 signal_move move args = if is_some (number_of args) then ask.Move move
     else ask.Refused (elsewhere (is_some (numbers_at semicolon args)))
@@ -204,5 +204,5 @@ signal_move move args = if is_some (number_of args) then ask.Move move
 abbrev pub move_within : List ℕ → Option Move
 move_within text = option_map (λ pair. move.StepWithin pair.0 pair.1) (numbers_at comma text)
 
-abbrev pub signalled : Move → List ℕ → Option Move
-signalled move text = if is_some (number_of text) then Some move else None
+abbrev pub move_with_signal : Move → List ℕ → Option Move
+move_with_signal move text = if is_some (number_of text) then Some move else None

@@ -4,7 +4,7 @@ use Rattle.std.specs.Int.{w32, to_le_bytes}
 use Rattle.std.specs.List.{flat_map}
 use Rattle.hex.specs.Hex.{encode_lower}
 
--- a register's four bytes, the low one first
+-- a register's four bytes, low byte first
 unfoldable pub register_text : ℕ → List ℕ
 register_text value = encode_lower (to_le_bytes w32 value)
 

@@ -1,4 +1,4 @@
--- The bodies of stop replies: `T` and a signal of gdb, with the reason where gdb has a name for it.
+-- The bodies of stop replies: `T` and a signal of gdb, with the stop reason if gdb has a name for it.
 use Rattle.std.specs.Prelude.{ℕ, List, ◌++◌, codes}
 use Rattle.std.specs.Int.{w32, to_be_bytes}
 use Rattle.hex.specs.Hex.{encode_lower}
@@ -23,13 +23,13 @@ fault_text fault.ConsoleFull = codes "T19"
 fault_text fault.UnknownCall = codes "T0c"
 fault_text fault.FetchMisaligned = codes "T0a"
 
--- which watch it is
+-- the kind of watchpoint
 abbrev pub watch_text : Watched → List ℕ
 watch_text watch.Writes = codes "T05watch:"
 watch_text watch.Reads = codes "T05rwatch:"
 watch_text watch.Accesses = codes "T05awatch:"
 
--- SIGTRAP, SIGINT and SIGXCPU; no reply is `W` or `X`, since a run goes backwards from its end
+-- SIGTRAP, SIGINT and SIGXCPU; no reply is `W` or `X`, since a run can go backwards from its end
 unfoldable pub stop_text : Stop → List ℕ
 stop_text stop.Here = codes "T05"
 stop_text (stop.Watch kind address) = watch_text kind ++ (encode_lower (to_be_bytes w32 address) ++ codes ";")
@@ -39,7 +39,7 @@ stop_text stop.Exit = codes "T05replaylog:end;"
 stop_text stop.Budget = codes "T18"
 stop_text (stop.Fault kind) = fault_text kind
 
--- what a stop tells of the run's ending, as gdb says it
+-- what a stop reports about the run's end, in gdb's terms
 pub data Told : Type 0 where
   NoEnding : Told
   Exited : Told

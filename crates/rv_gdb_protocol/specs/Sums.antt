@@ -1,19 +1,19 @@
--- A body in its frame, and the sum that stands behind it.
+-- A body in its frame, and the checksum that follows it.
 use Rattle.std.specs.Prelude.{ℕ, List, [], ◌∷◌, ◌++◌, ◌==◌, ◌+◌, ◌*◌, ◌%◌, Option, Some, None, if◌then◌else◌, sum}
 use Rattle.hex.specs.Hex.{encode_lower}
 use Rattle.rv_gdb_protocol.specs.Escapes.{begin_mark, end_mark, escaped}
 use Rattle.rv_gdb_protocol.specs.declared.frame.Sum.{Sum}
 use Rattle.rv_gdb_protocol.specs.declared.frame.Sum.TheVariants as verdict
 
--- the sum of a text's bytes, in one byte
+-- the sum of a text's bytes modulo 256
 unfoldable pub sum_of : List ℕ → ℕ
 sum_of text = sum text % 256
 
--- the sum as two digits
+-- the checksum as two digits
 unfoldable pub sum_digits : List ℕ → List ℕ
 sum_digits text = encode_lower (sum_of text ∷ [])
 
--- `$`, a text, `#` and the text's sum
+-- `$`, a text, `#` and the text's checksum
 abbrev pub in_frame : List ℕ → List ℕ
 in_frame text = begin_mark ∷ (text ++ end_mark ∷ sum_digits text)
 
@@ -21,13 +21,13 @@ in_frame text = begin_mark ∷ (text ++ end_mark ∷ sum_digits text)
 unfoldable pub framed : List ℕ → List ℕ
 framed body = in_frame (escaped body)
 
--- the sum that two digits tell
-abbrev pub sum_told : Option ℕ → Option ℕ → Option ℕ
-sum_told (Some high) (Some low) = Some (high * 16 + low)
-sum_told (Some high) None = None
-sum_told None low = None
+-- the checksum that two digits encode
+abbrev pub sum_of_digits : Option ℕ → Option ℕ → Option ℕ
+sum_of_digits (Some high) (Some low) = Some (high * 16 + low)
+sum_of_digits (Some high) None = None
+sum_of_digits None low = None
 
--- whether the told sum is the right one
+-- whether the received checksum is correct
 abbrev pub judged_sum : ℕ → Option ℕ → Sum
 judged_sum right (Some told) = if told == right then verdict.Right else verdict.Wrong
 judged_sum right None = verdict.Wrong

@@ -1,13 +1,13 @@
-//! What the arguments of packets ask.
+//! Parsers for the arguments of packets.
 
 ghost use Rattle.std.specs.Prelude.{◌≡◌};
-ghost use Rattle.rv_gdb_protocol.specs.Requests.{all_registers, break_at, description, elsewhere, image_path, kind_at, move_within, other_kind, part_at, plain_move, range_at, read_file, read_memory, read_register, register_at, register_of, register_write, signal_move, signalled, trap_at, trap_range, watch_at, watched, write_register, written};
+ghost use Rattle.rv_gdb_protocol.specs.Requests.{all_registers, break_at, description, elsewhere, image_path, kind_at, move_within, other_kind, part_at, plain_move, range_at, read_file, read_memory, read_register, register_at, register_of, register_write, signal_move, move_with_signal, trap_at, trap_range, watch_at, watched, write_register, written};
 
 use crate::number::{behind, number_of, numbers_at, place_of, value_of};
 use crate::request::{Move, Part, Range, Refusal, Register, Request, Stoppoint, Watched};
 use rv_base::Bytes;
 
-/// `target.xml:OFFSET,COUNT`
+/// Parses `target.xml:OFFSET,COUNT`.
 #[tactic(auto, unfolding(crate::specs::Requests::description))]
 pub(crate) fn description(args: &[u8]) -> Request
     ensures { result ≡ description args.now }
@@ -21,7 +21,7 @@ pub(crate) fn description(args: &[u8]) -> Request
     }
 }
 
-// `OFFSET,COUNT`
+// Parses `OFFSET,COUNT`.
 fn part_at(text: &[u8]) -> Option<Part>
     ensures { result ≡ part_at text.now }
 {
@@ -29,7 +29,7 @@ fn part_at(text: &[u8]) -> Option<Part>
     Some(Part { offset, count })
 }
 
-/// `PROCESS:OFFSET,COUNT`: the process is passed over.
+/// Parses `PROCESS:OFFSET,COUNT` and ignores the process.
 #[tactic(auto, unfolding(crate::specs::Requests::image_path))]
 pub(crate) fn image_path(args: &[u8]) -> Request
     ensures { result ≡ image_path args.now }
@@ -43,7 +43,7 @@ pub(crate) fn image_path(args: &[u8]) -> Request
     }
 }
 
-/// `COUNT,OFFSET`
+/// Parses `COUNT,OFFSET`.
 #[tactic(auto, unfolding(crate::specs::Requests::read_file))]
 pub(crate) fn read_file(args: &[u8]) -> Request
     ensures { result ≡ read_file args.now }
@@ -54,7 +54,7 @@ pub(crate) fn read_file(args: &[u8]) -> Request
     }
 }
 
-/// A register's number.
+/// Parses a register's number.
 pub(crate) fn read_register(args: &[u8]) -> Request
     ensures { result ≡ read_register args.now }
 {
@@ -83,7 +83,7 @@ fn register_of(number: u32) -> Option<Register>
     }
 }
 
-/// `NUMBER=VALUE`
+/// Parses `NUMBER=VALUE`.
 #[tactic(auto, unfolding(crate::specs::Requests::write_register))]
 pub(crate) fn write_register(args: &[u8]) -> Request
     ensures { result ≡ write_register args.now }
@@ -100,7 +100,7 @@ fn register_write(args: &[u8]) -> Option<Request>
     Some(Request::WriteRegister(register, value))
 }
 
-/// 33 values of four bytes.
+/// Parses 33 values of four bytes.
 pub(crate) fn all_registers(bytes: Vec<u8>) -> Option<Request>
     ensures { result ≡ all_registers bytes.items }
 {
@@ -111,7 +111,7 @@ pub(crate) fn all_registers(bytes: Vec<u8>) -> Option<Request>
     }
 }
 
-/// `ADDRESS,COUNT`
+/// Parses `ADDRESS,COUNT`.
 pub(crate) fn read_memory(args: &[u8]) -> Request
     ensures { result ≡ read_memory args.now }
 {
@@ -128,7 +128,7 @@ pub(crate) fn range_at(text: &[u8]) -> Option<Range>
     Some(Range { address, count })
 }
 
-/// As many bytes as the range has.
+/// Returns a write of these bytes, if there are as many as the range has.
 pub(crate) fn written(range: Range, bytes: Vec<u8>) -> Option<Request>
     ensures { result ≡ written range bytes.items }
 {
@@ -139,7 +139,7 @@ pub(crate) fn written(range: Range, bytes: Vec<u8>) -> Option<Request>
     }
 }
 
-/// A kind and `,ADDRESS,COUNT`: a break, 0 or 1, or a watch of writes, 2, of reads, 3, or of both, 4.
+/// Parses a kind and `,ADDRESS,COUNT`: a breakpoint (0 or 1), or a watchpoint for writes (2), reads (3) or both (4).
 pub(crate) fn trap_at(args: &[u8]) -> Option<Option<Stoppoint>>
     ensures { result ≡ trap_at args.now }
 {
@@ -196,7 +196,7 @@ fn watched(kind: Watched, range: Range) -> Option<Stoppoint>
     }
 }
 
-/// What is refused of a kind that is none of these: it is not known, and a text with no kind is malformed.
+/// Returns the refusal of any other kind: it is unknown, or malformed if there is no kind.
 pub(crate) fn other_kind(args: &[u8]) -> Request
     ensures { result ≡ other_kind args.now }
 {
@@ -207,7 +207,7 @@ pub(crate) fn other_kind(args: &[u8]) -> Request
     }
 }
 
-/// `c` or `s`, and behind it nothing, or an address, with which the move would begin elsewhere.
+/// Parses the rest of `c` or `s`: nothing, or an address, with which the move would begin somewhere else.
 #[tactic(auto, unfolding(crate::specs::Requests::plain_move))]
 pub(crate) fn plain_move(step: Move, args: &[u8]) -> Request
     ensures { result ≡ plain_move step args.now }
@@ -218,7 +218,7 @@ pub(crate) fn plain_move(step: Move, args: &[u8]) -> Request
     Request::Refused(elsewhere(number_of(args).is_some()))
 }
 
-/// `C` or `S`, and behind it a signal, which is passed over, and maybe `;` and an address.
+/// Parses the rest of `C` or `S`: a signal, which is ignored, and optionally `;` and an address.
 #[tactic(auto, unfolding(crate::specs::Requests::signal_move))]
 pub(crate) fn signal_move(step: Move, args: &[u8]) -> Request
     ensures { result ≡ signal_move step args.now }
@@ -239,7 +239,7 @@ fn elsewhere(is_address: bool) -> Refusal
     }
 }
 
-/// Steps within two addresses.
+/// Parses two addresses within which to step.
 pub(crate) fn move_within(text: &[u8]) -> Option<Move>
     ensures { result ≡ move_within text.now }
 {
@@ -247,9 +247,9 @@ pub(crate) fn move_within(text: &[u8]) -> Option<Move>
     Some(Move::StepWithin(low, high))
 }
 
-/// A move with a signal, which is passed over.
-pub(crate) fn signalled(step: Move, text: &[u8]) -> Option<Move>
-    ensures { result ≡ signalled step text.now }
+/// Parses a signal, which is ignored, for a move.
+pub(crate) fn move_with_signal(step: Move, text: &[u8]) -> Option<Move>
+    ensures { result ≡ move_with_signal step text.now }
 {
     if number_of(text).is_some() {
         Some(step)

@@ -1,17 +1,17 @@
-//! Escapes: how bytes stand in a frame that have a meaning there.
+//! Escapes: how bytes with a special meaning are written in a frame.
 
 ghost use Rattle.std.specs.Prelude.{◌≡◌, ◌++◌, IfOk, OnOk, false};
 ghost use Rattle.rv_gdb_protocol.specs.Escapes.{data_byte, data_of, escaped, escaped_byte, has_meaning, is_escape, is_whole};
 
 use std::alloc::AllocError;
 
-/// The byte that stands before an escaped one.
+/// The byte before an escaped one.
 const ESCAPE: u8 = b'}';
 
-/// What an escaped byte is changed by.
+/// The bit that is inverted in an escaped byte.
 const CHANGE: u8 = 0x20;
 
-/// Appends a body so that none of its bytes has a meaning in a frame.
+/// Appends a body, escaped so that none of its bytes has a special meaning in a frame.
 pub fn push_escaped(out: &mut Vec<u8>, body: &[u8]) -> Result<(), AllocError>
     ensures { OnOk result (out.new.items ≡ out.old.items ++ escaped body.now) }
 {
@@ -39,7 +39,7 @@ fn has_meaning(byte: u8) -> bool
     byte == b'$' || byte == b'#' || byte == ESCAPE || byte == b'*'
 }
 
-/// Appends the data of a text with escapes, and says whether the text is whole: one whose last escape has no byte behind it is not.
+/// Appends the data of a text with escapes, and returns whether the text is complete: not if its last escape is at the end.
 pub fn push_data(out: &mut Vec<u8>, text: &[u8]) -> Result<bool, AllocError>
     ensures bytes { OnOk result (out.new.items ≡ out.old.items ++ data_of false text.now) }
     ensures whole { IfOk result (λ whole. whole ≡ is_whole text.now) }
@@ -51,7 +51,7 @@ pub fn push_data(out: &mut Vec<u8>, text: &[u8]) -> Result<bool, AllocError>
     Ok(!behind_escape)
 }
 
-// Appends what a byte gives to the data, and says whether it is an escape.
+// Appends what a byte contributes to the data, and returns whether it is an escape.
 fn push_data_byte(out: &mut Vec<u8>, behind_escape: bool, byte: u8) -> Result<bool, AllocError>
     ensures bytes { OnOk result (out.new.items ≡ out.old.items ++ data_byte behind_escape byte) }
     ensures escape { IfOk result (λ is. is ≡ is_escape behind_escape byte) }

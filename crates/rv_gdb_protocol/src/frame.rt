@@ -1,4 +1,4 @@
-//! Bodies in their frames, and what is heard of them.
+//! Bodies in their frames, and what is received.
 
 ghost use Rattle.std.specs.Prelude.{◌≡◌, ◌++◌, OnOk};
 ghost use Rattle.rv_gdb_protocol.specs.Escapes.{escaped};
@@ -9,48 +9,48 @@ use crate::sum::sum_of;
 use rv_base::Bytes;
 use std::alloc::{AllocError, Global};
 
-/// Whether the digits behind a body are its sum.
+/// Whether the digits after a body are its checksum.
 #[derive(Clone, Copy, Debug, PartialEq, Eq)]
 pub enum Sum {
     Right,
     Wrong,
 }
 
-/// What is heard from gdb.
+/// What is received from gdb.
 #[derive(Debug, Drop)]
 pub enum Incoming {
     /// Ctrl-C: the byte 0x03 between packets.
     Interrupt,
-    /// `+`: the last reply arrived.
+    /// `+`: gdb received the last reply.
     Arrived,
-    /// `-`: the last reply is to be sent again.
+    /// `-`: gdb requests the last reply again.
     Again,
-    /// A body as it stands in its frame, and whether its sum is right.
+    /// A body as it is in its frame, and whether its checksum is correct.
     Packet(Bytes, Sum),
-    /// A body of more than 16,384 bytes, which is not kept. Its sum is not looked at.
+    /// A body of more than 16,384 bytes, which is not kept. Its checksum is not checked.
     TooLong,
 }
 
-/// Where the next byte stands.
+/// The parser's state: what the next byte belongs to.
 #[derive(Clone, Copy, Debug, PartialEq, Eq)]
 pub(crate) enum Place {
     /// Between packets.
     Between,
-    /// In a body, or on the `#` behind it.
+    /// In a body, or the `#` after it.
     Body,
-    /// On the first digit of a sum.
+    /// The first digit of a checksum.
     FirstDigit,
-    /// On the second digit of a sum, behind this one.
+    /// The second digit of a checksum, after this first one.
     SecondDigit(u8),
-    /// In a body that is too long, or on the `#` behind it.
+    /// In a body that is too long, or the `#` after it.
     LongBody,
-    /// On the first digit behind a body that is too long.
+    /// The first digit after a body that is too long.
     LongFirstDigit,
-    /// On the second digit behind a body that is too long.
+    /// The second digit after a body that is too long.
     LongSecondDigit,
 }
 
-/// Appends a body in its frame: `$`, the body with its escapes, `#` and the sum.
+/// Appends a body in its frame: `$`, the body with its escapes, `#` and the checksum.
 #[tactic(auto, unfolding(crate::specs::Sums::framed))]
 pub fn push_frame(alloc: Global, out: &mut Vec<u8>, body: &[u8]) -> Result<(), AllocError>
     ensures { OnOk result (out.new.items ≡ out.old.items ++ framed body.now) }

@@ -1,7 +1,7 @@
-//! gdb's remote protocol, as bytes that come and bytes that go. Nothing here runs, reads a file or waits.
+//! gdb's remote protocol, as bytes received and bytes to send. Nothing here runs a machine, reads a file or blocks.
 //!
-//! A [`Reader`] takes bytes in any cuts and says what it heard ([`Incoming`]): bodies with their sums, acknowledgements, Ctrl-C.
-//! [`push_frame`] frames a body. The other functions `push_..` append the bodies of replies.
+//! A [`Reader`] takes bytes, however they are split, and returns what it received ([`Incoming`]): bodies with their checksums,
+//! acknowledgements, Ctrl-C. [`push_frame`] frames a body. The other `push_..` functions append the bodies of replies.
 #![tactic(auto)]
 
 mod arguments;
@@ -22,7 +22,7 @@ mod target;
 pub use escapes::{push_data, push_escaped};
 pub use frame::{Incoming, Sum, push_frame};
 pub use law::{
-    cuts_are_not_heard, framed_bodies_are_read_back, heard_texts_were_sent, packets_are_read,
+    bytes_can_be_split, framed_bodies_are_read_back, heard_texts_were_sent, packets_are_read,
     parts_fit, sent_texts_are_heard, stops_tell_the_ending,
 };
 pub use parse::parse_request;

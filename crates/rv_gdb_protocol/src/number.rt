@@ -8,10 +8,10 @@ use crate::sum::digit_value;
 use hex::FromHexError;
 use std::alloc::{AllocError, Global};
 
-/// The most digits of a number.
+/// The maximum number of digits in a number.
 const MOST_DIGITS: usize = 8;
 
-/// The number of 1 to 8 hexadecimal digits, in either case.
+/// Parses a number of 1 to 8 hexadecimal digits, in either case.
 #[tactic(auto, unfolding(crate::specs::Numbers::number_of))]
 pub(crate) fn number_of(text: &[u8]) -> Option<u32>
     ensures { result ≡ number_of text.now }
@@ -26,7 +26,7 @@ pub(crate) fn number_of(text: &[u8]) -> Option<u32>
     value
 }
 
-// A number with a digit more; none where the byte is no digit.
+// Returns a number with one more digit, or `None` if the byte is not a digit.
 fn digit_on(value: Option<u32>, byte: u8) -> Option<u32>
     requires { IfSome value (λ value. value < 2 ^ 28) }
     ensures { result ≡ digit_on value byte }
@@ -37,7 +37,7 @@ fn digit_on(value: Option<u32>, byte: u8) -> Option<u32>
     }
 }
 
-/// Two numbers with a mark between them, as in `80000000,4`.
+/// Parses two numbers separated by a delimiter, as in `80000000,4`.
 #[tactic(auto, unfolding(crate::specs::Numbers::numbers_at))]
 pub(crate) fn numbers_at(mark: u8, text: &[u8]) -> Option<(u32, u32)>
     ensures { result ≡ numbers_at mark text.now }
@@ -48,7 +48,7 @@ pub(crate) fn numbers_at(mark: u8, text: &[u8]) -> Option<(u32, u32)>
     Some((first, second))
 }
 
-/// The place of the first of a mark.
+/// Returns the index of a delimiter's first occurrence.
 pub(crate) fn place_of(mark: u8, text: &[u8]) -> Option<usize>
     ensures place { result ≡ place_of mark text.now }
     ensures within { IfSome result (λ place. place < length text.now) }
@@ -56,7 +56,7 @@ pub(crate) fn place_of(mark: u8, text: &[u8]) -> Option<usize>
     text.iter().position(|byte| *byte == mark)
 }
 
-/// What stands before the first of a mark: all of it where there is none.
+/// Returns the text before a delimiter's first occurrence, or all of it if there is none.
 #[tactic(auto, unfolding(crate::specs::Numbers::until))]
 pub(crate) fn until(mark: u8, text: &[u8]) -> &[u8]
     ensures { result.now ≡ until mark text.now }
@@ -67,7 +67,7 @@ pub(crate) fn until(mark: u8, text: &[u8]) -> &[u8]
     }
 }
 
-/// What stands behind a name that a text begins with.
+/// Returns the text after a name, if it begins with the name.
 #[tactic(auto, unfolding(crate::specs::Numbers::behind))]
 pub(crate) fn behind<'a>(name: &[u8], text: &'a [u8]) -> Option<&'a [u8]>
     ensures { option_copied result ≡ behind name.now text.now }
@@ -79,7 +79,7 @@ pub(crate) fn behind<'a>(name: &[u8], text: &'a [u8]) -> Option<&'a [u8]>
     }
 }
 
-/// The bytes of a text of hexadecimal digits, two for each byte.
+/// Decodes hexadecimal digits, two for each byte.
 #[tactic(auto, unfolding(crate::specs::Numbers::bytes_of))]
 pub(crate) fn bytes_of(alloc: Global, text: &[u8]) -> Result<Option<Vec<u8>>, AllocError>
     ensures { IfOk result (λ bytes. option_map (λ bytes. bytes.items) bytes ≡ bytes_of text.now) }
@@ -91,7 +91,7 @@ pub(crate) fn bytes_of(alloc: Global, text: &[u8]) -> Result<Option<Vec<u8>>, Al
     }
 }
 
-/// The value of a register: eight digits, the low byte first.
+/// Parses the value of a register: eight digits, low byte first.
 #[tactic(auto, unfolding(crate::specs::Numbers::value_of))]
 pub(crate) fn value_of(text: &[u8]) -> Option<u32>
     ensures { result ≡ value_of text.now }

@@ -1,33 +1,33 @@
-//! What the bodies of packets ask: those that carry no bytes.
+//! Parsers for the packets that carry no bytes.
 
 ghost use Rattle.std.specs.Prelude.{◌≡◌};
 ghost use Rattle.std.specs.Str.{bytes_eq};
 ghost use Rattle.rv_gdb_protocol.specs.Requests.{trap_of};
 ghost use Rattle.rv_gdb_protocol.specs.declared.request.Request.TheVariants as ask;
-ghost use Rattle.rv_gdb_protocol.specs.Packets.{action_of, bare_action, bare_order, bare_query, describing, detach, detaching, file_reading, first_action, granted, image_naming, is_file_call, light_request, moving, other_file, query, range_action, reading, signal_action, trapping};
+ghost use Rattle.rv_gdb_protocol.specs.Packets.{action_of, bare_action, bare_order, bare_query, description_request, detach, detach_request, file_reading, first_action, granted, image_path_request, is_file_call, request_without_bytes, moving, other_file, query, range_action, reading, signal_action, stoppoint_request};
 
 use crate::arguments::{
-    description, image_path, move_within, other_kind, plain_move, read_file, read_memory,
-    read_register, signal_move, signalled, trap_at, write_register,
+    description, image_path, move_with_signal, move_within, other_kind, plain_move, read_file,
+    read_memory, read_register, signal_move, trap_at, write_register,
 };
 use crate::number::{behind, until};
 use crate::request::{Move, Refusal, Request};
 
-/// What a body asks, if it is no packet that carries bytes.
-#[tactic(auto, unfolding(crate::specs::Packets::light_request))]
-pub(crate) fn light_request(body: &[u8]) -> Option<Request>
-    ensures { result ≡ light_request body.now }
+/// Returns the request of a body, unless it is a packet that carries bytes.
+#[tactic(auto, unfolding(crate::specs::Packets::request_without_bytes))]
+pub(crate) fn request_without_bytes(body: &[u8]) -> Option<Request>
+    ensures { result ≡ request_without_bytes body.now }
 {
     bare_query(body)
         .or(bare_order(body))
         .or(query(body))
-        .or(describing(body))
-        .or(image_naming(body))
+        .or(description_request(body))
+        .or(image_path_request(body))
         .or(reading(body))
-        .or(trapping(body))
+        .or(stoppoint_request(body))
         .or(moving(body))
         .or(granted(body))
-        .or(detaching(body))
+        .or(detach_request(body))
         .or(file_reading(body))
         .or(other_file(body))
 }
@@ -97,15 +97,15 @@ fn query(body: &[u8]) -> Option<Request>
     }
 }
 
-fn describing(body: &[u8]) -> Option<Request>
-    ensures { result ≡ describing body.now }
+fn description_request(body: &[u8]) -> Option<Request>
+    ensures { result ≡ description_request body.now }
 {
     let args = behind(b"qXfer:features:read:", body)?;
     Some(description(args))
 }
 
-fn image_naming(body: &[u8]) -> Option<Request>
-    ensures { result ≡ image_naming body.now }
+fn image_path_request(body: &[u8]) -> Option<Request>
+    ensures { result ≡ image_path_request body.now }
 {
     let args = behind(b"qXfer:exec-file:read:", body)?;
     Some(image_path(args))
@@ -125,9 +125,9 @@ fn reading(body: &[u8]) -> Option<Request>
     Some(read_memory(args))
 }
 
-#[tactic(auto, unfolding(crate::specs::Packets::trapping))]
-fn trapping(body: &[u8]) -> Option<Request>
-    ensures { result ≡ trapping body.now }
+#[tactic(auto, unfolding(crate::specs::Packets::stoppoint_request))]
+fn stoppoint_request(body: &[u8]) -> Option<Request>
+    ensures { result ≡ stoppoint_request body.now }
 {
     if let Some(args) = behind(b"Z", body) {
         return Some(set_trap(args));
@@ -178,7 +178,7 @@ fn moving(body: &[u8]) -> Option<Request>
     Some(signal_move(Move::Step, args))
 }
 
-// The first action is the one that counts, since there is one thread.
+// Only the first action counts, since there is one thread.
 #[tactic(auto, unfolding(crate::specs::Packets::first_action))]
 fn first_action(args: &[u8]) -> Request
     ensures { result ≡ first_action args.now }
@@ -189,7 +189,7 @@ fn first_action(args: &[u8]) -> Request
     }
 }
 
-// An action without its thread.
+// Parses an action without its thread.
 #[tactic(auto, unfolding(crate::specs::Packets::action_of))]
 fn action_of(text: &[u8]) -> Option<Move>
     ensures { result ≡ action_of text.now }
@@ -216,7 +216,7 @@ fn bare_action(text: &[u8]) -> Option<Move>
 fn signal_action(name: &[u8], step: Move, text: &[u8]) -> Option<Move>
     ensures { result ≡ signal_action name.now step text.now }
 {
-    signalled(step, behind(name, text)?)
+    move_with_signal(step, behind(name, text)?)
 }
 
 fn range_action(text: &[u8]) -> Option<Move>
@@ -225,7 +225,7 @@ fn range_action(text: &[u8]) -> Option<Move>
     move_within(behind(b"r", text)?)
 }
 
-// What is granted whatever stands behind its name.
+// Parses the packets that are accepted whatever follows their name.
 #[tactic(auto, unfolding(crate::specs::Packets::granted))]
 fn granted(body: &[u8]) -> Option<Request>
     ensures { result ≡ granted body.now }
@@ -239,14 +239,14 @@ fn granted(body: &[u8]) -> Option<Request>
     }
 }
 
-fn detaching(body: &[u8]) -> Option<Request>
-    ensures { result ≡ detaching body.now }
+fn detach_request(body: &[u8]) -> Option<Request>
+    ensures { result ≡ detach_request body.now }
 {
     let args = behind(b"D", body)?;
     Some(detach(args))
 }
 
-// Nothing, or `;` and a process.
+// Parses nothing, or `;` and a process.
 #[tactic(auto, unfolding(crate::specs::Packets::detach))]
 fn detach(args: &[u8]) -> Request
     ensures { result ≡ detach args.now }
@@ -258,7 +258,7 @@ fn detach(args: &[u8]) -> Request
     }
 }
 
-// Descriptor 5 is the one that there is.
+// 5 is the only file descriptor.
 fn file_reading(body: &[u8]) -> Option<Request>
     ensures { result ≡ file_reading body.now }
 {
@@ -276,7 +276,7 @@ fn other_file(body: &[u8]) -> Option<Request>
     }
 }
 
-// A call on a file whose descriptor is the first argument.
+// Whether a packet is a call on a file whose descriptor is the first argument.
 #[tactic(auto, unfolding(crate::specs::Packets::is_file_call))]
 fn is_file_call(body: &[u8]) -> bool
     ensures { result ≡ is_file_call body.now }

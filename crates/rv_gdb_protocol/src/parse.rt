@@ -1,36 +1,36 @@
-//! Bodies of packets, as what they ask.
+//! Parses the bodies of packets.
 
 ghost use Rattle.std.specs.Prelude.{◌≡◌, IfOk, option_map};
 ghost use Rattle.rv_gdb_protocol.specs.Numbers.{bytes_of};
-ghost use Rattle.rv_gdb_protocol.specs.Packets.{carrying, command, request_of};
+ghost use Rattle.rv_gdb_protocol.specs.Packets.{request_with_bytes, command, request_of};
 ghost use Rattle.rv_gdb_protocol.specs.Requests.{open_file, opened_file, whole_data, write_data, write_digits, write_of, write_registers};
 
 use crate::arguments::{all_registers, range_at, written};
 use crate::escapes::push_data;
 use crate::number::{behind, bytes_of, numbers_at, place_of};
-use crate::packets::light_request;
+use crate::packets::request_without_bytes;
 use crate::request::{Range, Refusal, Request};
 use rv_base::Bytes;
 use std::alloc::{AllocError, Global};
 
-/// What a body asks. Each body asks something: what is malformed or not known is a refusal, by the answer that it gets.
+/// Parses a body. Every body is a request: one that is malformed or unknown is a refusal, which determines the reply.
 #[tactic(auto, unfolding(crate::specs::Packets::request_of))]
 pub fn parse_request(alloc: Global, body: &[u8]) -> Result<Request, AllocError>
     ensures { IfOk result (λ request. request ≡ request_of body.now) }
 {
-    if let Some(request) = light_request(body) {
+    if let Some(request) = request_without_bytes(body) {
         return Ok(request);
     }
-    match carrying(alloc, body)? {
+    match request_with_bytes(alloc, body)? {
         Some(request) => Ok(request),
         None => Ok(Request::Refused(Refusal::Unknown)),
     }
 }
 
-// A packet that carries bytes.
-#[tactic(auto, unfolding(crate::specs::Packets::carrying))]
-fn carrying(alloc: Global, body: &[u8]) -> Result<Option<Request>, AllocError>
-    ensures { IfOk result (λ request. request ≡ carrying body.now) }
+// Parses a packet that carries bytes.
+#[tactic(auto, unfolding(crate::specs::Packets::request_with_bytes))]
+fn request_with_bytes(alloc: Global, body: &[u8]) -> Result<Option<Request>, AllocError>
+    ensures { IfOk result (λ request. request ≡ request_with_bytes body.now) }
 {
     if let Some(args) = behind(b"G", body) {
         return Ok(Some(write_registers(alloc, args)?));
@@ -50,7 +50,7 @@ fn carrying(alloc: Global, body: &[u8]) -> Result<Option<Request>, AllocError>
     Ok(None)
 }
 
-// 33 values of four bytes.
+// Parses 33 values of four bytes.
 #[tactic(auto, unfolding(crate::specs::Requests::write_registers))]
 fn write_registers(alloc: Global, args: &[u8]) -> Result<Request, AllocError>
     ensures { IfOk result (λ request. request ≡ write_registers args.now) }
@@ -61,7 +61,7 @@ fn write_registers(alloc: Global, args: &[u8]) -> Result<Request, AllocError>
     }
 }
 
-// `ADDRESS,COUNT:` and the bytes in hexadecimal digits.
+// Parses `ADDRESS,COUNT:` and bytes in hexadecimal digits.
 #[tactic(auto, unfolding(crate::specs::Requests::write_digits))]
 fn write_digits(alloc: Global, args: &[u8]) -> Result<Request, AllocError>
     ensures { IfOk result (λ request. request ≡ write_digits args.now) }
@@ -78,7 +78,7 @@ fn write_digits(alloc: Global, args: &[u8]) -> Result<Request, AllocError>
     }
 }
 
-// `ADDRESS,COUNT:` and the bytes as data with escapes.
+// Parses `ADDRESS,COUNT:` and bytes as data with escapes.
 #[tactic(auto, unfolding(crate::specs::Requests::write_data))]
 fn write_data(alloc: Global, args: &[u8]) -> Result<Request, AllocError>
     ensures { IfOk result (λ request. request ≡ write_data args.now) }
@@ -104,7 +104,7 @@ fn write_of(range: Range, bytes: Option<Vec<u8>>) -> Request
     }
 }
 
-// The data of a text whose last escape has a byte behind it.
+// Returns the data of a text, unless its last escape is at the end.
 fn whole_data(alloc: Global, text: &[u8]) -> Result<Option<Vec<u8>>, AllocError>
     ensures { IfOk result (λ bytes. option_map (λ bytes. bytes.items) bytes ≡ whole_data text.now) }
 {
@@ -116,7 +116,7 @@ fn whole_data(alloc: Global, text: &[u8]) -> Result<Option<Vec<u8>>, AllocError>
     }
 }
 
-// `PATH,FLAGS,MODE`, the path in hexadecimal digits.
+// Parses `PATH,FLAGS,MODE` with the path in hexadecimal digits.
 fn open_file(alloc: Global, args: &[u8]) -> Result<Request, AllocError>
     ensures { IfOk result (λ request. request ≡ open_file args.now) }
 {
@@ -126,7 +126,7 @@ fn open_file(alloc: Global, args: &[u8]) -> Result<Request, AllocError>
     }
 }
 
-// The path of a file that is to be read: flags of 0.
+// Returns the path of a file to be opened for reading: its flags are 0.
 #[tactic(auto, unfolding(crate::specs::Requests::opened_file))]
 fn opened_file(alloc: Global, args: &[u8]) -> Result<Option<Vec<u8>>, AllocError>
     ensures { IfOk result (λ path. option_map (λ bytes. bytes.items) path ≡ opened_file args.now) }
@@ -140,7 +140,7 @@ fn opened_file(alloc: Global, args: &[u8]) -> Result<Option<Vec<u8>>, AllocError
     }
 }
 
-// A `monitor` command in hexadecimal digits.
+// Parses a `monitor` command in hexadecimal digits.
 #[tactic(auto, unfolding(crate::specs::Packets::command))]
 fn command(alloc: Global, args: &[u8]) -> Result<Request, AllocError>
     ensures { IfOk result (λ request. request ≡ command args.now) }

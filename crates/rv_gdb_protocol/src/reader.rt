@@ -1,4 +1,4 @@
-//! A reader of frames.
+//! A parser for received frames.
 
 ghost use Rattle.std.specs.Prelude.{◌≡◌, ◌≤◌, IfOk, OnErr, OnOk, Some, fold, length, take};
 
@@ -9,10 +9,10 @@ use std::alloc::{AllocError, Global};
 use std::marker::Model;
 use std::mem;
 
-/// The longest body that is kept.
+/// The maximum length of a body that is kept.
 const MOST_BODY: usize = 16384;
 
-/// Takes bytes in any cuts, and holds the body that is not whole yet: at most 16,384 bytes.
+/// Takes bytes, however they are split, and holds the body that is not complete yet: at most 16,384 bytes.
 #[derive(Drop)]
 pub struct Reader {
     place: Place,
@@ -34,7 +34,7 @@ impl Reader {
     ghost use Rattle.rv_gdb_protocol.specs.Frames.{between, frame_after, incoming_at, incoming_in, opened, option_list};
     ghost use Rattle.rv_gdb_protocol.specs.declared.frame.Place.TheVariants as place;
 
-    /// Between packets.
+    /// Creates a reader between packets.
     pub fn new(alloc: Global) -> Reader
         ensures { result ≡ between }
     {
@@ -44,7 +44,8 @@ impl Reader {
         }
     }
 
-    /// Takes bytes up to and with the first at which something is heard: how many, and what. The rest is for the next call.
+    /// Consumes bytes up to and including the first that completes something. Returns how many it consumed, and what it received. The rest
+    /// is for the next call.
     pub fn receive(
         &mut self,
         alloc: Global,
@@ -62,7 +63,7 @@ impl Reader {
         Ok((bytes.len(), None))
     }
 
-    /// Takes a byte, and says what is heard at it.
+    /// Consumes a byte and returns what it completes.
     pub fn take(&mut self, alloc: Global, byte: u8) -> Result<Option<Incoming>, AllocError>
         ensures heard { IfOk result (λ heard. heard ≡ incoming_at self.old byte) }
         ensures frame { OnOk result (self.new ≡ frame_after self.old byte) }
@@ -80,7 +81,7 @@ impl Reader {
             }
             Place::SecondDigit(high) => Ok(Some(self.finish(alloc, high, byte))),
             Place::LongBody => {
-                self.pass_over(byte);
+                self.skip_byte(byte);
                 Ok(None)
             }
             Place::LongFirstDigit => {
@@ -94,7 +95,7 @@ impl Reader {
         }
     }
 
-    // A byte between packets. Noise there is dropped.
+    // Consumes a byte between packets. Noise is dropped.
     fn take_between(&mut self, byte: u8) -> Option<Incoming>
         requires { self.old.place ≡ place.Between }
         ensures heard { result ≡ incoming_at self.old byte }
@@ -129,8 +130,8 @@ impl Reader {
         Ok(())
     }
 
-    // A byte of a body that is too long to be kept.
-    fn pass_over(&mut self, byte: u8)
+    // Consumes a byte of a body that is too long to be kept.
+    fn skip_byte(&mut self, byte: u8)
         requires { self.old.place ≡ place.LongBody }
         ensures { self.new ≡ frame_after self.old byte }
     {
@@ -148,7 +149,7 @@ impl Reader {
         self.body.clear();
     }
 
-    // The packet ends on the second digit of its sum.
+    // Completes the packet at the second digit of its checksum.
     fn finish(&mut self, alloc: Global, high: u8, low: u8) -> Incoming
         requires { self.old.place ≡ place.SecondDigit high }
         ensures heard { Some result ≡ incoming_at self.old low }

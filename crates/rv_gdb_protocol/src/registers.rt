@@ -1,4 +1,4 @@
-//! The bodies of replies that show registers, memory and printed bytes.
+//! The bodies of replies that show registers, memory and console output.
 
 ghost use Rattle.std.specs.Prelude.{◌≡◌, ◌++◌, ◌∷◌, OnOk};
 ghost use Rattle.std.specs.List.{flat_map};
@@ -7,7 +7,7 @@ ghost use Rattle.rv_gdb_protocol.specs.Shown.{register_text, registers_text};
 
 use std::alloc::{AllocError, Global};
 
-/// Appends a register: its bytes, the low one first.
+/// Appends a register's bytes, low byte first.
 #[tactic(auto, unfolding(crate::specs::Shown::register_text))]
 pub fn push_register(out: &mut Vec<u8>, value: u32) -> Result<(), AllocError>
     ensures { OnOk result (out.new.items ≡ out.old.items ++ register_text value) }
@@ -17,7 +17,7 @@ pub fn push_register(out: &mut Vec<u8>, value: u32) -> Result<(), AllocError>
     out.extend_from_slice(&digits)
 }
 
-/// Appends x0 to x31 and the pc: 33 words, and no more, since a client that read no target.xml refuses a longer reply.
+/// Appends x0 to x31 and the pc: exactly 33 words, since a client that has not read target.xml rejects a longer reply.
 pub fn push_registers(out: &mut Vec<u8>, registers: &[u32; 32], pc: u32) -> Result<(), AllocError>
     ensures { OnOk result (out.new.items ≡ out.old.items ++ registers_text registers.now pc) }
 {
@@ -35,7 +35,7 @@ pub fn push_memory(alloc: Global, out: &mut Vec<u8>, bytes: &[u8]) -> Result<(),
     out.extend_from_slice(digits.as_bytes())
 }
 
-/// Appends a packet's body with printed bytes, which gdb shows.
+/// Appends a packet's body with console output, which gdb shows.
 pub fn push_printed(alloc: Global, out: &mut Vec<u8>, bytes: &[u8]) -> Result<(), AllocError>
     ensures { OnOk result (out.new.items ≡ out.old.items ++ 79 ∷ encode_lower bytes.now) }
 {

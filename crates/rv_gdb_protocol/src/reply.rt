@@ -1,4 +1,4 @@
-//! The bodies of replies that are the same in every session, and the parts of longer texts.
+//! The bodies of replies that are equal in every session, and the parts of longer texts.
 
 ghost use Rattle.std.specs.Prelude.{◌≡◌, ◌++◌, OnOk, option_copied};
 ghost use Rattle.rv_gdb_protocol.specs.Replies.{fixed_reply, part_text, refusal_text};
@@ -6,10 +6,10 @@ ghost use Rattle.rv_gdb_protocol.specs.Replies.{fixed_reply, part_text, refusal_
 use crate::request::{Part, Refusal, Request};
 use std::alloc::AllocError;
 
-/// The most bytes of a part: its reply fits a packet even where each byte has to be escaped.
+/// The maximum number of bytes in a part. Its reply fits a packet even if each byte must be escaped.
 const MOST_PART: usize = 8184;
 
-/// The reply to a request that gets the same one in every session; none where it is for the session to say.
+/// Returns the reply to a request if it is equal in every session; `None` if it depends on the session.
 pub fn fixed_reply(request: &Request) -> Option<&'static str>
     ensures { option_copied result ≡ fixed_reply request.now }
 {
@@ -29,7 +29,7 @@ pub fn fixed_reply(request: &Request) -> Option<&'static str>
     }
 }
 
-/// The reply to what is refused.
+/// Returns the reply to a refused request.
 pub fn refusal_text(refusal: Refusal) -> &'static str
     ensures { result.now ≡ refusal_text refusal }
 {
@@ -46,7 +46,7 @@ pub fn refusal_text(refusal: Refusal) -> &'static str
     }
 }
 
-/// Appends a part of a text: `m` and the bytes, at most 8,184, or `l` and the rest where they reach the end.
+/// Appends a part of a text: `m` and at most 8,184 bytes, or `l` and the rest if the part reaches the end.
 #[tactic(auto, unfolding(crate::specs::Replies::part_text))]
 pub fn push_part(out: &mut Vec<u8>, text: &[u8], part: Part) -> Result<(), AllocError>
     ensures { OnOk result (out.new.items ≡ out.old.items ++ part_text text.now part) }

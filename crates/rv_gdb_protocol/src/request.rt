@@ -1,13 +1,13 @@
-//! What gdb asks.
+//! Requests from gdb.
 
 use rv_base::Bytes;
 
-/// What a packet asks.
+/// The request that a packet makes.
 #[derive(Debug, Drop)]
 pub enum Request {
-    /// `qSupported`: what the stub can do.
+    /// `qSupported`: the features of the stub.
     Features,
-    /// `QStartNoAckMode`: no acknowledgements behind the reply.
+    /// `QStartNoAckMode`: no acknowledgements after the reply.
     NoAcknowledgements,
     /// `?`: the last stop.
     LastStop,
@@ -15,9 +15,9 @@ pub enum Request {
     Description(Part),
     /// `qXfer:exec-file:read:`: a part of the image's path.
     ImagePath(Part),
-    /// `vFile:setfs:0`: files of the stub's own system.
+    /// `vFile:setfs:0`: the files of the stub's own system.
     FileSystem,
-    /// `vFile:open:`, to read: the file of this path.
+    /// `vFile:open:` for reading: the file with this path.
     OpenFile(Bytes),
     /// `vFile:fstat:5`
     FileSize,
@@ -35,13 +35,13 @@ pub enum Request {
     WriteRegister(Register, u32),
     /// `m`
     ReadMemory(Range),
-    /// `M` and `X`: the bytes for this address and those behind it.
+    /// `M` and `X`: the bytes to write from this address on.
     WriteMemory(u32, Bytes),
     /// `Z`
     Set(Stoppoint),
     /// `z`
     Clear(Stoppoint),
-    /// `vCont?`: which moves the stub knows.
+    /// `vCont?`: the moves that the stub supports.
     Actions,
     /// `vCont;`, `c`, `C`, `s`, `S`, `bc`, `bs`
     Move(Move),
@@ -49,11 +49,11 @@ pub enum Request {
     Thread,
     /// `qfThreadInfo`: the first threads.
     FirstThreads,
-    /// `qsThreadInfo`: the threads behind these.
+    /// `qsThreadInfo`: the further threads.
     MoreThreads,
     /// `qAttached`
     Attached,
-    /// What is granted and changes nothing: `H`, `T`, `!`, `vKill`.
+    /// Packets that are accepted and change nothing: `H`, `T`, `!`, `vKill`.
     Accepted,
     /// `qRcmd,`: the text of a `monitor` command.
     Command(Bytes),
@@ -61,9 +61,9 @@ pub enum Request {
     Detach,
     /// `k`
     Kill,
-    /// `vRun`: from step 0 again.
+    /// `vRun`: restart from step 0.
     Restart,
-    /// Nothing that can be done: the answer that it gets.
+    /// A request that is refused; the refusal determines the reply.
     Refused(Refusal),
 }
 
@@ -74,65 +74,65 @@ pub struct Part {
     pub count: u32,
 }
 
-/// Bytes of memory. They may go past the end of the addresses.
+/// A range of memory. It can extend past the end of the address space.
 #[derive(Clone, Copy, Debug)]
 pub struct Range {
     pub address: u32,
     pub count: u32,
 }
 
-/// A register by its number in the target's description.
+/// A register, by its number in the target's description.
 #[derive(Clone, Copy, Debug)]
 pub enum Register {
     /// 0 to 31: x0 to x31; 32: the pc.
     Hart(u32),
-    /// 33: the steps that are done.
+    /// 33: the number of completed steps.
     Steps,
-    /// 34: the bytes that are printed.
+    /// 34: the number of bytes printed.
     Printed,
-    /// 35: the bytes of the script that are taken.
+    /// 35: the number of bytes consumed from the input script.
     Taken,
 }
 
-/// What of bytes is watched.
+/// The accesses that a watchpoint watches.
 #[derive(Clone, Copy, Debug)]
 pub enum Watched {
-    /// That they change.
+    /// Changes to the bytes.
     Writes,
-    /// That they are read.
+    /// Reads of the bytes.
     Reads,
-    /// That they are read or written.
+    /// Reads and writes of the bytes.
     Accesses,
 }
 
-/// Where a run is to stop.
+/// A breakpoint or a watchpoint.
 #[derive(Clone, Copy, Debug)]
 pub enum Stoppoint {
-    /// In front of the instruction at this address.
+    /// Before the instruction at this address.
     Break(u32),
-    /// Where one of 1 to 65,536 bytes is met so; none of them is past the end of the addresses.
+    /// At an access of this kind to one of 1 to 65,536 bytes, all of them within the address space.
     Watch(Watched, Range),
 }
 
-/// How the session is to move in its run.
+/// How the session moves in its run.
 #[derive(Clone, Copy, Debug)]
 pub enum Move {
     /// To the next stop.
     Continue,
     Step,
-    /// Steps while the pc is at the first address or above, and below the second.
+    /// Steps while the pc is at or above the first address and below the second.
     StepWithin(u32, u32),
-    /// To the stop before.
+    /// To the previous stop.
     ContinueBack,
     StepBack,
 }
 
-/// What is refused, by the answer that it gets.
+/// Why a request is refused, which determines the reply.
 #[derive(Clone, Copy, Debug)]
 pub enum Refusal {
     /// A packet that the stub does not know: the empty reply.
     Unknown,
-    /// Arguments that are none of this packet's: `E01`.
+    /// Arguments that are not valid for the packet: `E01`.
     Failed,
     /// Another annex: `E00`.
     OtherAnnex,
@@ -140,12 +140,12 @@ pub enum Refusal {
     OtherFile,
     /// Arguments of another form: `E.malformed`.
     Malformed,
-    /// What would change the run: `E.the run is read-only: the debugger cannot change it`.
+    /// A request that would change the run: `E.the run is read-only: the debugger cannot change it`.
     WouldChange,
-    /// A seek to where the run does not come: `E.the run does not reach that point`.
+    /// A seek to a point that the run does not reach: `E.the run does not reach that point`.
     NotReached,
-    /// More places to stop at than are kept: `E.too many breakpoints`.
+    /// More breakpoints and watchpoints than can be kept: `E.too many breakpoints`.
     TooManyTraps,
-    /// A packet that is not kept: `E.packet too long`.
+    /// A packet that is too long to be kept: `E.packet too long`.
     TooLong,
 }

@@ -1,4 +1,4 @@
-//! Stops, and the bodies of the replies that tell them.
+//! Stop reasons, and the bodies of their replies.
 
 ghost use Rattle.std.specs.Prelude.{◌≡◌, ◌++◌, OnOk};
 ghost use Rattle.rv_gdb_protocol.specs.Stops.{fault_text, stop_text, watch_text};
@@ -8,26 +8,26 @@ use crate::request::Watched;
 use rv_machine::FaultKind;
 use std::alloc::AllocError;
 
-/// Why the run stands where it stands.
+/// Why the run stopped.
 #[derive(Clone, Copy)]
 pub enum Stop {
     /// A breakpoint, a step or the end of a range.
     Here,
-    /// A watch at this address is set off.
+    /// The watchpoint at this address was triggered.
     Watch(Watched, u32),
     /// Ctrl-C.
     Interrupt,
-    /// Step 0 on the way back.
+    /// Step 0, moving backwards.
     Beginning,
     /// The exit call.
     Exit,
-    /// The budget is used up.
+    /// The budget was used up.
     Budget,
     /// A fault.
     Fault(FaultKind),
 }
 
-/// Appends the body of a stop's reply.
+/// Appends the body of a stop reply.
 #[tactic(auto, unfolding(crate::specs::Stops::stop_text))]
 pub fn push_stop(out: &mut Vec<u8>, stop: Stop) -> Result<(), AllocError>
     ensures { OnOk result (out.new.items ≡ out.old.items ++ stop_text stop) }
@@ -65,7 +65,7 @@ fn watch_text(kind: Watched) -> &'static str
     }
 }
 
-// The signal of a fault.
+// Returns the signal of a fault.
 fn fault_text(kind: FaultKind) -> &'static str
     ensures { result.now ≡ fault_text kind }
 {

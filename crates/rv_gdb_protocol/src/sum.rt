@@ -1,12 +1,12 @@
-//! Sums of bodies, and the digits that tell them.
+//! Checksums of bodies, and their digits.
 
 ghost use Rattle.std.specs.Prelude.{◌≡◌, ◌<◌, IfSome};
 ghost use Rattle.hex.specs.Hex.{hex_digit_value};
-ghost use Rattle.rv_gdb_protocol.specs.Sums.{judged_sum, sum_of, sum_told};
+ghost use Rattle.rv_gdb_protocol.specs.Sums.{judged_sum, sum_of, sum_of_digits};
 
 use crate::frame::Sum;
 
-/// The sum of a text in its frame.
+/// Returns the checksum of a text in its frame.
 #[tactic(auto, unfolding(crate::specs::Sums::sum_of))]
 pub(crate) fn sum_of(text: &[u8]) -> u8
     ensures { result ≡ sum_of text.now }
@@ -18,18 +18,18 @@ pub(crate) fn sum_of(text: &[u8]) -> u8
     sum
 }
 
-/// Whether two digits are the sum of a text.
+/// Whether two digits are the checksum of a text.
 pub(crate) fn judged_sum(text: &[u8], high: u8, low: u8) -> Sum
-    ensures { result ≡ judged_sum (sum_of text.now) (sum_told (hex_digit_value high) (hex_digit_value low)) }
+    ensures { result ≡ judged_sum (sum_of text.now) (sum_of_digits (hex_digit_value high) (hex_digit_value low)) }
 {
-    match told_sum(high, low) {
+    match received_sum(high, low) {
         Some(told) if told == sum_of(text) => Sum::Right,
         _ => Sum::Wrong,
     }
 }
 
-fn told_sum(high: u8, low: u8) -> Option<u8>
-    ensures { result ≡ sum_told (hex_digit_value high) (hex_digit_value low) }
+fn received_sum(high: u8, low: u8) -> Option<u8>
+    ensures { result ≡ sum_of_digits (hex_digit_value high) (hex_digit_value low) }
 {
     match (digit_value(high), digit_value(low)) {
         (Some(high), Some(low)) => Some(high * 16 + low),
@@ -37,7 +37,7 @@ fn told_sum(high: u8, low: u8) -> Option<u8>
     }
 }
 
-/// The value of a hexadecimal digit in either case.
+/// Returns the value of a hexadecimal digit, in either case.
 pub(crate) fn digit_value(digit: u8) -> Option<u8>
     ensures value { result ≡ hex_digit_value digit }
     ensures least { IfSome result (λ value. value < 16) }

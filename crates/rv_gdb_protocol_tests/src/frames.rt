@@ -1,10 +1,10 @@
-//! Frames: what is heard in bytes, in one piece and byte by byte, and bodies in their frames.
+//! Frames: what is received in bytes, at once and byte by byte, and bodies in their frames.
 use rv_gdb_protocol::{Incoming, Reader, Sum, push_frame};
 use samples::{agree, cell_of, has_lines};
 use std::alloc::{AllocError, Global};
 use std::test::Fail;
 
-// Packets of a recorded session with LLDB, and bad input; `~` stands for 0x03: label | bytes | what is heard.
+// Packets of a recorded session with LLDB, and bad input; `~` represents 0x03: label | bytes | what is received.
 const HEARD: &str = "\
 no acknowledgements | +$QStartNoAckMode#b0 | + <QStartNoAckMode>
 why and where | $?#3f$qC#b4 | <?> <qC>
@@ -21,7 +21,7 @@ ctrl-c and again | ~-+ | ^C - +
 unfinished | $qSupported:xml | 
 ";
 
-// Bodies of recorded replies: label | body | frame.
+// Bodies of recorded responses: label | body | frame.
 const FRAMED: &str = "\
 granted | OK | $OK#9a
 not known |  | $#00
@@ -50,7 +50,7 @@ fn push_told(text: &mut String, heard: &Incoming) -> Result<(), Fail> {
     Ok(())
 }
 
-// What is heard in bytes that come in pieces of this length.
+// Returns what is received in bytes that come in pieces of this length.
 fn told_in_pieces(alloc: Global, bytes: &[u8], length: usize) -> Result<String, Fail> {
     let mut reader = Reader::new(alloc);
     let mut text = String::new(alloc);

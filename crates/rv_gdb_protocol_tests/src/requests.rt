@@ -1,10 +1,10 @@
-//! Requests: what packets of gdb and LLDB ask, and what is answered to malformed ones.
+//! Requests: how packets of gdb and LLDB are parsed, and the responses to malformed ones.
 use rv_gdb_protocol::{Part, TARGET, fixed_reply, parse_request, push_part};
 use samples::{agree, cell_of, has_lines};
 use std::alloc::Global;
 use std::test::Fail;
 
-// body | what it asks
+// body | request
 const ASKED: &str = "\
 qSupported:xmlRegisters=i386,arm,mips,arc;multiprocess+ | Features
 QStartNoAckMode | NoAcknowledgements
@@ -63,7 +63,7 @@ D;1 | Detach
 k | Kill
 ";
 
-// body | reply
+// body | response
 const REFUSED: &str = "\
  | 
 vMustReplyEmpty | 
@@ -126,7 +126,7 @@ vFile:setfs:1 | F-1,2
 vFile:unlink:2f61 | 
 ";
 
-// body | reply, where it is the same in every session
+// body | response, if it is the same in every session
 const FIXED: &str = "\
 QStartNoAckMode | OK
 Hg0 | OK
@@ -182,7 +182,7 @@ fn replies_are_fixed(rt: HostRuntime) -> Result<(), Fail> {
     Ok(())
 }
 
-// The parts of the target's description, each asked from where the last ended, are the whole.
+// The parts of the target description, each requested from the end of the last, make up the whole.
 #[test]
 fn parts_are_the_whole(rt: HostRuntime) -> Result<(), Fail> {
     let mut whole = Vec::new(rt.alloc());

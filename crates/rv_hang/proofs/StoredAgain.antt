@@ -7,8 +7,8 @@ use Rattle.std.specs.Ordering.{nat_cmp}
 use Rattle.std.specs.FinMap as fin
 use Rattle.std.specs.FinSet as set
 use Rattle.std.specs.FinSet.{nat_cmp-IsAntisymmetric}
-use Rattle.rv_memory.specs.Bus.{Contents, console_store, put, put_byte, refuses, size_of, store_to, touches_console}
-use Rattle.rv_memory.specs.Regions.{in_writable}
+use Rattle.rv_memory.specs.Bus.{Contents, console_store, put, with_stored_byte, refuses, size_of, store_to, touches_console}
+use Rattle.rv_memory.specs.Regions.{is_in_writable_region}
 use Rattle.rv_memory.specs.declared.access.Width.{Width}
 use Rattle.rv_memory.specs.declared.access.Width.TheVariants.{Byte, Half, Word}
 use Rattle.rv_memory.specs.declared.faults.BusFault.{BusFault}
@@ -39,7 +39,7 @@ there_is : (o : Option ℕ) (b : ℕ) → is_there o b ≡ true → o ≡ Some b
 there_is None b h = cc
 there_is (Some v) b h = ap (λ x. Some x) (eqb-true v b h)
 
-byte_again : (c : Contents) (a b : ℕ) → is_byte_again c a b ≡ true → put_byte c a b ≡ c
+byte_again : (c : Contents) (a b : ℕ) → is_byte_again c a b ≡ true → with_stored_byte c a b ≡ c
 byte_again c a b h =
     let p = and_parts (is_there (fin.get c.memory a) b) (set.contains c.stored a) h in
     let memory = insert_again c.memory a b (there_is (fin.get c.memory a) b p.0) in
@@ -50,7 +50,7 @@ value_again : (c : Contents) (a : ℕ) (w : Width) (v : ℕ) → is_value_again 
 value_again c a Byte v h = byte_again c a (v % 0x100) h
 value_again c a Half v h =
     let p = and_parts (is_byte_again c a (v % 0x100)) (is_byte_again c (a + 1) (v / 0x100 % 0x100)) h in
-    ap (λ d. put_byte d (a + 1) (v / 0x100 % 0x100)) (byte_again c a (v % 0x100) p.0)
+    ap (λ d. with_stored_byte d (a + 1) (v / 0x100 % 0x100)) (byte_again c a (v % 0x100) p.0)
     ∙ byte_again c (a + 1) (v / 0x100 % 0x100) p.1
 value_again c a Word v h =
     let b0 = is_byte_again c a (v % 0x100) in
@@ -60,11 +60,11 @@ value_again c a Word v h =
     let p = and_parts b0 (b1 && (b2 && b3)) h in
     let q = and_parts b1 (b2 && b3) p.1 in
     let r = and_parts b2 b3 q.1 in
-    ap (λ d. put_byte (put_byte (put_byte d (a + 1) (v / 0x100 % 0x100)) (a + 2) (v / 0x1_0000 % 0x100))
+    ap (λ d. with_stored_byte (with_stored_byte (with_stored_byte d (a + 1) (v / 0x100 % 0x100)) (a + 2) (v / 0x1_0000 % 0x100))
     (a + 3) (v / 0x100_0000 % 0x100)) (byte_again c a (v % 0x100) p.0)
-    ∙ ap (λ d. put_byte (put_byte d (a + 2) (v / 0x1_0000 % 0x100)) (a + 3) (v / 0x100_0000 % 0x100))
+    ∙ ap (λ d. with_stored_byte (with_stored_byte d (a + 2) (v / 0x1_0000 % 0x100)) (a + 3) (v / 0x100_0000 % 0x100))
     (byte_again c (a + 1) (v / 0x100 % 0x100) q.0)
-    ∙ ap (λ d. put_byte d (a + 3) (v / 0x100_0000 % 0x100)) (byte_again c (a + 2) (v / 0x1_0000 % 0x100) r.0)
+    ∙ ap (λ d. with_stored_byte d (a + 3) (v / 0x100_0000 % 0x100)) (byte_again c (a + 2) (v / 0x1_0000 % 0x100) r.0)
     ∙ byte_again c (a + 3) (v / 0x100_0000 % 0x100) r.1
 
 -- ---- stores
@@ -91,6 +91,6 @@ pub store_again : (c d : Contents) (a : ℕ) (w : Width) (v : ℕ) → is_store_
     → store_to c a w v ≡ Ok d → d ≡ c
 store_again c d a w v h e =
     let p = and_parts (are_bytes_apart a (size_of w)) (is_value_again c a w v) h in
-    by_tests (refuses c.misaligned a w) (touches_console a (size_of w)) (in_writable c.regions a (size_of w))
+    by_tests (refuses c.misaligned a w) (touches_console a (size_of w)) (is_in_writable_region c.regions a (size_of w))
     (console_store c a w v) (put c a w v) d (apart_touches a (size_of w) p.0) e
     ∙ value_again c a w v p.1

@@ -4,7 +4,7 @@ use Rattle.std.proofs.Math.Dec.{ltb}
 use Rattle.std.proofs.lemmas.Bool.{both_ways, lt-ltb, ltb-true}
 use Rattle.rv_machine.specs.State.{State}
 use Rattle.rv_trace.specs.Trace.{state_after}
-use Rattle.rv_hang.specs.Repetition.{IsWaitTold, waited_behind}
+use Rattle.rv_hang.specs.Repetition.{IsWaitTold, waits_up_to}
 use Rattle.rv_hang.specs.ScriptEnd.{reads_script_end}
 use Rattle.rv_hang.proofs.Cycles.{order}
 
@@ -37,7 +37,7 @@ module _ (begin place : ℕ) (s t : State) (here : t ≡ state_after place s) wh
     ];
   }
 
-  pub waited_more : (waited : ℕ) → Waited begin place s waited → Waited begin (place + 1) s (waited_behind waited place t)
+  pub waited_more : (waited : ℕ) → Waited begin place s waited → Waited begin (place + 1) s (waits_up_to waited place t)
   waited_more waited known = more waited (reads_script_end t) refl known
 
 -- from a place on there is such a load where the last is not before it

@@ -1,4 +1,4 @@
--- What is found of a used-up budget.
+-- The analysis of a used-up budget.
 use Rattle.std.specs.Prelude.{◌≡◌, ◌≤◌, ◌-◌, ℕ, min, Option, Some, None, Ok}
 use Rattle.rv_jobs.specs.Plans.{Planned}
 use Rattle.rv_jobs.specs.declared_job.Job.{Job}
@@ -9,18 +9,18 @@ use Rattle.rv_hang.specs.Repetition.{IsLastAgain, IsRepetition, IsWaitTold}
 use Rattle.rv_hang.specs.declared.budget_use.BudgetUse.{BudgetUse}
 use Rattle.rv_hang.specs.declared.budget_use.BudgetUse.TheVariants.{Changes, Repeats}
 
--- how many of the last steps of a run are looked at
+-- how many of a run's last steps are searched
 abbrev pub searched_steps : ℕ → ℕ
 searched_steps steps = min steps 100_000
 
--- Of so many steps from a state on: a state comes again; or no place among the last steps has the pc and the registers of the
--- end where no step behind it may change the bus.
+-- For a run of `steps` steps from a state on: either a state repeats; or no step among those searched has the pc and the registers of the
+-- end and is followed only by steps that cannot change the bus.
 abbrev pub IsBudgetUse : ℕ → State → BudgetUse → Type 0
 IsBudgetUse steps s (Repeats r) = IsRepetition steps s r × IsWaitTold steps s r
 IsBudgetUse steps s (Changes within) = (within ≡ searched_steps steps)
     × ((place : ℕ) → steps - within ≤ place → IsLastAgain steps place s → ⊥)
 
--- The same of the run of a job of a plan, which completes so many steps. Nothing is found only where there is no such run.
+-- As `IsBudgetUse`, for the run of a plan's job that completes `steps` steps. The result is none only if there is no such run.
 abbrev pub IsBudgetUseIn : Planned → Job → ℕ → Option BudgetUse → Type 0
 IsBudgetUseIn plan job steps None =
     (s : State) → start_in plan.answers job ≡ Ok s → (run_of steps s).steps ≡ steps → ⊥

@@ -1,4 +1,4 @@
--- Steps that leave the bus as it was, told before they are done.
+-- Steps that leave the bus unchanged, recognised before they are executed.
 use Rattle.std.specs.Prelude.{ℕ, ◌+◌, ◌/◌, ◌%◌, ◌==◌, ◌&&◌, ◌||◌, Bool, true, false, nat_le, not, length, Option, Some, None}
 use Rattle.std.specs.FinMap as fin
 use Rattle.std.specs.FinSet as set
@@ -14,20 +14,20 @@ use Rattle.rv_trace.specs.Steps.{instr_at}
 
 -- ---- stores of what stands there
 
--- n bytes from an address on lie in the address space, and none is one of the console's 16
+-- n bytes from an address on are in the address space, and none is among the console's 16
 abbrev pub are_bytes_apart : ℕ → ℕ → Bool
 are_bytes_apart a n = nat_le (a + n) 0x1000_0000 || (nat_le 0x1000_0010 a && nat_le (a + n) 0x1_0000_0000)
 
--- a value is there, and it is this one
+-- the value is present and equal to the given one
 abbrev pub is_there : Option ℕ → ℕ → Bool
 is_there None value = false
 is_there (Some there) value = there == value
 
--- a byte stands at an address already, and counts as stored
+-- a byte already has this value at an address, and counts as stored
 abbrev pub is_byte_again : Contents → ℕ → ℕ → Bool
 is_byte_again c a byte = is_there (fin.get c.memory a) byte && set.contains c.stored a
 
--- so do the low bytes of a value, the lowest first
+-- the low bytes of a value already have these values, lowest first, and count as stored
 abbrev pub is_value_again : Contents → ℕ → Width → ℕ → Bool
 is_value_again c a Byte v = is_byte_again c a (v % 0x100)
 is_value_again c a Half v = is_byte_again c a (v % 0x100) && is_byte_again c (a + 1) (v / 0x100 % 0x100)
@@ -40,11 +40,11 @@ is_store_again c a w v = are_bytes_apart a (size_of w) && is_value_again c a w v
 
 -- ---- steps
 
--- a word load at the console's first address takes a byte of the script, while there is one
+-- a word load at the console's first address consumes a byte of the input script, while there is one
 abbrev pub takes_script : Contents → ℕ → Bool
 takes_script c a = a == 0x1000_0000 && not (length c.script == 0)
 
--- an instruction, where it completes, leaves the bus as it is: no other one reaches it, and FENCE.I is not looked into
+-- an instruction leaves the bus unchanged if it completes: none but loads and stores access it; FENCE.I is not examined
 abbrev pub is_instr_quiet : Op → Instr → State → Bool
 is_instr_quiet op.Lw i s = not (takes_script s.bus (address s i))
 is_instr_quiet op.Sb i s = is_store_again s.bus (address s i) Byte (rs2_value s i)
@@ -57,6 +57,6 @@ abbrev pub is_found_quiet : Option Instr → State → Bool
 is_found_quiet None s = false
 is_found_quiet (Some i) s = is_instr_quiet i.op i s
 
--- the step at a state is of this kind
+-- the step in a state leaves the bus unchanged
 abbrev pub is_step_quiet : State → Bool
 is_step_quiet s = is_found_quiet (instr_at s) s

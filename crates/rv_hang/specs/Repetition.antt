@@ -1,4 +1,4 @@
--- A state of a run that comes again.
+-- A repeated state of a run.
 use Rattle.std.specs.Prelude.{◌≡◌, ◌≤◌, ◌<◌, ◌+◌, ◌==◌, ◌&&◌, ℕ, Bool, true, if◌then◌else◌, Option, Some, None}
 use Rattle.std.specs.Str.{bytes_eq}
 use Rattle.rv_machine.specs.State.{State}
@@ -13,24 +13,24 @@ use Rattle.rv_hang.specs.declared.repetition.Repetition.{Repetition}
 abbrev pub has_values : HartValues → State → Bool
 has_values values s = s.pc == values.pc && bytes_eq s.registers values.registers
 
--- of the first steps of a run from a state on, the state behind some comes again one period later
+-- within the first steps of a run from a state on, the state after some steps is repeated one period later
 pub record IsRepetition (steps : ℕ) (s : State) (r : Repetition) : Type 0 where
   pub some : 0 < r.period
   pub within : r.begin + r.period ≤ steps
   pub again : state_after (r.begin + r.period) s ≡ state_after r.begin s
 
--- no step from one place up to another may change the bus
+-- no step from `place` up to `end` can change the bus
 abbrev pub AreQuiet : ℕ → ℕ → State → Type 0
 AreQuiet place end s = (k : ℕ) → place ≤ k → k < end → is_step_quiet (state_after k s) ≡ true
 
--- a place has the pc and the registers of the last of so many steps, and no step behind it may change the bus
+-- a step has the pc and the registers of the run's last state, and no step from it on can change the bus
 pub record IsLastAgain (steps place : ℕ) (s : State) : Type 0 where
   pub before : place < steps
   pub pc : (state_after place s).pc ≡ (state_after steps s).pc
   pub registers : (state_after place s).registers ≡ (state_after steps s).registers
   pub quiet : AreQuiet place steps s
 
--- a repetition is said to wait for the script where some step from it on loads from the script at its end, and else not
+-- a repetition is reported to wait for input exactly if some step from it on loads from the exhausted input script
 pub record IsWaitTold (steps : ℕ) (s : State) (r : Repetition) : Type 0 where
   pub load : r.waits ≡ true → (k : ℕ) × (r.begin ≤ k) × (k < steps) × (reads_script_end (state_after k s) ≡ true)
   pub all : (k : ℕ) → r.begin ≤ k → k < steps → reads_script_end (state_after k s) ≡ true → r.waits ≡ true
@@ -41,13 +41,13 @@ abbrev pub first_again : Option Again → ℕ → ℕ
 first_again None place = place
 first_again (Some again) place = again.first
 
--- the places with these values behind a step, where no step from them on may change the bus
+-- the steps with these values, updated after one more step; no step from them on can change the bus
 abbrev pub again_behind : Option Again → ℕ → HartValues → State → Option Again
 again_behind again place values s =
     if is_step_quiet s then (if has_values values s
     then Some (record { first = first_again again place; last = place }) else again)
     else None
 
--- how many steps there are up to the last that loads from the script at its end
-abbrev pub waited_behind : ℕ → ℕ → State → ℕ
-waited_behind waited place s = if reads_script_end s then place + 1 else waited
+-- the number of steps up to and including the last one that loads from the exhausted input script
+abbrev pub waits_up_to : ℕ → ℕ → State → ℕ
+waits_up_to waited place s = if reads_script_end s then place + 1 else waited

@@ -1,4 +1,4 @@
--- Loads from the console's script that is at its end, told before they are done: such a load gives all ones and takes nothing.
+-- Loads from the console's exhausted input script, recognised before they are executed. Such a load returns all ones and consumes nothing.
 use Rattle.std.specs.Prelude.{◌==◌, ◌&&◌, Bool, false, length, Option, Some, None}
 use Rattle.rv_isa.specs.declared.instruction.Instr.{Instr}
 use Rattle.rv_isa.specs.declared.instruction.Op.{Op}
@@ -7,7 +7,7 @@ use Rattle.rv_machine.specs.Effect.{address}
 use Rattle.rv_machine.specs.State.{State}
 use Rattle.rv_trace.specs.Steps.{instr_at}
 
--- a word load at the console's first address, where no byte of the script is left
+-- a word load at the console's first address when no byte of the script is left
 abbrev pub loads_script_end : Op → Instr → State → Bool
 loads_script_end op.Lw i s = address s i == 0x1000_0000 && length s.bus.script == 0
 loads_script_end _ i s = false
@@ -16,6 +16,6 @@ abbrev pub is_found_loading : Option Instr → State → Bool
 is_found_loading None s = false
 is_found_loading (Some i) s = loads_script_end i.op i s
 
--- the step at a state is such a load
+-- the step in a state is such a load
 abbrev pub reads_script_end : State → Bool
 reads_script_end s = is_found_loading (instr_at s) s

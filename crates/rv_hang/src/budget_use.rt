@@ -1,4 +1,4 @@
-//! What is found of a used-up budget.
+//! The analysis of a used-up budget.
 
 ghost use Rattle.std.specs.Prelude.{◌≡◌, IfOk, MatchOption, true};
 ghost use Rattle.rv_hang.specs.BudgetUse.{IsBudgetUse, IsBudgetUseIn};
@@ -15,20 +15,20 @@ use rv_rows::machine_at;
 use rv_trace::JobImage;
 use std::alloc::{AllocError, Global};
 
-// How many of the last steps of a run are looked at.
+// How many of a run's last steps are searched.
 const MOST_SEARCHED: u32 = 100_000;
 
-/// What is found of a used-up budget.
+/// The result of the analysis of a used-up budget.
 #[derive(Clone, Copy)]
 pub enum BudgetUse {
-    /// A state comes again, so the run never ends.
+    /// A state repeats, so the run never ends.
     Repeats(Repetition),
-    /// None of so many last steps begins a loop that changes nothing.
+    /// None of this many last steps begins a loop that changes nothing.
     Changes(u32),
 }
 
-/// What is found of the run of a job that completes so many steps. It takes the time of two more runs; nothing is found of a
-/// job that is refused, or whose run ends before.
+/// Analyses the run of a job that completes `steps` steps. Takes the time of two more runs. Returns `None` if the job is refused or its run
+/// ends earlier.
 pub fn budget_use_of(
     alloc: Global,
     job: &JobImage<'_>,
@@ -50,7 +50,7 @@ pub fn budget_use_of(
     }
 }
 
-// The pc and the registers behind so many steps of a machine, where it completes them.
+// Returns the pc and the registers after `steps` steps of a machine, if it completes them.
 fn values_behind(machine: Machine, steps: u32) -> Option<HartValues>
     ensures { MatchOption result ((run_of steps (state_of machine)).steps ≡ steps → ⊥)
         (λ end. ((run_of steps (state_of machine)).steps ≡ steps)
@@ -66,7 +66,7 @@ fn values_behind(machine: Machine, steps: u32) -> Option<HartValues>
     })
 }
 
-// What is found among the last of so many steps of a machine, which all complete.
+// Analyses the last steps of a machine's run of `steps` steps, all of which complete.
 fn budget_use(machine: Machine, steps: u32, end: &HartValues) -> BudgetUse
     requires complete { (run_of steps (state_of machine)).steps ≡ steps }
     requires end { has_values end.now (state_after steps (state_of machine)) ≡ true }

@@ -1,4 +1,4 @@
-//! What a hart has beside the bus: its pc and its registers.
+//! A hart's state without the bus: its pc and its registers.
 
 ghost use Rattle.std.specs.Prelude.{◌≡◌};
 ghost use Rattle.rv_hang.specs.Repetition.{has_values};
@@ -14,7 +14,7 @@ pub struct HartValues {
 }
 
 impl HartValues {
-    /// Whether a machine's hart has them.
+    /// Whether a machine's hart has these values.
     pub(crate) fn are_of(&self, machine: &Machine) -> bool
         ensures { result ≡ has_values self.now (state_of machine.now) }
     {

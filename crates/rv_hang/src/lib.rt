@@ -1,9 +1,8 @@
-//! Whether a run that used up its budget never ends: its state comes again.
+//! Detects that a run that used up its budget would never end, because its state repeats.
 //!
-//! A run is exact, so a state that comes again comes again forever. [`find_repetition`] looks among the last steps of a run for
-//! states with the pc and the registers of the last one, from where on no step changed the bus ([`leaves_bus`]): such a state is
-//! the last one again. [`repetitions_never_end`] says what follows. [`budget_use_of`] does
-//! so for a job of a plan.
+//! Runs are deterministic, so a state that repeats once repeats forever. [`find_repetition`] searches the last steps of a run for states
+//! with the pc and the registers of the last one, after which no step changed the bus ([`leaves_bus`]). Such a state equals the last one.
+//! [`repetitions_never_end`] states what this implies. [`budget_use_of`] analyses a job of a plan.
 #![tactic(auto)]
 
 mod budget_use;

@@ -1,4 +1,4 @@
-//! Steps that leave the bus as it was.
+//! Steps that leave the bus unchanged.
 
 ghost use Rattle.std.specs.Prelude.{◌≡◌, ◌≤◌, ◌+◌};
 ghost use Rattle.rv_hang.specs.Quiet.{are_bytes_apart, is_byte_again, is_instr_quiet, is_step_quiet, is_store_again, is_value_again};
@@ -13,7 +13,7 @@ use rv_machine::Machine;
 use rv_memory::{Bus, Width};
 use rv_trace::{accessed_address, code_at, instr_of};
 
-/// Whether the next step of a machine, where it completes, leaves the bus as it is.
+/// Whether the next step of a machine leaves the bus unchanged if it completes.
 pub(crate) fn is_step_quiet(machine: &Machine) -> bool
     ensures { result ≡ is_step_quiet (state_of machine.now) }
 {
@@ -40,11 +40,11 @@ fn is_instr_quiet(machine: &Machine, instr: Instr) -> bool
     }
 }
 
-// A word load at the console's first address takes a byte of the script, while there is one.
+// Whether an access is a word load at the console's first address, and consumes a byte of the input script.
 fn takes_script(bus: &Bus, addr: u32) -> bool
     ensures { result ≡ takes_script bus.now addr }
 {
-    addr == 0x1000_0000 && bus.script_left() != 0
+    addr == 0x1000_0000 && bus.script_remaining() != 0
 }
 
 fn is_store_quiet(machine: &Machine, instr: Instr, width: Width) -> bool
@@ -60,14 +60,14 @@ fn is_store_quiet(machine: &Machine, instr: Instr, width: Width) -> bool
     )
 }
 
-// A store outside the console is of bytes that stand there already, and count as stored.
+// Whether a store is outside the console, to bytes that already have these values and count as stored.
 fn is_store_again(bus: &Bus, addr: u32, width: Width, value: u32) -> bool
     ensures { result ≡ is_store_again bus.now addr width value }
 {
     are_bytes_apart(addr, width) && is_value_again(bus, addr, width, value)
 }
 
-// The bytes of an access lie in the address space, and none of them is the console's.
+// Whether the bytes of an access are in the address space, and none of them is the console's.
 fn are_bytes_apart(addr: u32, width: Width) -> bool
     ensures { result ≡ are_bytes_apart addr (size_of width) }
 {
@@ -94,7 +94,7 @@ fn is_value_again(bus: &Bus, addr: u32, width: Width, value: u32) -> bool
     }
 }
 
-// The byte stands at the address already, and counts as stored.
+// Whether the byte already has this value at the address, and counts as stored.
 fn is_byte_again(bus: &Bus, addr: u32, byte: u32) -> bool
     ensures { result ≡ is_byte_again bus.now addr byte }
 {

@@ -1,7 +1,7 @@
-//! States that come again.
+//! Repeated states.
 
 ghost use Rattle.std.specs.Prelude.{◌≡◌, ◌≤◌, ◌<◌, ◌-◌, ℕ, IfSome, is_some, true};
-ghost use Rattle.rv_hang.specs.Repetition.{IsLastAgain, IsRepetition, IsWaitTold, again_behind, has_values, waited_behind};
+ghost use Rattle.rv_hang.specs.Repetition.{IsLastAgain, IsRepetition, IsWaitTold, again_behind, has_values, waits_up_to};
 ghost use Rattle.rv_machine.specs.Machine.{state_of};
 ghost use Rattle.rv_machine.specs.Run.{run_of};
 ghost use Rattle.rv_trace.specs.Trace.{state_after};
@@ -11,19 +11,19 @@ use crate::quiet::is_step_quiet;
 use crate::script_end::reads_script_end;
 use rv_machine::Machine;
 
-/// A state of a run that comes again.
+/// A repeated state of a run.
 #[derive(Clone, Copy)]
 pub struct Repetition {
-    /// How many steps stand in front of it.
+    /// The number of steps before its first occurrence.
     pub begin: u32,
-    /// After how many more it comes again, 1 at least.
+    /// The number of steps until it repeats, at least 1.
     pub period: u32,
-    /// Whether some step from there on loads from the console's script at its end.
+    /// Whether some step from there on loads from the console's exhausted input script.
     pub waits: bool,
 }
 
-/// Where the last of so many steps of a machine, which all complete, is a repetition: the first place among the last
-/// `within` steps with that state, and the least period. `end` has the pc and the registers behind the last step.
+/// Finds a repetition of the state after the last of `steps` steps of a machine, all of which complete: the first step among the last
+/// `within` ones with that state, and the smallest period. `end` has the pc and the registers after the last step.
 pub fn find_repetition(
     machine: Machine,
     steps: u32,
@@ -55,14 +55,14 @@ pub fn find_repetition(
     })
 }
 
-// Places with the pc and the registers of the end, from where on no step may change the bus.
+// Steps with the pc and the registers of the end, after which no step can change the bus.
 #[derive(Clone, Copy)]
 struct Again {
     first: u32,
     last: u32,
 }
 
-// What is known behind the step at a place, once the machine stands in front of it.
+// Returns the updated steps, given the machine before a step.
 fn again_at(again: Option<Again>, machine: &Machine, place: u32, end: &HartValues) -> Option<Again>
     ensures { result ≡ again_behind again place end.now (state_of machine.now) }
 {
@@ -76,11 +76,11 @@ fn again_at(again: Option<Again>, machine: &Machine, place: u32, end: &HartValue
     Some(Again { first, last: place })
 }
 
-// How many steps there are up to the last that loads from the script at its end, once the machine stands in front of the
-// step at a place; 0 where none does.
+// Returns the number of steps up to and including the last one that loads from the exhausted input script, given the machine before a step;
+// 0 if none does.
 fn waited_at(waited: u32, machine: &Machine, place: u32) -> u32
     requires { place < 0xFFFF_FFFF }
-    ensures { result ≡ waited_behind waited place (state_of machine.now) }
+    ensures { result ≡ waits_up_to waited place (state_of machine.now) }
 {
     if reads_script_end(machine) {
         place + 1

@@ -1,4 +1,4 @@
-//! Loads from the console's script that is at its end.
+//! Loads from the console's exhausted input script.
 
 ghost use Rattle.std.specs.Prelude.{◌≡◌};
 ghost use Rattle.rv_hang.specs.ScriptEnd.{loads_script_end, reads_script_end};
@@ -9,7 +9,7 @@ use rv_isa::{Instr, Op};
 use rv_machine::Machine;
 use rv_trace::{accessed_address, code_at, instr_of};
 
-/// Whether the next step of a machine loads from the script at its end.
+/// Whether the next step of a machine loads from the exhausted input script.
 pub(crate) fn reads_script_end(machine: &Machine) -> bool
     ensures { result ≡ reads_script_end (state_of machine.now) }
 {
@@ -28,7 +28,7 @@ fn loads_script_end(machine: &Machine, instr: Instr) -> bool
 {
     match instr.op {
         Op::Lw => {
-            accessed_address(machine, instr) == 0x1000_0000 && machine.bus().script_left() == 0
+            accessed_address(machine, instr) == 0x1000_0000 && machine.bus().script_remaining() == 0
         }
         _ => false,
     }

@@ -12,10 +12,10 @@ use Rattle.rv_history.specs.declared.stepping.Stepped.{Stepped}
 use Rattle.rv_history.specs.declared.stepping.Stepped.TheVariants as stepped
 use Rattle.rv_history.specs.declared.stops.Stops.{Stops}
 use Rattle.rv_history.specs.LastStop.{AreQuiet, IsLastOn, IsQuietAt, last_at, last_stop_after}
-use Rattle.rv_history.specs.Moves.{GoesOnBack, IsChangeBefore, IsStepBefore, IsStopBefore, IsUnbroken, MeetsBack}
+use Rattle.rv_history.specs.Moves.{GoesOnBack, IsChangeBefore, IsStepBefore, IsStopBefore, IsUninterrupted, MeetsBack}
 use Rattle.rv_history.specs.Places.{IsBreakAt, IsChangeAt, IsReached, last_place}
 use Rattle.rv_history.specs.Stepping.{IsStepped}
-use Rattle.rv_history.specs.Stops.{IsSetOff, IsUnset, is_break}
+use Rattle.rv_history.specs.Stops.{TriggersWatch, TriggersNoWatch, is_break}
 use Rattle.rv_history.proofs.Reaching.{next_place}
 use Rattle.rv_history.proofs.Forward.{change_at, no_change_at}
 
@@ -49,7 +49,7 @@ no_break_later stops from place start order absent before is =
 
 -- what a move meets, it meets from a place later, if there is no break where it began
 meets_later : (stops : Stops) (budget from place : ℕ) (start : State) (found : Found) → place ≤ from
-    → (IsBreakAt stops start from → ⊥) → IsUnbroken found → MeetsBack stops budget start from place found
+    → (IsBreakAt stops start from → ⊥) → IsUninterrupted found → MeetsBack stops budget start from place found
     → MeetsBack stops budget start (from + 1) place found
 meets_later stops budget from place start found.Break order absent unbroken meets = (omega arith, meets.1)
 meets_later stops budget from place start found.Change order absent unbroken meets =
@@ -77,7 +77,7 @@ goes_there stops budget from start none = record {
 
 -- behind a step that changes nothing, at whose place there is no breakpoint
 last_stays : (stops : Stops) (budget from : ℕ) (start : State) (last : StopInfo) → (IsBreakAt stops start from → ⊥)
-    → (IsChangeAt stops budget start from → ⊥) → IsUnbroken last.found → IsLastStop stops budget start from last
+    → (IsChangeAt stops budget start from → ⊥) → IsUninterrupted last.found → IsLastStop stops budget start from last
     → IsLastStop stops budget start (from + 1) last
 last_stays stops budget from start last absent none unbroken stop = record {
   order = let order = stop.order in omega arith;
@@ -145,7 +145,7 @@ last_more stops budget begin from start s t last is (stepped.Ended ending) reach
 
 -- the last stop before a place is that before a later one, if the steps between them are quiet
 stays_over : (stops : Stops) (budget end more : ℕ) (start : State) (last : StopInfo) → AreQuiet stops budget start end (end + more)
-    → IsUnbroken last.found → IsLastStop stops budget start end last → IsLastStop stops budget start (end + more) last
+    → IsUninterrupted last.found → IsLastStop stops budget start end last → IsLastStop stops budget start (end + more) last
 stays_over stops budget end zero start last quiet unbroken stop =
     subst (λ (k : ℕ). IsLastStop stops budget start k last) (sym (add-zero end)) stop
 stays_over stops budget end (suc more) start last quiet unbroken stop =
@@ -156,7 +156,7 @@ stays_over stops budget end (suc more) start last quiet unbroken stop =
     (stays_over stops budget end more start last (λ j low high. quiet j low (omega arith)) unbroken stop))
 
 pub last_before : (stops : Stops) (budget end from : ℕ) (start : State) (last : StopInfo) → end ≤ from
-    → AreQuiet stops budget start end from → IsUnbroken last.found → IsLastStop stops budget start end last
+    → AreQuiet stops budget start end from → IsUninterrupted last.found → IsLastStop stops budget start end last
     → IsLastStop stops budget start from last
 last_before stops budget end from start last order quiet unbroken stop =
     let more = from - end in
@@ -198,12 +198,12 @@ stepped_place stops budget from start s t (stepped.Ended ending) reached goes di
 -- ---- one step back
 
 pub steps_back : (stops : Stops) (budget before from : ℕ) (start s t : State) → from ≡ before + 1 → IsReached start before s
-    → step_of s ≡ Ok t → IsUnset stops s t → IsStepBefore stops budget start from before found.Done
+    → step_of s ≡ Ok t → TriggersNoWatch stops s t → IsStepBefore stops budget start from before found.Done
 steps_back stops budget before from start s t is reached e same =
     (is, no_change_at stops budget before start s t reached e same)
 
 pub stays_behind_change : (stops : Stops) (budget before from : ℕ) (start s t : State) → from ≡ before + 1 → before < budget
-    → IsReached start before s → step_of s ≡ Ok t → IsSetOff stops s t
+    → IsReached start before s → step_of s ≡ Ok t → TriggersWatch stops s t
     → IsStepBefore stops budget start from from found.Change
 stays_behind_change stops budget before from start s t is within reached e differ =
     (refl, record { before = before; place_is = is; change = change_at stops budget before start s t reached within e differ })

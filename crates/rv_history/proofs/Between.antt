@@ -5,10 +5,10 @@ use Rattle.std.specs.Prelude.{◌==◌, slice_index_or}
 use Rattle.std.proofs.lemmas.Bool.{and_right, cases_Bool, eqb-true}
 use Rattle.std.proofs.lemmas.List.Folds.{list_any_more}
 use Rattle.rv_machine.specs.DecodeCache.{CachedInstrs}
-use Rattle.rv_machine.specs.Waking.{IsCached, NoneWakes}
+use Rattle.rv_machine.specs.ValidEntries.{IsCached, NoneBecomesValid}
 use Rattle.rv_machine.specs.declared.ending.Ending.{Ending}
 use Rattle.rv_machine.specs.declared.ending.Ending.TheVariants.{Budget}
-use Rattle.rv_machine.specs.Run.{Ran, one_step_more, run_of, step_of}
+use Rattle.rv_machine.specs.Run.{Ran, with_one_more_step, run_of, step_of}
 use Rattle.rv_machine.specs.State.{State}
 use Rattle.rv_trace.proofs.Public.{each_completes}
 use Rattle.rv_history.specs.declared.bounds.Bounds.{Bounds}
@@ -34,7 +34,7 @@ BeginsAtNone stops n s = (j : ℕ) → j < n → is_break stops (run_of j s).sta
 
 rest_completes : (n : ℕ) (s t u : State) → step_of s ≡ Ok u → Completes (suc n) s t → Completes n u t
 rest_completes n s t u e ran =
-    let first : one_step_more (run_of n u) ≡ record { ending = Budget; steps = suc n; state = t } = sym (run_goes_on n s u e) ∙ ran in
+    let first : with_one_more_step (run_of n u) ≡ record { ending = Budget; steps = suc n; state = t } = sym (run_goes_on n s u e) ∙ ran in
     let count : (run_of n u).steps + 1 ≡ suc n = ap (λ (r : Ran). r.steps) first in
     same_ran (run_of n u) Budget n t (ap (λ (r : Ran). r.ending) first) (omega arith) (ap (λ (r : Ran). r.state) first)
 
@@ -73,7 +73,7 @@ begins_at_none stops kept pc asleep is = elim (cases_Bool (is_break stops pc)) [
   | inr none ↦ none
 ]
 
-pub asleep_more : (xs : List ℕ) (i d pc : ℕ) (old new : CachedInstrs) → i < length xs → NoneWakes old new
+pub asleep_more : (xs : List ℕ) (i d pc : ℕ) (old new : CachedInstrs) → i < length xs → NoneBecomesValid old new
     → (IsCached new (slice_index_or xs i d) → ⊥) → (list_any (λ a. a == pc) (take i xs) ≡ true → IsCached old pc → ⊥)
     → list_any (λ a. a == pc) (take (i + 1) xs) ≡ true → IsCached new pc → ⊥
 asleep_more xs i d pc old new low none here before found is =

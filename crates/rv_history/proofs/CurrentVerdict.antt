@@ -9,7 +9,7 @@ use Rattle.std.proofs.lemmas.List.{get_or-take, get_or_default, length-take}
 use Rattle.std.proofs.lemmas.List.Elements.{All-cons, All-filter, All-same, All-take, All-weaker, filter_passes}
 use Rattle.std.proofs.lemmas.List.Kept.{AllPairs-cons, AllPairs-filter}
 use Rattle.rv_history.specs.declared.machine_at.MachineAt.{MachineAt}
-use Rattle.rv_history.specs.Kept.{AreFalling, IsLastUpTo}
+use Rattle.rv_history.specs.Kept.{AreDecreasing, IsLastUpTo}
 
 -- what is kept of a list is as all of it is
 pub all_filtered : {X F : Type 0} (R : F → X → Bool → F → Type 0) (test : X → Bool) (f : F)
@@ -28,12 +28,12 @@ all_inserted P false x xs all is = all
 
 pub falling_some : {F : Type 0} (R : F → MachineAt → Bool → F → Type 0) (test : MachineAt → Bool) (f : F)
     → ((x : MachineAt) (b : Bool) (g : F) → R f x b g → (b ≡ test x) × (g ≡ f)) → (xs ys : List MachineAt)
-    → IsFiltered R f xs ys → AreFalling xs → AreFalling ys
+    → IsFiltered R f xs ys → AreDecreasing xs → AreDecreasing ys
 falling_some R test f same xs ys filtered falling =
-    subst AreFalling (sym (filter_same R test f same xs ys filtered))
+    subst AreDecreasing (sym (filter_same R test f same xs ys filtered))
     (AllPairs-filter (λ one other. other.place < one.place) test xs falling)
 
-pub falling_first : (n : ℕ) (xs : List MachineAt) → AreFalling xs → AreFalling (take n xs)
+pub falling_first : (n : ℕ) (xs : List MachineAt) → AreDecreasing xs → AreDecreasing (take n xs)
 falling_first n xs falling i j d order within =
     let few = length-take n xs in
     let near : j < n = omega (arith, few, within) in
@@ -50,13 +50,13 @@ before_place R f place same xs ys filtered =
     (All-weaker (λ x. test x ≡ true) (λ (x : MachineAt). x.place < place) (λ x is. ltb-true x.place place is) (filter test xs)
     (filter_passes test xs))
 
-pub falling_inserted : (done : Bool) (at : MachineAt) (xs : List MachineAt) → AreFalling xs
-    → All (λ (x : MachineAt). x.place < at.place) xs → AreFalling (if done then insert xs 0 at else xs)
+pub falling_inserted : (done : Bool) (at : MachineAt) (xs : List MachineAt) → AreDecreasing xs
+    → All (λ (x : MachineAt). x.place < at.place) xs → AreDecreasing (if done then insert xs 0 at else xs)
 falling_inserted true at xs falling before = AllPairs-cons (λ one other. other.place < one.place) at xs before falling
 falling_inserted false at xs falling before = falling
 
 -- the first of falling places up to one is the last of them
-pub last_is_first : (xs : List MachineAt) (i place : ℕ) (d : MachineAt) → AreFalling xs → i < length xs
+pub last_is_first : (xs : List MachineAt) (i place : ℕ) (d : MachineAt) → AreDecreasing xs → i < length xs
     → All (λ (other : MachineAt). place < other.place) (take i xs) → IsLastUpTo xs place (get_or xs i d).place
 last_is_first xs i place d falling within later k e far up =
     elim (cases_lt k i) [
@@ -84,10 +84,10 @@ few_inserted false at most xs some = let few = length-take (most - 1) xs in omeg
 
 -- with one more in front of the first of them, they are not too many, and fall
 pub kept_falling : (most : ℕ) (at : MachineAt) (done : Bool) (some first items : List MachineAt) → 0 < most
-    → first ≡ take (most - 1) some → items ≡ (if done then insert first 0 at else first) → AreFalling some
-    → All (λ (x : MachineAt). x.place < at.place) some → (length items ≤ most) × AreFalling items
+    → first ≡ take (most - 1) some → items ≡ (if done then insert first 0 at else first) → AreDecreasing some
+    → All (λ (x : MachineAt). x.place < at.place) some → (length items ≤ most) × AreDecreasing items
 kept_falling most at done some first items room few is falling before =
-    let Kept : List MachineAt → Type 0 = λ list. (length list ≤ most) × AreFalling list in
+    let Kept : List MachineAt → Type 0 = λ list. (length list ≤ most) × AreDecreasing list in
     subst Kept (sym is) (subst (λ list. Kept (if done then insert list 0 at else list)) (sym few) (
       few_inserted done at most some room,
       falling_inserted done at (take (most - 1) some) (falling_first (most - 1) some falling)

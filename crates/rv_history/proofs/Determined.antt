@@ -7,7 +7,7 @@ use Rattle.rv_history.specs.declared.found.Found.{Found}
 use Rattle.rv_history.specs.declared.found.Found.TheVariants as found
 use Rattle.rv_history.specs.declared.stops.Stops.{Stops}
 use Rattle.rv_history.specs.Counts.{IsFirstWith}
-use Rattle.rv_history.specs.Moves.{GoesOnAhead, GoesOnBack, IsChangeBefore, IsNextStep, IsNextStop, IsStepBefore, IsStopBefore, IsUnbroken, MeetsAhead, MeetsBack}
+use Rattle.rv_history.specs.Moves.{GoesOnAhead, GoesOnBack, IsChangeBefore, IsNextStep, IsNextStop, IsStepBefore, IsStopBefore, IsUninterrupted, MeetsAhead, MeetsBack}
 use Rattle.rv_history.specs.Places.{IsChangeAt}
 
 -- neither of two places is before the other
@@ -17,7 +17,7 @@ one_place p q not_first not_second = omega arith
 -- ---- forwards
 
 meets_or_goes : (stops : Stops) (bounds : Bounds) (budget from place : ℕ) (start : State) (found : Found)
-    → IsUnbroken found → MeetsAhead stops bounds budget start from place found → GoesOnAhead stops bounds budget start from place → ⊥
+    → IsUninterrupted found → MeetsAhead stops bounds budget start from place found → GoesOnAhead stops bounds budget start from place → ⊥
 meets_or_goes stops bounds budget from place start found.Break unbroken meets goes = goes.no_halt meets.0 meets.1
 meets_or_goes stops bounds budget from place start (found.End ending) unbroken meets goes =
     let there = meets.0.0 in let before = goes.no_end in omega arith
@@ -27,7 +27,7 @@ meets_or_goes stops bounds budget from place start found.Begin unbroken meets go
 meets_or_goes stops bounds budget from place start found.Interrupted unbroken meets goes = unbroken refl
 
 met_ahead : (stops : Stops) (bounds : Bounds) (budget from place : ℕ) (start : State) (one other : Found)
-    → IsUnbroken one → IsUnbroken other → MeetsAhead stops bounds budget start from place one
+    → IsUninterrupted one → IsUninterrupted other → MeetsAhead stops bounds budget start from place one
     → MeetsAhead stops bounds budget start from place other → one ≡ other
 met_ahead stops bounds budget from place start found.Break found.Break whole sound first second = refl
 met_ahead stops bounds budget from place start found.Break (found.End ending) whole sound first second = absurd (second.1 first.0 first.1)
@@ -55,8 +55,8 @@ met_ahead stops bounds budget from place start found.Begin other whole sound fir
 met_ahead stops bounds budget from place start found.Interrupted other whole sound first second = absurd (whole refl)
 
 pub one_next_stop : (stops : Stops) (bounds : Bounds) (budget from p q : ℕ) (start : State) (one other : Found)
-    → IsNextStop stops bounds budget start from p one → IsNextStop stops bounds budget start from q other → IsUnbroken one
-    → IsUnbroken other → (p ≡ q) × (one ≡ other)
+    → IsNextStop stops bounds budget start from p one → IsNextStop stops bounds budget start from q other → IsUninterrupted one
+    → IsUninterrupted other → (p ≡ q) × (one ≡ other)
 one_next_stop stops bounds budget from p q start one other first second whole sound =
     let same : p ≡ q = one_place p q
     (λ before. meets_or_goes stops bounds budget from p start one whole first.meets (second.between p first.order before))
@@ -97,7 +97,7 @@ one_next_step stops budget from p q start found.Interrupted other first second =
 
 -- ---- backwards
 
-met_or_went : (stops : Stops) (budget from place low : ℕ) (start : State) (found : Found) → low < place → IsUnbroken found
+met_or_went : (stops : Stops) (budget from place low : ℕ) (start : State) (found : Found) → low < place → IsUninterrupted found
     → MeetsBack stops budget start from place found → GoesOnBack stops budget start from place → ⊥
 met_or_went stops budget from place low start found.Break above unbroken meets goes = goes.no_break meets.0 meets.1
 met_or_went stops budget from place low start found.Change above unbroken meets goes = goes.no_change meets.0
@@ -110,7 +110,7 @@ no_change_at_start : (stops : Stops) (budget place : ℕ) (start : State) → pl
 no_change_at_start stops budget place start none change = let is = change.place_is in omega arith
 
 met_back : (stops : Stops) (budget from place : ℕ) (start : State) (one other : Found)
-    → IsUnbroken one → IsUnbroken other → MeetsBack stops budget start from place one
+    → IsUninterrupted one → IsUninterrupted other → MeetsBack stops budget start from place one
     → MeetsBack stops budget start from place other → one ≡ other
 met_back stops budget from place start found.Break found.Break whole sound first second = refl
 met_back stops budget from place start found.Break found.Change whole sound first second = absurd (second.1 first.0 first.1)
@@ -137,8 +137,8 @@ met_back stops budget from place start found.Done other whole sound first second
 met_back stops budget from place start found.Interrupted other whole sound first second = absurd (whole refl)
 
 pub one_stop_before : (stops : Stops) (budget from p q : ℕ) (start : State) (one other : Found)
-    → IsStopBefore stops budget start from p one → IsStopBefore stops budget start from q other → IsUnbroken one
-    → IsUnbroken other → (p ≡ q) × (one ≡ other)
+    → IsStopBefore stops budget start from p one → IsStopBefore stops budget start from q other → IsUninterrupted one
+    → IsUninterrupted other → (p ≡ q) × (one ≡ other)
 one_stop_before stops budget from p q start one other first second whole sound =
     let same : p ≡ q = one_place p q
     (λ above. met_or_went stops budget from q p start other above sound second.meets (first.between q above second.order))

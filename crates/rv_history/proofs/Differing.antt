@@ -6,7 +6,7 @@ use Rattle.std.specs.Str.{bytes_eq}
 use Rattle.std.proofs.lemmas.List.{at_drop_more}
 use Rattle.rv_memory.specs.Bus.{Contents}
 use Rattle.rv_machine.specs.State.{State}
-use Rattle.rv_history.specs.Stops.{first_differing, first_set_off, watch_bytes}
+use Rattle.rv_history.specs.Stops.{first_differing, first_triggered, watch_bytes}
 use Rattle.rv_history.specs.declared.stops.WatchHit.{WatchHit}
 use Rattle.rv_history.specs.declared.stops.Stops.{Stops}
 use Rattle.rv_history.specs.declared.stops.Watch.{Watch}
@@ -22,8 +22,8 @@ differing_at watches one other i watch within =
 
 -- the states by other names
 pub set_off_in : {E : Type 0} (result : Result (Option WatchHit) E) (stops : Stops) (one other here there : State)
-    → one ≡ here → other ≡ there → IfOk result (λ found. found ≡ first_set_off stops one other)
-    → IfOk result (λ found. found ≡ first_set_off stops here there)
+    → one ≡ here → other ≡ there → IfOk result (λ found. found ≡ first_triggered stops one other)
+    → IfOk result (λ found. found ≡ first_triggered stops here there)
 set_off_in result stops one other here there first second found =
-    subst (λ (s : State). IfOk result (λ told. told ≡ first_set_off stops here s)) second
-    (subst (λ (s : State). IfOk result (λ told. told ≡ first_set_off stops s other)) first found)
+    subst (λ (s : State). IfOk result (λ told. told ≡ first_triggered stops here s)) second
+    (subst (λ (s : State). IfOk result (λ told. told ≡ first_triggered stops s other)) first found)

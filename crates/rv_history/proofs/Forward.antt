@@ -13,7 +13,7 @@ use Rattle.rv_history.specs.declared.found.Found.TheVariants as found
 use Rattle.rv_history.specs.declared.stops.Stops.{Stops}
 use Rattle.rv_history.specs.Moves.{GoesOnAhead, IsNextStep, IsNextStop, found_at_budget}
 use Rattle.rv_history.specs.Places.{IsChangeAt, IsHaltAt, IsReached, last_place}
-use Rattle.rv_history.specs.Stops.{IsSetOff, IsUnset, is_halt, touched}
+use Rattle.rv_history.specs.Stops.{TriggersWatch, TriggersNoWatch, is_halt, access_hit}
 use Rattle.rv_history.proofs.Reaching.{comes_within, ends_by_budget, ends_here, goes_on, next_place}
 
 -- ---- at one place
@@ -32,27 +32,27 @@ halt_at stops bounds start s from place reached is =
     (ltb-true from place parts.0, ap (λ (t : State). is_halt stops bounds t.pc) (sym reached.same) ∙ parts.1)
 
 -- a step sets off a watch, or none
-not_both : (stops : Stops) (s t : State) → IsUnset stops s t → IsSetOff stops s t → ⊥
+not_both : (stops : Stops) (s t : State) → TriggersNoWatch stops s t → TriggersWatch stops s t → ⊥
 not_both stops s t unset (inl differ) = differ unset.0
-not_both stops s t unset (inr touches) = both_ways (is_some (touched stops s)) unset.1 touches
+not_both stops s t unset (inr touches) = both_ways (is_some (access_hit stops s)) unset.1 touches
 
 -- a step that sets off a watch
 pub change_at : (stops : Stops) (budget place : ℕ) (start s t : State) → IsReached start place s → place < budget → step_of s ≡ Ok t
-    → IsSetOff stops s t → IsChangeAt stops budget start place
+    → TriggersWatch stops s t → IsChangeAt stops budget start place
 change_at stops budget place start s t reached within e differ =
     let next = next_place start s t place reached e in record {
       completes = goes_on budget place start s t reached within e;
-      changes = subst (λ (u : State). IsSetOff stops u (state_after (place + 1) start)) reached.same
-          (subst (λ (u : State). IsSetOff stops s u) next.same differ);
+      changes = subst (λ (u : State). TriggersWatch stops u (state_after (place + 1) start)) reached.same
+          (subst (λ (u : State). TriggersWatch stops s u) next.same differ);
     }
 
 -- a step that sets off none
 pub no_change_at : (stops : Stops) (budget place : ℕ) (start s t : State) → IsReached start place s → step_of s ≡ Ok t
-    → IsUnset stops s t → IsChangeAt stops budget start place → ⊥
+    → TriggersNoWatch stops s t → IsChangeAt stops budget start place → ⊥
 no_change_at stops budget place start s t reached e same change =
     let next = next_place start s t place reached e in
-    not_both stops s t same (subst (λ (u : State). IsSetOff stops s u) (sym next.same)
-    (subst (λ (u : State). IsSetOff stops u (state_after (place + 1) start)) (sym reached.same) change.changes))
+    not_both stops s t same (subst (λ (u : State). TriggersWatch stops s u) (sym next.same)
+    (subst (λ (u : State). TriggersWatch stops u (state_after (place + 1) start)) (sym reached.same) change.changes))
 
 -- ---- the search
 
@@ -61,7 +61,7 @@ abbrev pub QuietUpTo : Stops → Bounds → ℕ → State → ℕ → ℕ → Ty
 QuietUpTo stops bounds budget start from place = (j : ℕ) → from ≤ j → j < place → GoesOnAhead stops bounds budget start from j
 
 pub quiet_more : (stops : Stops) (bounds : Bounds) (budget from place : ℕ) (start s t : State) → IsReached start place s → place < budget
-    → step_of s ≡ Ok t → IsUnset stops s t → (ltb from place && is_halt stops bounds s.pc) ≡ false
+    → step_of s ≡ Ok t → TriggersNoWatch stops s t → (ltb from place && is_halt stops bounds s.pc) ≡ false
     → QuietUpTo stops bounds budget start from place → QuietUpTo stops bounds budget start from (place + 1)
 quiet_more stops bounds budget from place start s t reached within e same absent quiet j low high =
     elim (cases_eq j place) [
@@ -84,7 +84,7 @@ stops_by_break stops bounds budget from place start s reached low within is quie
 }
 
 pub stops_by_change : (stops : Stops) (bounds : Bounds) (budget from place : ℕ) (start s t : State) → IsReached start place s → from ≤ place
-    → place < budget → step_of s ≡ Ok t → IsSetOff stops s t
+    → place < budget → step_of s ≡ Ok t → TriggersWatch stops s t
     → (ltb from place && is_halt stops bounds s.pc) ≡ false → QuietUpTo stops bounds budget start from place
     → IsNextStop stops bounds budget start from place found.Change
 stops_by_change stops bounds budget from place start s t reached low within e differ absent quiet = record {
@@ -157,12 +157,12 @@ stops_at_budget stops bounds budget from place at start s told reached low end a
 -- ---- one step
 
 pub step_done : (stops : Stops) (budget from : ℕ) (start s t : State) → IsReached start from s → from < budget → step_of s ≡ Ok t
-    → IsUnset stops s t → IsNextStep stops budget start from (from + 1) found.Done
+    → TriggersNoWatch stops s t → IsNextStep stops budget start from (from + 1) found.Done
 step_done stops budget from start s t reached within e same =
     (refl, goes_on budget from start s t reached within e, no_change_at stops budget from start s t reached e same)
 
 pub step_changes : (stops : Stops) (budget from : ℕ) (start s t : State) → IsReached start from s → from < budget
-    → step_of s ≡ Ok t → IsSetOff stops s t → IsNextStep stops budget start from from found.Change
+    → step_of s ≡ Ok t → TriggersWatch stops s t → IsNextStep stops budget start from from found.Change
 step_changes stops budget from start s t reached within e differ = (refl, change_at stops budget from start s t reached within e differ)
 
 pub step_ends : (stops : Stops) (budget from : ℕ) (start s : State) (ending : Ending) → IsReached start from s → from < budget

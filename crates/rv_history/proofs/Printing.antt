@@ -5,7 +5,7 @@ use Rattle.rv_isa.specs.declared.instruction.Instr.{Instr}
 use Rattle.rv_isa.specs.declared.instruction.Op.{Op}
 use Rattle.rv_isa.specs.declared.instruction.Op.TheVariants as op
 use Rattle.rv_memory.specs.Bus.{Contents, console_load, console_store, load_from, next_of, put, refuses, size_of, store_to, touches_console, value_at}
-use Rattle.rv_memory.specs.Regions.{in_one, in_writable}
+use Rattle.rv_memory.specs.Regions.{in_one, is_in_writable_region}
 use Rattle.rv_memory.specs.declared.access.Width.{Width}
 use Rattle.rv_memory.specs.declared.access.Width.TheVariants.{Byte, Half, Word}
 use Rattle.rv_memory.specs.declared.faults.BusFault.{BusFault}
@@ -64,11 +64,11 @@ put_prints c a Word v = same_begins c.output c.output refl
 
 store_prints : (c : Contents) (a : ℕ) (w : Width) (v : ℕ) → ok_is (Prints c) (store_to c a w v)
 store_prints c a w v =
-    let put_there : Result Contents BusFault = cond (in_writable c.regions a (size_of w)) (Ok (put c a w v)) (Err Access) in
+    let put_there : Result Contents BusFault = cond (is_in_writable_region c.regions a (size_of w)) (Ok (put c a w v)) (Err Access) in
     let r : Result Contents BusFault = cond (touches_console a (size_of w)) (console_store c a w v) put_there in
     by_test (Prints c) (refuses c.misaligned a w) (Err Misaligned) r tt
     (by_test (Prints c) (touches_console a (size_of w)) (console_store c a w v) put_there (console_grows c a w v)
-    (by_test {E = BusFault} (Prints c) (in_writable c.regions a (size_of w)) (Ok (put c a w v)) (Err Access)
+    (by_test {E = BusFault} (Prints c) (is_in_writable_region c.regions a (size_of w)) (Ok (put c a w v)) (Err Access)
     (put_prints c a w v) tt))
 
 abbrev Loads : Contents → ℕ × Contents → Type 0

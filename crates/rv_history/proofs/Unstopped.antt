@@ -28,7 +28,7 @@ use Rattle.rv_history.specs.LastStop.{IsQuietAt}
 use Rattle.rv_history.specs.Legs.{IsArrival, IsUnderWay}
 use Rattle.rv_history.specs.Moves.{GoesOnAhead, IsEndAt, IsNextStop, IsStepBefore, IsStopBefore}
 use Rattle.rv_history.specs.Places.{IsChangeAt, IsHaltAt, last_place}
-use Rattle.rv_history.specs.Stops.{AreNone, AreUnwatched, IsSetOff, IsUnset, first_hit, first_read, is_break, is_halt, told_or, touched, touched_by, watch_bytes, watched_bytes}
+use Rattle.rv_history.specs.Stops.{AreNone, AreUnwatched, TriggersWatch, TriggersNoWatch, first_hit, first_read, is_break, is_halt, reported_or, access_hit, touched_by, watch_bytes, watched_bytes}
 use Rattle.rv_history.proofs.Backward.{begins_over}
 use Rattle.rv_history.proofs.Reaching.{by_step, comes_within, ends_by_budget, ends_here, goes_on, ran_to}
 
@@ -39,28 +39,28 @@ no_bytes : (stops : Stops) (bus : Contents) → stops.watches ≡ [] → watched
 unfolding watched_bytes
 no_bytes stops bus none = ap (λ (watches : List Watch). flat_map (watch_bytes bus) watches) none
 
--- with no watch of reads and none of accesses, nothing is touched
+-- with no watch of reads and none of accesses, nothing is access_hit
 pub nothing_touched : (stops : Stops) (access : Option Access) → (stops.reads ≡ []) × (stops.accesses ≡ [])
     → touched_by stops access ≡ None
 nothing_touched stops None none = refl
 nothing_touched stops (Some access) none =
-    let found : List Watch → List Watch → Option WatchHit = λ reads accesses. told_or set_off.Read (first_read access reads)
-    (told_or set_off.Access (first_hit access accesses) None) in
+    let found : List Watch → List Watch → Option WatchHit = λ reads accesses. reported_or set_off.Read (first_read access reads)
+    (reported_or set_off.Access (first_hit access accesses) None) in
     ap (λ (reads : List Watch). found reads stops.accesses) none.0
     ∙ ap (λ (accesses : List Watch). found [] accesses) none.1 ∙ nothing access.is_read
   where
-    nothing : (is_read : Bool) → told_or set_off.Read (if is_read then None else None) None ≡ None
+    nothing : (is_read : Bool) → reported_or set_off.Read (if is_read then None else None) None ≡ None
     nothing true = refl
     nothing false = refl
 
-untouched : (stops : Stops) (s : State) → AreUnwatched stops → is_some (touched stops s) ≡ false
+untouched : (stops : Stops) (s : State) → AreUnwatched stops → is_some (access_hit stops s) ≡ false
 untouched stops s none = ap is_some (nothing_touched stops (access_at s) none.1)
 
-unset : (stops : Stops) (s t : State) → AreUnwatched stops → IsSetOff stops s t → ⊥
+unset : (stops : Stops) (s t : State) → AreUnwatched stops → TriggersWatch stops s t → ⊥
 unset stops s t none (inl differ) = differ (no_bytes stops s.bus none.0 ∙ sym (no_bytes stops t.bus none.0))
-unset stops s t none (inr touches) = both_ways (is_some (touched stops s)) (untouched stops s none) touches
+unset stops s t none (inr touches) = both_ways (is_some (access_hit stops s)) (untouched stops s none) touches
 
-pub is_unset : (stops : Stops) (s t : State) → AreUnwatched stops → IsUnset stops s t
+pub is_unset : (stops : Stops) (s t : State) → AreUnwatched stops → TriggersNoWatch stops s t
 is_unset stops s t none = (no_bytes stops s.bus none.0 ∙ sym (no_bytes stops t.bus none.0), untouched stops s none)
 
 no_change : (stops : Stops) (budget place : ℕ) (start : State) → AreUnwatched stops → IsChangeAt stops budget start place → ⊥

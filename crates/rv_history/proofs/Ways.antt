@@ -8,7 +8,7 @@ use Rattle.rv_trace.specs.Trace.{state_after}
 use Rattle.rv_history.specs.Kept.{IsAt}
 use Rattle.rv_history.specs.Legs.{IsArrival, IsUnderWay}
 use Rattle.rv_history.specs.Moves.{IsNextStop, found_at_budget}
-use Rattle.rv_history.specs.Stops.{IsSetOff, is_halt}
+use Rattle.rv_history.specs.Stops.{TriggersWatch, is_halt}
 use Rattle.rv_history.specs.declared.bounds.Bounds.TheVariants as bounds
 use Rattle.rv_history.specs.declared.found.Found.{Found}
 use Rattle.rv_history.specs.declared.found.Found.TheVariants as found
@@ -70,7 +70,7 @@ module _ (stops : Stops) (start : State) (leg now : ForwardMove) (arrived : Arri
 
   pub arrives_changed : (at : MachineAt) (t : State) → arrived ≡ record { at = at; found = found.Change } → IsAt start at
       → at.place ≡ now.at.place → now.at.place < now.budget → step_of (state_of now.at.machine) ≡ Ok t
-      → IsSetOff stops (state_of now.at.machine) t
+      → TriggersWatch stops (state_of now.at.machine) t
       → (ltb now.from now.at.place && is_halt stops now.bounds (state_of now.at.machine).pc) ≡ false → IsArrival stops start leg arrived
   arrives_changed at t is there place goes e differ halts = arrives stops start leg now at found.Change arrived same is there place
       (stops_by_change stops now.bounds now.budget now.from now.at.place start (state_of now.at.machine) t way.there way.order

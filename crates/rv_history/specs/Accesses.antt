@@ -16,7 +16,7 @@ read_of count = Some (record { is_read = true; count = count })
 abbrev pub write_of : ℕ → Option Reach
 write_of count = Some (record { is_read = false; count = count })
 
--- loads read and stores write so many bytes, and no other instruction reaches memory
+-- how many bytes a load reads or a store writes; no other instruction accesses memory
 abbrev pub reach_of : Op → Option Reach
 reach_of op.Lb = read_of 1
 reach_of op.Lbu = read_of 1
@@ -32,11 +32,11 @@ reach_of _ = None
 abbrev pub access_by : State → Instr → Option Access
 access_by s i = option_map (λ reach. record { is_read = reach.is_read; address = address s i; count = reach.count }) (reach_of i.op)
 
--- those of the instruction at the pc
+-- the bytes that the instruction at the pc reads or writes
 abbrev pub access_at : State → Option Access
 access_at s = option_and_then (access_by s) (instr_at s)
 
--- one of them is watched
+-- one of the accessed bytes is watched
 abbrev pub is_hit : Access → Watch → Bool
 is_hit access watch =
     nat_lt access.address (watch.address + watch.count) && nat_lt watch.address (access.address + access.count)

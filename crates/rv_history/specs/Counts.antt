@@ -1,4 +1,4 @@
--- Counts that a run comes to.
+-- Counts that a run reaches.
 use Rattle.std.specs.Prelude.{ℕ, ◌≡◌, ◌≢◌, ◌<◌, ◌≤◌, ◌-◌, Option, Some, None, length}
 use Rattle.rv_machine.specs.State.{State}
 use Rattle.rv_memory.specs.Bus.{Contents}
@@ -7,22 +7,22 @@ use Rattle.rv_history.specs.Places.{last_place}
 use Rattle.rv_history.specs.declared.counts.Count.{Count}
 use Rattle.rv_history.specs.declared.counts.Count.TheVariants as count
 
--- the bytes that are printed, or those that are taken of a script that was so long
+-- the number of bytes printed, or the number consumed from an input script of the given length
 abbrev pub count_in : Count → ℕ → Contents → ℕ
 count_in count.Printed script bus = length bus.output
 count_in count.Taken script bus = script - length bus.script
 
--- a count at a place of a run
+-- a count after a number of steps
 abbrev pub count_at : Count → State → ℕ → ℕ
 count_at count start place = count_in count (length start.bus.script) (state_after place start).bus
 
--- the first place with a count
+-- the first step with this value of a count
 pub record IsFirstWith (count : Count) (value budget : ℕ) (start : State) (place : ℕ) : Type 0 where
   pub within : place ≤ last_place budget start
   pub there : count_at count start place ≡ value
   pub first : (j : ℕ) → j < place → count_at count start j ≢ value
 
--- it is found, or no place has the count
+-- the first step with this value, or none if the count never has it
 abbrev pub IsFound : Count → ℕ → ℕ → State → Option ℕ → Type 0
 IsFound count value budget start (Some place) = IsFirstWith count value budget start place
 IsFound count value budget start None = (j : ℕ) → j ≤ last_place budget start → count_at count start j ≢ value

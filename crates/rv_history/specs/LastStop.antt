@@ -1,7 +1,7 @@
--- The last stop on the way.
+-- The last stop of a search in progress.
 use Rattle.std.specs.Prelude.{ℕ, ◌+◌, ◌<◌, ◌≤◌, Bool, Option, Some, None, if◌then◌else◌}
 use Rattle.rv_machine.specs.State.{State}
-use Rattle.rv_history.specs.Moves.{IsStopBefore, IsUnbroken}
+use Rattle.rv_history.specs.Moves.{IsStopBefore, IsUninterrupted}
 use Rattle.rv_history.specs.Places.{IsBreakAt, IsChangeAt}
 use Rattle.rv_history.specs.declared.found.StopInfo.{StopInfo}
 use Rattle.rv_history.specs.declared.found.Found.TheVariants as found
@@ -13,27 +13,27 @@ use Rattle.rv_history.specs.declared.stops.Stops.{Stops}
 abbrev pub last_at : Option StopInfo → ℕ → Bool → Option StopInfo
 last_at last place is_break = if is_break then Some (record { place = place; found = found.Break }) else last
 
--- behind the step at a place
+-- the last stop after one more step
 abbrev pub last_stop_after : Option StopInfo → ℕ → Bool → Stepped → Option StopInfo
 last_stop_after last place is_break stepped.Changed = Some (record { place = place + 1; found = found.Change })
 last_stop_after last place is_break stepped.Quiet = last_at last place is_break
 last_stop_after last place is_break (stepped.Ended ending) = last_at last place is_break
 
--- the step at a place begins at no breakpoint, and changes nothing
+-- the step does not begin at a breakpoint and triggers no watchpoint
 pub record IsQuietAt (stops : Stops) (budget : ℕ) (start : State) (place : ℕ) : Type 0 where
   pub no_break : IsBreakAt stops start place → ⊥
   pub no_change : IsChangeAt stops budget start place → ⊥
 
--- each of the steps between two places is such a one
+-- all steps between two steps are quiet
 abbrev pub AreQuiet : Stops → ℕ → State → ℕ → ℕ → Type 0
 AreQuiet stops budget start begin end = (j : ℕ) → begin ≤ j → j < end → IsQuietAt stops budget start j
 
--- the last stop before a place, where a step from another place on is none of these
+-- the last stop before `end`; none if all steps from `begin` on are quiet
 abbrev pub IsLastOn : Stops → ℕ → State → ℕ → ℕ → Option StopInfo → Type 0
-IsLastOn stops budget start begin end (Some last) = IsStopBefore stops budget start end last.place last.found × IsUnbroken last.found
+IsLastOn stops budget start begin end (Some last) = IsStopBefore stops budget start end last.place last.found × IsUninterrupted last.found
 IsLastOn stops budget start begin end None = AreQuiet stops budget start begin end
 
--- the last stop before a place that a part of the run tells, whatever the budget
+-- the last stop before a step that a part of the run contains, for any budget
 pub record IsPart (stops : Stops) (start : State) (end : ℕ) (part : Part) : Type 0 where
   pub begin : part.begin < end
   pub last : (budget : ℕ) → end ≤ budget → IsLastOn stops budget start part.begin end part.last

@@ -1,4 +1,4 @@
--- Moves forward on their way.
+-- Forward moves in progress.
 use Rattle.std.specs.Prelude.{ℕ, ◌≤◌, ◌<◌}
 use Rattle.rv_machine.specs.State.{State}
 use Rattle.rv_history.specs.Kept.{IsAt}
@@ -7,14 +7,14 @@ use Rattle.rv_history.specs.declared.leg.Arrived.{Arrived}
 use Rattle.rv_history.specs.declared.leg.ForwardMove.{ForwardMove}
 use Rattle.rv_history.specs.declared.stops.Stops.{Stops}
 
--- a move stands at a place of a run within its budget, and met nothing up to there
+-- a move is at a step of a run, within its budget, and has found no stop up to there
 pub record IsUnderWay (stops : Stops) (start : State) (leg : ForwardMove) : Type 0 where
   pub there : IsAt start leg.at
   pub order : leg.from ≤ leg.at.place
   pub within : leg.at.place ≤ leg.budget
   pub quiet : (j : ℕ) → leg.from ≤ j → j < leg.at.place → GoesOnAhead stops leg.bounds leg.budget start leg.from j
 
--- a move ended at its next stop, where its machine stands
+-- a move ended at its next stop, and its machine is there
 abbrev pub IsArrival : Stops → State → ForwardMove → Arrived → Type 0
 IsArrival stops start leg arrived =
     IsAt start arrived.at × IsNextStop stops leg.bounds leg.budget start leg.from arrived.at.place arrived.found

@@ -10,23 +10,23 @@ use Rattle.rv_history.specs.declared.found.Found.{Found}
 use Rattle.rv_history.specs.declared.found.Found.TheVariants as found
 use Rattle.rv_history.specs.declared.stops.Stops.{Stops}
 
--- the run ends at a place in this way
+-- the run ends at this step, with this end
 abbrev pub IsEndAt : ℕ → State → ℕ → Ending → Type 0
 IsEndAt budget start place ending = (place ≡ last_place budget start) × (ending ≡ (run_of budget start).ending)
 
--- an interrupt broke a move off
-abbrev pub IsBroken : Found → Type 0
-IsBroken what = what ≡ found.Interrupted
+-- an interrupt ended a move
+abbrev pub IsInterrupted : Found → Type 0
+IsInterrupted what = what ≡ found.Interrupted
 
--- nothing broke it off
-abbrev pub IsUnbroken : Found → Type 0
-IsUnbroken what = IsBroken what → ⊥
+-- no interrupt ended the move
+abbrev pub IsUninterrupted : Found → Type 0
+IsUninterrupted what = IsInterrupted what → ⊥
 
 -- ---- forwards
 
--- What a move forward from a place meets at this one: a breakpoint or an address outside the bounds first, but not where it began,
--- then the end, then a change by the step in front of which it stands. An interrupt breaks it off anywhere else than at a breakpoint or
--- outside the bounds, which a move from there would pass over.
+-- What a forward move finds at a step: first a breakpoint or an address outside the bounds, except where the move began; then the end of
+-- the run; then a watchpoint that the next step triggers. An interrupt can end the move anywhere else than at a breakpoint or outside the
+-- bounds, because a move from there would skip that stop.
 abbrev pub MeetsAhead : Stops → Bounds → ℕ → State → ℕ → ℕ → Found → Type 0
 MeetsAhead stops bounds budget start from place found.Break = (from < place) × IsHaltAt stops bounds start place
 MeetsAhead stops bounds budget start from place (found.End ending) =
@@ -37,24 +37,24 @@ MeetsAhead stops bounds budget start from place found.Done = ⊥
 MeetsAhead stops bounds budget start from place found.Begin = ⊥
 MeetsAhead stops bounds budget start from place found.Interrupted = from < place → IsHaltAt stops bounds start place → ⊥
 
--- what a move forward finds at the budget, where it met nothing before
+-- what a forward move finds at the budget if it found no stop before
 abbrev pub found_at_budget : Bool → Found
 found_at_budget halts = if halts then found.Break else found.End Budget
 
--- it meets nothing there
+-- a forward move finds no stop here
 pub record GoesOnAhead (stops : Stops) (bounds : Bounds) (budget : ℕ) (start : State) (from place : ℕ) : Type 0 where
   pub no_halt : from < place → IsHaltAt stops bounds start place → ⊥
   pub no_end : place < last_place budget start
   pub no_change : IsChangeAt stops budget start place → ⊥
 
--- the next stop from a place on: the first place from there on where anything is met
+-- the next stop from a step on: the first step at which anything is found
 pub record IsNextStop (stops : Stops) (bounds : Bounds) (budget : ℕ) (start : State) (from place : ℕ) (found : Found) : Type 0 where
   pub order : from ≤ place
   pub within : place ≤ last_place budget start
   pub meets : MeetsAhead stops bounds budget start from place found
   pub between : (j : ℕ) → from ≤ j → j < place → GoesOnAhead stops bounds budget start from j
 
--- a step forward: it stays at the end, and in front of a change
+-- a forward step: it does not move at the end, or before a step that triggers a watchpoint
 abbrev pub IsNextStep : Stops → ℕ → State → ℕ → ℕ → Found → Type 0
 IsNextStep stops budget start from place found.Done =
     (place ≡ from + 1) × (from < last_place budget start) × (IsChangeAt stops budget start from → ⊥)
@@ -66,14 +66,14 @@ IsNextStep stops budget start from place found.Interrupted = ⊥
 
 -- ---- backwards
 
--- a change by the step behind which a place stands
+-- the step just completed triggers a watchpoint
 pub record IsChangeBefore (stops : Stops) (budget : ℕ) (start : State) (place : ℕ) : Type 0 where
   pub before : ℕ
   pub place_is : place ≡ before + 1
   pub change : IsChangeAt stops budget start before
 
--- What a move backward from a place meets at this one: a break first, but not where it began, then a change by the step before;
--- at 0 it is at the beginning. Where an interrupt breaks it off, it stands where it began.
+-- What a backward move finds at a step: first a breakpoint, except where the move began; then a watchpoint that the preceding step
+-- triggers; at step 0 the beginning of the run. If an interrupt ends the move, it is back where it began.
 abbrev pub MeetsBack : Stops → ℕ → State → ℕ → ℕ → Found → Type 0
 MeetsBack stops budget start from place found.Break = (place < from) × IsBreakAt stops start place
 MeetsBack stops budget start from place found.Change =
@@ -83,18 +83,18 @@ MeetsBack stops budget start from place (found.End ending) = ⊥
 MeetsBack stops budget start from place found.Done = ⊥
 MeetsBack stops budget start from place found.Interrupted = place ≡ from
 
--- it meets nothing there
+-- a backward move finds no stop here
 pub record GoesOnBack (stops : Stops) (budget : ℕ) (start : State) (from place : ℕ) : Type 0 where
   pub no_break : place < from → IsBreakAt stops start place → ⊥
   pub no_change : IsChangeBefore stops budget start place → ⊥
 
--- the stop before a place: the last place up to there where anything is met
+-- the previous stop: the last step, up to this one, at which anything is found
 pub record IsStopBefore (stops : Stops) (budget : ℕ) (start : State) (from place : ℕ) (found : Found) : Type 0 where
   pub order : place ≤ from
   pub meets : MeetsBack stops budget start from place found
   pub between : (j : ℕ) → place < j → j ≤ from → GoesOnBack stops budget start from j
 
--- a step backward: it stays at the beginning, and behind a change
+-- a backward step: it does not move at the beginning, or after a step that triggers a watchpoint
 abbrev pub IsStepBefore : Stops → ℕ → State → ℕ → ℕ → Found → Type 0
 IsStepBefore stops budget start from place found.Done =
     (from ≡ place + 1) × (IsChangeAt stops budget start place → ⊥)

@@ -1,5 +1,5 @@
--- How the prover stores what callers see of a history: as its parts, pairs in pairs, from which it comes back as it was. No fact about
--- runs stands here.
+-- The prover's representation of what callers see of a history: its parts as nested pairs, from which it is recovered unchanged. This file
+-- states nothing about runs.
 use Rattle.std.specs.Prelude.{ℕ, refl}
 use Rattle.std.specs.Coded.{Coded, code_by, coded_ℕ, coded×}
 use Rattle.rv_machine.specs.State.{State}

@@ -2,7 +2,7 @@
 use Rattle.std.specs.Prelude.{ℕ}
 use Rattle.rv_machine.specs.State.{State}
 
--- the place at which a history of a run stands: the run from a start within a budget
+-- the step of a history: that of the run from a start within a budget
 pub record Stand : Type 0 where
   pub start : State
   pub budget : ℕ

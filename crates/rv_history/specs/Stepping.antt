@@ -1,13 +1,13 @@
--- A step, and whether it sets off a watch.
+-- A step, and whether it triggers a watchpoint.
 use Rattle.std.specs.Prelude.{◌≡◌, Ok, Err}
 use Rattle.rv_machine.specs.Run.{step_of}
 use Rattle.rv_machine.specs.State.{State}
-use Rattle.rv_history.specs.Stops.{IsSetOff, IsUnset}
+use Rattle.rv_history.specs.Stops.{TriggersWatch, TriggersNoWatch}
 use Rattle.rv_history.specs.declared.stepping.Stepped.{Stepped}
 use Rattle.rv_history.specs.declared.stepping.Stepped.TheVariants as stepped
 use Rattle.rv_history.specs.declared.stops.Stops.{Stops}
 
 abbrev pub IsStepped : Stops → State → State → Stepped → Type 0
 IsStepped stops s t (stepped.Ended ending) = (step_of s ≡ Err ending) × (t ≡ s)
-IsStepped stops s t stepped.Changed = (step_of s ≡ Ok t) × IsSetOff stops s t
-IsStepped stops s t stepped.Quiet = (step_of s ≡ Ok t) × IsUnset stops s t
+IsStepped stops s t stepped.Changed = (step_of s ≡ Ok t) × TriggersWatch stops s t
+IsStepped stops s t stepped.Quiet = (step_of s ≡ Ok t) × TriggersNoWatch stops s t

@@ -1,4 +1,4 @@
--- Breakpoints, and bytes whose changes, reads or accesses are watched.
+-- Breakpoints, and bytes that are watched for changes, reads or accesses.
 use Rattle.std.specs.Prelude.{ℕ, List, [], ◌∷◌, ◌≡◌, ◌≢◌, ◌⊎◌, ◌==◌, ◌||◌, Bool, true, false, Option, Some, None, if◌then◌else◌, is_some, nat_le, nat_lt, option_map}
 use Rattle.std.specs.Str.{bytes_eq}
 use Rattle.std.specs.FinMap as fin
@@ -21,27 +21,27 @@ is_break stops pc = list_any (λ address. address == pc) stops.breaks
 abbrev pub AreUnwatched : Stops → Type 0
 AreUnwatched stops = (stops.watches ≡ []) × ((stops.reads ≡ []) × (stops.accesses ≡ []))
 
--- there is nothing where it would stop
+-- there are no breakpoints and no watchpoints
 abbrev pub AreNone : Stops → Type 0
 AreNone stops = (stops.breaks ≡ []) × AreUnwatched stops
 
--- an address outside the bounds of a move: below the first, or at the second or above
+-- an address is outside the bounds of a move: below the first, or at or above the second
 abbrev pub is_outside : Bounds → ℕ → Bool
 is_outside bounds.All pc = false
 is_outside (bounds.Within low high) pc = nat_lt pc low || nat_le high pc
 
--- a move forward stops in front of an instruction there
+-- a forward move stops before an instruction at this address
 abbrev pub is_halt : Stops → Bounds → ℕ → Bool
 is_halt stops bounds pc = is_break stops pc || is_outside bounds pc
 
--- the bytes of a watch that stand in regions
+-- the bytes of a watchpoint that are in regions
 abbrev pub watch_bytes : Contents → Watch → List ℕ
 watch_bytes bus watch = filter_map (fin.get bus.memory) (range_with_len watch.address watch.count)
 
 unfoldable pub watched_bytes : Stops → Contents → List ℕ
 watched_bytes stops bus = flat_map (watch_bytes bus) stops.watches
 
--- the address of the first watch whose bytes differ between two buses
+-- the address of the first watchpoint whose bytes differ between two buses
 unfoldable pub first_differing : List Watch → Contents → Contents → Option ℕ
 first_differing [] one other = None
 first_differing (watch ∷ rest) one other =
@@ -49,35 +49,35 @@ first_differing (watch ∷ rest) one other =
 
 -- ---- what sets off a watch
 
--- the address of the first watch that an access hits
+-- the address of the first watchpoint that an access hits
 abbrev pub first_hit : Access → List Watch → Option ℕ
 first_hit access watches = option_map (λ (watch : Watch). watch.address) (find (is_hit access) watches)
 
 abbrev pub first_read : Access → List Watch → Option ℕ
 first_read access watches = if access.is_read then first_hit access watches else None
 
--- a watch that is told, or what comes in its place
-abbrev pub told_or : (ℕ → WatchHit) → Option ℕ → Option WatchHit → Option WatchHit
-told_or told None other = other
-told_or told (Some address) other = Some (told address)
+-- the reported watchpoint, or the alternative if there is none
+abbrev pub reported_or : (ℕ → WatchHit) → Option ℕ → Option WatchHit → Option WatchHit
+reported_or told None other = other
+reported_or told (Some address) other = Some (told address)
 
--- the first watch of reads, else the first of accesses, that an instruction sets off by what it reads or writes
+-- the first read watchpoint, else the first access watchpoint, that an instruction triggers by what it reads or writes
 abbrev pub touched_by : Stops → Option Access → Option WatchHit
 touched_by stops None = None
-touched_by stops (Some access) = told_or set_off.Read (first_read access stops.reads)
-    (told_or set_off.Access (first_hit access stops.accesses) None)
+touched_by stops (Some access) = reported_or set_off.Read (first_read access stops.reads)
+    (reported_or set_off.Access (first_hit access stops.accesses) None)
 
-abbrev pub touched : Stops → State → Option WatchHit
-touched stops s = touched_by stops (access_at s)
+abbrev pub access_hit : Stops → State → Option WatchHit
+access_hit stops s = touched_by stops (access_at s)
 
--- the first watch of changes that a step from a state to another sets off, else the first of reads, else of accesses
-abbrev pub first_set_off : Stops → State → State → Option WatchHit
-first_set_off stops s t = told_or set_off.Change (first_differing stops.watches s.bus t.bus) (touched stops s)
+-- the first watchpoint that a step triggers: for changes first, then for reads, then for accesses
+abbrev pub first_triggered : Stops → State → State → Option WatchHit
+first_triggered stops s t = reported_or set_off.Change (first_differing stops.watches s.bus t.bus) (access_hit stops s)
 
--- a step sets off a watch
-abbrev pub IsSetOff : Stops → State → State → Type 0
-IsSetOff stops s t = (watched_bytes stops s.bus ≢ watched_bytes stops t.bus) ⊎ (is_some (touched stops s) ≡ true)
+-- a step triggers a watchpoint
+abbrev pub TriggersWatch : Stops → State → State → Type 0
+TriggersWatch stops s t = (watched_bytes stops s.bus ≢ watched_bytes stops t.bus) ⊎ (is_some (access_hit stops s) ≡ true)
 
--- it sets off none
-abbrev pub IsUnset : Stops → State → State → Type 0
-IsUnset stops s t = (watched_bytes stops s.bus ≡ watched_bytes stops t.bus) × (is_some (touched stops s) ≡ false)
+-- a step triggers no watchpoint
+abbrev pub TriggersNoWatch : Stops → State → State → Type 0
+TriggersNoWatch stops s t = (watched_bytes stops s.bus ≡ watched_bytes stops t.bus) × (is_some (access_hit stops s) ≡ false)

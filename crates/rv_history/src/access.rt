@@ -11,11 +11,11 @@ use rv_isa::{Instr, Op};
 use rv_machine::Machine;
 use rv_trace::{accessed_address, code_at, instr_of};
 
-/// How an instruction reaches memory.
+/// How an instruction accesses memory.
 #[derive(Clone, Copy)]
 pub(crate) struct Reach {
     pub is_read: bool,
-    /// How many bytes.
+    /// The number of bytes.
     pub count: u32,
 }
 
@@ -27,7 +27,7 @@ pub(crate) struct Access {
     pub count: u32,
 }
 
-/// The bytes that the instruction at the pc of a machine reads or writes, if it does either.
+/// Returns the bytes that the instruction at a machine's pc reads or writes, if it does either.
 pub(crate) fn access_at(machine: &Machine) -> Option<Access>
     ensures { result ≡ access_at (state_of machine.now) }
 {
@@ -74,7 +74,7 @@ impl Access {
     }
 }
 
-// Where bytes begin, and where they end.
+// Returns the first address of a range, and the one after its last.
 fn bounds(address: u32, count: u32) -> (u64, u64)
     ensures { (result.0 ≡ address) × (result.1 ≡ address + count) }
 {

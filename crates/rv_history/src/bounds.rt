@@ -1,20 +1,20 @@
-//! Addresses that a move stays in.
+//! The bounds of a move.
 
 ghost use Rattle.std.specs.Prelude.{◌≡◌, ◌↔◌, IsTrue};
 ghost use Rattle.rv_history.specs.Stops.{is_outside};
 ghost use Rattle.rv_history.specs.declared.bounds.Bounds.TheVariants.{All};
 
-/// The addresses that a move forward stays in: it stops in front of an instruction at another one.
+/// The addresses within which a forward move stays: it stops before an instruction at any other address.
 #[derive(Clone, Copy)]
 pub enum Bounds {
-    /// All of them.
+    /// All addresses.
     All,
-    /// From the first on, and below the second.
+    /// At or above the first address and below the second.
     Within(u32, u32),
 }
 
 impl Bounds {
-    /// Whether they are all addresses.
+    /// Whether these are all addresses.
     pub(crate) fn are_all(self) -> bool
         ensures { IsTrue result ↔ (self ≡ All) }
     {
@@ -24,7 +24,7 @@ impl Bounds {
         }
     }
 
-    /// Whether an address is another one.
+    /// Whether an address is outside.
     pub(crate) fn is_outside(self, pc: u32) -> bool
         ensures { result ≡ is_outside self pc }
     {

@@ -1,4 +1,4 @@
-//! Searches for breakpoints alone: between two of them a run goes at its full speed.
+//! Searches for breakpoints only. Between two of them a run goes at full speed.
 
 ghost use Rattle.std.specs.Prelude.{◌≡◌, ◌≤◌, ◌<◌, ℕ, IfNone, IfOk, IfSome, false, true};
 ghost use Rattle.rv_machine.specs.Machine.{state_of};
@@ -21,7 +21,7 @@ use crate::track::Checkpoints;
 use rv_machine::Machine;
 use std::alloc::{AllocError, Global};
 
-/// The next stop of a move without bounds, where no byte is watched.
+/// Returns the next stop of a move without bounds, if no byte is watched.
 pub(crate) fn next_break<I: Interrupt>(
     alloc: Global,
     track: &mut Checkpoints,
@@ -55,8 +55,8 @@ pub(crate) fn next_break<I: Interrupt>(
     Ok(leg.arrived(found))
 }
 
-/// The last breakpoint up to a place, behind the last state at hand before it, where no byte is watched, unless an interrupt breaks the
-/// search off.
+/// Searches for the last breakpoint up to a step, after the last stored state before it, if no byte is watched. Returns `None` if an
+/// interrupt ends the search.
 pub(crate) fn search_breaks<I: Interrupt>(
     alloc: Global,
     track: &Checkpoints,
@@ -87,7 +87,7 @@ pub(crate) fn search_breaks<I: Interrupt>(
     Ok(Some(Part { begin, last }))
 }
 
-// At most so many steps of a machine, none of them from a breakpoint; how many. It takes the time of a run.
+// Executes at most `most` steps of a machine, none of them from a breakpoint, and returns how many. Takes the time of a run.
 fn run_between(machine: &mut Machine, stops: &Stops, most: u32) -> u32
     ensures ran { run_of result (state_of machine.old)
         ≡ record { ending = Budget; steps = result; state = state_of machine.new } }

@@ -1,4 +1,4 @@
-//! Counts that a run comes to.
+//! Counts that a run reaches.
 
 ghost use Rattle.std.specs.Prelude.{◌≡◌, ◌≤◌, IfOk};
 ghost use Rattle.rv_history.specs.Counts.{IsFound, count_in};
@@ -12,13 +12,13 @@ use std::alloc::{AllocError, Global};
 /// What is counted in a run.
 #[derive(Clone, Copy)]
 pub enum Count {
-    /// The bytes that are printed.
+    /// The bytes printed.
     Printed,
-    /// The bytes of the script that are taken.
+    /// The bytes consumed from the input script.
     Taken,
 }
 
-/// The first place with a count, if the run comes to one. It takes the time of the run up to there.
+/// Returns the first step with this value of a count, if the run reaches it. Takes the time of the run up to there.
 pub(crate) fn first_with(
     alloc: Global,
     start: &Start,
@@ -29,7 +29,7 @@ pub(crate) fn first_with(
     ensures { IfOk result (IsFound count value budget (start_of start.now)) }
 {
     let mut machine = start.machine(alloc)?;
-    let script = start.bus.script_left();
+    let script = start.bus.script_remaining();
     for place in 0..budget {
         if count_in(count, script, machine.bus()) == value as usize {
             return Ok(Some(place));
@@ -44,12 +44,12 @@ pub(crate) fn first_with(
     Ok(None)
 }
 
-// A count in a bus, whose script was so long at the start.
+// Returns a count in a bus whose input script had `script` bytes at the start.
 fn count_in(count: Count, script: usize, bus: &Bus) -> usize
     ensures { result ≡ count_in count script bus.now }
 {
     match count {
         Count::Printed => bus.console().len(),
-        Count::Taken => script.saturating_sub(bus.script_left()),
+        Count::Taken => script.saturating_sub(bus.script_remaining()),
     }
 }

@@ -1,25 +1,25 @@
-//! What a move comes to.
+//! Results of moves.
 
 use rv_machine::Ending;
 
-/// Why a move stopped where it stopped.
+/// Why a move stopped.
 #[derive(Clone, Copy)]
 pub enum Found {
-    /// The step is done.
+    /// The step was completed.
     Done,
-    /// The pc is a breakpoint, or outside the bounds of a move forward.
+    /// The pc is at a breakpoint, or outside the bounds of a forward move.
     Break,
-    /// A watch is set off by the step in front, of a move forward, or by the step behind, of a move backward.
+    /// A watchpoint is triggered: by the next step of a forward move, by the preceding step of a backward move.
     Change,
     /// The run ends here.
     End(Ending),
     /// The run begins here.
     Begin,
-    /// An interrupt broke the move off.
+    /// An interrupt ended the move.
     Interrupted,
 }
 
-/// A place of a run, and what is found there.
+/// A step of a run, and what is found there.
 #[derive(Clone, Copy)]
 pub(crate) struct StopInfo {
     pub place: u32,

@@ -1,4 +1,4 @@
-//! A place in a run, and the moves from it.
+//! A position in a run, and the moves from it.
 
 ghost use Rattle.std.specs.Prelude.{◌≡◌, ◌+◌, ◌-◌, ◌<◌, ◌≤◌, ◌↔◌, IfOk, IsTrue, MatchBool, OnErr, if◌then◌else◌, true};
 ghost use Rattle.rv_machine.specs.Machine.{state_of};
@@ -20,8 +20,8 @@ use rv_machine::{Ending, Machine};
 use std::alloc::{AllocError, Global};
 use std::marker::Model;
 
-/// A place in the run from a start within a budget, and the machine there. No move changes the run, and what it answers does not depend
-/// on which states of the run are at hand, but for where an interrupt breaks a move off.
+/// A position in the run from a start within a budget, and the machine there. Moves do not change the run. Their results do not depend on
+/// which states of the run are stored, except for where an interrupt ends a move.
 #[derive(Drop)]
 pub struct History {
     track: Checkpoints,
@@ -51,9 +51,9 @@ impl History {
     ghost use Rattle.rv_history.specs.Moves.{IsNextStep, IsNextStop, IsStepBefore, IsStopBefore};
     ghost use Rattle.rv_history.specs.Places.{IsReached, last_place};
     ghost use Rattle.rv_history.specs.Starts.{start_of};
-    ghost use Rattle.rv_history.specs.Stops.{first_set_off};
+    ghost use Rattle.rv_history.specs.Stops.{first_triggered};
 
-    /// At the start of a run.
+    /// Creates a history at the start of a run.
     pub fn new(alloc: Global, start: Start, budget: u32) -> Result<History, AllocError>
         ensures { IfOk result (λ history. history ≡ record { start = start_of start; budget = budget; place = 0 }) }
     {
@@ -66,15 +66,15 @@ impl History {
         })
     }
 
-    /// From now on it takes so many megabytes at most, from 64 to 4,096, and 256 if it is told nothing: the more, the fewer steps are run
-    /// again on a move back. What is kept goes.
+    /// Limits its memory to `megabytes`, from 64 to 4,096. The default is 256. With more memory fewer steps are repeated on a backward
+    /// move. Drops all stored states.
     pub fn set_memory(&mut self, alloc: Global, megabytes: u32)
         ensures { self.new ≡ self.old }
     {
         self.track.set_memory(alloc, megabytes);
     }
 
-    /// How many steps are done.
+    /// Returns the number of completed steps.
     pub fn place(&self) -> u32
         ensures value { result ≡ self.now.place }
         ensures within { result ≤ last_place self.now.budget self.now.start }
@@ -82,15 +82,15 @@ impl History {
         self.place
     }
 
-    /// The machine as it stands here.
+    /// Returns the machine at the current step.
     pub fn machine(&self) -> &Machine
         ensures { state_of result.now ≡ state_after self.now.place self.now.start }
     {
         &self.machine
     }
 
-    /// Goes to the next stop, which may be an end of the run. It does not stop at a breakpoint where it stands, and it may begin
-    /// outside the bounds. Where it is interrupted, it stands at a place up to which it met nothing.
+    /// Moves to the next stop, which can be an end of the run. It does not stop at a breakpoint at its current step, and can begin outside
+    /// the bounds. After an interrupt it is at a step up to which it found no stop.
     pub fn go_on<I: Interrupt>(
         &mut self,
         alloc: Global,
@@ -119,7 +119,7 @@ impl History {
         Ok(arrived.found)
     }
 
-    /// Goes a step on, unless that is an end or would set off a watch.
+    /// Moves one step forward, unless the run ends here or the step would trigger a watchpoint.
     pub fn step(&mut self, alloc: Global, stops: &Stops) -> Result<Found, AllocError>
         ensures step { IfOk result (IsNextStep stops.now self.old.budget self.old.start self.old.place self.new.place) }
         ensures run { self.new ≡ record self.old { place = self.new.place } }
@@ -140,7 +140,7 @@ impl History {
         }
     }
 
-    /// Goes back to the stop before, or to the start. Where it is interrupted, it stands where it stood.
+    /// Moves back to the previous stop, or to the start. After an interrupt it is where it began.
     pub fn go_back<I: Interrupt>(
         &mut self,
         alloc: Global,
@@ -159,7 +159,7 @@ impl History {
             };
             return self.arrive(alloc, begin);
         }
-        // From now on there are states at hand near to here, and the parts of the search are short.
+        // From now on there are stored states near the current step, and the parts of the search are short.
         let _ = self.track.reach(alloc, self.place)?;
         let arrival = stop_before(alloc, &self.track, self.place, stops, interrupt)?;
         if let Found::Interrupted = arrival.found {
@@ -168,7 +168,7 @@ impl History {
         self.arrive(alloc, arrival)
     }
 
-    /// Goes a step back, unless it stands at the start or behind a step that sets off a watch.
+    /// Moves one step back, unless it is at the start or after a step that triggers a watchpoint.
     pub fn step_back(&mut self, alloc: Global, stops: &Stops) -> Result<Found, AllocError>
         ensures step { IfOk result (IsStepBefore stops.now self.old.budget self.old.start self.old.place self.new.place) }
         ensures run { self.new ≡ record self.old { place = self.new.place } }
@@ -178,7 +178,7 @@ impl History {
         self.arrive(alloc, arrival)
     }
 
-    /// Goes to a place, where the run comes there, and says whether it does.
+    /// Moves to a step if the run reaches it, and returns whether it does.
     pub fn seek(&mut self, alloc: Global, place: u32) -> Result<bool, AllocError>
         ensures granted { IfOk result
             (λ granted. IsTrue granted ↔ (place ≤ last_place self.old.budget self.old.start)) }
@@ -198,7 +198,7 @@ impl History {
         Ok(true)
     }
 
-    /// Goes to the first place with a count, where the run comes to one, and says whether it does.
+    /// Moves to the first step with this value of a count if the run reaches it, and returns whether it does.
     pub fn seek_count(
         &mut self,
         alloc: Global,
@@ -221,34 +221,34 @@ impl History {
         }
     }
 
-    /// Where the step in front completes within the budget, the first watch that it sets off, if it sets off any.
+    /// Returns the first watchpoint that the next step triggers, if it completes within the budget and triggers any.
     pub fn watch_ahead(&self, alloc: Global, stops: &Stops) -> Result<Option<WatchHit>, AllocError>
         ensures { self.now.place < last_place self.now.budget self.now.start → IfOk result
-            (λ found. found ≡ first_set_off stops.now (state_after self.now.place self.now.start)
+            (λ found. found ≡ first_triggered stops.now (state_after self.now.place self.now.start)
             (state_after (self.now.place + 1) self.now.start)) }
     {
         let steps = self.budget.min(self.place.saturating_add(1));
         let ahead = self.track.machine_after(alloc, steps)?;
-        stops.first_set_off(alloc, &self.machine, &ahead)
+        stops.first_triggered(alloc, &self.machine, &ahead)
     }
 
-    /// Behind the start, the first watch that the step behind sets off, if it sets off any.
+    /// Returns the first watchpoint that the preceding step triggers, if there is such a step and it triggers any.
     pub fn watch_hit_by_last_step(
         &self,
         alloc: Global,
         stops: &Stops,
     ) -> Result<Option<WatchHit>, AllocError>
         ensures { IfOk result
-            (λ found. found ≡ first_set_off stops.now (state_after (self.now.place - 1) self.now.start)
+            (λ found. found ≡ first_triggered stops.now (state_after (self.now.place - 1) self.now.start)
             (state_after self.now.place self.now.start)) }
     {
         let behind = self
             .track
             .machine_after(alloc, self.place.saturating_sub(1))?;
-        stops.first_set_off(alloc, &behind, &self.machine)
+        stops.first_triggered(alloc, &behind, &self.machine)
     }
 
-    // Goes to where a search ended.
+    // Moves to the result of a search.
     fn arrive(&mut self, alloc: Global, arrival: StopInfo) -> Result<Found, AllocError>
         requires { arrival.place ≤ last_place self.old.budget self.old.start }
         ensures found { IfOk result (λ found. found ≡ arrival.found) }

@@ -1,15 +1,15 @@
-//! What breaks a move off.
+//! Interrupts of moves.
 
 ghost use Rattle.std.specs.Prelude.{◌≡◌, IsTrue, true};
 
-/// Says whether a move is to be broken off. A move asks each 65,536 steps.
+/// Requests that a move be interrupted. A move polls it every 65,536 steps.
 pub trait Interrupt {
     ghost use Rattle.std.specs.Prelude.{Bool};
 
-    // Whether it said so.
+    // Whether it requested an interrupt.
     ghost was_raised: { Self → Bool };
 
-    /// Whether the move is to be broken off.
+    /// Returns whether to interrupt the move.
     fn is_raised(&mut self) -> bool
         ensures { IsTrue result → was_raised self.new ≡ true };
 }

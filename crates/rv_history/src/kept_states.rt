@@ -1,4 +1,4 @@
-//! States of a run that are kept.
+//! Stored states of a run.
 
 ghost use Rattle.std.specs.Prelude.{◌≡◌, ◌≤◌, ◌<◌, [], All, IfNone, IfSome};
 ghost use Rattle.rv_machine.specs.State.{State};
@@ -8,7 +8,7 @@ use crate::machine_at::MachineAt;
 use std::alloc::{AllocError, Global};
 use std::marker::Model;
 
-/// A few states of a run, at falling places, and at most so many.
+/// A bounded number of states of a run, at strictly decreasing steps.
 #[derive(Drop)]
 pub(crate) struct CheckpointList {
     most: usize,
@@ -17,7 +17,7 @@ pub(crate) struct CheckpointList {
 
 impl Model for CheckpointList {
     ghost use Rattle.std.specs.Prelude.{◌<◌, ◌≤◌, List, length};
-    ghost use Rattle.rv_history.specs.Kept.{AreFalling};
+    ghost use Rattle.rv_history.specs.Kept.{AreDecreasing};
     ghost use Rattle.rv_history.specs.declared.machine_at.MachineAt.{MachineAt};
     ghost use Rattle.rv_history.specs.StandInside.{state_code};
     ghost use Rattle.std.specs.Coded.{codes};
@@ -28,11 +28,11 @@ impl Model for CheckpointList {
 
     ghost view = { λ kept. kept.items.items };
 
-    ghost invariant = { λ kept. (0 < kept.most) × ((length kept.items.items ≤ kept.most) × AreFalling kept.items.items) };
+    ghost invariant = { λ kept. (0 < kept.most) × ((length kept.items.items ≤ kept.most) × AreDecreasing kept.items.items) };
 }
 
 impl CheckpointList {
-    /// None yet. One is always room for.
+    /// Creates an empty list. There is always room for one state.
     pub(crate) fn new(alloc: Global, most: usize) -> CheckpointList
         ensures { result ≡ [] }
     {
@@ -42,12 +42,12 @@ impl CheckpointList {
         }
     }
 
-    /// Whether one more would be too many.
+    /// Whether one more state would be too many.
     pub(crate) fn is_full(&self) -> bool {
         self.most <= self.items.len()
     }
 
-    /// The last state up to a place.
+    /// Returns the last state at or before a step.
     pub(crate) fn last_up_to(&self, place: u32) -> Option<&MachineAt>
         ensures state { (start : State) → AreStates start self.now → IfSome result (λ at. IsAt start at.now) }
         ensures before { IfSome result (λ at. at.now.place ≤ place) }
@@ -62,7 +62,7 @@ impl CheckpointList {
         None
     }
 
-    /// Whether the state at a place is kept.
+    /// Whether the state at a step is stored.
     pub(crate) fn has(&self, place: u32) -> bool {
         match self.last_up_to(place) {
             Some(at) => at.place == place,
@@ -70,7 +70,7 @@ impl CheckpointList {
         }
     }
 
-    /// Keeps one more in place of those that are not before it, and of the first where there are too many.
+    /// Stores a state. It replaces those that are not before it, and the earliest one if there would be too many.
     pub(crate) fn keep(&mut self, at: MachineAt) -> Result<(), AllocError>
         ensures { (start : State) → AreStates start self.old → IsAt start at → AreStates start self.new }
     {
@@ -81,7 +81,7 @@ impl CheckpointList {
         Ok(())
     }
 
-    /// Keeps those alone whose places are multiples of a number.
+    /// Keeps only the states whose steps are multiples of a number.
     pub(crate) fn keep_multiples(&mut self, number: u32)
         requires { 0 < number }
         ensures { (start : State) → AreStates start self.old → AreStates start self.new }

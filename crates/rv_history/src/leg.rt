@@ -1,4 +1,4 @@
-//! Moves forward on their way.
+//! Forward moves in progress.
 
 ghost use Rattle.std.specs.Prelude.{◌≡◌, ◌≤◌, ◌&&◌, IfOk, IsTrue, nat_lt, true};
 ghost use Rattle.rv_machine.specs.Machine.{state_of};
@@ -16,18 +16,18 @@ use crate::track::Checkpoints;
 use rv_machine::Ending;
 use std::alloc::{AllocError, Global};
 
-/// A move forward, as far as it has come.
+/// A forward move in progress.
 #[derive(Drop)]
 pub(crate) struct ForwardMove {
-    /// The place where it began.
+    /// The step where it began.
     pub from: u32,
     pub budget: u32,
     pub bounds: Bounds,
-    /// Where it stands.
+    /// Where it is.
     pub at: MachineAt,
 }
 
-/// Where a move forward ended, and what is found there.
+/// Where a forward move ended, and what it found there.
 #[derive(Drop)]
 pub(crate) struct Arrived {
     pub at: MachineAt,
@@ -35,14 +35,14 @@ pub(crate) struct Arrived {
 }
 
 impl ForwardMove {
-    /// It ends where it stands.
+    /// Ends the move where it is.
     pub(crate) fn arrived(self, found: Found) -> Arrived
         ensures { result ≡ record { at = self.at; found = found } }
     {
         Arrived { at: self.at, found }
     }
 
-    /// Whether it stands at a breakpoint or outside the bounds, and behind the place where it began.
+    /// Whether the move is at a breakpoint or outside the bounds, and after the step where it began.
     pub(crate) fn is_halted(&self, stops: &Stops) -> bool
         ensures { result ≡ (nat_lt self.now.from self.now.at.place
             && is_halt stops.now self.now.bounds (state_of self.now.at.machine).pc) }
@@ -50,7 +50,7 @@ impl ForwardMove {
         self.from < self.at.place && is_halt(stops, self.bounds, self.at.machine.pc())
     }
 
-    /// What is found at the budget, where it came to there without a stop.
+    /// Returns what is found at the budget if the move reached it without a stop.
     pub(crate) fn found_at_budget(&self, stops: &Stops) -> Found
         ensures { result ≡ found_at_budget (nat_lt self.now.from self.now.at.place
             && is_halt stops.now self.now.bounds (state_of self.now.at.machine).pc) }
@@ -62,8 +62,8 @@ impl ForwardMove {
         }
     }
 
-    /// Whether it is broken off where it stands. At the end of a slice its state may be kept, and it asks there once its steps fill a
-    /// slice.
+    /// Returns whether the move is interrupted where it is. At the end of a slice its state can be stored, and it polls for an interrupt
+    /// there once its steps fill a slice.
     pub(crate) fn store_and_poll<I: Interrupt>(
         &self,
         alloc: Global,

@@ -1,8 +1,8 @@
-//! The places of a run, and the moves of a debugger among them, forwards and backwards.
+//! The steps of a run, and a debugger's moves among them, forwards and backwards.
 //!
-//! A run is exact, so the state behind any number of its steps can be had again by a run of so many steps from its start, or of fewer
-//! from a state that was kept on the way. A [`History`] stands at a place of a run, and moves to where a search for the next or the last
-//! stop ends: a breakpoint, a step that sets off a watch ([`Stops`]), or an end of the run. No move changes the run.
+//! Runs are deterministic, so the state after any number of steps can be computed again by a run from the start, or by a shorter one from a
+//! stored state. A [`History`] is at a step of a run, and moves to where a search for the next or the previous stop ends: a breakpoint, a
+//! step that triggers a watchpoint ([`Stops`]), or an end of the run. Moves do not change the run.
 #![tactic(auto)]
 
 mod access;
@@ -22,8 +22,8 @@ mod slices;
 mod start;
 mod stepping;
 mod stops;
-mod touching;
 mod track;
+mod watch_hits;
 
 pub use bounds::Bounds;
 pub use counts::Count;

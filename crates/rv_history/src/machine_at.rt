@@ -1,4 +1,4 @@
-//! Machines at places of a run.
+//! Machines at steps of a run.
 
 ghost use Rattle.std.specs.Prelude.{◌≡◌, ◌≤◌, IfOk};
 ghost use Rattle.rv_machine.specs.Machine.{state_of};
@@ -9,7 +9,7 @@ ghost use Rattle.rv_history.specs.Kept.{IsAt};
 use rv_machine::{Ending, Machine};
 use std::alloc::{AllocError, Global};
 
-/// A machine, and how many steps of its run are done.
+/// A machine, and the number of completed steps of its run.
 #[derive(Drop)]
 pub(crate) struct MachineAt {
     pub place: u32,
@@ -17,7 +17,7 @@ pub(crate) struct MachineAt {
 }
 
 impl MachineAt {
-    /// The same in memory of its own, so that it stays where it is when the other one goes on.
+    /// Returns a copy with its own memory, so that it is unaffected when the original moves on.
     pub(crate) fn copied(&self, alloc: Global) -> Result<MachineAt, AllocError>
         ensures place { IfOk result (λ at. at.place ≡ self.now.place) }
         ensures state { IfOk result (λ at. state_of at.machine ≡ state_of self.now.machine) }
@@ -29,7 +29,7 @@ impl MachineAt {
         })
     }
 
-    /// Goes on to a place, or to where the run ends before it.
+    /// Runs to a step, or to an earlier end of the run.
     pub(crate) fn go_to(&mut self, place: u32) -> Ending
         requires { self.old.place ≤ place }
         ensures ran { (start : State) → IsAt start self.old → run_of place start

@@ -1,4 +1,4 @@
-//! Searches forward in a run.
+//! Forward searches in a run.
 
 ghost use Rattle.std.specs.Prelude.{◌≡◌, ◌≤◌, IfOk, true};
 ghost use Rattle.rv_history.specs.Kept.{IsAt};
@@ -19,7 +19,7 @@ use crate::track::Checkpoints;
 use rv_machine::Ending;
 use std::alloc::{AllocError, Global};
 
-/// The next stop of a move, with the machine there. States are kept on the way.
+/// Returns the next stop of a move, with the machine there. Stores states as it goes.
 pub(crate) fn next_stop<I: Interrupt>(
     alloc: Global,
     track: &mut Checkpoints,
@@ -35,7 +35,7 @@ pub(crate) fn next_stop<I: Interrupt>(
     if !leg.bounds.are_all() {
         return next_watched(alloc, track, leg, stops, interrupt);
     }
-    // With nothing to look for on the way, the run goes at its full speed.
+    // Without stops to look for, the run goes at full speed.
     if stops.are_none() {
         return end_of_run(alloc, track, leg, interrupt);
     }
@@ -45,7 +45,7 @@ pub(crate) fn next_stop<I: Interrupt>(
     next_watched(alloc, track, leg, stops, interrupt)
 }
 
-// The same step by step.
+// Like [`next_stop`], one step at a time.
 fn next_watched<I: Interrupt>(
     alloc: Global,
     track: &mut Checkpoints,
@@ -69,7 +69,7 @@ fn next_watched<I: Interrupt>(
         match step_beside(alloc, &mut leg.at.machine, stops, &mut watched)? {
             Stepped::Ended(ending) => return Ok(leg.arrived(Found::End(ending))),
             Stepped::Changed => {
-                // The machine is behind the step, and the move in front of it.
+                // The machine is after the step, and the move before it.
                 let at = track.come_to(alloc, leg.at.place)?;
                 let found = Found::Change;
                 return Ok(Arrived { at, found });
@@ -82,7 +82,7 @@ fn next_watched<I: Interrupt>(
     Ok(leg.arrived(found))
 }
 
-// The end of the run, where there is nowhere to stop before.
+// Returns the end of the run, if there are no stops before it.
 fn end_of_run<I: Interrupt>(
     alloc: Global,
     track: &mut Checkpoints,

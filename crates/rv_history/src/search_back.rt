@@ -1,4 +1,4 @@
-//! Searches backward in a run: it is run again in parts, each from a state that is at hand, the last part first.
+//! Backward searches in a run. It is repeated in parts, each from a stored state, the last part first.
 
 ghost use Rattle.std.specs.Prelude.{◌≡◌, ◌≤◌, ◌<◌, ℕ, IfNone, IfOk, IfSome, true};
 ghost use Rattle.rv_machine.specs.Run.{run_of};
@@ -15,17 +15,17 @@ use crate::stops::Stops;
 use crate::track::Checkpoints;
 use std::alloc::{AllocError, Global};
 
-/// What a search in the last part of a run found.
+/// The result of a search in the last part of a run.
 #[derive(Clone, Copy)]
 pub(crate) struct Part {
-    /// The place where the part begins.
+    /// The step where the part begins.
     pub begin: u32,
     /// The last stop in it.
     pub last: Option<StopInfo>,
 }
 
-/// The stop before a place, whatever the budget within which the run comes there. It asks behind each part, once they fill a
-/// slice.
+/// Returns the stop before a step, for any budget within which the run reaches it. Polls for an interrupt after each part, once the parts
+/// fill a slice.
 pub(crate) fn stop_before<I: Interrupt>(
     alloc: Global,
     track: &Checkpoints,
@@ -61,7 +61,7 @@ pub(crate) fn stop_before<I: Interrupt>(
     })
 }
 
-// The last stop up to a place, behind the last state at hand before it, unless an interrupt breaks the search off.
+// Searches for the last stop up to a step, after the last stored state before it. Returns `None` if an interrupt ends the search.
 fn search_part<I: Interrupt>(
     alloc: Global,
     track: &Checkpoints,
@@ -92,7 +92,7 @@ fn search_part<I: Interrupt>(
     Ok(Some(Part { begin, last }))
 }
 
-/// The last stop behind the step at a place, once the stop before it is known.
+/// Returns the last stop after one more step, given the last one before it.
 pub(crate) fn last_stop_after(
     last: Option<StopInfo>,
     place: u32,
@@ -120,7 +120,7 @@ pub(crate) fn last_stop_after(
     }
 }
 
-/// A step backward from a place, whatever the budget within which the run comes there.
+/// Returns the result of a backward step from the step `from`, for any budget within which the run reaches it.
 pub(crate) fn step_before(
     alloc: Global,
     track: &Checkpoints,

@@ -1,21 +1,21 @@
-//! The slices in which a move goes: at their ends it may be broken off.
+//! Slices of a move, at the ends of which it can be interrupted.
 
 ghost use Rattle.std.specs.Prelude.{◌≤◌, ◌<◌};
 
-// So many steps. A slice ends where its place is a multiple, so that states can be kept there.
+// The number of steps in a slice. A slice ends at a multiple of it, so that states can be stored there.
 const SLICE: u32 = 1 << 16;
 
-/// Whether a slice ends at a place.
+/// Whether a slice ends at a step.
 pub(crate) fn is_slice_end(place: u32) -> bool {
     place % SLICE == 0
 }
 
-/// Whether so many steps fill a slice.
+/// Whether this many steps fill a slice.
 pub(crate) fn fill_a_slice(steps: u32) -> bool {
     SLICE <= steps
 }
 
-/// The end of the slice that goes on from a place, or the goal where that comes before.
+/// Returns the end of the slice that contains a step, or the goal if that comes first.
 pub(crate) fn slice_end(place: u32, goal: u32) -> u32
     requires { place < goal }
     ensures ahead { place < result }

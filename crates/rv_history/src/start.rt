@@ -1,4 +1,4 @@
-//! Where a run starts.
+//! The start of a run.
 
 ghost use Rattle.std.specs.Prelude.{◌≡◌, ◌%◌, IfOk, false};
 ghost use Rattle.rv_machine.specs.Machine.{state_of};
@@ -9,11 +9,11 @@ use rv_machine::Machine;
 use rv_memory::Bus;
 use std::alloc::{AllocError, Global};
 
-/// A hart at its reset, over a bus that does not change here: each run has a copy.
+/// A hart at reset, and a bus that never changes here, since each run has a copy.
 #[derive(Drop)]
 pub struct Start {
     pub bus: Bus,
-    /// Even, and a multiple of 4 in a set without 16-bit instructions.
+    /// The entry address: even, and a multiple of 4 in a set without 16-bit instructions.
     pub entry: u32,
     pub isa: Isa,
     pub ghost even: { entry % 2 ≡ 0 },
@@ -23,7 +23,7 @@ pub struct Start {
 impl Start {
     ghost use Rattle.rv_history.specs.Starts.{start_of};
 
-    /// The machine at the start.
+    /// Returns the machine at the start.
     pub(crate) fn machine(&self, alloc: Global) -> Result<Machine, AllocError>
         ensures { IfOk result (λ machine. state_of machine ≡ start_of self.now) }
     {

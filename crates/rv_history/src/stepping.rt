@@ -1,4 +1,4 @@
-//! A step, and whether it sets off a watch.
+//! A step, and whether it triggers a watchpoint.
 
 ghost use Rattle.std.specs.Prelude.{◌≡◌, IfOk, MatchOption, OnOk, Ok, Err};
 ghost use Rattle.rv_machine.specs.Machine.{state_of};
@@ -10,18 +10,18 @@ use crate::stops::Stops;
 use rv_machine::{Ending, Machine};
 use std::alloc::{AllocError, Global};
 
-/// What a step is.
+/// The result of a step.
 #[derive(Clone, Copy)]
 pub(crate) enum Stepped {
-    /// It does not complete.
+    /// It did not complete.
     Ended(Ending),
-    /// It sets off a watch.
+    /// It triggered a watchpoint.
     Changed,
-    /// It sets off none.
+    /// It triggered no watchpoint.
     Quiet,
 }
 
-/// A step of a machine. After an error the step may be done.
+/// Executes a step of a machine. After an error the step may have been executed.
 pub(crate) fn step_watched(
     alloc: Global,
     machine: &mut Machine,
@@ -33,7 +33,7 @@ pub(crate) fn step_watched(
     step_beside(alloc, machine, stops, &mut watched)
 }
 
-/// The same where the watched bytes are known, as they are again behind the step.
+/// Like [`step_watched`], if the watched bytes are known; they are updated after the step.
 pub(crate) fn step_beside(
     alloc: Global,
     machine: &mut Machine,
@@ -44,7 +44,7 @@ pub(crate) fn step_beside(
     ensures step { IfOk result (IsStepped stops.now (state_of machine.old) (state_of machine.new)) }
     ensures known { OnOk result (watched.new.items ≡ watched_bytes stops.now (state_of machine.new).bus) }
 {
-    let is_touched = stops.touched(machine).is_some();
+    let is_touched = stops.access_hit(machine).is_some();
     if let Some(ending) = step(machine) {
         return Ok(Stepped::Ended(ending));
     }
@@ -58,8 +58,8 @@ pub(crate) fn step_beside(
     Ok(Stepped::Quiet)
 }
 
-/// One step of a machine: nothing where it completes, else the ending, with the machine as it was. It is a run of one step: a second
-/// caller of the machine's loop would slow each run of the program.
+/// Executes one step of a machine. Returns `None` if it completes, else the end, with the machine unchanged. This is a run of one step,
+/// since a second caller of the machine's loop would slow down every run of the program.
 pub(crate) fn step(machine: &mut Machine) -> Option<Ending>
     ensures { MatchOption result (step_of (state_of machine.old) ≡ Ok (state_of machine.new))
         (λ e. (step_of (state_of machine.old) ≡ Err e) × (state_of machine.new ≡ state_of machine.old)) }

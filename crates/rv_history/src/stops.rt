@@ -1,4 +1,4 @@
-//! Where a run is to stop.
+//! The breakpoints and watchpoints of a run.
 
 ghost use Rattle.std.specs.Prelude.{◌≡◌, ◌≤◌, ◌+◌, ◌^◌, ◌++◌, ◌↔◌, [], ℕ, List, IfOk, IfSome, IsTrue, MatchOption, OnOk, drop, length, true};
 
@@ -7,7 +7,7 @@ use rv_machine::Machine;
 use rv_memory::Bus;
 use std::alloc::{AllocError, Global};
 
-/// Bytes that are watched. None of them is past the end of the addresses.
+/// A range of watched bytes, all of them within the address space.
 #[derive(Clone, Copy)]
 pub struct Watch {
     pub address: u32,
@@ -15,36 +15,36 @@ pub struct Watch {
     pub ghost within: { address + count ≤ 2 ^ 32 },
 }
 
-/// Where a run is to stop: in front of the instructions at some addresses, and where a step changes a watched byte, or reads or accesses
-/// one that is watched so. Bytes in no region are never changed.
+/// The breakpoints and watchpoints of a run: it stops before the instructions at some addresses, and where a step changes, reads or
+/// accesses a byte that is watched for that. Bytes in no region never change.
 #[derive(Drop)]
 pub struct Stops {
     pub breaks: Sequence<u32>,
-    /// Of changes.
+    /// Watchpoints for changes.
     pub watches: Sequence<Watch>,
-    /// Of reads.
+    /// Watchpoints for reads.
     pub reads: Sequence<Watch>,
-    /// Of reads and writes.
+    /// Watchpoints for reads and writes.
     pub accesses: Sequence<Watch>,
 }
 
-/// What sets off a watch, and the watch's address.
+/// How a watchpoint was triggered, and the watchpoint's address.
 #[derive(Clone, Copy)]
 pub enum WatchHit {
-    /// A byte changes.
+    /// A byte changed.
     Change(u32),
-    /// A byte is read.
+    /// A byte was read.
     Read(u32),
-    /// A byte is read or written.
+    /// A byte was read or written.
     Access(u32),
 }
 
 impl Stops {
     ghost use Rattle.rv_machine.specs.Machine.{state_of};
-    ghost use Rattle.rv_machine.specs.Waking.{IsCached};
+    ghost use Rattle.rv_machine.specs.ValidEntries.{IsCached};
     ghost use Rattle.rv_history.specs.Stops.{first_differing, is_break, watched_bytes};
 
-    /// Whether there are none at all.
+    /// Whether there are no breakpoints and no watchpoints.
     pub(crate) fn are_none(&self) -> bool
         ensures { IsTrue result ↔ ((self.now.breaks ≡ [])
             × ((self.now.watches ≡ []) × ((self.now.reads ≡ []) × (self.now.accesses ≡ [])))) }
@@ -59,14 +59,14 @@ impl Stops {
         self.watches.as_slice().is_empty() && self.have_no_access()
     }
 
-    /// Whether no reads and no accesses are watched.
+    /// Whether no byte is watched for reads or for accesses.
     pub(crate) fn have_no_access(&self) -> bool
         ensures { IsTrue result ↔ ((self.now.reads ≡ []) × (self.now.accesses ≡ [])) }
     {
         self.reads.as_slice().is_empty() && self.accesses.as_slice().is_empty()
     }
 
-    /// No instruction at a breakpoint is awake from now on.
+    /// Invalidates the cached instructions at breakpoints.
     pub(crate) fn invalidate_breakpoints(&self, machine: &mut Machine)
         ensures state { state_of machine.new ≡ state_of machine.old }
         ensures asleep { (pc : ℕ) → is_break self.now pc ≡ true → IsCached machine.new.kept pc → ⊥ }
@@ -76,14 +76,14 @@ impl Stops {
         }
     }
 
-    /// Whether an address is a breakpoint.
+    /// Whether there is a breakpoint at an address.
     pub(crate) fn has_break(&self, pc: u32) -> bool
         ensures { result ≡ is_break self.now pc }
     {
         self.breaks.as_slice().contains(&pc)
     }
 
-    /// The watched bytes that stand in regions, in their order.
+    /// Returns the watched bytes that are in regions, in order.
     #[tactic(auto, unfolding(crate::specs::Stops::watched_bytes))]
     pub(crate) fn watched_bytes(&self, alloc: Global, bus: &Bus) -> Result<Vec<u8>, AllocError>
         ensures { IfOk result (λ bytes. bytes.items ≡ watched_bytes self.now bus.now) }
@@ -95,7 +95,7 @@ impl Stops {
         Ok(bytes)
     }
 
-    /// Whether the watched bytes that stand in regions are these. It takes no memory.
+    /// Whether the watched bytes that are in regions equal these. Does not allocate.
     #[tactic(auto, unfolding(crate::specs::Stops::watched_bytes))]
     pub(crate) fn have_bytes(&self, bus: &Bus, bytes: &[u8]) -> bool
         ensures { IsTrue result ↔ (watched_bytes self.now bus.now ≡ bytes.now) }
@@ -110,7 +110,7 @@ impl Stops {
         seen == bytes.len()
     }
 
-    /// The address of the first watch whose bytes differ between two buses.
+    /// Returns the address of the first watchpoint whose bytes differ between two buses.
     #[tactic(auto, using(crate::proofs::Differing::differing_at), unfolding(crate::specs::Stops::first_differing))]
     pub(crate) fn differing_watch(
         &self,
@@ -136,7 +136,7 @@ impl Stops {
 impl Watch {
     ghost use Rattle.rv_history.specs.Stops.{watch_bytes};
 
-    // Where the bytes that stand in regions end in others, if they stand there from a place on.
+    // Compares the bytes that are in regions with others from an index on. Returns the index after them if they are equal, else `None`.
     fn seen_in(&self, bus: &Bus, bytes: &[u8], from: usize) -> Option<usize>
         requires { from ≤ length bytes.now }
         ensures within { IfSome result (λ end. end ≤ length bytes.now) }
@@ -156,7 +156,7 @@ impl Watch {
         Some(seen)
     }
 
-    // Appends the bytes that stand in regions.
+    // Appends the bytes that are in regions.
     fn push_bytes(&self, bytes: &mut Vec<u8>, bus: &Bus) -> Result<(), AllocError>
         ensures { OnOk result (bytes.new.items ≡ bytes.old.items ++ watch_bytes bus.now self.now) }
     {

@@ -1,4 +1,4 @@
-//! A run, with some of its states at hand.
+//! A run with some of its states stored.
 
 ghost use Rattle.std.specs.Prelude.{◌≡◌, ◌≤◌, ◌<◌, [], IfOk, IfSome};
 ghost use Rattle.rv_machine.specs.Machine.{state_of};
@@ -13,40 +13,40 @@ use rv_memory::Bus;
 use std::alloc::{AllocError, Global};
 use std::marker::Model;
 
-// At first a state is kept at each multiple of so many steps.
+// The initial interval, in steps, at whose multiples states are stored.
 const INTERVAL: u32 = 1 << 22;
 
-// Where a move back, a seek or a watch ended, a state is kept at most so many steps before.
+// The maximum distance, in steps, from a stored state to the end of a backward move, of a seek, or of a move that stopped at a watchpoint.
 const NEAR: u32 = 1 << 16;
 
-// A session takes so many megabytes at most, if none is told another number.
+// The default memory limit of a session, in megabytes.
 const MEGABYTES: u32 = 256;
 
 const MEGABYTE: usize = 1 << 20;
 
-// So many of them are for what is not kept, beside machines.
+// The number of these megabytes reserved for everything except machines.
 const MEGABYTES_BESIDE: usize = 32;
 
-// While a move goes on, so many machines are at hand that are not kept.
+// The number of machines that exist during a move without being stored.
 const MACHINES_BESIDE: usize = 4;
 
-// One in so many of the states is for the way to where the last move back, seek or watch ended.
+// One in this many of the states is stored before the end of the last backward move, seek or move to a watchpoint.
 const NEAR_SHARE: usize = 8;
 
-// The bytes that a machine has for each byte of its regions, and at most beside them.
+// The memory that a machine takes for each byte of its regions, and the maximum that it takes in addition.
 const BYTES_OF_BYTE: usize = 3;
 
 const BYTES_BESIDE: usize = 1 << 18;
 
-/// A run from its start, with some of its states at hand, so that a move need not begin at the start: each is the state behind as many
-/// steps as its place says. Which they are is seen only where an interrupt breaks a move off.
+/// A run from its start, with some of its states stored so that a move need not begin at the start. Each is the state after the number of
+/// steps stored with it. Which states are stored affects only where an interrupt ends a move.
 #[derive(Drop)]
 pub(crate) struct Checkpoints {
     start: Start,
     interval: u32,
-    // At multiples of the interval.
+    // States at multiples of the interval.
     coarse: CheckpointList,
-    // On the way to where moves back, seeks and watches ended, each half as far from there as the one before.
+    // States before the ends of backward moves, seeks and moves to watchpoints, each half as far from there as the preceding one.
     near: CheckpointList,
 }
 
@@ -71,7 +71,7 @@ impl Checkpoints {
     ghost use Rattle.rv_history.specs.Kept.{IsAt};
     ghost use Rattle.rv_history.specs.Starts.{start_of};
 
-    /// With none at hand but the start.
+    /// Creates a run without stored states except the start.
     pub(crate) fn new(alloc: Global, start: Start) -> Checkpoints
         ensures { result ≡ start_of start }
     {
@@ -84,7 +84,7 @@ impl Checkpoints {
         }
     }
 
-    /// From now on so many megabytes are taken at most. None but the start is at hand.
+    /// Limits the memory to `megabytes`. Drops all stored states except the start.
     pub(crate) fn set_memory(&mut self, alloc: Global, megabytes: u32)
         ensures { self.new ≡ self.old }
     {
@@ -93,14 +93,14 @@ impl Checkpoints {
         self.near = near;
     }
 
-    /// Where it begins.
+    /// Returns the start of the run.
     pub(crate) fn start(&self) -> &Start
         ensures { start_of result.now ≡ self.now }
     {
         &self.start
     }
 
-    /// The machine at the last state at hand up to a place.
+    /// Returns a machine with the last stored state at or before a step.
     pub(crate) fn before(&self, alloc: Global, place: u32) -> Result<MachineAt, AllocError>
         ensures { IfOk result (λ at. IsAt self.now at × (at.place ≤ place)) }
     {
@@ -111,7 +111,7 @@ impl Checkpoints {
         Ok(MachineAt { place: 0, machine })
     }
 
-    /// The last of another machine of the run and those at the states at hand, up to a place.
+    /// Returns a machine at or before a step: the given one or one with a stored state, whichever is later.
     pub(crate) fn last_of(
         &self,
         alloc: Global,
@@ -129,7 +129,7 @@ impl Checkpoints {
         }
     }
 
-    // The last state that is kept up to a place.
+    // Returns the last stored state at or before a step.
     fn nearest(&self, place: u32) -> Option<&MachineAt>
         ensures state { IfSome result (λ at. IsAt self.now at.now) }
         ensures before { IfSome result (λ at. at.now.place ≤ place) }
@@ -143,7 +143,7 @@ impl Checkpoints {
         }
     }
 
-    /// The machine behind a number of steps, or at the end of the run if that comes before.
+    /// Returns the machine after a number of steps, or at an earlier end of the run.
     pub(crate) fn machine_after(&self, alloc: Global, steps: u32) -> Result<Machine, AllocError>
         ensures { IfOk result (λ machine. state_of machine ≡ state_after steps self.now) }
     {
@@ -152,8 +152,7 @@ impl Checkpoints {
         Ok(at.machine)
     }
 
-    /// The machine at a place, or at the end of the run if that comes before, and how a run up to the place ends. States are kept on the
-    /// way.
+    /// Returns the machine at a step, or at an earlier end of the run, and how a run up to the step ends. Stores states as it goes.
     pub(crate) fn reach(
         &mut self,
         alloc: Global,
@@ -175,7 +174,7 @@ impl Checkpoints {
         Ok((at, ending))
     }
 
-    /// The machine at a place to which the run comes. States are kept on the way.
+    /// Returns the machine at a step that the run reaches. Stores states as it goes.
     pub(crate) fn come_to(&mut self, alloc: Global, place: u32) -> Result<MachineAt, AllocError>
         requires { (run_of place self.old).steps ≡ place }
         ensures place { IfOk result (λ at. at.place ≡ place) }
@@ -186,7 +185,7 @@ impl Checkpoints {
         Ok(at)
     }
 
-    /// Keeps the state of a machine at a multiple of the interval, if none is kept there.
+    /// Stores the state of a machine at a multiple of the interval, unless one is stored there.
     pub(crate) fn keep_multiple(&mut self, alloc: Global, at: &MachineAt) -> Result<(), AllocError>
         requires { IsAt self.old at.now }
         ensures { self.new ≡ self.old }
@@ -197,7 +196,7 @@ impl Checkpoints {
         self.keep(alloc, at)
     }
 
-    // The next place on the way from one place to another where a state is to be kept.
+    // Returns the next step, between two steps, at which to store a state.
     fn next_kept(&self, at: u32, place: u32) -> Option<u32>
         requires { at ≤ place }
         ensures { IfSome result (λ next. (at < next) × (next ≤ place)) }
@@ -213,7 +212,7 @@ impl Checkpoints {
         None
     }
 
-    // Keeps the state of a machine. Where there are too many at multiples of the interval, it doubles.
+    // Stores the state of a machine. If there are too many at multiples of the interval, doubles the interval.
     fn keep(&mut self, alloc: Global, at: &MachineAt) -> Result<(), AllocError>
         requires { IsAt self.old at.now }
         ensures { self.new ≡ self.old }
@@ -231,8 +230,8 @@ impl Checkpoints {
     }
 }
 
-// None yet of the states of a machine over a bus, of which so many megabytes keep as many as they can: those at multiples, and those near
-// to where moves back, seeks and watches ended.
+// Creates the empty lists of states for a machine with this bus, with as many entries as the memory limit allows: one for multiples of the
+// interval, one for states before the ends of backward moves, seeks and moves to watchpoints.
 fn kept_states(alloc: Global, bus: &Bus, megabytes: u32) -> (CheckpointList, CheckpointList)
     ensures { (result.0 ≡ []) × (result.1 ≡ []) }
 {
@@ -245,7 +244,7 @@ fn kept_states(alloc: Global, bus: &Bus, megabytes: u32) -> (CheckpointList, Che
     (coarse, CheckpointList::new(alloc, near))
 }
 
-// How many bytes a machine over a bus has, or more.
+// Returns an upper bound on the size in bytes of a machine with this bus.
 fn machine_size(bus: &Bus) -> usize
     ensures { 0 < result }
 {
@@ -254,5 +253,5 @@ fn machine_size(bus: &Bus) -> usize
     for region in map.as_slice() {
         size = size.saturating_add((region.size as usize).saturating_mul(BYTES_OF_BYTE));
     }
-    size.saturating_add(bus.script_left())
+    size.saturating_add(bus.script_remaining())
 }

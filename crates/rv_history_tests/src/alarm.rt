@@ -1,7 +1,7 @@
-//! Interrupts of the tests' own.
+//! Interrupts for the tests.
 use rv_history::Interrupt;
 
-/// An interrupt that rises at one of the times that it is asked, the first being 1, and falls again.
+/// An interrupt that is raised only at one poll, counted from 1.
 #[derive(Drop)]
 pub struct Alarm {
     asked: u32,

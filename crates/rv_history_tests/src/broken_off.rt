@@ -1,4 +1,4 @@
-//! Moves that an interrupt breaks off, by the lines of a table.
+//! Moves that an interrupt stops, by the lines of a table.
 use crate::alarm::Alarm;
 use crate::moves::{found_text, history_of, stops_of};
 use rv_history::{Bounds, History, Stops};
@@ -6,11 +6,11 @@ use samples::{agree, cell_of, has_lines};
 use std::alloc::Global;
 use std::test::Fail;
 
-// It adds 1 to x5 for ever, and stores nothing.
+// Adds 1 to x5 forever, and stores nothing.
 const CODE: &str = "00128293 ffdff06f X";
 
-// No instruction is at 80000040, and each move is longer than 2^16 steps, behind which it asks.
-// label | budget | stops | the ask at which the interrupt rises | where it breaks the move off | where the move ends then
+// No instruction is at 80000040, and each move is longer than 2^16 steps, after which it polls the interrupt. label | budget | stops | the
+// poll at which the interrupt is raised | where it stops the move | where the move then ends
 const AHEAD: &str = "\
 a run, at once | 66000 | none | 1 | 65536 interrupted | 66000 budget
 a run, later | 132000 | none | 2 | 131072 interrupted | 132000 budget
@@ -19,7 +19,7 @@ past a breakpoint, later | 132000 | b80000040 | 2 | 131072 interrupted | 132000 
 past a watch | 66000 | w80000100,4 | 1 | 65536 interrupted | 66000 budget
 ";
 
-// The same, beginning at the budget: a move back that is broken off has not moved.
+// As above, but starting at the budget: an interrupted move back has not moved.
 const BACK: &str = "\
 back to the start | 132000 | b80000040 | 2 | 132000 interrupted | 0 begin
 back past a watch | 132000 | w80000100,4 | 1 | 132000 interrupted | 0 begin
@@ -31,7 +31,7 @@ enum Way {
     Back,
 }
 
-// The place from which a move of this way is asked for: the start of the run, or its budget.
+// Returns a history at the step from which such a move is requested: the start of the run, or its budget.
 fn history_at(alloc: Global, way: Way, budget: u32) -> Result<History, Fail> {
     let mut history = history_of(alloc, CODE, budget)?;
     if let Way::Back = way {
@@ -40,7 +40,7 @@ fn history_at(alloc: Global, way: Way, budget: u32) -> Result<History, Fail> {
     Ok(history)
 }
 
-// Where a move ends, and what it found there.
+// Returns where a move ends, and what it found there.
 fn moved_to(
     alloc: Global,
     history: &mut History,
@@ -56,7 +56,7 @@ fn moved_to(
     Ok(format!(in alloc; "{} {told}", history.place())?)
 }
 
-// Going on, the move that is broken off comes to where it ends if nothing breaks it off.
+// Checks that an interrupted move, when continued, ends where it would have ended without the interrupt.
 fn check_moves_from(
     alloc: Global,
     history: &mut History,
@@ -96,7 +96,7 @@ fn moves_back_are_broken_off(rt: HostRuntime) -> Result<(), Fail> {
     Ok(())
 }
 
-// A move of less than 2^16 steps does not ask.
+// Checks that a move of less than 2^16 steps does not poll the interrupt.
 fn check_short_moves(alloc: Global, history: &mut History, stops: &Stops) -> Result<(), Fail> {
     let met = moved_to(alloc, history, Way::Ahead, stops, &mut Alarm::at(1))?;
     agree("ahead", met.as_str(), "65000 budget")?;

@@ -1,4 +1,4 @@
-//! Tests of `rv_history`: moves in runs that were written out by hand.
+//! Tests of `rv_history`: moves in hand-written runs.
 #![tactic(auto)]
 
 #[cfg(test)]

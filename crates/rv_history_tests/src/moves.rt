@@ -1,4 +1,4 @@
-//! Moves among the places of a run, by the lines of a table.
+//! Moves among the steps of a run, by the lines of a table.
 use crate::alarm::Alarm;
 use rv_base::Sequence;
 use rv_history::{Bounds, Found, History, Start, Stops, Watch};
@@ -9,12 +9,12 @@ use samples::{agree, cell_of, has_lines, hex_of, numbers};
 use std::alloc::{AllocError, Global};
 use std::test::Fail;
 
-// x5 is 80000100, and x6 counts from 3 down: the store at 8000000c is the steps 3, 6 and 9, with 3, 2 and 1. The exit call is the
+// x5 is 80000100, and x6 counts down from 3: the store at 8000000c is in steps 3, 6 and 9, with the values 3, 2 and 1. The exit call is
 // step 13, which does not complete.
 const CODE: &str = "00000297 10028293 00300313 0062a023 fff30313 fe031ce3 X";
 
-// What stands at each place: the low byte of the pc is 00 04 08, then three times 0c 10 14, then 18 and 1c.
-// label | budget | breaks and watches | dialogue
+// The low byte of the pc at each step: 00 04 08, then three times 0c 10 14, then 18 and 1c. label | budget | breakpoints and watchpoints |
+// dialogue
 const MOVES: &str = "\
 forward to the end | 100 | b8000000c | go_on = 3 break; go_on = 6 break; go_on = 9 break; go_on = 13 exit 0; go_on = 13 exit 0; step = 13 exit 0
 back to the start | 100 | b8000000c | seek 13 = yes 13; go_back = 9 break; go_back = 6 break; go_back = 3 break; go_back = 0 begin; step_back = 0 begin
@@ -70,7 +70,7 @@ pub fn stops_of(alloc: Global, text: &str) -> Result<Stops, Fail> {
 }
 
 pub fn history_of(alloc: Global, code: &str, budget: u32) -> Result<History, Fail> {
-    // It is small, since each move copies it.
+    // It is small because each move copies it.
     let map = Map::of(&[Region {
         base: 0x8000_0000,
         size: 0x1000,
@@ -120,7 +120,7 @@ fn moved(alloc: Global, history: &mut History, stops: &Stops, asked: &str) -> Re
     Ok(format!(in alloc; "{} {told}", history.place())?)
 }
 
-// A move, and what it is to come to.
+// Checks that a move has its expected result.
 fn check_move(
     alloc: Global,
     history: &mut History,
@@ -151,7 +151,7 @@ fn moves_stop(rt: HostRuntime) -> Result<(), Fail> {
     Ok(())
 }
 
-// The machine is the one at the place.
+// The machine is the one at the step.
 #[test]
 fn registers_are_of_the_place(rt: HostRuntime) -> Result<(), Fail> {
     let alloc = rt.alloc();

@@ -1,6 +1,5 @@
--- Which extensions a set of instructions has. A set is named by its letters (RISC-V Unprivileged
--- ISA 20191213, chapter 27): I is the base, which all have, M multiplication and division, C 16-bit
--- instructions.
+-- Which extensions an instruction set includes. A set is named by its letters (RISC-V Unprivileged ISA 20191213, chapter 27): I is the
+-- base, included in every set; M is multiplication and division; C is the 16-bit instructions.
 use Rattle.std.specs.Prelude.{Bool, true, false}
 use Rattle.rv_isa.specs.declared.sets.Isa.{Isa}
 use Rattle.rv_isa.specs.declared.sets.Isa.TheVariants as set
@@ -27,7 +26,7 @@ has_c set.Im = false
 has_c set.Ic = true
 has_c set.Imc = true
 
--- the extensions that a set has: each has FENCE.I too
+-- whether a set includes an extension; every set includes FENCE.I
 abbrev pub has : Isa → Extension → Bool
 has isa RV32I = true
 has isa Zifencei = true

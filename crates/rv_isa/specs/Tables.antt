@@ -1,7 +1,7 @@
--- What a table says of which some rows fit and some don't.
+-- Lookup in a table whose rows may or may not match.
 use Rattle.std.specs.Prelude.{Bool, if◌then◌else◌, List, [], ◌∷◌, Option, Some, None}
 
--- what the first row that fits gives
+-- the result of the first row that matches
 abbrev pub first_of : {A B : Type 0} → (A → Bool) → (A → B) → List A → Option B
 first_of fits give [] = None
 first_of fits give (row ∷ rest) = if fits row then Some (give row) else first_of fits give rest

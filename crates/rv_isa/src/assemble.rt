@@ -1,5 +1,5 @@
-//! The words of the instructions that 16-bit ones stand for, each with its meaning. Immediates and offsets are given as
-//! the functions of the formats take them.
+//! The 32-bit words equivalent to 16-bit instructions, each with its meaning. Immediates and offsets are passed in the form that the format
+//! functions expect.
 
 ghost use Rattle.rv_isa.specs.Bits.{sign_extended};
 ghost use Rattle.rv_isa.specs.Words.{meaning32, operands};

@@ -1,10 +1,10 @@
-//! Bit fields: taking one out of a word, joining two, and reading one as two's complement.
+//! Bit fields: extracting one from a word, joining two, and reading one as two's complement.
 ghost use Rattle.rv_isa.specs.Bits.{field as bits_of, sign_extended};
 ghost use Rattle.std.specs.Prelude.{ℕ, ◌≡◌, ◌+◌, ◌*◌, ◌-◌, ◌<◌, ◌≤◌, ◌^◌};
 
-/// The low `bits` bits of `value` read as two's complement.
+/// Returns the low `bits` bits of `value` read as two's complement.
 ///
-/// `bits` is from 1 to 32, and `value` has no bit set from there on.
+/// `bits` must be from 1 to 32, and `value` must have no bits set above them.
 #[inline]
 pub fn sign_extend(value: u32, bits: u32) -> i32
     requires some { 1 ≤ bits }
@@ -19,7 +19,7 @@ pub fn sign_extend(value: u32, bits: u32) -> i32
     }
 }
 
-/// The bits of `word` from `high` down to `low`.
+/// Returns the bits of `word` from `high` down to `low`.
 #[inline]
 pub fn field(word: u32, high: u32, low: u32) -> u32
     requires ordered { low ≤ high }
@@ -30,14 +30,14 @@ pub fn field(word: u32, high: u32, low: u32) -> u32
     (word >> low) & (u32::MAX >> (31 - (high - low)))
 }
 
-/// `high` with the `width` bits of `low` behind it.
+/// Returns `high` followed by the `width` bits of `low`.
 #[inline]
 pub fn join(high: u32, low: u32, width: u32) -> u32
     requires fits { low < 2 ^ width }
     requires within { width < 32 }
     requires whole { high * 2 ^ width < 2 ^ 32 }
     ensures value { result ≡ high * 2 ^ width + low }
-    // The fields of the result are those of the two.
+    // The fields of the result are the fields of the two inputs.
     ensures above { (h l : ℕ) → width ≤ l → l ≤ h →
         bits_of result h l ≡ bits_of high (h - width) (l - width) }
     ensures below { (h l : ℕ) → l ≤ h → h < width → bits_of result h l ≡ bits_of low h l }

@@ -1,4 +1,4 @@
-//! The instruction of a halfword, by way of a 32-bit word that means the same; and which halfwords begin a word.
+//! Decodes a halfword through an equivalent 32-bit word, and distinguishes 16-bit from 32-bit instructions.
 ghost use Rattle.rv_isa.specs.Bits.{field as bits_of};
 ghost use Rattle.rv_isa.specs.Halfwords.{rows16, fits16, Means16, meaning16, Expands};
 ghost use Rattle.rv_isa.specs.Words.{Means32, IsWellFormed};
@@ -19,8 +19,8 @@ use crate::half_immediates::{
 use crate::instruction::Instr;
 use crate::sets::Isa;
 
-/// Whether a halfword begins a 32-bit instruction: its low two bits are 11 (section 1.5 of the RISC-V Unprivileged ISA
-/// 20191213). Every other halfword is a whole instruction, or illegal.
+/// Whether a halfword begins a 32-bit instruction: its low two bits are 11 (section 1.5 of the RISC-V Unprivileged ISA 20191213). Every
+/// other halfword is a complete instruction or illegal.
 #[inline]
 pub fn is_long(half: u16) -> bool
     ensures { IsTrue result ↔ (bits_of half 1 0 ≡ 0b11) }
@@ -28,22 +28,22 @@ pub fn is_long(half: u16) -> bool
     field(u32::from(half), 1, 0) == 3
 }
 
-/// A 32-bit word with the meaning of a 16-bit instruction, or `None` where no row of the RVC listing (section 16.8, the
-/// RV32 lines without F and D) fits the halfword: it is reserved, of another extension, or begins a 32-bit instruction.
+/// Returns a 32-bit word equivalent to a 16-bit instruction, or `None` if no row of the RVC listing (section 16.8, the RV32 lines without F
+/// and D) matches the halfword: it is reserved, belongs to another extension, or begins a 32-bit instruction.
 ///
 /// Hints have rows. The halfword 0x0000 has none.
 #[inline(always)]
 pub fn expand(half: u16) -> Option<u32>
     ensures none { IsNone result ↔ ((i : Instr) → Means16 set.Imc half i → ⊥) }
-    // The word means just what the halfword does.
+    // The word means exactly what the halfword means.
     ensures word { IfSome result (λ w. (i : Instr) → Means32 set.Imc w i ↔ Means16 set.Imc half i) }
     ensures value { Expands half result }
 {
     expanded_word(half)
 }
 
-/// The instruction of a halfword: that of its only row in the RVC listing, or `None` where no row fits (as for
-/// `expand`) or the set of instructions is without C.
+/// Decodes a halfword: returns the instruction of its only row in the RVC listing, or `None` if no row matches (see `expand`) or the
+/// instruction set lacks C.
 #[inline(always)]
 pub fn decode16(half: u16, isa: Isa) -> Option<Instr>
     ensures meaning { (i : Instr) → (result ≡ Some i) ↔ Means16 isa half i }
@@ -53,7 +53,7 @@ pub fn decode16(half: u16, isa: Isa) -> Option<Instr>
     instr_of_half(half, isa)
 }
 
-/// A law of the listing, with nothing to run: no halfword has two rows, in any set.
+/// A law of the listing, with no code to run: no halfword matches two rows, in any set.
 pub fn no_halfword_has_two_rows()
     ensures { (isa : Set) (half : ℕ) → count_by (fits16 isa half) rows16 ≤ 1 }
 {}
@@ -70,6 +70,7 @@ fn instr_of_half(half: u16, isa: Isa) -> Option<Instr>
     decode32(expand(half)?, Isa::Imc)
 }
 
+// Returns the 32-bit word equivalent to a 16-bit instruction, by quadrant.
 #[tactic(auto, using(crate::proofs::ByQuadrant::quadrant_3))]
 fn expanded_word(half: u16) -> Option<u32>
     ensures { Expands half result }
@@ -117,7 +118,7 @@ fn quadrant1_word(half: u32) -> Option<u32>
     }
 }
 
-// C.ADDI16SP and C.LUI. The two take their immediates from the same bits, so both are 0 together.
+// Expands C.ADDI16SP and C.LUI. Both take their immediates from the same bits, so both are 0 together.
 #[tactic(auto, using(crate::proofs::ByQuadrant::by_quadrant))]
 fn lui_or_addi16sp_word(half: u32) -> Option<u32>
     requires quadrant { bits_of half 1 0 ≡ 1 }
@@ -172,7 +173,7 @@ fn quadrant2_word(half: u32) -> Option<u32>
     }
 }
 
-// C.JR, C.MV, C.EBREAK, C.JALR and C.ADD.
+// Expands C.JR, C.MV, C.EBREAK, C.JALR and C.ADD.
 #[tactic(auto, using(crate::proofs::ByQuadrant::by_quadrant))]
 fn cr_format_word(half: u32) -> Option<u32>
     requires quadrant { bits_of half 1 0 ≡ 2 }

@@ -1,4 +1,4 @@
-//! The instruction of a 32-bit word, by opcode, then by the fields that the opcode leaves open.
+//! Decodes a 32-bit word by its opcode, then by the fields that the opcode leaves open.
 ghost use Rattle.rv_isa.specs.Bits.{field as bits_of};
 ghost use Rattle.rv_isa.specs.Words.{rows, fits, Means32, meaning32, IsWellFormed, name_at};
 ghost use Rattle.rv_isa.specs.Words.{branches, loads, stores, immediates, shifts, arithmetic_shifts};
@@ -14,11 +14,11 @@ use crate::instruction::{Instr, Op};
 use crate::opcodes::{AUIPC, BRANCH, JAL, JALR, LOAD, LUI, MISC_MEM, OP, OP_IMM, STORE, SYSTEM};
 use crate::sets::Isa;
 
-/// The instruction of a 32-bit word: that of the word's only row in the RV32G listing of the RISC-V Unprivileged ISA
-/// 20191213 (chapter 24; RV32I, RV32M and Zifencei), or `None` where no row of the set of instructions fits it. The
-/// rows of RV32M stand in `Isa::Im` and `Isa::Imc`, all others in every set.
+/// Decodes a 32-bit word: returns the instruction of its only row in the RV32G listing of the RISC-V Unprivileged ISA 20191213 (chapter 24;
+/// RV32I, RV32M and Zifencei), or `None` if no row of the instruction set matches. The rows of RV32M are in `Isa::Im` and `Isa::Imc`, all
+/// others in every set.
 ///
-/// Words of other extensions, Zicsr, WFI and MRET among them, have no row. FENCE and FENCE.I ignore their other fields.
+/// Words of other extensions, including Zicsr, WFI and MRET, have no row. FENCE and FENCE.I ignore their other fields.
 #[inline(always)]
 pub fn decode32(word: u32, isa: Isa) -> Option<Instr>
     ensures meaning { (i : Instr) → (result ≡ Some i) ↔ Means32 isa word i }
@@ -28,7 +28,7 @@ pub fn decode32(word: u32, isa: Isa) -> Option<Instr>
     instr_of_word(word, isa)
 }
 
-/// A law of the listing, with nothing to run: no word has two rows, in any set.
+/// A law of the listing, with no code to run: no word matches two rows, in any set.
 pub fn no_word_has_two_rows()
     ensures { (isa : Set) (word : ℕ) → count_by (fits isa word) rows ≤ 1 }
 {}
@@ -200,6 +200,7 @@ fn fence_op(funct3: u32) -> Option<Op>
     }
 }
 
+// Decodes ECALL and EBREAK, the only words of the SYSTEM opcode that have a row.
 #[inline]
 #[tactic(auto, using(crate::proofs::ByOpcode::by_opcode))]
 fn system_instr(word: u32, isa: Isa) -> Option<Instr>

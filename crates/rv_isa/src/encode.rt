@@ -1,6 +1,5 @@
-//! One function for each format of a 32-bit word (section 2.2 and 2.3), which puts a word together from its fields.
-//! An immediate is given as the low bits of its two's complement: 12 of them in formats I and S, 13 in B, 21 in J; of
-//! a U immediate the upper 20.
+//! One function per format of a 32-bit word (sections 2.2 and 2.3), which assembles a word from its fields. An immediate is passed as the
+//! low bits of its two's complement: 12 bits in formats I and S, 13 in B, 21 in J; for a U immediate, the upper 20 bits.
 
 ghost use Rattle.rv_isa.specs.Bits.{field as bits_of, sign_extended};
 ghost use Rattle.rv_isa.specs.Words.{immediate_s, immediate_b, immediate_j};
@@ -125,7 +124,7 @@ pub fn j_word(offset: u32, rd: u32, opcode: u32) -> u32
     u_word(with_high, rd, opcode)
 }
 
-/// `value`, a number of `bits` bits in two's complement, as one of `wider` bits.
+/// Sign-extends `value`, a two's complement number of `bits` bits, to `wider` bits.
 #[inline]
 pub fn widen(value: u32, bits: u32, wider: u32) -> u32
     requires some { 1 ≤ bits }

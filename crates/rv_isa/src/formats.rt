@@ -34,7 +34,7 @@ pub fn type_i(op: Op, word: u32) -> Instr
     }
 }
 
-/// A shift by an immediate, the number where `rs2` would be.
+/// Decodes a shift by an immediate; the shift amount is in the bits of `rs2`.
 #[inline]
 pub fn type_shift(op: Op, word: u32) -> Instr
     ensures { result ≡ instruction op TypeShift word }
@@ -100,7 +100,7 @@ pub fn type_j(op: Op, word: u32) -> Instr
     }
 }
 
-/// An instruction that takes nothing from its word.
+/// Returns an instruction that takes no operands from its word.
 #[inline]
 pub fn no_operands(op: Op) -> Instr
     ensures { result ≡ instruction op NoOperands 0 }

@@ -1,4 +1,4 @@
-//! The immediates of the 16-bit instructions, not yet sign-extended.
+//! The immediates of the 16-bit instructions, before sign extension.
 
 ghost use Rattle.rv_isa.specs.Bits.{bit, field as bits_of};
 ghost use Rattle.rv_isa.specs.Halfwords as row;
@@ -6,7 +6,7 @@ ghost use Rattle.std.specs.Prelude.{◌≡◌, ◌+◌, ◌*◌, ◌-◌, ◌<�
 
 use crate::bits::{field, join};
 
-/// C.ADDI, C.LI and C.ANDI, and in units of 4096 C.LUI.
+/// Returns the immediate of C.ADDI, C.LI and C.ANDI, and of C.LUI in units of 4096.
 #[inline]
 pub fn imm_ci(half: u32) -> u32
     ensures value { result ≡ row.immediate_ci half }
@@ -15,7 +15,7 @@ pub fn imm_ci(half: u32) -> u32
     join(field(half, 12, 12), field(half, 6, 2), 5)
 }
 
-/// C.ADDI4SPN.
+/// Returns the immediate of C.ADDI4SPN.
 #[inline]
 pub fn imm_ciw(half: u32) -> u32
     ensures value { result ≡ row.immediate_ciw half }
@@ -26,7 +26,7 @@ pub fn imm_ciw(half: u32) -> u32
     words << 2
 }
 
-/// C.LW and C.SW.
+/// Returns the immediate of C.LW and C.SW.
 #[inline]
 pub fn imm_cl(half: u32) -> u32
     ensures value { result ≡ row.immediate_cl half }
@@ -36,7 +36,7 @@ pub fn imm_cl(half: u32) -> u32
     join(upper, field(half, 6, 6), 1) << 2
 }
 
-/// C.ADDI16SP.
+/// Returns the immediate of C.ADDI16SP.
 #[inline]
 pub fn imm_addi16sp(half: u32) -> u32
     ensures value { result ≡ row.immediate_addi16sp half }
@@ -47,7 +47,7 @@ pub fn imm_addi16sp(half: u32) -> u32
     join(middle, field(half, 6, 6), 1) << 4
 }
 
-/// C.J and C.JAL.
+/// Returns the immediate of C.J and C.JAL.
 #[inline]
 pub fn imm_cj(half: u32) -> u32
     ensures value { result ≡ row.immediate_cj half }
@@ -61,7 +61,7 @@ pub fn imm_cj(half: u32) -> u32
     join(middle, field(half, 5, 3), 3) << 1
 }
 
-/// C.BEQZ and C.BNEZ.
+/// Returns the immediate of C.BEQZ and C.BNEZ.
 #[inline]
 pub fn imm_cb(half: u32) -> u32
     ensures value { result ≡ row.immediate_cb half }
@@ -73,7 +73,7 @@ pub fn imm_cb(half: u32) -> u32
     join(join(top, field(half, 11, 10), 2), field(half, 4, 3), 2) << 1
 }
 
-/// C.LWSP.
+/// Returns the immediate of C.LWSP.
 #[inline]
 pub fn imm_lwsp(half: u32) -> u32
     ensures value { result ≡ row.immediate_lwsp half }
@@ -83,7 +83,7 @@ pub fn imm_lwsp(half: u32) -> u32
     join(upper, field(half, 6, 4), 3) << 2
 }
 
-/// C.SWSP.
+/// Returns the immediate of C.SWSP.
 #[inline]
 pub fn imm_css(half: u32) -> u32
     ensures value { result ≡ row.immediate_css half }

@@ -1,7 +1,7 @@
-//! An instruction, whatever its length was: its name and its operands.
+//! A decoded instruction, independent of its length: its name and operands.
 
-/// The name of an instruction of RV32IM with Zifencei, in the order of the listing of the RISC-V Unprivileged ISA
-/// 20191213 (chapter 24). The 16-bit instructions of the C extension have the names of what they stand for.
+/// The name of an instruction of RV32IM with Zifencei, in the order of the listing of the RISC-V Unprivileged ISA 20191213 (chapter 24). A
+/// 16-bit instruction of the C extension has the name of the instruction that it expands to.
 #[derive(Clone, Copy, Debug, PartialEq, Eq)]
 pub enum Op {
     Lui,
@@ -55,16 +55,16 @@ pub enum Op {
     Remu,
 }
 
-/// An instruction with its operands; what its format does not have is 0.
+/// An instruction with its operands. Operands that its format lacks are 0.
 #[derive(Clone, Copy, Debug, PartialEq, Eq)]
 pub struct Instr {
     pub op: Op,
-    /// The number of the register that is written, below 32.
+    /// The number of the destination register, below 32.
     pub rd: u8,
-    /// The numbers of the registers that are read, below 32.
+    /// The numbers of the source registers, below 32.
     pub rs1: u8,
     pub rs2: u8,
-    /// The sign-extended immediate. Of LUI and AUIPC it is what is loaded or added, its low 12 bits 0; of a shift by an
-    /// immediate the shift, from 0 to 31; of a branch or jump the offset in bytes.
+    /// The sign-extended immediate. For LUI and AUIPC, the value loaded or added, with its low 12 bits 0; for a shift by an immediate, the
+    /// shift amount, from 0 to 31; for a branch or jump, the offset in bytes.
     pub imm: i32,
 }

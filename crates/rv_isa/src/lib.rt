@@ -1,10 +1,9 @@
 //! The instructions of RV32IMC with Zifencei: their names and operands, and the decoder of words and halfwords.
 //!
-//! A caller decodes a 32-bit word by `decode32` and a halfword by `decode16`, and tells by `is_long` which of the two
-//! begins at an address. The answer is an `Instr`: a name and operands, the same ones whatever the length was. It is
-//! promised that the answer is what the listings of the RISC-V Unprivileged ISA 20191213 (chapter 24 and section 16.8)
-//! say of that word or halfword, for every one of them and each set of instructions (`Isa`), and that none of them has
-//! two lines there. A narrower set has fewer of the lines; what it lacks has no meaning in it.
+//! `is_long` tells whether a 32-bit or a 16-bit instruction begins at an address; `decode32` decodes a word and `decode16` a halfword. The
+//! result is an `Instr`, a name and operands, whatever the length. For every word and halfword and each instruction set (`Isa`), the result
+//! is proved to be what the listings of the RISC-V Unprivileged ISA 20191213 (chapter 24 and section 16.8) specify, and no code matches two
+//! lines of the listings. A smaller set has fewer of the lines; codes of the lines that it lacks do not decode.
 #![tactic(auto)]
 
 mod assemble;

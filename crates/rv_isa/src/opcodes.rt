@@ -1,4 +1,4 @@
-//! The opcodes, bits 6 to 0 of a word, by the names of the manual's opcode map (chapter 24).
+//! The opcodes, bits 6 to 0 of a word, named as in the manual's opcode map (chapter 24).
 
 pub const LOAD: u32 = 0x03;
 

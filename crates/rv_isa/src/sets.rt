@@ -1,9 +1,9 @@
-//! The sets of instructions that a hart may have.
+//! The instruction sets that a hart may have.
 ghost use Rattle.rv_isa.specs.Extensions.{has, RV32M, RV32C};
 ghost use Rattle.std.specs.Prelude.{◌≡◌};
 
-/// A set of instructions: RV32I with Zifencei, and the extensions whose letters its name has. M multiplies and divides,
-/// C has the 16-bit instructions.
+/// An instruction set: RV32I with Zifencei, and the extensions named by its letters. M is multiplication and division, C is the 16-bit
+/// instructions.
 #[derive(Clone, Copy, Debug, PartialEq, Eq)]
 pub enum Isa {
     I,
@@ -13,7 +13,7 @@ pub enum Isa {
 }
 
 impl Isa {
-    /// Whether a hart of this set multiplies and divides.
+    /// Whether a hart of this set has multiplication and division.
     #[inline]
     pub fn has_m(self) -> bool
         ensures { result ≡ has self RV32M }
@@ -21,8 +21,8 @@ impl Isa {
         matches!(self, Isa::Im | Isa::Imc)
     }
 
-    /// Whether a hart of this set runs 16-bit instructions, so that one may stand at any even address. Without them
-    /// each stands at a multiple of 4.
+    /// Whether a hart of this set runs 16-bit instructions, so that an instruction may start at any even address. Without them, every
+    /// instruction starts at a multiple of 4.
     #[inline]
     pub fn has_c(self) -> bool
         ensures { result ≡ has self RV32C }

@@ -1,4 +1,4 @@
--- The line that says what is found of a used-up budget.
+-- The line that explains a used-up budget.
 use Rattle.std.specs.Prelude.{◌≡◌, ◌==◌, ◌++◌, ℕ, Bool, List, [], Option, Some, None, codes, if◌then◌else◌}
 use Rattle.std.specs.Fmt.{decimal}
 use Rattle.rv_hang.specs.BudgetUse.{IsBudgetUseIn}
@@ -12,7 +12,7 @@ use Rattle.rv_rows.specs.declared_row.RowEnd.{RowEnd}
 use Rattle.rv_rows.specs.declared_row.RowEnd.TheVariants.{Budget}
 use Rattle.rv_rows.specs.Report.{line}
 
--- why a run goes round, where a load from the script at its end is in it
+-- the reason for a loop that loads from the exhausted input script
 abbrev pub waiting_text : Bool → List ℕ
 waiting_text waits = if waits then codes ", waiting for input after the end of the script" else []
 
@@ -20,7 +20,7 @@ unfoldable pub repetition_line : Repetition → List ℕ
 repetition_line r = line (codes "     never ends: after " ++ decimal r.begin ++ codes " steps it repeats every "
     ++ decimal r.period ++ codes " steps" ++ waiting_text r.waits)
 
--- of the last steps, or of all where the run has no more
+-- whether the last steps or all steps of the run were searched
 abbrev pub last_or_all_text : ℕ → ℕ → List ℕ
 last_or_all_text steps within = if within == steps then codes "its " else codes "its last "
 
@@ -28,13 +28,13 @@ unfoldable pub changes_line : ℕ → ℕ → List ℕ
 changes_line steps within = line (codes "     the budget may be too small: no endless loop was found in "
     ++ last_or_all_text steps within ++ decimal within ++ codes " steps")
 
--- what is found of a run of so many steps
+-- the line for a run of this many steps
 abbrev pub budget_use_line : ℕ → Option BudgetUse → List ℕ
 budget_use_line steps None = []
 budget_use_line steps (Some (Repeats r)) = repetition_line r
 budget_use_line steps (Some (Changes within)) = changes_line steps within
 
--- a run that used up its budget is looked into, and no other one
+-- only a run that used up its budget is analysed
 abbrev pub IsUseBehind : RowEnd → Planned → Job → ℕ → Option BudgetUse → Type 0
 IsUseBehind Budget plan job steps found = IsBudgetUseIn plan job steps found
 IsUseBehind _ plan job steps found = found ≡ None

@@ -1,4 +1,4 @@
--- A console that differs from the text that is expected, as it is told by lines.
+-- The line-by-line difference between a console and the expected text.
 use Rattle.std.specs.Prelude.{◌==◌, ◌||◌, ◌&&◌, ◌+◌, ◌-◌, ◌≡◌, ◌≢◌, ℕ, zero, suc, Bool, false, List, [], ◌∷◌, ◌++◌}
 use Rattle.std.specs.Prelude.{if◌then◌else◌, nat_eq, nat_lt, nat_le, codes, drop, length, take, Option, Some, None, unwrap_or}
 use Rattle.std.specs.Fmt.{decimal}
@@ -19,62 +19,62 @@ use Rattle.rv_job_text.specs.ConsoleTail.{is_feed}
 
 -- ---- lines
 
--- the lines of a text, each with its line feed, which the last one may lack
+-- the lines of a text, each with its line feed, which the last one can lack
 unfoldable pub whole_lines : List ℕ → List (List ℕ)
 whole_lines [] = []
 whole_lines (byte ∷ rest) =
     if is_feed byte then (byte ∷ []) ∷ whole_lines rest else onto_first byte (whole_lines rest)
 
--- the line in front, if there is one
+-- the first line, if there is one
 abbrev pub front_line : List (List ℕ) → List ℕ
 front_line [] = []
 front_line (line ∷ lines) = line
 
--- how many lines in front are equal on both sides
+-- the number of leading lines that are equal on both sides
 abbrev pub equal_line_count : List ℕ → List ℕ → ℕ
 equal_line_count met wanted = common_prefix_len bytes_eq (whole_lines met) (whole_lines wanted)
 
--- how many lines in front differ on both sides, each from the other's at its place: so many at most
+-- the number of leading lines that differ pairwise, up to a maximum
 unfoldable pub differing_line_count : ℕ → List (List ℕ) → List (List ℕ) → ℕ
 differing_line_count zero met wanted = 0
 differing_line_count (suc most) met wanted =
     if bytes_eq (front_line met) (front_line wanted) then 0
     else 1 + differing_line_count most (drop 1 met) (drop 1 wanted)
 
--- before a place lines are equal on both sides, and there they differ, or one side has none
+-- before an index lines are equal on both sides; at the index they differ, or one side has no line
 pub record DifferFirstAt (place : ℕ) (met wanted : List (List ℕ)) : Type 0 where
   pub before : take place met ≡ take place wanted
   pub there : front_line (drop place met) ≢ front_line (drop place wanted)
 
 -- ---- a line that is shown
 
--- a byte that a character of UTF-8 begins with
+-- a byte with which a UTF-8 character begins
 abbrev pub begins_character : ℕ → Bool
 begins_character byte = nat_lt byte 0x80 || nat_le 0xC0 byte
 
--- how many bytes the first characters of a text have: so many characters at most
+-- the number of bytes in the first characters of a text, up to a maximum number of characters
 unfoldable pub characters_len : ℕ → List ℕ → ℕ
 characters_len most [] = 0
 characters_len zero (byte ∷ rest) = if begins_character byte then 0 else 1 + characters_len zero rest
 characters_len (suc most) (byte ∷ rest) =
     1 + characters_len (if begins_character byte then most else suc most) rest
 
--- the most characters of a line that are shown
+-- the maximum number of characters shown of a line
 abbrev pub most_line_characters : ℕ
 most_line_characters = 160
 
--- how many bytes before the first that differs a longer line is shown from, at most
+-- the maximum number of bytes before the first difference at which a longer line is shown
 abbrev pub bytes_before_difference : ℕ
 bytes_before_difference = 32
 
--- from which byte on a line is shown that differs at a place: a longer one from a character shortly before the place
+-- the byte from which a line that differs at an offset is shown; a longer line is shown from a character shortly before the offset
 abbrev pub shown_begin : ℕ → List ℕ → ℕ
 shown_begin place text =
     if characters_len most_line_characters text == length text then 0
     else (place - bytes_before_difference
     + position_or_len begins_character (drop (place - bytes_before_difference) text))
 
--- a line from a byte on, behind two dots where it does not begin there
+-- a line from a byte on, after two dots unless it is shown from its beginning
 abbrev pub text_shown_from : ℕ → List ℕ → List ℕ
 text_shown_from begin text = (if begin == 0 then [] else codes "..")
     ++ printable_text (take (characters_len most_line_characters (drop begin text)) (drop begin text))
@@ -82,17 +82,17 @@ text_shown_from begin text = (if begin == 0 then [] else codes "..")
 unfoldable pub shown_line : ℕ → List ℕ → List ℕ
 shown_line place text = text_shown_from (shown_begin place text) text
 
--- that a line has no line feed
+-- a note that a line has no line feed
 abbrev pub feed_note : List ℕ → List ℕ
 feed_note whole =
     if position_or_len is_feed whole == length whole then codes "     \\ no newline at the end\n" else []
 
--- the line of one side beside the other's, behind a margin
+-- the line of one side, after a margin; it is shown relative to the line of the other side
 unfoldable pub side_line : List ℕ → List ℕ → List ℕ → List ℕ
 side_line margin own other =
     line (margin ++ shown_line (common_prefix_len nat_eq own other) (before_first is_feed own)) ++ feed_note own
 
--- the first lines of one side: so many, or all where there are fewer
+-- the first lines of one side, up to a maximum
 unfoldable pub side_lines : List ℕ → ℕ → List (List ℕ) → List (List ℕ) → List ℕ
 side_lines margin zero own other = []
 side_lines margin (suc count) [] other = []
@@ -101,77 +101,77 @@ side_lines margin (suc count) (own ∷ more) other =
 
 -- ---- the whole
 
--- the most equal lines that are shown before the first that differs
+-- the maximum number of equal lines shown before the first difference
 abbrev pub most_equal_lines : ℕ
 most_equal_lines = 2
 
--- the most lines of each side that are shown
+-- the maximum number of differing lines shown of each side
 abbrev pub most_differing_lines : ℕ
 most_differing_lines = 3
 
 abbrev pub larger : ℕ → ℕ → ℕ
 larger n m = if nat_lt n m then m else n
 
--- in which line the first difference is, of how many: those of the longer side
+-- the line number of the first difference, and the number of lines of the longer side
 abbrev pub lines_heading : List ℕ → ℕ → ℕ → List ℕ
 lines_heading source number count = codes "     console differs from " ++ source ++ codes " at line "
     ++ decimal number ++ codes " of " ++ decimal count ++ codes ":\n"
 
--- of lines of which so many in front are equal, the last of these
+-- the last of the equal leading lines
 abbrev pub equal_lines : ℕ → List (List ℕ) → List ℕ
 equal_lines equal lines = let earlier = equal - most_equal_lines in
     side_lines (codes "       ") (equal - earlier) (drop earlier lines) []
 
--- of lines that begin with one that differs, those that do: first the expected ones, and then those that were met
+-- given lines from the first difference on: those that differ, first the expected ones, then the actual ones
 abbrev pub differing_lines : List (List ℕ) → List (List ℕ) → List ℕ
 differing_lines met wanted = let count = differing_line_count most_differing_lines met wanted in
     side_lines (codes "     - ") count wanted met ++ side_lines (codes "     + ") count met wanted
 
--- the lines of two texts, of which so many in front are equal
+-- the lines of two texts around their first difference, given the number of equal leading lines
 abbrev pub lines_around : ℕ → List (List ℕ) → List (List ℕ) → List ℕ
 lines_around equal met wanted = equal_lines equal met ++ differing_lines (drop equal met) (drop equal wanted)
 
--- the first difference of a console from the text that is expected, which has its name
+-- the first difference between a console and the expected text, which has this name
 unfoldable pub console_lines : List ℕ → List ℕ → List ℕ → List ℕ
 console_lines source met wanted = let equal = equal_line_count met wanted in
     lines_heading source (equal + 1) (larger (length (whole_lines met)) (length (whole_lines wanted)))
     ++ lines_around equal (whole_lines met) (whole_lines wanted)
 
--- a difference is told by lines where both sides are there, and are UTF-8
-abbrev pub is_told_by_lines : Difference → List ℕ → List ℕ → Bool
-is_told_by_lines difference.Absent met wanted = false
-is_told_by_lines (difference.At place) met wanted = is_utf8 met && is_utf8 wanted
-is_told_by_lines difference.Lengths met wanted = is_utf8 met && is_utf8 wanted
+-- a difference is shown by lines if both sides are present and are UTF-8
+abbrev pub is_shown_by_lines : Difference → List ℕ → List ℕ → Bool
+is_shown_by_lines difference.Absent met wanted = false
+is_shown_by_lines (difference.At place) met wanted = is_utf8 met && is_utf8 wanted
+is_shown_by_lines difference.Lengths met wanted = is_utf8 met && is_utf8 wanted
 
 -- ---- the text that is expected
 
--- a text, and what it is called
+-- an expected text and its name
 pub record Wanted : Type 0 where
   pub source : List ℕ
   pub text : List ℕ
 
--- the text that a console is expected to be: of the list, or of a file as it was read
+-- the expected console text: from the list, or from a file as it was read
 abbrev pub wanted_console : Option ExpectedConsole → Option (List ℕ) → Option Wanted
 wanted_console None file = None
 wanted_console (Some (console.Text text)) file = Some record { source = codes "the expected text"; text = text }
 wanted_console (Some (console.File path)) file = Some record { source = printable_text path; text = unwrap_or file [] }
 
--- this text, where a difference from it is told by lines
-abbrev pub told_by_lines : Difference → List ℕ → Option Wanted → Option Wanted
-told_by_lines difference met None = None
-told_by_lines difference met (Some wanted) =
-    if is_told_by_lines difference met wanted.text then Some wanted else None
+-- the expected text, if the difference from it is shown by lines
+abbrev pub shown_by_lines : Difference → List ℕ → Option Wanted → Option Wanted
+shown_by_lines difference met None = None
+shown_by_lines difference met (Some wanted) =
+    if is_shown_by_lines difference met wanted.text then Some wanted else None
 
--- the text from which an unmet expectation differs, where that is told by lines
+-- the expected text of an unmet expectation, if the difference is shown by lines
 abbrev pub expected_by_lines : Sides → Unmet → Option Wanted
 expected_by_lines sides unmet.Exit = None
 expected_by_lines sides unmet.End = None
 expected_by_lines sides (unmet.Console difference) =
-    told_by_lines difference sides.row.console (wanted_console sides.job.expect_console sides.console)
+    shown_by_lines difference sides.row.console (wanted_console sides.job.expect_console sides.console)
 expected_by_lines sides (unmet.Signature difference) = None
 expected_by_lines sides (unmet.Same difference) = None
 expected_by_lines sides unmet.Nothing = None
 
--- the same as the code has it
+-- the definition's form of the code's `ExpectedText`
 abbrev pub wanted_of : ExpectedText → Wanted
 wanted_of wanted = record { source = span_text wanted.source; text = wanted.text.now }

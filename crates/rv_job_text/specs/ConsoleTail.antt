@@ -1,36 +1,35 @@
--- The end of a console as it is shown behind the line of a failed job.
+-- The end of a console, shown after the line of a failed job.
 use Rattle.std.specs.Prelude.{◌==◌, ◌-◌, ℕ, Bool, List, [], ◌∷◌, ◌++◌, if◌then◌else◌, codes, drop}
 use Rattle.std.specs.Prelude.{length}
 use Rattle.std.specs.List.{flat_map, onto_first}
 use Rattle.rv_rows.specs.Report.{line}
 use Rattle.rv_text.specs.Printable.{printable_text}
 
--- the last elements of a list: so many, or all where there are fewer
+-- the last elements of a list, up to a maximum
 abbrev pub last_elements : {X : Type 0} → ℕ → List X → List X
 last_elements count xs = drop (length xs - count) xs
 
 abbrev pub is_feed : ℕ → Bool
 is_feed byte = byte == 10
 
--- the lines of a text: what stands before each line feed, and what stands behind the last one, unless
--- that is nothing
+-- the lines of a text: the part before each line feed, and the part after the last one unless it is empty
 unfoldable pub text_lines : List ℕ → List (List ℕ)
 text_lines [] = []
 text_lines (byte ∷ rest) =
     if is_feed byte then [] ∷ text_lines rest else onto_first byte (text_lines rest)
 
--- a line of a console, as it is shown behind a margin
+-- a line of a console, as it is shown after a margin
 abbrev pub console_tail_line : List ℕ → List ℕ
 console_tail_line text = line (codes "     | " ++ printable_text text)
 
--- the most lines of a console's end that are shown, and the most bytes that these lines are of
+-- the maximum number of lines shown of a console's end, and of bytes from which they are taken
 abbrev pub most_tail_lines : ℕ
 most_tail_lines = 10
 
 abbrev pub most_tail_bytes : ℕ
 most_tail_bytes = 1024
 
--- the last lines of the last bytes of a console
+-- the last lines among the last bytes of a console
 unfoldable pub console_tail : List ℕ → List ℕ
 console_tail console =
     flat_map console_tail_line (last_elements most_tail_lines (text_lines (last_elements most_tail_bytes console)))

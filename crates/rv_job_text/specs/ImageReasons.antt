@@ -1,5 +1,5 @@
--- Why an image was refused, as a person is told it: the addresses that a map refuses beside its
--- regions, the names of symbols, and a sentence for each other refusal.
+-- Why an image was refused, as shown to a person: the addresses that do not fit the map beside its regions, the names of symbols, or a
+-- sentence for every other refusal.
 use Rattle.std.specs.Prelude.{◌+◌, ◌-◌, ◌^◌, ℕ, List, [], ◌∷◌, ◌++◌, codes, Option, Some, None}
 use Rattle.std.specs.Prelude.{option_map, Result, Ok, Err, Bool, true, false, if◌then◌else◌, nat_lt}
 use Rattle.std.specs.List.{find, flat_map}
@@ -21,7 +21,7 @@ use Rattle.rv_text.specs.Words.{word_digits}
 
 -- ---- addresses
 
--- the last of so many addresses from one on, of which there is at least one
+-- the last of a nonempty range of addresses
 unfoldable pub last_address_text : ℕ → ℕ → List ℕ
 last_address_text from count =
     if nat_lt (from + (count - 1)) (2 ^ 32) then word_digits (from + (count - 1))
@@ -38,8 +38,7 @@ regions_text regions = flat_map region_text regions
 
 -- ---- segments
 
--- what of a segment is outside: its memory, where its bytes in the file are inside, else these
--- where they are loaded
+-- the part of a segment that is outside: its memory if its file bytes are inside, otherwise its file bytes at their load addresses
 unfoldable pub outside_segment_text : Bool → LoadAt → Segment → List ℕ
 outside_segment_text true at segment =
     codes "a segment's bytes in memory, " ++ address_range_text segment.vaddr segment.memsz
@@ -53,7 +52,7 @@ unfit_segment_text job (Some segment) =
     job.load segment
     ++ codes ", do not fit in one region:" ++ regions_text job.regions
 
--- the first segment that shares an address with a later one, and the first of those
+-- the first segment that overlaps a later one, and the first such later one
 abbrev pub overlapping_segments : LoadAt → List Segment → Option (Segment × Segment)
 overlapping_segments at [] = None
 overlapping_segments at (one ∷ others) =
@@ -77,7 +76,7 @@ unfoldable pub missing_symbol_text : Option (List ℕ) → List ℕ
 missing_symbol_text None = codes "a symbol of the signature is undefined"
 missing_symbol_text (Some name) = codes "symbol " ++ printable_text name ++ codes " is not defined"
 
--- the address of a symbol, where there is one
+-- the address of a symbol, if there is one
 abbrev pub symbol_address_text : Result ℕ ImageError → List ℕ
 symbol_address_text (Ok address) = codes " at " ++ word_digits address
 symbol_address_text (Err why) = []
@@ -85,7 +84,7 @@ symbol_address_text (Err why) = []
 unfoldable pub named_symbol_text : List ℕ → List ℕ → List ℕ
 named_symbol_text file name = printable_text name ++ symbol_address_text (symbol_of file name)
 
--- from one symbol to another
+-- the range from one symbol to another
 unfoldable pub signature_ends_text : List ℕ → Symbols → List ℕ
 signature_ends_text file names =
     named_symbol_text file names.begin ++ codes " to " ++ named_symbol_text file names.end
@@ -98,7 +97,7 @@ signature_range_text regions file (Some names) =
 
 -- ---- the reason
 
--- the sentence for a refusal, of which no details are told
+-- the sentence for a refusal without details
 unfoldable pub image_error_sentence : ImageError → List ℕ
 image_error_sentence image.ShortHeader = codes "the file is shorter than an ELF header"
 image_error_sentence image.BadMagic = codes "not an ELF file"
@@ -125,7 +124,7 @@ image_error_sentence image.NoEnd = codes "a symbol of the signature is undefined
 image_error_sentence image.SignatureRange = codes "the signature is not a sequence of words in one region"
 image_error_sentence image.OutOfMemory = codes "out of memory"
 
--- the details of a refusal by the map, or of a signature, of an image that was read
+-- the details of a refusal by the map or of a signature, for an image that was parsed
 unfoldable pub image_details_text : Job → List ℕ → Image → ImageError → List ℕ
 image_details_text job file there image.SegmentMap =
     unfit_segment_text job (unfit_segment job.regions job.load there.segments)
@@ -139,11 +138,11 @@ image_details_text job file there image.NoEnd =
     missing_symbol_text (option_map (λ names. names.end) job.signature)
 image_details_text job file there why = image_error_sentence why
 
--- details are told of an image that can be read
+-- details are shown only for an image that can be parsed
 abbrev pub image_reason_text : Job → List ℕ → Result Image ImageError → ImageError → List ℕ
 image_reason_text job file (Ok there) why = image_details_text job file there why
 image_reason_text job file (Err other) why = image_error_sentence why
 
--- why the image of a file was refused for a job
+-- why a file's image was refused for a job
 unfoldable pub image_reason : Job → List ℕ → ImageError → List ℕ
 image_reason job file why = image_reason_text job file (image_of job.isa file) why

@@ -1,5 +1,4 @@
--- What the image of a job says of its run: the symbol of a fault's place, and where a signature
--- stands.
+-- What a job's image contributes to its lines: the symbol of a fault's address, and the address of a signature.
 use Rattle.std.specs.Prelude.{ℕ, List, Option, Some, None, Result, Ok, Err}
 use Rattle.rv_elf.specs.declared.error.ImageError.{ImageError}
 use Rattle.rv_elf.specs.declared.image.Image.{Image}
@@ -13,7 +12,7 @@ use Rattle.rv_rows.specs.declared_row.RowEnd.TheVariants as ending
 
 -- ---- a fault's place
 
--- the symbol that stands before an address, in a file that can be read as an image
+-- the symbol at or before an address, in a file that can be parsed as an image
 abbrev pub symbol_in_image : Result Image ImageError → List ℕ → ℕ → Option (List ℕ × ℕ)
 symbol_in_image (Ok image) file address = symbol_at image file address
 symbol_in_image (Err why) file address = None
@@ -22,7 +21,7 @@ unfoldable pub symbol_in_file : Isa → Option (List ℕ) → ℕ → Option (Li
 symbol_in_file isa None address = None
 symbol_in_file isa (Some file) address = symbol_in_image (image_of isa file) file address
 
--- that of the place of a fault, by the bytes of the job's image
+-- the symbol of a fault's address, from the bytes of the job's image
 unfoldable pub fault_symbol : Isa → Option (List ℕ) → RowEnd → Option (List ℕ × ℕ)
 fault_symbol isa file (ending.Fault kind pc value) = symbol_in_file isa file pc
 fault_symbol isa file _ = None
@@ -33,7 +32,7 @@ abbrev pub value_if_defined : Result ℕ ImageError → Option ℕ
 value_if_defined (Ok address) = Some address
 value_if_defined (Err why) = None
 
--- the value of the symbol that a signature begins with, in a file that can be read as an image
+-- the value of the symbol at which a signature begins, in a file that can be parsed as an image
 abbrev pub signature_begin_in_image : Result Image ImageError → List ℕ → Symbols → Option ℕ
 signature_begin_in_image (Ok image) file names = value_if_defined (symbol_of file names.begin)
 signature_begin_in_image (Err why) file names = None

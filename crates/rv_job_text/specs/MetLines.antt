@@ -1,4 +1,4 @@
--- The line that a person sees of an expectation that a run meets.
+-- The line that a person sees for an expectation that a run meets.
 use Rattle.std.specs.Prelude.{ℕ, List, [], ◌++◌, Option, Some, None, codes}
 use Rattle.std.specs.Prelude.{if◌then◌else◌}
 use Rattle.rv_expect.specs.declared.unmet.Unmet.{Unmet}
@@ -30,12 +30,12 @@ met_expectation_text sides expectation.Signature =
 met_expectation_text sides expectation.Same = same_as_job_text sides.other
 met_expectation_text sides expectation.Nothing = codes "exit 0, since no expectation is set"
 
--- behind five spaces, where it is met
+-- the line after five spaces, if the expectation is met
 unfoldable pub met_line : Sides → List Unmet → Expectation → List ℕ
 met_line sides unmet one =
     if is_expectation_met sides.job unmet one then line (codes "     met: " ++ met_expectation_text sides one) else []
 
--- in their order
+-- the lines in the order of the expectations
 unfoldable pub met_lines : Sides → List Unmet → List ℕ
 met_lines sides unmet =
     met_line sides unmet expectation.Exit ++ met_line sides unmet expectation.End

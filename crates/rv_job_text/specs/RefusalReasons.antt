@@ -1,5 +1,5 @@
--- Why a job was refused, as a person is told it: of a file that was not read its path and why, of
--- an image what was found in it.
+-- Why a job was refused, as shown to a person: for a file that could not be read its path and the reason, for an image what is wrong with
+-- it.
 use Rattle.std.specs.Prelude.{ℕ, List, Option, Some, None, option_map}
 use Rattle.std.specs.Option.{option_or}
 use Rattle.rv_elf.specs.declared.error.ImageError.{ImageError}
@@ -16,25 +16,24 @@ use Rattle.rv_rows.specs.declared_row.RowEnd.TheVariants as ending
 use Rattle.rv_rows.specs.Rows.{content_if_read, expected_console_bytes, signature_reference_bytes}
 use Rattle.rv_job_text.specs.UnreadFiles.{too_long_file_text, unread_file_text}
 
--- a path, where none of its bytes were read
+-- a path, if its file was not read
 abbrev pub path_if_unread : Option (List ℕ) → Option (List ℕ) → Option (List ℕ)
 path_if_unread None path = path
 path_if_unread (Some bytes) path = None
 
--- the path of the reference or of the console's file, whichever is the first that was not read
+-- the path of the reference or of the console file, whichever is the first that was not read
 unfoldable pub unread_reference_path : List Answer → Job → Option (List ℕ)
 unread_reference_path answers job =
     option_or (path_if_unread (signature_reference_bytes answers job) job.expect_signature)
     (path_if_unread (expected_console_bytes answers job) (console_path job.expect_console))
 
--- of an image that was read
+-- the reason for the refusal of an image that was read
 abbrev pub image_refusal_text : List Answer → Job → ImageError → Option (List ℕ)
 image_refusal_text answers job why =
     option_map (λ file. image_reason job file why)
     (content_if_read (Some (kept_for answers job.image)))
 
--- why a job was refused, over what is kept of the paths and what was noted of those that were not
--- read
+-- why a job was refused, given the contents kept of the paths and the notes on those that could not be read
 unfoldable pub refusal_reason : List Answer → List UnreadPath → Job → Refusal → Option (List ℕ)
 refusal_reason answers unread job refusal.ImageUnreadable = Some (unread_file_text unread job.image)
 refusal_reason answers unread job refusal.ImageTooLong = Some (too_long_file_text job.image)

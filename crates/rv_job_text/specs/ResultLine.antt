@@ -1,4 +1,4 @@
--- The line that says how a job ended.
+-- The line with a job's result.
 use Rattle.std.specs.Prelude.{◌==◌, length, ℕ, List, [], ◌++◌, Option, Some, None, codes, if◌then◌else◌}
 use Rattle.std.specs.Fmt.{decimal}
 use Rattle.rv_machine.specs.Faults.{fault_name}
@@ -11,7 +11,7 @@ use Rattle.rv_expect.specs.Judgement.{Judged, failed, known, now_passes, passed}
 use Rattle.rv_text.specs.Printable.{printable_text}
 use Rattle.rv_text.specs.Symbol.{symbol_in_brackets}
 
--- why there is no run, in more than a word, where that is known
+-- why there is no run, in more than one word, if that is known
 abbrev pub optional_reason_text : Option (List ℕ) → List ℕ
 optional_reason_text None = []
 optional_reason_text (Some reason) = codes ": " ++ printable_text reason
@@ -19,7 +19,7 @@ optional_reason_text (Some reason) = codes ": " ++ printable_text reason
 abbrev pub after_steps_text : ℕ → List ℕ
 after_steps_text steps = codes " after " ++ decimal steps ++ codes " steps"
 
--- how a run ended after so many steps, at a place, or why there is none
+-- how a run ended, with the number of steps and the address, or why there is none
 unfoldable pub result_ending_text : RowEnd → ℕ → Option (List ℕ × ℕ) → Option (List ℕ) → List ℕ
 result_ending_text (ending.Exit code) steps place reason =
     codes "exit " ++ decimal code ++ after_steps_text steps
@@ -36,14 +36,14 @@ judged_word failed = codes "FAIL "
 judged_word (known why) = codes "known "
 judged_word (now_passes path) = codes "FAIL "
 
--- why a job is known to fail, where that is said
+-- why a job is known to fail, if a reason is given
 abbrev pub known_reason_text : List ℕ → List ℕ
 known_reason_text why = if length why == 0 then [] else codes " (" ++ printable_text why ++ codes ")"
 
 abbrev pub now_passes_text : List ℕ → List ℕ
 now_passes_text path = codes "passes, but is listed as known to fail: remove it from " ++ printable_text path
 
--- how a run ended, and of a failure that is known why; or that it passed, though it is known to fail
+-- how a run ended, with the reason for a known failure, or a note that the job passed although it is a known failure
 abbrev pub judged_ending_text : Judged → Row → Option (List ℕ × ℕ) → Option (List ℕ) → List ℕ
 judged_ending_text passed row place reason = result_ending_text row.ending row.steps place reason
 judged_ending_text failed row place reason = result_ending_text row.ending row.steps place reason

@@ -1,4 +1,4 @@
--- What a person is told of a job's row.
+-- What a person sees of a job's row.
 use Rattle.std.specs.Prelude.{ℕ, List, [], ◌++◌, Option, Some, None, Bool, true, false}
 use Rattle.std.specs.Prelude.{if◌then◌else◌, slice_get}
 use Rattle.rv_calls.specs.Calls.{calls_in}
@@ -24,11 +24,11 @@ use Rattle.rv_job_text.specs.ImageSymbols.{signature_begin, fault_symbol}
 use Rattle.rv_job_text.specs.RefusalReasons.{ending_reason}
 use Rattle.rv_job_text.specs.BudgetUseLine.{budget_use_line}
 use Rattle.rv_job_text.specs.TraceOptions.{optional_calls_text, optional_trace_text}
-use Rattle.rv_job_text.specs.declared.way_to_end.TraceOptions.{TraceOptions}
+use Rattle.rv_job_text.specs.declared.end_trace.TraceOptions.{TraceOptions}
 use Rattle.rv_trace.specs.Trace.{image_bytes, trace_in}
 
--- the rows of which plan are told, with what was noted of its paths, how they are counted, how much of them,
--- and how many of the last instructions of a job that failed, where they are
+-- the plan whose rows are reported, the notes on its paths, how rows are counted, how much is shown, and how many of the last instructions
+-- of a failed job are shown, if any
 pub record RowReporter : Type 0 where
   pub plan : Planned
   pub unread : List UnreadPath
@@ -45,17 +45,17 @@ reporter_of reporter = record {
   last = reporter.last;
 }
 
--- the address of the first word of a job's signature, where it is known
+-- the address of the first word of a job's signature, if it is known
 abbrev pub signature_address : Planned → Job → Option ℕ
 signature_address plan job = signature_begin job.isa (image_bytes plan.answers job) job.signature
 
--- the line of a row: a fault's place by its symbol too, a refusal with its reason
+-- the line of a row: a fault's address also as a symbol, a refusal with its reason
 unfoldable pub row_line : Planned → List UnreadPath → Judging → Job → Row → List ℕ
 row_line plan unread judging job row =
     result_line (judgement judging row) row (fault_symbol job.isa (image_bytes plan.answers job) row.ending)
     (ending_reason plan.answers unread job row.ending)
 
--- how a run came to its end, with so many of its last instructions
+-- how a run reached its end, with its last instructions, up to a maximum
 unfoldable pub way_to_end_lines : Planned → Job → Row → ℕ → List ℕ
 way_to_end_lines plan job row last = optional_trace_text job.isa (image_bytes plan.answers job) row.ending
     (trace_in plan job row.steps last)
@@ -64,7 +64,7 @@ abbrev pub way_to_end_if_asked : Planned → Job → Row → Option ℕ → List
 way_to_end_if_asked plan job row None = []
 way_to_end_if_asked plan job row (Some last) = way_to_end_lines plan job row last
 
--- the expectations that a run does not meet, and behind them, where all are told, those that it does
+-- the unmet expectations, followed by the met ones if all are shown
 abbrev pub compared_lines : Detail → Option ℕ → Sides → List Unmet → List ℕ
 compared_lines detail.Unmet address sides unmet = unmet_lines address sides unmet
 compared_lines detail.All address sides unmet =
@@ -75,18 +75,17 @@ expectation_lines which plan job row =
     compared_lines which (signature_address plan job) (sides_in plan job row)
     (unmet_in plan job row)
 
--- the expectations that a run does not meet, the end of its console, and how it came to its end where
--- that is asked for
+-- the unmet expectations, the end of the console, and, if requested, how the run reached its end
 unfoldable pub run_lines : Planned → Job → Row → Option ℕ → List ℕ
 run_lines plan job row last =
     expectation_lines detail.Unmet plan job row ++ (console_tail row.console
     ++ way_to_end_if_asked plan job row last)
 
--- what stands behind the line of a row that failed, and is not known to: nothing where the job did not run
+-- the lines after that of a failed row that is not a known failure; none if the job did not run
 abbrev pub lines_below_failure : Planned → Job → Row → Option ℕ → List ℕ
 lines_below_failure plan job row last = if did_run row.ending then run_lines plan job row last else []
 
--- whether anything is told of a row that counts as a failure, or does not
+-- whether a row is shown, by whether it counts as a failure
 abbrev pub shows_row : Verbosity → Bool → Bool
 shows_row Quiet is_failing = false
 shows_row Failures is_failing = is_failing
@@ -100,7 +99,7 @@ row_lines reporter job row =
     then lines_below_failure reporter.plan job row reporter.last else [])
     else []
 
--- of the row of the job at a place; nothing where there is no job
+-- the lines of the row of the job at an index; none if there is no job
 abbrev pub row_lines_of_job : RowReporter → Row → Option Job → List ℕ
 row_lines_of_job reporter row None = []
 row_lines_of_job reporter row (Some job) = row_lines reporter job row
@@ -110,22 +109,22 @@ row_lines_at reporter place row = row_lines_of_job reporter row (slice_get repor
 
 -- ---- what a job came to
 
--- the expectations that the run of a row does not meet
+-- the unmet expectations of a row's run
 abbrev pub unmet_if_run : Planned → Job → Row → List ℕ
 unmet_if_run plan job row = if did_run row.ending then expectation_lines detail.Unmet plan job row else []
 
--- the line of a row, and behind it the expectations that its run does not meet
+-- the line of a row, followed by the unmet expectations of its run
 unfoldable pub outcome_text : Planned → List UnreadPath → Judging → Job → Row → List ℕ
 outcome_text plan unread judging job row = row_line plan unread judging job row ++ unmet_if_run plan job row
 
 -- ---- a job that is explained
 
--- the calls that have not returned where the run of a job ended, in a line, where there are any
+-- the line of the calls that have not returned when a job's run ended, if there are any
 unfoldable pub calls_lines : Planned → Job → List ℕ
 calls_lines plan job = optional_calls_text job.isa (image_bytes plan.answers job) (calls_in plan job)
 
--- every expectation, the end of the console, what is found of a used-up budget, how the run came to its end, and the calls
--- that have not returned there
+-- every expectation, the end of the console, the analysis of a used-up budget, how the run reached its end, and the calls that have not
+-- returned
 unfoldable pub run_explanation : Planned → Job → Row → TraceOptions → List ℕ
 run_explanation plan job row way =
     expectation_lines detail.All plan job row ++ (console_tail row.console

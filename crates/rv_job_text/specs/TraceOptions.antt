@@ -1,4 +1,4 @@
--- How a run came to its end, as a person is told it, with the symbols of the job's image.
+-- How a run reached its end, as shown to a person, with the symbols of the job's image.
 use Rattle.std.specs.Prelude.{ℕ, List, [], Option, Some, None, Result, Ok, Err}
 use Rattle.rv_elf.specs.declared.error.ImageError.{ImageError}
 use Rattle.rv_elf.specs.declared.image.Image.{Image}
@@ -10,7 +10,7 @@ use Rattle.rv_rows.specs.declared_row.RowEnd.{RowEnd}
 use Rattle.rv_trace.specs.declared.trace.Trace.{Trace}
 use Rattle.rv_trace.specs.Text.{trace_text}
 
--- a text with the symbols of a file, where it can be read as an image
+-- a text with the symbols of a file, if the file can be parsed as an image
 abbrev pub text_in_image : Result Image ImageError → List ℕ → (Image → List ℕ → List ℕ) → List ℕ
 text_in_image (Ok image) file text = text image file
 text_in_image (Err why) file text = []
@@ -19,12 +19,12 @@ unfoldable pub text_in_file : Isa → Option (List ℕ) → (Image → List ℕ 
 text_in_file isa None text = []
 text_in_file isa (Some file) text = text_in_image (image_of isa file) file text
 
--- that of a trace, where there is one
+-- the text of a trace, if there is one
 abbrev pub optional_trace_text : Isa → Option (List ℕ) → RowEnd → Option Trace → List ℕ
 optional_trace_text isa file end None = []
 optional_trace_text isa file end (Some trace) = text_in_file isa file (λ image bytes. trace_text image bytes trace end)
 
--- that of calls, where a run has some
+-- the text of calls, if a run has any
 abbrev pub optional_calls_text : Isa → Option (List ℕ) → Option Calls → List ℕ
 optional_calls_text isa file None = []
 optional_calls_text isa file (Some calls) = text_in_file isa file (λ image bytes. calls_text image bytes calls)

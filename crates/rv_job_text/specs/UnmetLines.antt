@@ -1,5 +1,5 @@
--- The line that a person sees of an expectation that a run does not meet: what is expected, what
--- was met, and where the two differ first. Bytes and words are counted from 0, lines from 1.
+-- The line that a person sees for an unmet expectation: expected, actual, and the first difference. Bytes and words are counted from 0,
+-- lines from 1.
 use Rattle.std.specs.Prelude.{◌+◌, ◌*◌, ◌/◌, ◌%◌, ◌^◌, ℕ, List, [], ◌++◌, length, drop}
 use Rattle.std.specs.Prelude.{slice_index, slice_range, Option, Some, None, unwrap_or}
 use Rattle.std.specs.Prelude.{if◌then◌else◌, nat_lt, codes}
@@ -49,18 +49,18 @@ byte_difference_text place met wanted =
     codes "byte " ++ decimal place ++ codes " is " ++ quoted_value (drop place met)
     ++ codes ", expected " ++ quoted_value (drop place wanted)
 
--- so many bytes or words were met
+-- the actual number of bytes or words, and the expected one
 unfoldable pub count_difference_text : ℕ → List ℕ → ℕ → List ℕ
 count_difference_text met what wanted =
     codes "it has " ++ decimal met ++ what ++ codes ", expected " ++ decimal wanted
 
--- what differs first between the bytes that were met and those that are wanted
+-- the first difference between the actual and the expected bytes
 unfoldable pub bytes_difference_text : Difference → List ℕ → List ℕ → List ℕ
 bytes_difference_text (difference.At place) met wanted = byte_difference_text place met wanted
 bytes_difference_text difference.Lengths met wanted = count_difference_text (length met) (codes " bytes") (length wanted)
 bytes_difference_text difference.Absent met wanted = codes "the file was not read"
 
--- a console that is expected: the bytes of a job, or those of a file
+-- the expected console: the bytes in a job, or those of a file
 unfoldable pub expected_console_text :
     ExpectedConsole → Option (List ℕ) → List ℕ → Difference → List ℕ
 expected_console_text (console.Text text) file met difference =
@@ -76,17 +76,17 @@ console_difference_text (Some expected) file met difference = expected_console_t
 
 -- ---- words
 
--- the digits of the word at a place, if there is one
+-- the digits of the word at an index, if there is one
 unfoldable pub signature_word_digits : List ℕ → ℕ → List ℕ
 signature_word_digits words place =
     if nat_lt place (length words) then word_digits (slice_index words place) else []
 
--- the digits of the line at a place of a reference, if there is one: lines have nine bytes
+-- the digits of a reference's line at an index, if there is one; lines have nine bytes
 unfoldable pub reference_digits_at : List ℕ → ℕ → List ℕ
 reference_digits_at text place =
     if nat_lt place (length text / 9) then slice_range text (place * 9) (place * 9 + 8) else []
 
--- the address of the word at a place, where that of the first is known
+-- the address of the word at an index, if that of the first word is known
 abbrev pub word_address_text : Option ℕ → ℕ → List ℕ
 word_address_text None place = []
 word_address_text (Some first) place =
@@ -103,7 +103,7 @@ bad_reference_line_text number path =
     codes "line " ++ decimal number ++ codes " of " ++ printable_text path
     ++ codes " is not eight lower-case hexadecimal digits and a newline"
 
--- what differs first between a signature and the reference at a path
+-- the first difference between a signature and the reference with a path
 unfoldable pub reference_difference_text :
     Option ℕ → List ℕ → List ℕ → List ℕ → SignatureDifference → List ℕ
 reference_difference_text first path words text (signature.Line number) = bad_reference_line_text number path
@@ -129,12 +129,12 @@ row_end_text (ending.Fault kind pc value) = codes "fault " ++ fault_name kind
 row_end_text ending.Budget = codes "its budget used up"
 row_end_text (ending.Refused why) = codes "the refusal " ++ refusal_name why
 
--- one of two signatures is absent
+-- which of two signatures is missing
 abbrev pub absent_signature_text : Option (List ℕ) → List ℕ
 absent_signature_text None = codes "found none, expected one"
 absent_signature_text (Some words) = codes "found one, expected none"
 
--- what differs first between two signatures, of which one may be absent
+-- the first difference between two signatures, either of which may be missing
 unfoldable pub signatures_difference_text : Option ℕ → Option (List ℕ) → Option (List ℕ) → Difference → List ℕ
 signatures_difference_text first words others (difference.At place) =
     word_difference_text first place (signature_word_digits (signature_words_or_empty words) place)
@@ -143,7 +143,7 @@ signatures_difference_text first words others difference.Lengths =
     count_difference_text (length (signature_words_or_empty words)) (codes " words") (length (signature_words_or_empty others))
 signatures_difference_text first words others difference.Absent = absent_signature_text words
 
--- what differs first between a row and that of the named job
+-- the first difference between a row and that of the named job
 unfoldable pub rows_difference_text : Option ℕ → Row → Row → SameDifference → List ℕ
 rows_difference_text first row other same.Ending =
     codes "it ended with " ++ row_end_text other.ending ++ codes ", this job with "
@@ -161,7 +161,7 @@ same_difference_text first row (Some other) difference =
 
 -- ---- the line
 
--- the address is that of the first word of the signature, where it is known
+-- the address is that of the first word of the signature, if it is known
 unfoldable pub unmet_expectation_text : Option ℕ → Sides → Unmet → List ℕ
 unmet_expectation_text address sides unmet.Exit = expected_exit_text sides.job.expect_exit
 unmet_expectation_text address sides unmet.End = expected_end_text sides.job.expect_end
@@ -173,7 +173,7 @@ unmet_expectation_text address sides (unmet.Same difference) =
     same_difference_text address sides.row sides.other difference
 unmet_expectation_text address sides unmet.Nothing = codes "exit 0, since no expectation is set"
 
--- by lines where that can be, else in one line behind five spaces
+-- the difference by lines if possible, else a single line after five spaces
 abbrev pub unmet_line_by : Option ℕ → Sides → Unmet → Option Wanted → List ℕ
 unmet_line_by address sides unmet None =
     line (codes "     expected: " ++ unmet_expectation_text address sides unmet)
@@ -182,6 +182,6 @@ unmet_line_by address sides unmet (Some wanted) = console_lines wanted.source si
 unfoldable pub unmet_line : Option ℕ → Sides → Unmet → List ℕ
 unmet_line address sides unmet = unmet_line_by address sides unmet (expected_by_lines sides unmet)
 
--- in their order
+-- the lines in the order of the unmet expectations
 abbrev pub unmet_lines : Option ℕ → Sides → List Unmet → List ℕ
 unmet_lines address sides unmet = flat_map (unmet_line address sides) unmet

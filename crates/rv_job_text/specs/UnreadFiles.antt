@@ -1,4 +1,4 @@
--- What is told of a file that was not read: its path, and why.
+-- What is shown of a file that was not read: its path, and the reason.
 use Rattle.std.specs.Prelude.{ℕ, List, ◌++◌, codes, Option, Some, None}
 use Rattle.std.specs.Fmt.{decimal}
 use Rattle.std.specs.List.{find}
@@ -7,7 +7,7 @@ use Rattle.rv_files.specs.IoErrors.{io_error_text}
 use Rattle.rv_files.specs.declared.recording_store.UnreadPath.{UnreadPath}
 use Rattle.rv_jobs.specs.Limits.{most_bytes}
 
--- the first that was noted of a path
+-- the first note on a path
 abbrev pub unread_note : List UnreadPath → List ℕ → Option UnreadPath
 unread_note unread path = find (λ (one : UnreadPath). bytes_eq path one.path) unread
 

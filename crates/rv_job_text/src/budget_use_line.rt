@@ -1,4 +1,4 @@
-//! The line that says what is found of a used-up budget.
+//! The line that explains a used-up budget.
 
 ghost use Rattle.std.specs.Prelude.{◌≡◌, ◌++◌, OnOk};
 ghost use Rattle.rv_job_text.specs.BudgetUseLine.{budget_use_line, changes_line, last_or_all_text, repetition_line, waiting_text};
@@ -7,7 +7,7 @@ use rv_hang::{BudgetUse, Repetition};
 use rv_text::{Span, push_spans};
 use std::alloc::AllocError;
 
-/// Appends what is found of the used-up budget of a run of so many steps, where anything is.
+/// Appends the explanation of the used-up budget of a run with this many steps, if there is one.
 pub(crate) fn push_budget_use_line(
     text: &mut Vec<u8>,
     steps: u32,

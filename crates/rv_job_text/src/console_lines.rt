@@ -1,4 +1,4 @@
-//! A console that differs from the text that is expected, told by lines.
+//! The line-by-line difference between a console and the expected text.
 
 ghost use Rattle.std.specs.Prelude.{◌≡◌, ◌≤◌, ◌++◌, OnOk, drop, length, nat_lt, if◌then◌else◌};
 ghost use Rattle.rv_text.specs.Spans.{span_text};
@@ -10,13 +10,13 @@ use crate::whole_lines::{split_whole_line, whole_line_count};
 use rv_text::{Span, push_spans};
 use std::alloc::AllocError;
 
-/// How many equal lines are shown before the first that differs, at most.
+/// The maximum number of equal lines shown before the first difference.
 const EQUAL_LINES: usize = 2;
 
-/// How many lines of each side are shown, at most.
+/// The maximum number of differing lines shown of each side.
 const DIFFERING_LINES: usize = 3;
 
-// Two texts, and what is left of them behind the lines in front that are equal.
+// The rest of two texts after their equal leading lines.
 #[derive(Clone, Copy)]
 struct Parting<'a> {
     equal: usize,
@@ -24,8 +24,7 @@ struct Parting<'a> {
     wanted: &'a [u8],
 }
 
-/// Appends where a console differs first from the text that is expected, which has a name: the last equal lines, and the first
-/// that differ.
+/// Appends the first difference between a console and the expected text, which has a name: the last equal lines, and the first that differ.
 #[tactic(auto, unfolding(crate::specs::ConsoleLines::console_lines))]
 pub fn push_console_lines(
     bytes: &mut Vec<u8>,
@@ -72,7 +71,7 @@ fn push_lines_heading(
     )
 }
 
-// Appends the last of so many equal lines in front of a text.
+// Appends the last of the equal lines at the start of a text.
 fn push_equal_lines(bytes: &mut Vec<u8>, equal: usize, text: &[u8]) -> Result<(), AllocError>
     ensures { OnOk result (bytes.new.items ≡ bytes.old.items ++ equal_lines equal (whole_lines text.now)) }
 {
@@ -81,7 +80,7 @@ fn push_equal_lines(bytes: &mut Vec<u8>, equal: usize, text: &[u8]) -> Result<()
     push_side_lines(bytes, "       ", equal - earlier, last, &[])
 }
 
-// Appends the first lines of two texts that differ, the expected ones first.
+// Appends the first differing lines of two texts, the expected ones first.
 fn push_differing_lines(bytes: &mut Vec<u8>, met: &[u8], wanted: &[u8]) -> Result<(), AllocError>
     ensures { OnOk result (bytes.new.items
         ≡ bytes.old.items ++ differing_lines (whole_lines met.now) (whole_lines wanted.now)) }
@@ -91,7 +90,7 @@ fn push_differing_lines(bytes: &mut Vec<u8>, met: &[u8], wanted: &[u8]) -> Resul
     push_side_lines(bytes, "     + ", count, met, wanted)
 }
 
-// Appends the first lines of one side beside the other's: so many, or all where there are fewer.
+// Appends the first lines of one side, relative to the other's, up to a maximum.
 fn push_side_lines(
     bytes: &mut Vec<u8>,
     margin: &'static str,
@@ -115,7 +114,7 @@ fn push_side_lines(
     Ok(())
 }
 
-// The text behind so many lines.
+// Returns the text after the first `count` lines.
 fn text_behind_lines(text: &[u8], count: usize) -> &[u8]
     ensures { whole_lines result.now ≡ drop count (whole_lines text.now) }
 {
@@ -129,7 +128,7 @@ fn text_behind_lines(text: &[u8], count: usize) -> &[u8]
     rest
 }
 
-// Where two texts part.
+// Returns the rest of both texts after their equal leading lines.
 fn parting_of<'a>(met: &'a [u8], wanted: &'a [u8]) -> Parting<'a>
     ensures equal { result.equal ≡ equal_line_count met.now wanted.now }
     ensures within { result.equal ≤ length met.now }
@@ -156,7 +155,7 @@ fn parting_of<'a>(met: &'a [u8], wanted: &'a [u8]) -> Parting<'a>
     parting
 }
 
-// Of how many lines in front each differs from the other side's: so many at most.
+// Returns how many leading lines differ from those of the other side, up to `most`.
 fn differing_line_count(most: usize, met: &[u8], wanted: &[u8]) -> usize
     ensures { result ≡ differing_line_count most (whole_lines met.now) (whole_lines wanted.now) }
 {

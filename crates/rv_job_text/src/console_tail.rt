@@ -1,4 +1,4 @@
-//! The end of a console, as it is shown behind the line of a failed job.
+//! The end of a console, shown after the line of a failed job.
 
 ghost use Rattle.std.specs.Prelude.{◌≡◌, ◌≤◌, ◌<◌, ◌++◌, IfSome, MatchOption, OnOk, [], ◌∷◌, drop, length};
 ghost use Rattle.std.specs.List.{flat_map, position_or_len};
@@ -7,14 +7,15 @@ ghost use Rattle.rv_job_text.specs.ConsoleTail.{console_tail_line, console_tail,
 use rv_text::{Span, push_spans, tail_from};
 use std::alloc::AllocError;
 
-/// How many lines of a console are shown at most.
+/// The maximum number of lines shown of a console.
 pub const TAIL_LINES: usize = 10;
 
-/// How many bytes of a console are looked at.
+/// The number of bytes at a console's end from which lines are taken.
 pub const TAIL_BYTES: usize = 1_024;
 
-/// Appends the last lines of a console, at most [`TAIL_LINES`] of its last [`TAIL_BYTES`] bytes. Each is shown as
-/// [`push_printable_text`](rv_text::push_printable_text) does, behind a margin, and has a line feed; the last one need have none in the console.
+/// Appends the last lines of a console, at most [`TAIL_LINES`] from its last [`TAIL_BYTES`] bytes. Each is shown as by
+/// [`push_printable_text`](rv_text::push_printable_text), after a margin, and ends with a line feed, even if the last one has none in the
+/// console.
 #[tactic(auto, unfolding(crate::specs::ConsoleTail::console_tail))]
 pub fn push_console_tail(bytes: &mut Vec<u8>, console: &[u8]) -> Result<(), AllocError>
     ensures { OnOk result (bytes.new.items ≡ bytes.old.items ++ console_tail console.now) }
@@ -24,7 +25,7 @@ pub fn push_console_tail(bytes: &mut Vec<u8>, console: &[u8]) -> Result<(), Allo
     push_later_lines(bytes, tail, earlier)
 }
 
-// Appends the lines of a text behind the first so many.
+// Appends the lines of a text after the first `earlier` ones.
 fn push_later_lines(bytes: &mut Vec<u8>, text: &[u8], earlier: usize) -> Result<(), AllocError>
     ensures { OnOk result (bytes.new.items
         ≡ bytes.old.items ++ flat_map console_tail_line (drop earlier (text_lines text.now))) }
@@ -51,7 +52,6 @@ fn push_console_line(bytes: &mut Vec<u8>, line: &[u8]) -> Result<(), AllocError>
     )
 }
 
-// How many lines a text has.
 fn line_count(text: &[u8]) -> usize
     ensures { result ≡ length (text_lines text.now) }
 {
@@ -64,7 +64,7 @@ fn line_count(text: &[u8]) -> usize
     count
 }
 
-// The first line, and the text behind it.
+// Returns the first line, and the text after it.
 fn split_first_line(text: &[u8]) -> Option<(&[u8], &[u8])>
     ensures lines { MatchOption result (text_lines text.now ≡ []) (λ parts.
         text_lines text.now ≡ parts.0.now ∷ text_lines parts.1.now) }
@@ -77,7 +77,7 @@ fn split_first_line(text: &[u8]) -> Option<(&[u8], &[u8])>
     Some((&text[..len], tail_from(text, len + 1)))
 }
 
-// How many bytes the first line has.
+// Returns the length of the first line in bytes.
 fn first_line_len(text: &[u8]) -> usize
     ensures len { result ≡ position_or_len is_feed text.now }
     ensures within { result ≤ length text.now }
@@ -90,7 +90,7 @@ fn first_line_len(text: &[u8]) -> usize
     text.len()
 }
 
-// The last bytes: so many, or all where there are fewer.
+// Returns the last `count` bytes, or all if there are fewer.
 fn last_bytes(text: &[u8], count: usize) -> &[u8]
     ensures { result.now ≡ last_elements count text.now }
 {

@@ -1,4 +1,4 @@
-//! What differs first between the bytes that were met and those that are expected, as text.
+//! Text for the first difference between actual and expected bytes.
 
 ghost use Rattle.std.specs.Prelude.{◌≡◌, ◌++◌, [], OnOk, codes, option_map, unwrap_or};
 ghost use Rattle.rv_text.specs.Printable.{printable_text};
@@ -9,7 +9,7 @@ use rv_jobs::ExpectedConsole;
 use rv_text::{Span, actual_and_expected_from, push_spans, push_text};
 use std::alloc::AllocError;
 
-/// What differs from the console that is expected.
+/// Appends the difference from the expected console.
 #[tactic(auto, unfolding(crate::specs::UnmetLines::console_difference_text, crate::specs::UnmetLines::expected_console_text))]
 pub(crate) fn push_console_difference(
     bytes: &mut Vec<u8>,
@@ -35,7 +35,7 @@ pub(crate) fn push_console_difference(
     }
 }
 
-/// Says in front of what differs what is compared: its name is shown.
+/// Appends what is compared, with its name, before the difference.
 pub(crate) fn push_compared_name(
     bytes: &mut Vec<u8>,
     before: &'static str,
@@ -63,7 +63,7 @@ pub(crate) fn bytes_or_empty(file: Option<&[u8]>) -> &[u8]
     }
 }
 
-/// What differs between the bytes that were met and those that are wanted.
+/// Appends the difference between actual and expected bytes.
 #[tactic(auto, unfolding(crate::specs::UnmetLines::bytes_difference_text))]
 pub(crate) fn push_bytes_difference(
     bytes: &mut Vec<u8>,
@@ -105,7 +105,7 @@ fn push_byte_difference<'a>(
     )
 }
 
-/// Says that so many bytes or words were met, and how many are wanted.
+/// Appends the actual and the expected number of bytes or words.
 #[tactic(auto, unfolding(crate::specs::UnmetLines::count_difference_text))]
 pub(crate) fn push_count_difference(
     bytes: &mut Vec<u8>,

@@ -1,22 +1,22 @@
-//! The text that a console is expected to be, where a difference from it is told by lines.
+//! The expected text of a console, if the difference is shown by lines.
 
 ghost use Rattle.std.specs.Prelude.{◌≡◌, ◌&&◌, option_map};
 ghost use Rattle.rv_expect.specs.Comparisons.{sides_of};
-ghost use Rattle.rv_job_text.specs.ConsoleLines.{is_told_by_lines, told_by_lines, expected_by_lines, wanted_console, wanted_of};
+ghost use Rattle.rv_job_text.specs.ConsoleLines.{is_shown_by_lines, shown_by_lines, expected_by_lines, wanted_console, wanted_of};
 
 use crate::difference_text::bytes_or_empty;
 use rv_expect::{Comparison, Difference, Unmet};
 use rv_jobs::ExpectedConsole;
 use rv_text::{Span, is_utf8};
 
-/// A text, and what it is called.
+/// An expected text and its name.
 #[derive(Clone, Copy)]
 pub(crate) struct ExpectedText<'a> {
     pub(crate) source: Span<'a>,
     pub(crate) text: &'a [u8],
 }
 
-/// The text from which an expectation that is not met differs, where that is told by lines.
+/// Returns the expected text of an unmet expectation, if the difference is shown by lines.
 pub(crate) fn expected_by_lines<'a>(
     comparison: &Comparison<'a, '_>,
     unmet: Unmet,
@@ -26,7 +26,7 @@ pub(crate) fn expected_by_lines<'a>(
     match unmet {
         Unmet::Console(difference) => {
             let wanted = wanted_console(&comparison.job.expect_console, comparison.console);
-            told_by_lines(difference, comparison.row.console.as_slice(), wanted)
+            shown_by_lines(difference, comparison.row.console.as_slice(), wanted)
         }
         Unmet::Exit | Unmet::End | Unmet::Signature(_) | Unmet::Same(_) | Unmet::Nothing => None,
     }
@@ -52,21 +52,21 @@ fn wanted_console<'a>(
     }
 }
 
-fn told_by_lines<'a>(
+fn shown_by_lines<'a>(
     difference: Difference,
     met: &[u8],
     wanted: Option<ExpectedText<'a>>,
 ) -> Option<ExpectedText<'a>>
-    ensures { option_map wanted_of result ≡ told_by_lines difference met.now (option_map wanted_of wanted.entry) }
+    ensures { option_map wanted_of result ≡ shown_by_lines difference met.now (option_map wanted_of wanted.entry) }
 {
     match wanted {
-        Some(wanted) if is_told_by_lines(difference, met, wanted.text) => Some(wanted),
+        Some(wanted) if is_shown_by_lines(difference, met, wanted.text) => Some(wanted),
         _ => None,
     }
 }
 
-fn is_told_by_lines(difference: Difference, met: &[u8], wanted: &[u8]) -> bool
-    ensures { result ≡ is_told_by_lines difference met.now wanted.now }
+fn is_shown_by_lines(difference: Difference, met: &[u8], wanted: &[u8]) -> bool
+    ensures { result ≡ is_shown_by_lines difference met.now wanted.now }
 {
     match difference {
         Difference::Absent => false,

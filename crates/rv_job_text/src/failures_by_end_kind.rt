@@ -1,4 +1,4 @@
-//! How many jobs failed with each kind of end, as the last line tells them.
+//! The failures by kind of end, as in the last line.
 
 ghost use Rattle.std.specs.Prelude.{◌≡◌, ◌++◌, OnOk, codes, if◌then◌else◌};
 ghost use Rattle.std.specs.Fmt.{decimal};
@@ -11,7 +11,7 @@ use rv_rows::Row;
 use rv_text::{Span, push_spans};
 use std::alloc::AllocError;
 
-/// Appends in brackets how many jobs failed with each kind of end; nothing where none did.
+/// Appends, in brackets, how many jobs failed with each kind of end; nothing if none failed.
 pub(crate) fn push_failures_by_end_kind(
     bytes: &mut Vec<u8>,
     judge: &Judge<'_>,
@@ -22,7 +22,7 @@ pub(crate) fn push_failures_by_end_kind(
 {
     let mut is_open = false;
     for place in 0..EndKind::COUNT {
-        let kind = EndKind::from_place(place);
+        let kind = EndKind::from_index(place);
         let count = failure_count_of_end_kind(judge, rows, kind);
         if count > 0 {
             push_failure_count(bytes, is_open, count, kind)?;

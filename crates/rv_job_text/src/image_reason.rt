@@ -1,4 +1,4 @@
-//! Why an image was refused, as a person is told it.
+//! Why an image was refused, as shown to a person.
 
 ghost use Rattle.std.specs.Prelude.{◌≡◌, ◌<◌, ◌++◌, IfSome, OnOk, codes, length, option_map};
 ghost use Rattle.rv_elf.specs.Image.{IsImageOf};
@@ -14,9 +14,8 @@ use rv_memory::Region;
 use rv_text::{Span, push_spans, push_text};
 use std::alloc::{AllocError, Global};
 
-/// Appends why the image of a file was refused for a job: for what the job's map refuses the addresses beside the
-/// regions; for a symbol its name; else a sentence. A file that can't be read as an image has the sentence of its refusal
-/// alone. Takes memory for the image once more.
+/// Appends why a file's image was refused for a job: the addresses beside the regions if the job's map rejects them, the name of a symbol,
+/// or a sentence. For a file that cannot be parsed as an image it is only the sentence. Allocates the image once more.
 #[tactic(auto, unfolding(crate::specs::ImageReasons::image_reason))]
 pub(crate) fn push_image_reason(
     alloc: Global,
@@ -66,7 +65,7 @@ fn push_image_details(
     }
 }
 
-// The sentence for a refusal, of which no details are told.
+// Returns the sentence for a refusal without details.
 #[tactic(auto, unfolding(crate::specs::ImageReasons::image_error_sentence))]
 fn image_error_sentence(why: ImageError) -> &'static str
     ensures { result.now ≡ image_error_sentence why }
@@ -162,7 +161,7 @@ fn push_signature_range(
     }
 }
 
-// From one symbol to another.
+// Appends the range from one symbol to another.
 #[tactic(auto, unfolding(crate::specs::ImageReasons::signature_ends_text, crate::specs::ImageReasons::named_symbol_text))]
 fn push_signature_ends(
     bytes: &mut Vec<u8>,
@@ -197,7 +196,7 @@ fn push_signature_ends(
     )
 }
 
-// The address of a symbol, where there is one.
+// Returns the address of a symbol, if there is one.
 fn symbol_address_spans(file: &[u8], image: &Image, name: &[u8]) -> (Span<'static>, Span<'static>)
     requires image { IsImageOf file.now image.now }
     requires named { 0 < length name.now }

@@ -1,4 +1,4 @@
-//! What the image of a job says of its run: the symbol of a fault's place, and where a signature stands.
+//! What a job's image contributes to its lines: the symbol of a fault's address, and the address of a signature.
 
 ghost use Rattle.std.specs.Prelude.{◌≡◌, ◌<◌, IfSome, length, option_map};
 ghost use Rattle.rv_job_text.specs.ImageSymbols.{fault_symbol, signature_begin, symbol_in_file};
@@ -12,7 +12,7 @@ use rv_rows::RowEnd;
 use rv_trace::ElfFile;
 
 impl<'a> JobFile<'a> {
-    /// The symbol of the place of a fault.
+    /// Returns the symbol of a fault's address.
     #[tactic(auto, unfolding(crate::specs::ImageSymbols::fault_symbol))]
     pub(crate) fn fault_symbol(&self, ending: RowEnd) -> Option<SymbolAt<'_>>
         ensures { option_map (λ s. (s.name.now, s.offset)) result
@@ -34,7 +34,7 @@ impl<'a> JobFile<'a> {
         }
     }
 
-    /// The address of the first word of a signature.
+    /// Returns the address of a signature's first word.
     pub(crate) fn signature_begin(&self, names: &Option<Symbols>) -> Option<u32>
         requires { IfSome names.now (λ names. 0 < length names.begin) }
         ensures { result
@@ -50,7 +50,7 @@ impl<'a> JobFile<'a> {
     }
 }
 
-// The value of the symbol that a signature begins with.
+// Returns the value of the symbol at which a signature begins.
 fn begin_symbol_value(elf: &ElfFile<'_>, names: &Symbols) -> Option<u32>
     requires { 0 < length names.now.begin }
     ensures { result ≡ value_if_defined (symbol_of elf.now.bytes.now names.now.begin) }

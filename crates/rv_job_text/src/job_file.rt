@@ -1,4 +1,4 @@
-//! The file of a job's image, read once for all that is told of the job's row.
+//! The file of a job's image, parsed once for all lines of the job.
 
 ghost use Rattle.std.specs.Prelude.{◌≡◌, ◌<◌, IfOk, MatchOption, None, Some, length, option_map};
 ghost use Rattle.rv_jobs.specs.declared_job.Job.{Job as AJob};
@@ -12,10 +12,10 @@ use rv_jobs::Plan;
 use rv_trace::{ElfFile, image_bytes};
 use std::alloc::{AllocError, Global};
 
-/// The bytes of a job's image, where they were read, and the image that they are, where they are one.
+/// The bytes of a job's image, if they were read, and the image, if they are a valid one.
 #[derive(Drop)]
 pub(crate) struct JobFile<'a> {
-    /// The set of instructions that the bytes are read for.
+    /// The instruction set that the bytes are parsed for.
     pub(crate) isa: Isa,
     pub(crate) bytes: Option<&'a [u8]>,
     pub(crate) image: Option<Image>,
@@ -23,7 +23,7 @@ pub(crate) struct JobFile<'a> {
 }
 
 impl<'a> JobFile<'a> {
-    /// That of the job at a place. Takes memory for the image.
+    /// Parses the image of the job at an index. Allocates the image.
     pub(crate) fn read(
         alloc: Global,
         plan: &'a Plan,
@@ -40,7 +40,7 @@ impl<'a> JobFile<'a> {
         Ok(JobFile { isa, bytes, image })
     }
 
-    /// The file with its image, where it is one.
+    /// Returns the file with its image, if it is a valid one.
     pub(crate) fn elf_file(&self) -> Option<ElfFile<'_>>
         ensures { MatchOption result
             (image_if_read self.now.isa (option_map (λ bytes. bytes.now) self.now.bytes) ≡ None)

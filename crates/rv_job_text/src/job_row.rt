@@ -1,4 +1,4 @@
-//! The row of a job of a plan.
+//! The row of a plan's job.
 
 ghost use Rattle.std.specs.Prelude.{◌≡◌, ◌<◌, Some, length, option_map};
 ghost use Rattle.rv_jobs.specs.declared_job.Job.{Job as AJob};
@@ -10,11 +10,11 @@ use crate::job_file::JobFile;
 use rv_jobs::Plan;
 use rv_rows::Row;
 
-/// The row of the job at a place of a plan, beside the file of the job's image.
+/// The row of the job at an index of a plan, with the file of the job's image.
 #[derive(Clone, Copy)]
 pub(crate) struct JobRow<'a> {
     pub(crate) plan: &'a Plan,
-    /// Counted from 0.
+    /// The job's index, counted from 0.
     pub(crate) place: usize,
     pub(crate) row: &'a Row,
     pub(crate) file: &'a JobFile<'a>,

@@ -1,18 +1,19 @@
-//! The lines that a person reads of a job: the line of its row, and behind that of a job that failed the expectations that
-//! its run does not meet and the end of its console. Of an expectation it is told what was expected and what was met, and of
-//! a refused image why, with the addresses of segments beside the regions and the names of symbols.
+//! The lines that a person reads of a job: the line of its row, and for a failed job the unmet expectations and the end of its console. An
+//! unmet expectation shows what was expected and what was found; a refused image shows the reason, with the addresses of segments beside
+//! the regions and the names of symbols.
 //!
-//! [`TextReporter`] is a [`RowReporter`](rv_rows::RowReporter) over a plan, and over what a store noted of the paths that it
-//! could not read. How much is told is a [`Verbosity`], and which rows pass a [`Rule`](rv_expect::Rule).
+//! [`TextReporter`] is a [`RowReporter`](rv_rows::RowReporter) for a plan and a store's notes on the paths that it could not read.
+//! [`Verbosity`] defines how much is shown, and [`Rule`](rv_expect::Rule) which rows pass.
 //!
-//! [`push_result_line`] appends the line of a row alone, [`push_console_tail`] the end of its console, and [`push_totals_line`] the
-//! counts of all rows, [`push_console_lines`] where a console differs from a text.
+//! [`push_result_line`] appends only the line of a row, [`push_console_tail`] the end of its console, [`push_totals_line`] the counts of
+//! all rows, and [`push_console_lines`] the first difference between a console and a text.
 #![tactic(auto)]
 
 mod budget_use_line;
 mod console_lines;
 mod console_tail;
 mod difference_text;
+mod end_trace;
 mod expected_text;
 mod failures_by_end_kind;
 mod image_reason;
@@ -32,12 +33,12 @@ mod totals_line;
 mod unmet_line;
 mod unread_files;
 mod verbosity;
-mod way_to_end;
 mod whole_lines;
 
 pub use console_lines::push_console_lines;
 pub use console_tail::{TAIL_BYTES, TAIL_LINES, push_console_tail};
-pub use law::{lines_are_the_text, told_line_differs_first};
+pub use end_trace::{TraceOptions, budget_use_at};
+pub use law::{lines_are_the_text, shown_line_differs_first};
 pub use paths::{console_path, reference_path};
 pub use refusal_reasons::ending_reason;
 pub use result_line::{EndDetail, push_result_line};
@@ -45,4 +46,3 @@ pub use text_reporter::TextReporter;
 pub use totals_line::{job_word, known_count, push_run_totals_line, push_totals_line};
 pub use unread_files::{too_long_file_text, unread_file_text};
 pub use verbosity::Verbosity;
-pub use way_to_end::{TraceOptions, budget_use_at};

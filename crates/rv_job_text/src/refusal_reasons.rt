@@ -17,7 +17,7 @@ use rv_rows::{Refusal, RowEnd, expected_console_bytes, signature_reference_bytes
 use rv_trace::image_bytes;
 use std::alloc::{AllocError, Global};
 
-/// Why the job at a place was refused, where it was.
+/// Returns why the job at an index was refused, if it was.
 #[tactic(auto, unfolding(crate::specs::RefusalReasons::ending_reason))]
 pub fn ending_reason(
     alloc: Global,
@@ -105,7 +105,7 @@ fn image_refusal_text(
     Ok(Some(text))
 }
 
-// The path of the reference or of the console's file, whichever is the first that wasn't read.
+// Returns the path of the reference or of the console file, whichever is the first that was not read.
 #[tactic(auto, unfolding(crate::specs::RefusalReasons::unread_reference_path))]
 fn unread_reference_path(plan: &Plan, place: usize) -> Option<&str>
     requires { place < length plan.now.jobs }

@@ -1,4 +1,4 @@
-//! The line that says how a job ended.
+//! The line with a job's result.
 
 ghost use Rattle.std.specs.Prelude.{◌≡◌, ◌++◌, OnOk, codes, option_map};
 ghost use Rattle.std.specs.Fmt.{decimal};
@@ -18,7 +18,7 @@ use rv_rows::{Refusal, Row, RowEnd};
 use rv_text::{Span, push_spans, push_symbol_in_brackets, push_text};
 use std::alloc::{AllocError, Global};
 
-/// What is known of how a job ended, beside its row.
+/// What is known of a job's end beyond its row.
 #[derive(Clone, Copy)]
 pub struct EndDetail<'a, 'b> {
     /// The symbol of a fault's address.
@@ -27,10 +27,10 @@ pub struct EndDetail<'a, 'b> {
     pub reason: Option<&'b [u8]>,
 }
 
-/// Appends the line of a row: `PASS`, `FAIL` or `known`, the job's name, and how it ended. Behind a failure that is known its
-/// reason stands in brackets; of a row that passed, though it is known to fail, it is told which file says so. A fault's
-/// address is told by a symbol too where one is given, and a refusal by its reason where that is given. The symbol's name and
-/// the reasons are shown as [`push_printable_text`](rv_text::push_printable_text) does.
+/// Appends the line of a row: `PASS`, `FAIL` or `known`, the job's name, and how it ended. A known failure is followed by its reason in
+/// brackets; a row that passed although it is a known failure, by the file that lists it. A fault's address is also shown as a symbol if
+/// one is given, and a refusal with its reason if that is given. The symbol's name and the reasons are shown as by
+/// [`push_printable_text`](rv_text::push_printable_text).
 #[tactic(auto, unfolding(crate::specs::ResultLine::result_line))]
 pub fn push_result_line(
     alloc: Global,
@@ -156,7 +156,7 @@ fn push_exit_ending(bytes: &mut Vec<u8>, code: u32, steps: u32) -> Result<(), Al
     )
 }
 
-// Appends the kind of a fault and its address.
+// Appends the kind and the address of a fault.
 fn push_fault_and_address(bytes: &mut Vec<u8>, kind: FaultKind, pc: u32) -> Result<(), AllocError>
     ensures { OnOk result (bytes.new.items ≡ bytes.old.items
         ++ (codes "fault " ++ fault_name kind ++ codes " at " ++ word_digits pc)) }
@@ -172,7 +172,7 @@ fn push_fault_and_address(bytes: &mut Vec<u8>, kind: FaultKind, pc: u32) -> Resu
     )
 }
 
-// Appends what a fault met, and after how many steps.
+// Appends the value that a fault reports, and the number of steps.
 fn push_fault_value(bytes: &mut Vec<u8>, value: u32, steps: u32) -> Result<(), AllocError>
     ensures { OnOk result (bytes.new.items ≡ bytes.old.items
         ++ (codes ", value " ++ word_digits value ++ codes "," ++ after_steps_text steps)) }

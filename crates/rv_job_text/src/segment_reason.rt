@@ -1,4 +1,4 @@
-//! The addresses of segments that a map refuses, as a person is told them.
+//! The addresses of segments that do not fit a map, as shown to a person.
 
 ghost use Rattle.std.specs.Prelude.{◌≡◌, ◌+◌, ◌++◌, OnOk, codes, option_map};
 ghost use Rattle.std.specs.List.{find};
@@ -32,7 +32,7 @@ pub(crate) fn push_unfit_segment(
     }
 }
 
-// What of a segment is outside: its memory where its bytes from the file are inside, else these.
+// Appends the part of a segment that is outside: its memory if its file bytes are inside, otherwise its file bytes at their load addresses.
 #[tactic(auto, unfolding(crate::specs::ImageReasons::outside_segment_text))]
 fn push_outside_segment(bytes: &mut Vec<u8>, job: &Job, segment: &Segment) -> Result<(), AllocError>
     ensures { OnOk result (bytes.new.items ≡ bytes.old.items
@@ -61,7 +61,7 @@ pub(crate) fn push_regions(bytes: &mut Vec<u8>, regions: &[Region]) -> Result<()
     Ok(())
 }
 
-// So many addresses from one on, between texts.
+// Appends a range of `count` addresses, between two texts.
 fn push_address_range(
     bytes: &mut Vec<u8>,
     before: &'static str,
@@ -84,7 +84,7 @@ fn push_address_range(
     )
 }
 
-// The last of so many addresses from one on.
+// Returns the last of `count` addresses from one on.
 #[tactic(auto, unfolding(crate::specs::ImageReasons::last_address_text))]
 fn last_address_span(from: u32, count: u32) -> Span<'static>
     ensures { span_text result ≡ last_address_text from count }
@@ -110,7 +110,7 @@ pub(crate) fn push_segment_overlap(
     }
 }
 
-// Says where the file bytes of two segments are loaded.
+// Appends where the file bytes of two segments are loaded.
 #[tactic(auto, unfolding(crate::specs::ImageReasons::segment_pair_text))]
 fn push_segment_pair(
     bytes: &mut Vec<u8>,
@@ -139,7 +139,7 @@ fn push_segment_pair(
     )
 }
 
-// The first segment that shares an address with a later one, and the first of those.
+// Returns the first segment that overlaps a later one, and the first such later one.
 fn overlapping_segments(at: LoadAt, segments: &[Segment]) -> Option<(Segment, Segment)>
     ensures { result ≡ overlapping_segments at segments.now }
 {
@@ -153,7 +153,7 @@ fn overlapping_segments(at: LoadAt, segments: &[Segment]) -> Option<(Segment, Se
     None
 }
 
-// The first of the others that shares an address with the one.
+// Returns the first of the others that overlaps the given one.
 fn first_overlapping_segment<'a>(
     at: LoadAt,
     one: &Segment,

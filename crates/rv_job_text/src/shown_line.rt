@@ -1,4 +1,4 @@
-//! A line of a console as it is shown beside the one that is expected.
+//! A line of a console, shown relative to the expected one.
 
 ghost use Rattle.std.specs.Prelude.{◌≡◌, ◌≤◌, ◌++◌, OnOk, length, nat_eq};
 ghost use Rattle.std.specs.List.{common_prefix_len, position_or_len};
@@ -10,13 +10,13 @@ use crate::whole_lines::first_feed;
 use rv_text::{push_printable_text, push_text, tail_from};
 use std::alloc::AllocError;
 
-/// How many characters of a line are shown at most.
+/// The maximum number of characters shown of a line.
 const LINE_CHARACTERS: usize = 160;
 
-/// How many bytes before the first that differs a longer line is shown from at most.
+/// The maximum number of bytes before the first difference at which a longer line is shown.
 const BYTES_BEFORE_DIFFERENCE: usize = 32;
 
-/// Appends the line of one side beside the other's, behind a margin.
+/// Appends the line of one side, relative to the other's, after a margin.
 #[tactic(auto, unfolding(crate::specs::ConsoleLines::side_line))]
 pub(crate) fn push_side_line(
     bytes: &mut Vec<u8>,
@@ -33,7 +33,7 @@ pub(crate) fn push_side_line(
     push_feed_note(bytes, own, feed)
 }
 
-// Appends a note where a line has no line feed.
+// Appends a note if a line has no line feed.
 fn push_feed_note(bytes: &mut Vec<u8>, whole: &[u8], feed: usize) -> Result<(), AllocError>
     requires { feed ≡ position_or_len is_feed whole.now }
     ensures { OnOk result (bytes.new.items ≡ bytes.old.items ++ feed_note whole.now) }
@@ -45,7 +45,7 @@ fn push_feed_note(bytes: &mut Vec<u8>, whole: &[u8], feed: usize) -> Result<(), 
     }
 }
 
-// Appends a line that differs at a place: a longer one in part.
+// Appends a line that differs at an offset; of a longer line only a part.
 #[tactic(auto, unfolding(crate::specs::ConsoleLines::shown_line))]
 fn push_shown_line(bytes: &mut Vec<u8>, place: usize, text: &[u8]) -> Result<(), AllocError>
     ensures { OnOk result (bytes.new.items ≡ bytes.old.items ++ shown_line place text.now) }
@@ -73,7 +73,7 @@ fn shown_begin(place: usize, text: &[u8]) -> usize
     begin + first_character_begin(tail_from(text, begin))
 }
 
-// Where the first character begins, or how many bytes there are.
+// Returns the offset of the first character's beginning, or the length if there is none.
 fn first_character_begin(text: &[u8]) -> usize
     ensures place { result ≡ position_or_len begins_character text.now }
     ensures within { result ≤ length text.now }
@@ -86,7 +86,7 @@ fn first_character_begin(text: &[u8]) -> usize
     text.len()
 }
 
-// How many bytes the first characters have: so many characters at most.
+// Returns the number of bytes in the first characters, at most `most` of them.
 fn characters_len(most: usize, text: &[u8]) -> usize
     ensures len { result ≡ characters_len most text.now }
     ensures within { result ≤ length text.now }
@@ -109,7 +109,7 @@ fn begins_character(byte: u8) -> bool
     byte < 0x80 || 0xC0 <= byte
 }
 
-// How many bytes in front are equal.
+// Returns the length of the common prefix in bytes.
 fn equal_len(own: &[u8], other: &[u8]) -> usize
     ensures { result ≡ common_prefix_len nat_eq own.now other.now }
 {

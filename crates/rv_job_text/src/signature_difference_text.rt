@@ -1,4 +1,4 @@
-//! What differs first between the words of a signature and those that are expected, as text.
+//! Text for the first difference between actual and expected words of a signature.
 
 ghost use Rattle.std.specs.Prelude.{◌≡◌, ◌++◌, ◌+◌, ◌*◌, ◌%◌, ◌^◌, OnOk, option_map};
 ghost use Rattle.rv_text.specs.Spans.{span_text};
@@ -11,14 +11,14 @@ use rv_rows::{LINE, Words};
 use rv_text::{Span, push_spans, push_text};
 use std::alloc::AllocError;
 
-/// A reference: its path, and its bytes.
+/// A reference: its path and its bytes.
 #[derive(Clone, Copy)]
 struct ReferenceFile<'a> {
     path: &'a str,
     bytes: &'a [u8],
 }
 
-/// What differs from the signature that is expected. The address is that of its first word, where it is known.
+/// Appends the difference from the expected signature. `address` is that of its first word, if it is known.
 #[tactic(auto, unfolding(crate::specs::UnmetLines::signature_difference_text))]
 pub(crate) fn push_signature_difference(
     bytes: &mut Vec<u8>,
@@ -95,7 +95,7 @@ fn push_bad_reference_line(bytes: &mut Vec<u8>, number: usize, path: &str) -> Re
     )
 }
 
-/// What differs between two signatures, of which one may be absent.
+/// Appends the difference between two signatures, either of which may be missing.
 #[tactic(auto, unfolding(crate::specs::UnmetLines::signatures_difference_text))]
 pub(crate) fn push_signatures_difference(
     bytes: &mut Vec<u8>,
@@ -125,7 +125,7 @@ pub(crate) fn push_signatures_difference(
     }
 }
 
-// That one of two signatures is absent.
+// Returns the text for the one of two signatures that is missing.
 fn absent_signature_text(words: &Option<Words>) -> &'static str
     ensures { result.now ≡ absent_signature_text words.now }
 {
@@ -135,7 +135,7 @@ fn absent_signature_text(words: &Option<Words>) -> &'static str
     }
 }
 
-// What a word is at a place, and what is expected there.
+// Appends the actual and the expected word at an index.
 fn push_word_difference<'a>(
     bytes: &mut Vec<u8>,
     first: Option<u32>,
@@ -150,7 +150,7 @@ fn push_word_difference<'a>(
     push_spans(bytes, &[met, Span::Text(", expected "), wanted])
 }
 
-// The number of a word, and its address where that of the first is known.
+// Appends the index of a word, and its address if that of the first word is known.
 #[tactic(auto, unfolding(crate::specs::UnmetLines::word_place_text))]
 fn push_word_place(bytes: &mut Vec<u8>, first: Option<u32>, place: usize) -> Result<(), AllocError>
     ensures { OnOk result (bytes.new.items ≡ bytes.old.items ++ word_place_text first place) }
@@ -177,7 +177,7 @@ fn word_address(first: u32, place: usize) -> u32
     ((first as u128 + 4 * place as u128) % 0x1_0000_0000) as u32
 }
 
-// The digits of the word at a place, if there is one.
+// Returns the digits of the word at an index, if there is one.
 #[tactic(auto, unfolding(crate::specs::UnmetLines::signature_word_digits))]
 fn signature_word_digits(words: &[u32], place: usize) -> Span<'static>
     ensures { span_text result ≡ signature_word_digits words.now place }
@@ -189,7 +189,7 @@ fn signature_word_digits(words: &[u32], place: usize) -> Span<'static>
     }
 }
 
-// The digits of the line at a place.
+// Returns the digits of the line at an index.
 #[tactic(auto, unfolding(crate::specs::UnmetLines::reference_digits_at))]
 fn reference_digits_at(text: &[u8], place: usize) -> &[u8]
     ensures { result.now ≡ reference_digits_at text.now place }

@@ -1,4 +1,4 @@
-//! What is told of rows, over a plan and what was noted of its paths.
+//! The text report of rows, for a plan and the notes on its paths.
 
 ghost use Rattle.std.specs.Prelude.{◌≡◌, ◌<◌, ◌++◌, OnOk, length, option_map};
 ghost use Rattle.rv_expect.specs.Comparisons.{sides_of};
@@ -12,6 +12,7 @@ ghost use Rattle.rv_job_text.specs.RowReporter.{outcome_text, run_explanation, r
 
 use crate::budget_use_line::push_budget_use_line;
 use crate::console_tail::push_console_tail;
+use crate::end_trace::TraceOptions;
 use crate::job_file::JobFile;
 use crate::job_row::JobRow;
 use crate::met_line::push_met_lines;
@@ -19,7 +20,6 @@ use crate::refusal_reasons::ending_reason;
 use crate::result_line::{EndDetail, push_result_line};
 use crate::unmet_line::push_unmet_lines;
 use crate::verbosity::{Detail, Verbosity};
-use crate::way_to_end::TraceOptions;
 use rv_elf::SymbolAt;
 use rv_expect::{Comparison, Judge, Unmet, row_of_same_as_job, unmet_expectations};
 use rv_files::UnreadPath;
@@ -29,16 +29,16 @@ use rv_rows::{
 };
 use std::alloc::{AllocError, Global};
 
-/// Tells of the rows of a plan.
+/// Reports the rows of a plan as text.
 #[derive(Clone, Copy)]
 pub struct TextReporter<'a> {
     pub plan: &'a Plan,
-    /// What a store noted of the paths that it could not read.
+    /// A store's notes on the paths that it could not read.
     pub unread: &'a [UnreadPath],
     /// How rows are counted.
     pub judge: Judge<'a>,
     pub verbosity: Verbosity,
-    /// How many of the last instructions of a job that failed are told, where they are.
+    /// How many of the last instructions of a failed job to show, if any.
     pub last: Option<u32>,
 }
 
@@ -94,9 +94,9 @@ impl<'a> TextReporter<'a> {
         .push_run_lines(alloc, self.last, text)
     }
 
-    /// Appends what explains the row of the job at a place, whatever the verbosity: its line, and where the job ran every
-    /// expectation, those that it does not meet first, the end of its console, what is found of a used-up budget, how it came to
-    /// its end, with the registers there and so many of its last instructions, and the calls that have not returned there.
+    /// Appends an explanation of the row of the job at an index, regardless of the verbosity: its line and, if the job ran, every
+    /// expectation with the unmet ones first, the end of its console, the analysis of a used-up budget, how it reached its end, with the
+    /// registers there and its last instructions, and the calls that have not returned.
     #[tactic(auto, unfolding(crate::specs::RowReporter::explanation_text))]
     pub fn push_job_explanation(
         &self,
@@ -126,8 +126,7 @@ impl<'a> TextReporter<'a> {
         .push_run_explanation(alloc, way, text)
     }
 
-    /// Appends what the job at a place came to, whatever the verbosity: the line of its row, and where it ran the expectations that it
-    /// does not meet.
+    /// Appends the outcome of the job at an index, regardless of the verbosity: the line of its row and, if it ran, the unmet expectations.
     #[tactic(auto, unfolding(crate::specs::RowReporter::outcome_text))]
     pub fn push_outcome(
         &self,
@@ -156,8 +155,8 @@ impl<'a> TextReporter<'a> {
         .push_expectation_lines(alloc, Detail::Unmet, text)
     }
 
-    /// Appends the line of the row of the job at a place, and nothing behind it, whatever the verbosity. The image is read for the
-    /// place of a fault alone.
+    /// Appends only the line of the row of the job at an index, regardless of the verbosity. The image is parsed only for the address of a
+    /// fault.
     #[tactic(auto, unfolding(crate::specs::ImageSymbols::fault_symbol))]
     pub fn push_lone_row_line(
         &self,
@@ -182,7 +181,7 @@ impl<'a> TextReporter<'a> {
         }
     }
 
-    // Appends the line of the row of the job at a place, with the symbol of a fault's place.
+    // Appends the line of the row of the job at an index, with the symbol of a fault's address.
     #[tactic(auto, unfolding(crate::specs::RowReporter::row_line))]
     fn push_row_line(
         &self,
@@ -219,7 +218,7 @@ fn reason_bytes(reason: &Option<Vec<u8>>) -> Option<&[u8]>
 }
 
 impl<'a> JobRow<'a> {
-    // Appends the expectations that the run doesn't meet, the end of its console, and how it came to its end.
+    // Appends the unmet expectations of the run, the end of its console, and how it reached its end.
     #[tactic(auto, unfolding(crate::specs::RowReporter::run_lines))]
     fn push_run_lines(
         &self,
@@ -239,8 +238,8 @@ impl<'a> JobRow<'a> {
         }
     }
 
-    // Appends every expectation, the end of the console, what is found of a used-up budget, how the run came to its end, and
-    // the calls that have not returned there.
+    // Appends every expectation, the end of the console, the analysis of a used-up budget, how the run reached its end, and the calls that
+    // have not returned.
     #[tactic(auto, unfolding(crate::specs::RowReporter::run_explanation))]
     fn push_run_explanation(
         &self,
@@ -259,7 +258,7 @@ impl<'a> JobRow<'a> {
         self.push_calls(alloc, text)
     }
 
-    // Appends the expectations that are told of the run.
+    // Appends the expectations of the run that are to be shown.
     fn push_expectation_lines(
         &self,
         alloc: Global,
@@ -274,7 +273,7 @@ impl<'a> JobRow<'a> {
         self.push_compared_expectations(alloc, named.as_ref(), detail, text)
     }
 
-    // The same, beside the row of the named job.
+    // Like `push_expectation_lines`, with the row of the named job.
     fn push_compared_expectations(
         &self,
         alloc: Global,

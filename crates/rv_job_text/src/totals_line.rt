@@ -11,8 +11,8 @@ use rv_rows::Row;
 use rv_text::{Span, push_spans, push_text};
 use std::alloc::AllocError;
 
-/// Appends the last line of rows: how many jobs there were, how many passed and failed, how those that failed ended, how
-/// many failures are known, and the steps of all.
+/// Appends the last line for rows: the number of jobs, how many passed and failed, how the failed ones ended, how many failures are known,
+/// and the total steps.
 pub fn push_totals_line(
     bytes: &mut Vec<u8>,
     judge: &Judge<'_>,
@@ -25,7 +25,7 @@ pub fn push_totals_line(
     push_text(bytes, "\n")
 }
 
-/// Appends the same of a run that shows these rows, and that has so many jobs more: a failure ended it before them.
+/// Like [`push_totals_line`], for a run that shows these rows and has `hidden` further jobs, before which a failure ended it.
 pub fn push_run_totals_line(
     bytes: &mut Vec<u8>,
     judge: &Judge<'_>,
@@ -56,7 +56,7 @@ fn push_totals_text(bytes: &mut Vec<u8>, judge: &Judge<'_>, rows: &[Row]) -> Res
     push_total_steps(bytes, total_steps(rows))
 }
 
-// Appends how many jobs there were, and how many of them passed and failed.
+// Appends the number of jobs, and how many of them passed and failed.
 fn push_passed_counts(
     bytes: &mut Vec<u8>,
     jobs: usize,
@@ -79,14 +79,14 @@ fn push_passed_counts(
     )
 }
 
-/// The word behind a count of jobs.
+/// Returns the noun after a count of jobs.
 pub fn job_word(count: usize) -> &'static str
     ensures { result.now ≡ job_word count }
 {
     if count == 1 { " job" } else { " jobs" }
 }
 
-// Appends how many failures are known, where there are any.
+// Appends the number of known failures, if there are any.
 fn push_known_count(bytes: &mut Vec<u8>, count: usize) -> Result<(), AllocError>
     ensures { OnOk result (bytes.new.items ≡ bytes.old.items ++ known_count_text count) }
 {
@@ -117,7 +117,7 @@ fn failed_count(judge: &Judge<'_>, rows: &[Row]) -> usize
     rows.iter().filter(|row| judge.fails(row)).count()
 }
 
-/// How many failures are known.
+/// Returns the number of known failures.
 pub fn known_count(judge: &Judge<'_>, rows: &[Row]) -> usize
     ensures { result ≡ known_count (judging_of judge.now) rows.now }
 {
@@ -126,7 +126,7 @@ pub fn known_count(judge: &Judge<'_>, rows: &[Row]) -> usize
         .count()
 }
 
-// The steps of all rows: no row has more than a budget allows, so the sum has room.
+// Returns the steps of all rows. No row has more than a budget allows, so the sum does not overflow.
 fn total_steps(rows: &[Row]) -> u64
     requires { length rows.now < 2 ^ 32 }
     ensures { result ≡ total_steps rows.now }
@@ -134,7 +134,7 @@ fn total_steps(rows: &[Row]) -> u64
     rows.iter().map(|row| u64::from(row.steps)).sum()
 }
 
-// Appends how many jobs are not shown, where there are any.
+// Appends how many jobs are not shown, if there are any.
 fn push_hidden_count(bytes: &mut Vec<u8>, hidden: usize) -> Result<(), AllocError>
     ensures { OnOk result (bytes.new.items ≡ bytes.old.items ++ hidden_text hidden) }
 {

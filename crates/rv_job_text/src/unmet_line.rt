@@ -1,4 +1,4 @@
-//! The line of an expectation that a run does not meet.
+//! The line of an unmet expectation.
 
 ghost use Rattle.std.specs.Prelude.{◌≡◌, ◌++◌, OnOk, None, option_map};
 ghost use Rattle.rv_expect.specs.Comparisons.{sides_of};
@@ -15,8 +15,7 @@ use rv_rows::{Row, RowEnd};
 use rv_text::{Span, push_spans, push_text};
 use std::alloc::AllocError;
 
-/// Appends a line for each expectation that is not met, behind five spaces. The address is that of the first word of the
-/// signature, where it is known.
+/// Appends a line, after five spaces, for each unmet expectation. `address` is that of the first word of the signature, if it is known.
 pub(crate) fn push_unmet_lines(
     bytes: &mut Vec<u8>,
     comparison: &Comparison<'_, '_>,
@@ -32,7 +31,7 @@ pub(crate) fn push_unmet_lines(
     Ok(())
 }
 
-// Appends the lines of an expectation that is not met: by lines of the console where that can be, else one.
+// Appends the lines of an unmet expectation: the console's difference by lines if possible, else a single line.
 #[tactic(auto, unfolding(crate::specs::UnmetLines::unmet_line))]
 fn push_unmet_line(
     bytes: &mut Vec<u8>,
@@ -51,7 +50,7 @@ fn push_unmet_line(
     }
 }
 
-// Appends the one line of an expectation that is not met, behind five spaces.
+// Appends the single line of an unmet expectation, after five spaces.
 fn push_expected_line(
     bytes: &mut Vec<u8>,
     comparison: &Comparison<'_, '_>,
@@ -105,7 +104,7 @@ fn push_unmet_expectation(
     }
 }
 
-/// Appends the end with an exit code.
+/// Appends the expected end with an exit code.
 #[tactic(auto, unfolding(crate::specs::UnmetLines::expected_exit_text))]
 pub(crate) fn push_expected_exit(
     bytes: &mut Vec<u8>,
@@ -119,7 +118,7 @@ pub(crate) fn push_expected_exit(
     }
 }
 
-/// Appends another end.
+/// Appends the expected end other than an exit.
 #[tactic(auto, unfolding(crate::specs::UnmetLines::expected_end_text))]
 pub(crate) fn push_expected_end(
     bytes: &mut Vec<u8>,
@@ -136,7 +135,7 @@ pub(crate) fn push_expected_end(
     }
 }
 
-// What differs from the job that this one names.
+// Appends the difference from the job that this one names.
 #[tactic(auto, unfolding(crate::specs::UnmetLines::same_difference_text))]
 fn push_same_difference(
     bytes: &mut Vec<u8>,
@@ -188,7 +187,7 @@ fn push_rows_difference(
     }
 }
 
-// How a run ended, behind a text: in which way, and with what.
+// Appends a text, then how a run ended, with its value.
 #[tactic(auto, unfolding(crate::specs::UnmetLines::row_end_text))]
 fn push_row_end(bytes: &mut Vec<u8>, before: &'static str, ending: RowEnd) -> Result<(), AllocError>
     ensures { OnOk result (bytes.new.items ≡ bytes.old.items ++ (before.now ++ row_end_text ending)) }

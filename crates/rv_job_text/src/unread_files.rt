@@ -1,4 +1,4 @@
-//! What is told of a file that was not read.
+//! The text for a file that was not read.
 
 ghost use Rattle.std.specs.Prelude.{◌≡◌, IfOk, option_map};
 ghost use Rattle.rv_job_text.specs.UnreadFiles.{too_long_file_text, unread_note, unread_note_text, unread_file_text};
@@ -8,7 +8,7 @@ use rv_jobs::limits::MOST_BYTES;
 use rv_text::{Span, text_of_spans};
 use std::alloc::{AllocError, Global};
 
-/// A path, and why its file was unreadable.
+/// Returns a path, and why its file could not be read.
 #[tactic(auto, unfolding(crate::specs::UnreadFiles::unread_file_text))]
 pub fn unread_file_text(
     alloc: Global,
@@ -24,7 +24,7 @@ pub fn unread_file_text(
     )
 }
 
-/// A path, and that its file is too long.
+/// Returns a path, and that its file is too long.
 #[tactic(auto, unfolding(crate::specs::UnreadFiles::too_long_file_text))]
 pub fn too_long_file_text(alloc: Global, path: &str) -> Result<Vec<u8>, AllocError>
     ensures { IfOk result (λ text. text.items ≡ too_long_file_text path.now) }
@@ -40,7 +40,7 @@ pub fn too_long_file_text(alloc: Global, path: &str) -> Result<Vec<u8>, AllocErr
     )
 }
 
-// The first that was noted of a path.
+// Returns the first note on a path.
 fn unread_note<'a>(unread: &'a [UnreadPath], path: &str) -> Option<&'a UnreadPath>
     ensures { option_map (λ one. one.now) result ≡ unread_note unread.now path.now }
 {

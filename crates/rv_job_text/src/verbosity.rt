@@ -1,4 +1,4 @@
-//! How much is told of rows.
+//! How much is shown of rows.
 
 ghost use Rattle.std.specs.Prelude.{◌≡◌};
 ghost use Rattle.rv_expect.specs.Judgement.{is_failing, judged_of};
@@ -6,28 +6,28 @@ ghost use Rattle.rv_job_text.specs.RowReporter.{shows_row};
 
 use rv_expect::Judgement;
 
-/// How much is told.
+/// How much is shown.
 #[derive(Clone, Copy)]
 pub enum Verbosity {
-    /// Nothing.
+    /// No rows.
     Quiet,
-    /// The jobs that count as failures: a failure that is known does not.
+    /// The rows that count as failures; a known failure does not.
     Failures,
-    /// All jobs; of those that pass the line alone.
+    /// All rows; of a passed one only the line.
     All,
 }
 
-/// Which expectations of a job are told.
+/// Which expectations of a job are shown.
 #[derive(Clone, Copy)]
 pub(crate) enum Detail {
     /// Those that its run does not meet.
     Unmet,
-    /// Behind them those that it meets, too.
+    /// The unmet ones, then the met ones.
     All,
 }
 
 impl Verbosity {
-    /// Whether anything is told of a row, by what it counts as.
+    /// Whether a row with this judgement is shown.
     pub(crate) fn shows_row(self, judgement: Judgement<'_>) -> bool
         ensures { result ≡ shows_row self (is_failing (judged_of judgement.entry)) }
     {

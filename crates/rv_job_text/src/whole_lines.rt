@@ -7,7 +7,7 @@ ghost use Rattle.rv_job_text.specs.ConsoleTail.{is_feed};
 
 use rv_text::tail_from;
 
-/// The first line with its line feed, which the last line may lack, and the text behind it. Of no text both are empty.
+/// Returns the first line with its line feed, which the last line can lack, and the text after it. Both are empty for an empty text.
 pub(crate) fn split_whole_line(text: &[u8]) -> (&[u8], &[u8])
     ensures some { 0 < length text.now → whole_lines text.now ≡ result.0.now ∷ whole_lines result.1.now }
     ensures full { 0 < length text.now → 0 < length result.0.now }
@@ -22,7 +22,7 @@ pub(crate) fn split_whole_line(text: &[u8]) -> (&[u8], &[u8])
     }
 }
 
-/// Where the first line feed stands, or how many bytes there are.
+/// Returns the index of the first line feed, or the length if there is none.
 pub(crate) fn first_feed(text: &[u8]) -> usize
     ensures place { result ≡ position_or_len is_feed text.now }
     ensures within { result ≤ length text.now }
@@ -35,7 +35,6 @@ pub(crate) fn first_feed(text: &[u8]) -> usize
     text.len()
 }
 
-/// How many lines a text has.
 pub(crate) fn whole_line_count(text: &[u8]) -> usize
     ensures { result ≡ length (whole_lines text.now) }
 {

@@ -14,7 +14,7 @@ use Rattle.rv_jobs.specs.declared.kept.Kept.{Kept}
 use Rattle.rv_jobs.specs.declared.kept.Kept.TheVariants.{Unreadable}
 use Rattle.rv_jobs.specs.declared.answers.Answer.{Answer}
 use Rattle.rv_jobs.specs.declared.path_reading.Places.{Places}
-use Rattle.rv_base.specs.Names.{place_in}
+use Rattle.rv_base.specs.Names.{index_in}
 use Rattle.rv_base.specs.Files.{FileContents}
 use Rattle.rv_jobs.specs.Kept.{IsKeptOf, is_unreadable, faults_with}
 use Rattle.rv_base.specs.Counts.{one_more}
@@ -37,11 +37,11 @@ answer_places_of_job false (Some j) a ans f k d ih e = let z : j + 1 ≡ k = cc 
     ∙ ap (λ i. Some (get_or (a ∷ ans) i d).kept) s
 
 -- the answer at the place of the path
-pub cached_or_invalidated_at : (ans : List Answer) (p : List ℕ) (k : ℕ) (d : Answer) → place_in (paths_of ans) p ≡ Some k
+pub cached_or_invalidated_at : (ans : List Answer) (p : List ℕ) (k : ℕ) (d : Answer) → index_in (paths_of ans) p ≡ Some k
     → kept_of_path ans p ≡ Some (get_or ans k d).kept
-unfolding place_in
+unfolding index_in
 cached_or_invalidated_at [] p k d e = cc
-cached_or_invalidated_at (a ∷ ans) p k d e = answer_places_of_job (bytes_eq p a.path) (place_in (paths_of ans) p) a ans
+cached_or_invalidated_at (a ∷ ans) p k d e = answer_places_of_job (bytes_eq p a.path) (index_in (paths_of ans) p) a ans
     (find (λ (x : Answer). bytes_eq p x.path) ans) k d (λ j h. cached_or_invalidated_at ans p j d h) e
 
 absent : (b : Bool) (o : Option ℕ) (a : Answer) (f : Option Answer)
@@ -97,36 +97,36 @@ is_none_of : (o : Option ℕ) → is_some o ≡ false → o ≡ None
 is_none_of None e = refl
 is_none_of (Some k) e = cc
 
-pub no_place : (xs : List (List ℕ)) (p : List ℕ) → is_some (place_in xs p) ≡ false → place_in xs p ≡ None
-no_place xs p e = is_none_of (place_in xs p) e
+pub no_place : (xs : List (List ℕ)) (p : List ℕ) → is_some (index_in xs p) ≡ false → index_in xs p ≡ None
+no_place xs p e = is_none_of (index_in xs p) e
 
-pub with_path-old : (xs : List (List ℕ)) (p : List ℕ) → is_some (place_in xs p) ≡ true → xs ≡ with_path xs p
+pub with_path-old : (xs : List (List ℕ)) (p : List ℕ) → is_some (index_in xs p) ≡ true → xs ≡ with_path xs p
 unfolding with_path
 with_path-old xs p e = sym (ap (λ b. cond b xs (xs ++ p ∷ [])) e)
 
-pub with_path-new : (xs : List (List ℕ)) (p : List ℕ) → is_some (place_in xs p) ≡ false
+pub with_path-new : (xs : List (List ℕ)) (p : List ℕ) → is_some (index_in xs p) ≡ false
     → xs ++ p ∷ [] ≡ with_path xs p
 unfolding with_path
 with_path-new xs p e = sym (ap (λ b. cond b xs (xs ++ p ∷ [])) e)
 
 module _ (xs : List (List ℕ)) (p : List ℕ) where
-  found_still : (q : List ℕ) (k : ℕ) (b : Bool) → bytes_eq p q ≡ b → place_in xs p ≡ None
-      → place_in xs q ≡ Some k
-      → cond b (Some (length xs)) (place_in xs q) ≡ Some k
-  found_still q k true e none h = let z : None ≡ Some k = sym none ∙ ap (place_in xs) ((bytes_eq-Decides p q).0 e)
+  found_still : (q : List ℕ) (k : ℕ) (b : Bool) → bytes_eq p q ≡ b → index_in xs p ≡ None
+      → index_in xs q ≡ Some k
+      → cond b (Some (length xs)) (index_in xs q) ≡ Some k
+  found_still q k true e none h = let z : None ≡ Some k = sym none ∙ ap (index_in xs) ((bytes_eq-Decides p q).0 e)
       ∙ h in cc
   found_still q k false e none h = h
 
-  found_in : (q : List ℕ) (k : ℕ) (b : Bool) → is_some (place_in xs p) ≡ b → place_in xs q ≡ Some k
-      → place_in (with_path xs p) q ≡ Some k
-  found_in q k true e h = ap (λ ys. place_in ys q) (sym (with_path-old xs p e)) ∙ h
+  found_in : (q : List ℕ) (k : ℕ) (b : Bool) → is_some (index_in xs p) ≡ b → index_in xs q ≡ Some k
+      → index_in (with_path xs p) q ≡ Some k
+  found_in q k true e h = ap (λ ys. index_in ys q) (sym (with_path-old xs p e)) ∙ h
   found_in q k false e h =
-      ap (λ ys. place_in ys q) (sym (with_path-new xs p e)) ∙ place_last xs p q (no_place xs p e)
+      ap (λ ys. index_in ys q) (sym (with_path-new xs p e)) ∙ place_last xs p q (no_place xs p e)
       ∙ found_still q k (bytes_eq p q) refl (no_place xs p e) h
 
   -- a path keeps its place
-  pub keeps_place : (q : List ℕ) (k : ℕ) → place_in xs q ≡ Some k → place_in (with_path xs p) q ≡ Some k
-  keeps_place q k h = found_in q k (is_some (place_in xs p)) refl h
+  pub keeps_place : (q : List ℕ) (k : ℕ) → index_in xs q ≡ Some k → index_in (with_path xs p) q ≡ Some k
+  keeps_place q k h = found_in q k (is_some (index_in xs p)) refl h
 
 -- ---- a path more
 
@@ -149,18 +149,18 @@ never_some None h = refl
 never_some (Some k) h = absurd (h k refl)
 
 -- where the search that puts a path in found no place, it has none
-pub not_placed : (xs : List (List ℕ)) (p : List ℕ) (found old : Option ℕ) → old ≡ place_in xs p
+pub not_placed : (xs : List (List ℕ)) (p : List ℕ) (found old : Option ℕ) → old ≡ index_in xs p
     → found ≡ old
-    → ((k : ℕ) → found ≡ Some k → ⊥) → place_in xs p ≡ None
+    → ((k : ℕ) → found ≡ Some k → ⊥) → index_in xs p ≡ None
 not_placed xs p found old is e never = sym is ∙ sym e ∙ never_some found never
 
 -- a path that is new has the place behind the others
-pub new_place : (xs ys : List (List ℕ)) (p : List ℕ) (at : ℕ) → place_in xs p ≡ None → ys ≡ xs ++ p ∷ []
-    → at ≡ length xs → place_in ys p ≡ Some at
+pub new_place : (xs ys : List (List ℕ)) (p : List ℕ) (at : ℕ) → index_in xs p ≡ None → ys ≡ xs ++ p ∷ []
+    → at ≡ length xs → index_in ys p ≡ Some at
 new_place xs ys p at none pushed is =
     let itself : bytes_eq p p ≡ true = (bytes_eq-Decides p p).1 refl in
-    ap (λ zs. place_in zs p) pushed ∙ place_last xs p p none
-    ∙ ap (λ b. cond b (Some (length xs)) (place_in xs p)) itself ∙ ap (λ k. Some k) (sym is)
+    ap (λ zs. index_in zs p) pushed ∙ place_last xs p p none
+    ∙ ap (λ b. cond b (Some (length xs)) (index_in xs p)) itself ∙ ap (λ k. Some k) (sym is)
 
 -- the paths and what is kept of them, with one of each more
 module _ (ps qs : List (List ℕ)) (ks ms : List Kept) (p : List ℕ) (kept : Kept) (even : length ps ≡ length ks)
@@ -180,14 +180,14 @@ module _ (ps qs : List (List ℕ)) (ks ms : List Kept) (p : List ℕ) (kept : Ke
   grown = (λ i. answers_with (pathed i) (pushed i)) ∙ with-push ps ks p kept even
       ∙ ap (λ (l : List Answer). one_answer l p kept) view
 
-  pub asked_paths : place_in ps p ≡ None → paths_of (answers_with qs ms) ≡ with_path (paths_of old) p
+  pub asked_paths : index_in ps p ≡ None → paths_of (answers_with qs ms) ≡ with_path (paths_of old) p
   asked_paths none =
       let same_paths : paths_of old ≡ ps = ap paths_of (sym view) ∙ paths-with ps ks even in
       ap paths_of grown ∙ map-append (λ (x : Answer). x.path) old (record { path = p; kept = kept } ∷ [])
-      ∙ with_path-new (paths_of old) p (ap is_some (ap (λ l. place_in l p) same_paths ∙ none))
+      ∙ with_path-new (paths_of old) p (ap is_some (ap (λ l. index_in l p) same_paths ∙ none))
 
-  pub asked_place : (at : ℕ) → place_in ps p ≡ None → at ≡ length ks
-      → place_in (paths_of (answers_with qs ms)) p ≡ Some at
+  pub asked_place : (at : ℕ) → index_in ps p ≡ None → at ≡ length ks
+      → index_in (paths_of (answers_with qs ms)) p ≡ Some at
   asked_place at none is =
       new_place ps (paths_of (answers_with qs ms)) p at none (paths-with qs ms still_even ∙ pathed) (is ∙ sym even)
 
@@ -210,26 +210,26 @@ module _ (ps qs : List (List ℕ)) (ks ms : List Kept) (p : List ℕ) (kept : Ke
 -- ---- the places of a job's answers
 
 with_path_if-place : (xs : List (List ℕ)) (o : Option (List ℕ)) (q : List ℕ) (k : ℕ)
-    → place_in xs q ≡ Some k
-    → place_in (with_path_if xs o) q ≡ Some k
+    → index_in xs q ≡ Some k
+    → index_in (with_path_if xs o) q ≡ Some k
 with_path_if-place xs None q k h = h
 with_path_if-place xs (Some p) q k h = keeps_place xs p q k h
 
-with_job-place : (xs : List (List ℕ)) (j : Job) (q : List ℕ) (k : ℕ) → place_in xs q ≡ Some k
-    → place_in (with_job xs j) q ≡ Some k
+with_job-place : (xs : List (List ℕ)) (j : Job) (q : List ℕ) (k : ℕ) → index_in xs q ≡ Some k
+    → index_in (with_job xs j) q ≡ Some k
 with_job-place xs j q k h =
     with_path_if-place (with_path_if (with_path xs j.image) j.expect_signature) (console_path j.expect_console) q k
     (with_path_if-place (with_path xs j.image) j.expect_signature q k (keeps_place xs j.image q k h))
 
 reference_later : (xs ys : List (List ℕ))
-    → ((q : List ℕ) (k : ℕ) → place_in xs q ≡ Some k → place_in ys q ≡ Some k)
+    → ((q : List ℕ) (k : ℕ) → index_in xs q ≡ Some k → index_in ys q ≡ Some k)
     → (o : Option (List ℕ)) (r : Option ℕ)
-    → option_map (place_in xs) o ≡ option_map (λ k. Some k) r
-    → option_map (place_in ys) o ≡ option_map (λ k. Some k) r
+    → option_map (index_in xs) o ≡ option_map (λ k. Some k) r
+    → option_map (index_in ys) o ≡ option_map (λ k. Some k) r
 reference_later xs ys still None None e = refl
 reference_later xs ys still None (Some k) e = cc
 reference_later xs ys still (Some q) None e = cc
-reference_later xs ys still (Some q) (Some k) e = let h : place_in xs q ≡ Some k = cc in
+reference_later xs ys still (Some q) (Some k) e = let h : index_in xs q ≡ Some k = cc in
     ap (λ o. Some o) (still q k h)
 
 -- the answers of one job more leave the places of a job as they are
@@ -248,39 +248,39 @@ placed_later xs other job at h = record {
 pub placed_all : (xs ys zs : List (List ℕ)) (job : Job) (image : ℕ) (reference console : Option ℕ) (p : List ℕ)
     (r c : Option (List ℕ)) → p ≡ job.image → r ≡ job.expect_signature
     → c ≡ console_path job.expect_console
-    → place_in xs p ≡ Some image
-    → ys ≡ with_path_if xs r → option_map (place_in ys) r ≡ option_map (λ k. Some k) reference
-    → zs ≡ with_path_if ys c → option_map (place_in zs) c ≡ option_map (λ k. Some k) console
+    → index_in xs p ≡ Some image
+    → ys ≡ with_path_if xs r → option_map (index_in ys) r ≡ option_map (λ k. Some k) reference
+    → zs ≡ with_path_if ys c → option_map (index_in zs) c ≡ option_map (λ k. Some k) console
     → ArePlaced zs job (record { image = image; reference = reference; console = console })
 placed_all xs ys zs job image reference console p r c is_p is_r is_c found grown there one_more_times last =
-    let later : (q : List ℕ) (k : ℕ) → place_in xs q ≡ Some k → place_in ys q ≡ Some k =
-    λ q k h. ap (λ ws. place_in ws q) grown ∙ with_path_if-place xs r q k h in
-    let last_too : (q : List ℕ) (k : ℕ) → place_in ys q ≡ Some k → place_in zs q ≡ Some k =
-    λ q k h. ap (λ ws. place_in ws q) one_more_times ∙ with_path_if-place ys c q k h in
+    let later : (q : List ℕ) (k : ℕ) → index_in xs q ≡ Some k → index_in ys q ≡ Some k =
+    λ q k h. ap (λ ws. index_in ws q) grown ∙ with_path_if-place xs r q k h in
+    let last_too : (q : List ℕ) (k : ℕ) → index_in ys q ≡ Some k → index_in zs q ≡ Some k =
+    λ q k h. ap (λ ws. index_in ws q) one_more_times ∙ with_path_if-place ys c q k h in
     record {
-      image = last_too job.image image (later job.image image (ap (place_in xs) (sym is_p) ∙ found));
-      reference = ap (option_map (place_in zs)) (sym is_r) ∙ reference_later ys zs last_too r reference there;
-      console = ap (option_map (place_in zs)) (sym is_c) ∙ last;
+      image = last_too job.image image (later job.image image (ap (index_in xs) (sym is_p) ∙ found));
+      reference = ap (option_map (index_in zs)) (sym is_r) ∙ reference_later ys zs last_too r reference there;
+      console = ap (option_map (index_in zs)) (sym is_c) ∙ last;
     }
 
 -- ---- the answers of a plan
 
-place_within : (xs : List (List ℕ)) (q : List ℕ) (k n : ℕ) → length xs ≡ n → place_in xs q ≡ Some k
+place_within : (xs : List (List ℕ)) (q : List ℕ) (k n : ℕ) → length xs ≡ n → index_in xs q ≡ Some k
     → k < n
-place_within xs q k n e is = below_length (place_in xs q) k (length xs) n e (sym is) (place_below xs q)
+place_within xs q k n e is = below_length (index_in xs q) k (length xs) n e (sym is) (place_below xs q)
 
 kept_there : (ps : List (List ℕ)) (ks : List Kept) (q : List ℕ) (k : ℕ) (x : Kept) → length ps ≡ length ks
-    → place_in ps q ≡ Some k → x ≡ get_or ks k x → kept_of_path (answers_with ps ks) q ≡ Some x
+    → index_in ps q ≡ Some k → x ≡ get_or ks k x → kept_of_path (answers_with ps ks) q ≡ Some x
 kept_there ps ks q k x even found is =
     let d : Answer = record { path = q; kept = x } in
-    cached_or_invalidated_at (answers_with ps ks) q k d (ap (λ l. place_in l q) (paths-with ps ks even) ∙ found)
+    cached_or_invalidated_at (answers_with ps ks) q k d (ap (λ l. index_in l q) (paths-with ps ks even) ∙ found)
     ∙ ap (λ (y : Kept). Some y) (with-at ps ks k d x even (place_within ps q k (length ks) even found) ∙ sym is)
 
 -- a path that has no place has no answer
-pub kept_none : (ans : List Answer) (p : List ℕ) → place_in (paths_of ans) p ≡ None → kept_of_path ans p ≡ None
-unfolding place_in
+pub kept_none : (ans : List Answer) (p : List ℕ) → index_in (paths_of ans) p ≡ None → kept_of_path ans p ≡ None
+unfolding index_in
 kept_none [] p e = refl
-kept_none (a ∷ ans) p e = absent (bytes_eq p a.path) (place_in (paths_of ans) p) a
+kept_none (a ∷ ans) p e = absent (bytes_eq p a.path) (index_in (paths_of ans) p) a
     (find (λ (x : Answer). bytes_eq p x.path) ans) (kept_none ans p) e
 
 -- what is kept of the path that has this place, or none
@@ -297,35 +297,35 @@ module _ (all : List Answer) (ps : List (List ℕ)) (ks : List Kept) (even : len
         length-map (answers_with ps ks) (λ (a : Answer). a.kept),
       )
 
-  same_place : (p : List ℕ) → place_in (paths_of all) p ≡ at → place_in ps p ≡ at
-  same_place p placed = ap (λ l. place_in l p) (sym (paths-with ps ks even) ∙ ap paths_of view) ∙ placed
+  same_place : (p : List ℕ) → index_in (paths_of all) p ≡ at → index_in ps p ≡ at
+  same_place p placed = ap (λ l. index_in l p) (sym (paths-with ps ks even) ∙ ap paths_of view) ∙ placed
 
   pub kept_in : (k : ℕ) (x : Kept) (p : List ℕ) → at ≡ Some k → x ≡ get_or ks k x
-      → place_in (paths_of all) p ≡ at
+      → index_in (paths_of all) p ≡ at
       → x ≡ kept_for all p
   kept_in k x p is there placed =
       sym (ap (λ (a : List Answer). kept_for a p) (sym view)
       ∙ ap (λ o. unwrap_or o Unreadable) (kept_there ps ks p k x even (same_place p placed ∙ is) there))
 
-  pub kept_not_in : (x : Kept) (p : List ℕ) → at ≡ None → x ≡ Unreadable → place_in (paths_of all) p ≡ at
+  pub kept_not_in : (x : Kept) (p : List ℕ) → at ≡ None → x ≡ Unreadable → index_in (paths_of all) p ≡ at
       → x ≡ kept_for all p
   kept_not_in x p is unread placed =
       unread ∙ sym (ap (λ o. unwrap_or o Unreadable) (kept_none all p (placed ∙ is)))
 
 -- the place of a path that has an answer is one of theirs
 pub path_below : (all : List Answer) (ps : List (List ℕ)) (ks : List Kept) → length ps ≡ length ks
-    → answers_with ps ks ≡ all → (p : List ℕ) (at : Option ℕ) → place_in ps p ≡ at
+    → answers_with ps ks ≡ all → (p : List ℕ) (at : Option ℕ) → index_in ps p ≡ at
     → IfSome at (λ k. k < length all)
 path_below all ps ks even view p at placed =
     subst (λ o. IfSome o (λ k. k < length all)) placed
-    (subst (λ n. IfSome (place_in ps p) (λ k. k < n))
+    (subst (λ n. IfSome (index_in ps p) (λ k. k < n))
     (sym (ap length (paths-with ps ks even)) ∙ length-map (answers_with ps ks) (λ (a : Answer). a.path)
     ∙ ap length view)
     (place_below ps p))
 
 -- the places of the paths of a job that was asked for
 found_if : (xs : List (List ℕ)) (o : Option (List ℕ)) (r : Option ℕ)
-    → option_map (place_in xs) o ≡ option_map (λ k. Some k) r → option_and_then (place_in xs) o ≡ r
+    → option_map (index_in xs) o ≡ option_map (λ k. Some k) r → option_and_then (index_in xs) o ≡ r
 found_if xs None None e = refl
 found_if xs None (Some k) e = cc
 found_if xs (Some q) None e = cc

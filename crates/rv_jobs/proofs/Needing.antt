@@ -9,7 +9,7 @@ use Rattle.std.proofs.lemmas.List.{take_more, length-take, get_or-take}
 use Rattle.rv_lists.specs.declared.job.Job.{Job}
 use Rattle.rv_jobs.specs.declared.path_reading.Places.{Places}
 use Rattle.rv_lists.specs.Jobs.{AreJobs, console_path, single_job}
-use Rattle.rv_base.specs.Names.{place_in}
+use Rattle.rv_base.specs.Names.{index_in}
 use Rattle.rv_jobs.specs.Placed.{ArePlaced}
 use Rattle.rv_jobs.specs.declared.answers.Answer.{Answer}
 use Rattle.rv_jobs.specs.declared.kept.Kept.TheVariants.{Unreadable}
@@ -22,21 +22,21 @@ use Rattle.rv_jobs.proofs.Answering.{with_path-old, with_path-new, no_place, new
 -- ---- paths that are there
 
 abbrev IsThere : List (List ℕ) → List ℕ → Type 0
-IsThere xs p = is_some (place_in xs p) ≡ true
+IsThere xs p = is_some (index_in xs p) ≡ true
 
 place_there : (o : Option ℕ) → is_some o ≡ true → (k : ℕ) × (o ≡ Some k)
 place_there None e = cc
 place_there (Some k) e = (k, refl)
 
 put_in : (xs : List (List ℕ)) (p : List ℕ) → IsThere (with_path xs p) p
-put_in xs p = elim (is_some (place_in xs p)) as (λ b. is_some (place_in xs p) ≡ b → IsThere (with_path xs p) p) [
-  | true ↦ λ e. ap (λ ys. is_some (place_in ys p)) (sym (with_path-old xs p e)) ∙ e
+put_in xs p = elim (is_some (index_in xs p)) as (λ b. is_some (index_in xs p) ≡ b → IsThere (with_path xs p) p) [
+  | true ↦ λ e. ap (λ ys. is_some (index_in ys p)) (sym (with_path-old xs p e)) ∙ e
   | false ↦ λ e. ap is_some
       (new_place xs (with_path xs p) p (length xs) (no_place xs p e) (sym (with_path-new xs p e)) refl)
 ] refl
 
 stays : (xs : List (List ℕ)) (p q : List ℕ) → IsThere xs q → IsThere (with_path xs p) q
-stays xs p q h = let t = place_there (place_in xs q) h in ap is_some (keeps_place xs p q t.0 t.1)
+stays xs p q h = let t = place_there (index_in xs q) h in ap is_some (keeps_place xs p q t.0 t.1)
 
 stays_if : (xs : List (List ℕ)) (o : Option (List ℕ)) (q : List ℕ) → IsThere xs q → IsThere (with_path_if xs o) q
 stays_if xs None q h = h
@@ -44,7 +44,7 @@ stays_if xs (Some p) q h = stays xs p q h
 
 put_in_if : (xs : List (List ℕ)) (o : Option (List ℕ)) (p : List ℕ) → o ≡ Some p → IsThere (with_path_if xs o) p
 put_in_if xs None p e = cc
-put_in_if xs (Some q) p e = let same : q ≡ p = cc in ap (λ z. is_some (place_in (with_path xs q) z)) (sym same)
+put_in_if xs (Some q) p e = let same : q ≡ p = cc in ap (λ z. is_some (index_in (with_path xs q) z)) (sym same)
     ∙ put_in xs q
 
 old_if : (xs : List (List ℕ)) (o : Option (List ℕ)) → ((p : List ℕ) → o ≡ Some p → IsThere xs p)
@@ -90,13 +90,13 @@ has_old xs job h =
     ∙ old_if xs (console_path job.expect_console) h.console
 
 placed_there : (xs : List (List ℕ)) (o : Option (List ℕ)) (r : Option ℕ)
-    → option_map (place_in xs) o ≡ option_map (λ k. Some k) r → (p : List ℕ) → o ≡ Some p → IsThere xs p
+    → option_map (index_in xs) o ≡ option_map (λ k. Some k) r → (p : List ℕ) → o ≡ Some p → IsThere xs p
 placed_there xs None r e p is = cc
 placed_there xs (Some q) None e p is = cc
 placed_there xs (Some q) (Some k) e p is =
-    let h : place_in xs q ≡ Some k = cc in
+    let h : index_in xs q ≡ Some k = cc in
     let same : q ≡ p = cc in
-    ap (λ z. is_some (place_in xs z)) (sym same) ∙ ap is_some h
+    ap (λ z. is_some (index_in xs z)) (sym same) ∙ ap is_some h
 
 pub placed_old : (xs : List (List ℕ)) (job : Job) (at : Places) → ArePlaced xs job at → with_job xs job ≡ xs
 placed_old xs job at h = has_old xs job (record {
@@ -124,7 +124,7 @@ job_used js k d inside = has_old (fold with_job [] js) (get_or js k d) (has_used
 
 answered : (answers : List Answer) (p : List ℕ) → IsThere (paths_of answers) p → IsTrue (is_some (kept_of_path answers p))
 answered answers p h =
-    let t = place_there (place_in (paths_of answers) p) h in
+    let t = place_there (index_in (paths_of answers) p) h in
     ap is_some (cached_or_invalidated_at answers p t.0 (record { path = p; kept = Unreadable }) t.1)
 
 answered_if : (answers : List Answer) (o : Option (List ℕ))

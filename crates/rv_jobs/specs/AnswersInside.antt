@@ -1,13 +1,13 @@
--- How the answers so far stand beside the places of their paths.
+-- How the results so far relate to the indices of their paths.
 use Rattle.std.specs.Prelude.{◌≡◌, ℕ, List, map, length}
 use Rattle.std.specs.HashMap.{get_by}
 use Rattle.std.specs.Str.{bytes_eq}
 use Rattle.rv_jobs.specs.declared.answers.Answer.{Answer}
 use Rattle.rv_jobs.specs.declared.answers.Answers.TheInside.{Inside}
-use Rattle.rv_base.specs.Names.{place_in}
+use Rattle.rv_base.specs.Names.{index_in}
 use Rattle.rv_jobs.specs.Plans.{answers_with}
 
--- the paths that were asked for, in order
+-- the paths that were requested, in order
 abbrev pub paths_in : Inside → List (List ℕ)
 paths_in a = map (λ p. p.now) a.paths.items
 
@@ -17,4 +17,4 @@ answers_of a = answers_with (paths_in a) a.answers.items
 pub record IsAnswersInside (a : Inside) : Type 0 where
   pub even : length (paths_in a) ≡ length a.answers.items
   pub places : (t : List ℕ)
-      → get_by (λ k. bytes_eq t k.now) a.places ≡ place_in (paths_in a) t
+      → get_by (λ k. bytes_eq t k.now) a.places ≡ index_in (paths_in a) t

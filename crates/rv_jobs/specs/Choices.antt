@@ -1,7 +1,7 @@
--- A choice of jobs.
+-- A selection of jobs.
 use Rattle.std.specs.Prelude.{ℕ, Bool, false, List, slice_index_or}
 use Rattle.std.specs.List.{filter, range_with_len}
 
--- the places of the marks that are set, among the first so many
+-- the indices of the selected jobs among the first n
 abbrev pub selected_indices : List Bool → ℕ → List ℕ
 selected_indices marks count = filter (λ place. slice_index_or marks place false) (range_with_len 0 count)

@@ -1,4 +1,4 @@
--- What is kept of a path.
+-- The result recorded for a path.
 use Rattle.std.specs.Prelude.{◌≡◌, ◌≤◌, ◌<◌, ℕ, Bool, true, false, List, Option, Some, IfSome}
 use Rattle.std.specs.Prelude.{IsSomeAnd, length, if◌then◌else◌}
 use Rattle.rv_base.specs.Counts.{one_more}
@@ -7,16 +7,16 @@ use Rattle.rv_base.specs.Limits.{most_bytes}
 use Rattle.rv_jobs.specs.declared.kept.Kept.{Kept}
 use Rattle.rv_jobs.specs.declared.kept.Kept.TheVariants.{Content, TooLong, Unreadable}
 
--- a path that was not read for another reason than its length
+-- a path that could not be read for a reason other than its length
 abbrev pub is_unreadable : Kept → Bool
 is_unreadable Unreadable = true
 is_unreadable _ = false
 
--- the count of faults after a read of which this is kept
+-- the fault count after a read with this result
 abbrev pub faults_with : Kept → ℕ → ℕ
 faults_with kept n = if is_unreadable kept then one_more n else n
 
--- what is kept of a path agrees with the contents, where the store tells them
+-- the result recorded for a path agrees with the contents, if the store reveals them
 abbrev pub IsKeptOf : Option FileContents → List ℕ → Kept → Type 0
 IsKeptOf known path (Content bytes) =
     (length bytes ≤ most_bytes) × IfSome known (λ files. files path ≡ Some bytes)

@@ -13,8 +13,7 @@ paths_read a = paths_used (jobs_needed_for a.jobs a.chosen.items)
 abbrev pub plan_view : Inside → Planned
 plan_view a = record { jobs = a.jobs; answers = answers_with (paths_read a) a.answers.items }
 
--- the jobs are those of a list, each path that was read has an answer, and these are the places of
--- each job's answers
+-- the jobs are those of a list, each path that was read has a result, and these are the indices of each job's results
 pub record IsPlanInside (a : Inside) : Type 0 where
   pub jobs : AreJobs a.jobs
   pub even : length (paths_read a) ≡ length a.answers.items

@@ -1,7 +1,7 @@
-//! What is kept of the different paths that jobs name, while a plan is gathered.
+//! The results for the distinct paths that jobs name, while a plan is gathered.
 
 ghost use Rattle.std.specs.Prelude.{◌≡◌, ℕ, [], IfOk, Some, map};
-ghost use Rattle.rv_base.specs.Names.{place_in};
+ghost use Rattle.rv_base.specs.Names.{index_in};
 ghost use Rattle.rv_jobs.specs.Plans.{paths_of, with_path, AreKept, unreadable_count, one_more_times};
 
 use crate::kept::{Kept, keep_path_answer};
@@ -12,15 +12,15 @@ use std::collections::HashMap;
 use std::hash::{BuildHasherDefault, FoldHasher};
 use std::marker::Model;
 
-/// What is kept of a path. No value of it is made: contracts see the answers of a plan so.
+/// The result recorded for a path. Never constructed: only contracts see the results of a plan in this form.
 #[derive(Drop)]
 pub struct Answer {
     pub path: Text,
     pub kept: Kept,
 }
 
-/// The answers so far, with the place of each path. The paths are those that the jobs hold. They are found by a hash, since
-/// paths that differ in their ends alone are dear to order.
+/// The results so far, with the index of each path. The paths are borrowed from the jobs. They are looked up by hash, since paths that
+/// differ only at their ends are expensive to compare in order.
 #[derive(Drop)]
 pub(crate) struct Answers<'a> {
     answers: Vec<Kept>,
@@ -42,7 +42,7 @@ impl<'a> Model for Answers<'a> {
 }
 
 impl<'a> Answers<'a> {
-    /// No answer, and room to find so many paths.
+    /// Creates an empty collection with room to look up `room` paths.
     pub(crate) fn new(alloc: Global, room: usize) -> Result<Answers<'a>, AllocError>
         ensures { IfOk result (λ answers. answers ≡ []) }
     {
@@ -54,9 +54,9 @@ impl<'a> Answers<'a> {
         })
     }
 
-    /// The answers with that of a path, which is read unless it has one, and the place of its answer.
+    /// Adds the result for a path, which is read unless it has one, and returns its index.
     ///
-    /// A path that is new is searched for once: the search that would find it puts it in.
+    /// A new path is searched for only once: the search that would find it inserts it.
     pub(crate) fn read_path_once<S: Store>(
         self,
         alloc: Global,
@@ -65,7 +65,7 @@ impl<'a> Answers<'a> {
     ) -> Result<(Answers<'a>, usize), AllocError>
         ensures same { S.contents store.new ≡ S.contents store.old }
         ensures paths { IfOk result (λ a. paths_of a.0 ≡ with_path (paths_of self.entry) path.now) }
-        ensures place { IfOk result (λ a. place_in (paths_of a.0) path.now ≡ Some a.1) }
+        ensures place { IfOk result (λ a. index_in (paths_of a.0) path.now ≡ Some a.1) }
         ensures kept { AreKept (S.contents store.old) self.entry
             → IfOk result (λ a. AreKept (S.contents store.old) a.0) }
         ensures faults { (n : ℕ) → S.faulted store.old ≡ one_more_times n (unreadable_count self.entry)
@@ -97,15 +97,15 @@ impl<'a> Answers<'a> {
         Ok((asked, next))
     }
 
-    /// The place of the answer of a path, if it has one.
+    /// Returns the index of a path's result, if it has one.
     pub(crate) fn place_of_path(&self, path: &str) -> Option<usize>
-        ensures { result ≡ place_in (paths_of self.now) path.now }
+        ensures { result ≡ index_in (paths_of self.now) path.now }
     {
         let _ = &self.paths;
         self.places.get(path).copied()
     }
 
-    /// What is kept of each path, in order.
+    /// Returns the result for each path, in order.
     pub(crate) fn into_kept(self) -> Vec<Kept>
         ensures { result.items ≡ map (λ a. a.kept) self.entry }
     {

@@ -1,4 +1,4 @@
-//! A choice of jobs, as the places of marks.
+//! A selection of jobs, as indices.
 
 ghost use Rattle.std.specs.Prelude.{◌≡◌, ◌<◌, IfOk, length};
 ghost use Rattle.std.specs.List.{All};
@@ -7,7 +7,7 @@ ghost use Rattle.rv_jobs.specs.Choices.{selected_indices};
 
 use std::alloc::{AllocError, Global};
 
-/// The places of the marks that are set, in order, counted from 0.
+/// Returns the indices of the selected jobs, in order, counted from 0.
 pub fn selected_indices(alloc: Global, marks: &[bool]) -> Result<Vec<usize>, AllocError>
     ensures value { IfOk result (λ places. places.items ≡ selected_indices marks.now (length marks.now)) }
     ensures within { IfOk result (λ places. All (λ place. place < length marks.now) places.items) }

@@ -1,4 +1,4 @@
-//! What is kept of a path.
+//! The result recorded for a path.
 
 ghost use Rattle.std.specs.Prelude.{◌≡◌, IfOk};
 ghost use Rattle.rv_jobs.specs.Kept.{IsKeptOf, faults_with};
@@ -6,18 +6,18 @@ ghost use Rattle.rv_jobs.specs.Kept.{IsKeptOf, faults_with};
 use rv_base::{Bytes, ReadError, Store};
 use std::alloc::{AllocError, Global};
 
-/// What is kept of a path, once it was read.
+/// The result of reading a path.
 #[derive(Debug, Drop)]
 pub enum Kept {
     /// The bytes of the file, at most 16,777,216.
     Content(Bytes),
-    /// There is no such file, or reading it failed.
+    /// The file does not exist, or reading it failed.
     Unreadable,
-    /// The file has more bytes.
+    /// The file is longer than that.
     TooLong,
 }
 
-/// Reads a path once, and keeps the answer.
+/// Reads a path once, and records the result.
 pub(crate) fn keep_path_answer<S: Store>(
     alloc: Global,
     store: &mut S,

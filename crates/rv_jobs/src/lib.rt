@@ -1,8 +1,8 @@
-//! Plans: what a store answers for the paths of a job list.
+//! Plans: the files that a store holds at the paths of a job list.
 //!
-//! [`gather`] reads the paths of a list from a [`Store`], each different one once, and gives a [`Plan`]:
-//! the jobs, and one answer ([`Kept`]) for each path. [`gather_jobs`] reads the paths alone that the
-//! rows of some jobs need. The lists are those of `rv_lists`, which callers find here too.
+//! [`gather`] reads the paths of a list from a [`Store`], each distinct one once, and returns a [`Plan`]: the jobs, and one result
+//! ([`Kept`]) for each path. [`gather_jobs`] reads only the paths that are needed for the rows of some jobs. The lists are those of
+//! `rv_lists`, which this crate re-exports.
 #![tactic(auto)]
 
 mod answers;

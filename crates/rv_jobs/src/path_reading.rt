@@ -1,10 +1,10 @@
-//! Asking for the paths of jobs, and where their answers stand.
+//! Reading the paths of jobs, and the indices of their results.
 
 ghost use Rattle.std.specs.Prelude.{◌≡◌, ◌<◌, ℕ, IfOk, IfSome, Some, [], length, slice_index_or};
 ghost use Rattle.std.specs.Prelude.{option_map, option_and_then};
 ghost use Rattle.std.specs.List.{fold};
 ghost use Rattle.rv_lists.specs.Jobs.{AreJobs, console_path, single_job};
-ghost use Rattle.rv_base.specs.Names.{place_in};
+ghost use Rattle.rv_base.specs.Names.{index_in};
 ghost use Rattle.rv_jobs.specs.Plans.{paths_of, with_job, with_path_if, jobs_needed_at};
 ghost use Rattle.rv_jobs.specs.Plans.{AreKept, unreadable_count, one_more_times};
 ghost use Rattle.rv_jobs.specs.Placed.{ArePlaced, AreNoted, IsFound, AreFound};
@@ -14,7 +14,7 @@ use rv_base::Store;
 use rv_lists::Job;
 use std::alloc::{AllocError, Global};
 
-/// The places of the answers of a job's paths, each of which has one.
+/// The indices of the results of a job's paths, each of which has one.
 #[derive(Clone, Copy)]
 pub(crate) struct Places {
     pub(crate) image: usize,
@@ -22,7 +22,7 @@ pub(crate) struct Places {
     pub(crate) console: Option<usize>,
 }
 
-/// The places of the answers of a job's paths, of each that has one.
+/// The indices of the results of those of a job's paths that have one.
 #[derive(Clone, Copy)]
 pub(crate) struct Found {
     pub(crate) image: Option<usize>,
@@ -30,7 +30,7 @@ pub(crate) struct Found {
     pub(crate) console: Option<usize>,
 }
 
-/// Room for the places of each job, where no job has been asked for.
+/// Allocates an entry for each job, with no paths read yet.
 pub(crate) fn blank_job_places(
     alloc: Global,
     jobs: &[Job],
@@ -45,8 +45,7 @@ pub(crate) fn blank_job_places(
 }
 
 impl<'a> Answers<'a> {
-    /// The answers with those that the row of the job at a place needs: of its paths, and of the paths of the job that it
-    /// names.
+    /// Reads what is needed for the row of the job at an index: its paths, and those of the job that it names.
     pub(crate) fn read_paths_for_row<S: Store>(
         self,
         alloc: Global,
@@ -74,8 +73,7 @@ impl<'a> Answers<'a> {
         }
     }
 
-    /// The answers with those of the paths of the job at a place, whose places are noted. A job that was asked for adds
-    /// none.
+    /// Reads the paths of the job at an index and records their indices. A job whose paths were read before adds none.
     fn read_paths_at_place<S: Store>(
         self,
         alloc: Global,
@@ -104,7 +102,7 @@ impl<'a> Answers<'a> {
     }
 }
 
-/// The answers with those of a job's paths, and the places of these.
+/// Reads the paths of a job, and returns their indices.
 fn read_paths_of_job<'a, S: Store>(
     alloc: Global,
     store: &mut S,
@@ -148,7 +146,7 @@ pub(crate) fn console_path(job: &Job) -> Option<&str>
     }
 }
 
-/// The answers with that of a path, where there is one, and the place of its answer.
+/// Reads a path, if there is one, and returns the index of its result.
 fn read_path_if_named<'a, S: Store>(
     alloc: Global,
     store: &mut S,
@@ -158,7 +156,7 @@ fn read_path_if_named<'a, S: Store>(
     ensures same { S.contents store.new ≡ S.contents store.old }
     ensures paths { IfOk result (λ a. paths_of a.0
         ≡ with_path_if (paths_of asked.entry) (option_map (λ p. p.now) path.entry)) }
-    ensures place { IfOk result (λ a. option_map (place_in (paths_of a.0))
+    ensures place { IfOk result (λ a. option_map (index_in (paths_of a.0))
         (option_map (λ p. p.now) path.entry) ≡ option_map (λ k. Some k) a.1) }
     ensures kept { AreKept (S.contents store.old) asked.entry
         → IfOk result (λ a. AreKept (S.contents store.old) a.0) }
@@ -174,8 +172,8 @@ fn read_path_if_named<'a, S: Store>(
     }
 }
 
-/// Where the answers of each job's paths stand: as noted, and for a job that was not asked for those that other jobs
-/// asked for.
+/// Returns the indices of the results of each job's paths: as recorded, or, for a job whose paths were not read, those of the paths that
+/// were read for other jobs.
 pub(crate) fn places_of_answers(
     alloc: Global,
     asked: &Answers,
@@ -192,7 +190,7 @@ pub(crate) fn places_of_answers(
     Ok(found)
 }
 
-/// Where the answers of a job's paths stand.
+/// Returns the indices of the results of a job's paths.
 fn answer_places_of_job(asked: &Answers, job: &Job, noted: Option<Places>) -> Found
     requires { IfSome noted (λ places. ArePlaced (paths_of asked.now) job.now places) }
     ensures { IsFound (paths_of asked.now) job.now result }
@@ -211,9 +209,9 @@ fn answer_places_of_job(asked: &Answers, job: &Job, noted: Option<Places>) -> Fo
     }
 }
 
-/// The place of the answer of a path, where there is a path and it has an answer.
+/// Returns the index of a path's result, if there is a path and it has a result.
 fn place_of_path_if_named(asked: &Answers, path: Option<&str>) -> Option<usize>
-    ensures { result ≡ option_and_then (place_in (paths_of asked.now))
+    ensures { result ≡ option_and_then (index_in (paths_of asked.now))
         (option_map (λ p. p.now) path.entry) }
 {
     match path {

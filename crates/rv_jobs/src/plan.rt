@@ -1,4 +1,4 @@
-//! A plan: jobs, and what is kept of the paths that they name.
+//! A plan: jobs, and the results for the paths that they name.
 
 ghost use Rattle.rv_base.specs.Limits.{most_jobs};
 ghost use Rattle.rv_lists.specs.declared.job.Job.{Job as AJob};
@@ -6,7 +6,7 @@ ghost use Rattle.std.specs.Prelude.{◌≡◌, ◌<◌, ◌≤◌, ℕ, List, If
 ghost use Rattle.std.specs.Prelude.{slice_index_or, option_map};
 ghost use Rattle.std.specs.List.{All};
 ghost use Rattle.rv_lists.specs.Jobs.{IsJob, console_path};
-ghost use Rattle.rv_base.specs.Names.{place_in};
+ghost use Rattle.rv_base.specs.Names.{index_in};
 ghost use Rattle.rv_jobs.specs.Plans.{paths_of, paths_used, jobs_needed_for, kept_for};
 ghost use Rattle.rv_jobs.specs.Plans.{AreKept, unreadable_count, one_more_times};
 
@@ -20,17 +20,17 @@ use rv_lists::{Job, JobList};
 use std::alloc::{AllocError, Global};
 use std::marker::Model;
 
-/// Jobs, and one answer for each different path that was read, which all jobs that name it share.
+/// Jobs, and one result for each distinct path that was read, shared by all jobs that name it.
 #[derive(Drop)]
 pub struct Plan {
     jobs: JobList,
-    // The places that it was gathered for.
+    // The indices of the jobs for which it was gathered.
     chosen: Vec<usize>,
-    // What is kept of each path that their rows need, in order of first use.
+    // The result for each path that their rows need, in order of first use.
     answers: Vec<Kept>,
-    // Where the answers of each job's paths stand.
+    // The indices of the results of each job's paths.
     found: Vec<Found>,
-    // What is kept of a path that was not read.
+    // The result for a path that was not read.
     unread: Kept,
 }
 
@@ -46,7 +46,7 @@ impl Model for Plan {
     ghost invariant = { IsPlanInside };
 }
 
-/// Reads each different path of the jobs once, in order of first use, and keeps the answers.
+/// Reads each distinct path of the jobs once, in order of first use, and records the results.
 pub fn gather<S: Store>(alloc: Global, jobs: JobList, store: &mut S) -> Result<Plan, AllocError>
     ensures same { S.contents store.new ≡ S.contents store.old }
     ensures jobs { IfOk result (λ p. p.jobs ≡ jobs) }
@@ -59,8 +59,8 @@ pub fn gather<S: Store>(alloc: Global, jobs: JobList, store: &mut S) -> Result<P
     gather_jobs(alloc, jobs, places, store)
 }
 
-/// The same for the rows of the jobs at some places alone: reads each different path of these jobs and of those that
-/// they name by `same_as` once, in order of first use.
+/// Gathers only what is needed for the rows of the jobs at `places`: reads each distinct path of these jobs and of those that they name by
+/// `same_as` once, in order of first use.
 pub fn gather_jobs<S: Store>(
     alloc: Global,
     jobs: JobList,
@@ -93,7 +93,7 @@ pub fn gather_jobs<S: Store>(
     })
 }
 
-/// The places of all jobs.
+/// Returns the indices of all jobs.
 fn all_indices(alloc: Global, jobs: &JobList) -> Result<Vec<usize>, AllocError>
     ensures within { IfOk result (λ places. All (λ place. place < length jobs.now) places.items) }
     ensures paths { IfOk result (λ places. paths_used (jobs_needed_for jobs.now places.items)
@@ -108,7 +108,7 @@ fn all_indices(alloc: Global, jobs: &JobList) -> Result<Vec<usize>, AllocError>
 }
 
 impl Plan {
-    /// The number of jobs, at most 4,096.
+    /// Returns the number of jobs, at most 4,096.
     pub fn jobs(&self) -> usize
         ensures value { result ≡ length self.now.jobs }
         ensures few { result ≤ most_jobs }
@@ -116,7 +116,7 @@ impl Plan {
         self.jobs.as_slice().len()
     }
 
-    /// The job at a place, counted from 0.
+    /// Returns the job at an index, counted from 0.
     pub fn job(&self, i: usize) -> &Job
         requires { i < length self.now.jobs }
         ensures value { result.now ≡ slice_index_or self.now.jobs i result.now }
@@ -125,7 +125,7 @@ impl Plan {
         &self.jobs.as_slice()[i]
     }
 
-    /// What is kept of the path of a job's image. A path that was not read passes as unreadable.
+    /// Returns the result for the path of a job's image. A path that was not read counts as unreadable.
     pub fn image(&self, i: usize) -> &Kept
         requires { i < length self.now.jobs }
         ensures { (d : AJob) → result.now
@@ -134,7 +134,7 @@ impl Plan {
         self.kept_or_unread(self.found[i].image)
     }
 
-    /// What is kept of the path of a job's reference, where it has one. A path that was not read passes as unreadable.
+    /// Returns the result for the path of a job's reference, if it has one. A path that was not read counts as unreadable.
     pub fn reference(&self, i: usize) -> Option<&Kept>
         requires { i < length self.now.jobs }
         ensures { (d : AJob) → option_map (λ k. k.now) result
@@ -147,8 +147,8 @@ impl Plan {
         }
     }
 
-    /// What is kept of the path of the file that a job's console is expected to hold, where it names one. A path that
-    /// was not read passes as unreadable.
+    /// Returns the result for the path of the file with a job's expected console text, if it names one. A path that was not read counts as
+    /// unreadable.
     pub fn console_reference(&self, i: usize) -> Option<&Kept>
         requires { i < length self.now.jobs }
         ensures { (d : AJob) → option_map (λ k. k.now) result
@@ -161,10 +161,10 @@ impl Plan {
         }
     }
 
-    // What is kept of the path whose answer is here.
+    // Returns the result at an index, or that of a path that was not read.
     fn kept_or_unread(&self, at: Option<usize>) -> &Kept
         requires { IfSome at (λ k. k < length self.now.answers) }
-        ensures { (path : List ℕ) → place_in (paths_of self.now.answers) path ≡ at
+        ensures { (path : List ℕ) → index_in (paths_of self.now.answers) path ≡ at
             → result.now ≡ kept_for self.now.answers path }
     {
         match at {

@@ -1,4 +1,4 @@
--- Rows as JUnit's XML: one suite, and one case a row, in order.
+-- Rows as JUnit XML: one suite, and one test case per row, in order.
 use Rattle.std.specs.Prelude.{◌==◌, ◌^◌, ◌<◌, ℕ, List, [], ◌∷◌, ◌++◌, Option, Some, None, codes}
 use Rattle.std.specs.Prelude.{IfSome, count_by, if◌then◌else◌, length, position, take}
 use Rattle.std.specs.Fmt.{decimal}
@@ -17,7 +17,7 @@ use Rattle.rv_junit.specs.Pieces.{attribute, number_attribute}
 
 -- ---- a case
 
--- what stands before the first line feed, or all
+-- the text before the first line feed, or all of it
 abbrev pub text_up_to : Option ℕ → List ℕ → List ℕ
 text_up_to (Some place) text = take place text
 text_up_to None text = text
@@ -28,33 +28,33 @@ first_line text = text_up_to (position is_feed text) text
 abbrev pub problem_element_name : Row → List ℕ
 problem_element_name row = if did_run row.ending then codes "failure" else codes "error"
 
--- the lines that a row is given, of which the first is the message
+-- the lines of a row; the first of them is the message
 unfoldable pub problem_text : Row → List ℕ → List ℕ
 problem_text row lines =
     codes "<" ++ problem_element_name row ++ attribute (codes "message") (first_line lines) ++ codes ">"
     ++ xml_text Element lines ++ codes "</" ++ problem_element_name row ++ codes ">\n"
 
--- a failure that is known is skipped, for its reason where one is said
+-- a known failure is skipped, with its reason if there is one
 abbrev pub reason_attribute : List ℕ → List ℕ
 reason_attribute why = if length why == 0 then [] else attribute (codes "message") why
 
 unfoldable pub skipped_text : List ℕ → List ℕ
 skipped_text why = codes "<skipped" ++ reason_attribute why ++ codes "/>\n"
 
--- what stands in the case of a row, by what it counts as
+-- the contents of a row's test case, by its judgement
 abbrev pub judged_text : Judged → Row → List ℕ → List ℕ
 judged_text passed row lines = []
 judged_text failed row lines = problem_text row lines
 judged_text (known why) row lines = skipped_text why
 judged_text (now_passes path) row lines = problem_text row lines
 
--- the steps, and then the console
+-- the steps, then the console
 unfoldable pub output_text : Row → List ℕ
 output_text row =
     codes "<system-out>" ++ decimal row.steps ++ codes " steps\n" ++ xml_text Element row.console
     ++ codes "</system-out>\n"
 
--- a row, under the name of its class, with the lines that it is given
+-- a row's test case with its class name and its lines
 unfoldable pub test_case_text : List ℕ → Judging → Row → List ℕ → List ℕ
 test_case_text class judging row lines =
     codes "<testcase" ++ attribute (codes "classname") class ++ attribute (codes "name") row.name
@@ -62,7 +62,7 @@ test_case_text class judging row lines =
 
 -- ---- the document
 
--- the steps of a job, behind its name
+-- the steps of a job, after its name
 unfoldable pub steps_property : Row → List ℕ
 steps_property row =
     codes "<property" ++ attribute (codes "name") (codes "steps." ++ row.name) ++ number_attribute (codes "value") row.steps
@@ -72,11 +72,11 @@ steps_property row =
 unfoldable pub steps_properties : List Row → List ℕ
 steps_properties rows = codes "<properties>\n" ++ flat_map steps_property rows ++ codes "</properties>\n"
 
--- how many cases are skipped, where some are
+-- the number of skipped cases, if there are any
 abbrev pub skipped_attribute : ℕ → List ℕ
 skipped_attribute count = if count == 0 then [] else number_attribute (codes "skipped") count
 
--- the name and the counts of the one suite, and the steps of its jobs
+-- the name and the counts of the suite, and the steps of its jobs
 unfoldable pub suite_begin_text : List ℕ → Judging → List Row → List ℕ
 suite_begin_text class judging rows =
     codes "<?xml version=\"1.0\" encoding=\"UTF-8\"?>\n<testsuites>\n<testsuite"
@@ -85,7 +85,7 @@ suite_begin_text class judging rows =
     ++ number_attribute (codes "errors") (count_by (is_error judging) rows)
     ++ skipped_attribute (known_count judging rows) ++ codes ">\n" ++ steps_properties rows
 
--- one case a row, with the text of lines at its place
+-- one case per row, with the lines at its index
 unfoldable pub test_cases_text : List ℕ → Judging → List (List ℕ) → List Row → List ℕ
 test_cases_text class judging [] rows = []
 test_cases_text class judging (lines ∷ texts) [] = []
@@ -101,13 +101,13 @@ junit_text class judging texts rows =
 
 -- ---- what rows are
 
--- a name and a console of bytes, and steps of 64 bits
+-- the name and the console are bytes, and the steps fit in 64 bits
 pub record IsWrittenRow (row : Row) : Type 0 where
   pub name : IsBytes row.name
   pub console : IsBytes row.console
   pub steps : row.steps < 2 ^ 64
 
--- the reasons for which jobs are known to fail are bytes
+-- the reasons of known failures are bytes
 abbrev pub HasBytesAsReason : KnownJob → Type 0
 HasBytesAsReason job = IsBytes job.reason
 

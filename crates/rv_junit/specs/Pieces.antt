@@ -1,4 +1,4 @@
--- Documents that are put together from pieces.
+-- Documents assembled from parts.
 use Rattle.std.specs.Prelude.{ℕ, List, ◌++◌, codes}
 use Rattle.std.specs.Fmt.{decimal}
 use Rattle.rv_junit.specs.declared.pieces.Piece.{Piece}

@@ -1,4 +1,4 @@
-//! The parts of JUnit's XML.
+//! The elements of JUnit XML.
 
 ghost use Rattle.std.specs.Prelude.{◌≡◌, ◌++◌, IfOk, OnOk, codes, count_by, position, string_bytes};
 ghost use Rattle.std.specs.List.{flat_map};
@@ -16,7 +16,7 @@ use rv_rows::{Row, did_run};
 use rv_text::push_text;
 use std::alloc::{AllocError, Global};
 
-/// Appends what stands before the cases: the declaration, the suite's name and counts, and the steps of the rows.
+/// Appends everything before the cases: the declaration, the suite's name and counts, and the steps of the rows.
 pub(crate) fn push_suite_begin(
     alloc: Global,
     text: &mut String,
@@ -44,7 +44,7 @@ pub(crate) fn push_suite_begin(
     push_steps_properties(alloc, text, rows)
 }
 
-// Appends how many cases are skipped, where some are.
+// Appends the number of skipped cases, if there are any.
 fn push_skipped_attribute(text: &mut String, count: usize) -> Result<(), AllocError>
     ensures { OnOk result (string_bytes text.new ≡ string_bytes text.old ++ skipped_attribute count) }
 {
@@ -115,7 +115,7 @@ fn error_count(judge: &Judge<'_>, rows: &[Row]) -> usize
     rows.iter().filter(|row| is_error(judge, row)).count()
 }
 
-/// Appends the case of a row, with the lines that the row is given.
+/// Appends the test case of a row, with the row's lines.
 pub(crate) fn push_test_case<'a>(
     alloc: Global,
     text: &mut String,
@@ -151,7 +151,7 @@ pub(crate) fn push_test_case<'a>(
     )
 }
 
-// Appends what stands in the case of a row, by what it counts as.
+// Appends the contents of a row's test case, by its judgement.
 fn push_judged(
     alloc: Global,
     text: &mut String,

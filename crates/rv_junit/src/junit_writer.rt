@@ -1,9 +1,9 @@
-//! Rows as JUnit's XML, sent in few large puts.
+//! Rows as JUnit XML, written in few large writes.
 
 ghost use Rattle.std.specs.Prelude.{◌≡◌, IfErr, OnErr, OnOk};
 ghost use Rattle.std.specs.Io.KnownBytes.{Appends};
 ghost use Rattle.rv_rows.specs.Sinks.{AppendsBeginning};
-ghost use Rattle.rv_rows.specs.Counts.{HasRisen};
+ghost use Rattle.rv_rows.specs.Counts.{HasIncreased};
 ghost use Rattle.rv_stream.specs.Streams.{row_text_list};
 ghost use Rattle.rv_expect.specs.Judgement.{judging_of};
 ghost use Rattle.rv_junit.specs.Junit.{junit_text};
@@ -11,14 +11,14 @@ ghost use Rattle.rv_junit.specs.Junit.{junit_text};
 use crate::junit::{push_suite_begin, push_test_case};
 use crate::suite::Suite;
 use rv_rows::{Row, Sink, WriteError, put_all};
-use rv_stream::{IndexedRows, RowReporter, put_row_texts};
+use rv_stream::{IndexedRows, RowReporter, write_row_texts};
 use rv_text::push_text;
 use std::alloc::{AllocError, Global};
 
-/// Writes rows as JUnit's XML: one suite, and in order one case a row, with its steps and its console. A failed
-/// row is a failure, or an error where the job was refused, with the lines that are told of the job at its place. A failure
-/// that is known is skipped, with its reason.
-/// After an error a beginning of the text is out.
+/// Writes rows as JUnit XML: one suite, and one test case per row, in order, with its steps and its console. A failed row is a failure, or
+/// an error if the job was refused, with the lines that are reported for the job at its index. A known failure is skipped, with its reason.
+///
+/// After an error a prefix of the text has been written.
 pub fn write_junit<T: RowReporter, W: Sink>(
     alloc: Global,
     suite: &Suite<'_>,
@@ -34,7 +34,7 @@ pub fn write_junit<T: RowReporter, W: Sink>(
         (junit_text suite.now.name.now (judging_of suite.now.judge)
         (row_text_list (T.line reporter.now) rows.now.places.now rows.now.rows.now) rows.now.rows.now)) }
     ensures failed { IfErr result (λ error. error ≡ WriteError.Failed
-        → HasRisen (W.failed out.old) (W.failed out.new)) }
+        → HasIncreased (W.failed out.old) (W.failed out.new)) }
 {
     let mut begin = String::new(alloc);
     push_suite_begin(alloc, &mut begin, suite, rows.rows)?;
@@ -43,13 +43,13 @@ pub fn write_junit<T: RowReporter, W: Sink>(
         suite: *suite,
         reporter,
     };
-    put_row_texts(alloc, &mut text, &cases, rows, out)?;
+    write_row_texts(alloc, &mut text, &cases, rows, out)?;
     push_text(&mut text, "</testsuite>\n</testsuites>\n")?;
     put_all(out, text.as_slice())?;
     Ok(())
 }
 
-// Tells the case of a row, in which stand the lines that another reporter tells of it.
+// Reports the test case of a row, which contains the lines that another reporter makes for it.
 #[derive(Drop)]
 struct Cases<'a, 'b, T: RowReporter> {
     suite: Suite<'a>,

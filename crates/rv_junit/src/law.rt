@@ -1,4 +1,4 @@
-//! Laws of JUnit's XML, with nothing to run.
+//! Laws about the JUnit XML; none of them is executed.
 
 ghost use Rattle.std.specs.Prelude.{◌≡◌, ◌+◌, ◌<◌, ◌^◌, ℕ, List, count_by, length};
 ghost use Rattle.std.specs.List.{AllByRecursion};
@@ -10,14 +10,14 @@ ghost use Rattle.rv_expect.specs.Problem.{is_error, is_failure};
 ghost use Rattle.rv_junit.specs.Junit.{AreReasonsBytes, IsWrittenRow, junit_text};
 ghost use Rattle.rv_text.specs.Xml.{IsXmlCharacters};
 
-/// A whole document is the UTF-8 of characters of XML 1.0, whatever bytes stand in names, lines, reasons and consoles.
+/// A complete document is the UTF-8 encoding of XML 1.0 characters, whatever bytes names, lines, reasons and consoles have.
 pub fn documents_are_xml_characters()
     ensures { (class : List ℕ) (judging : Judging) (texts : List (List ℕ)) (rows : List Row)
         → IsBytes class → AreReasonsBytes judging → AllByRecursion IsBytes texts → AllByRecursion IsWrittenRow rows
         → length rows < 2 ^ 64 → IsXmlCharacters (junit_text class judging texts rows) }
 {}
 
-/// Each row is a failure, an error, skipped since its failure is known, or passed.
+/// Each row is a failure, an error, skipped as a known failure, or passed.
 pub fn each_row_is_counted_once()
     ensures { (judging : Judging) (rows : List Row)
         → count_by (is_failure judging) rows + count_by (is_error judging) rows + known_count judging rows

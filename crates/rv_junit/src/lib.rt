@@ -1,7 +1,8 @@
-//! Rows as JUnit's XML.
+//! Rows as JUnit XML.
 //!
-//! [`write_junit`] writes [`IndexedRows`] as a [`Suite`], with the lines that a caller's [`RowReporter`](rv_rows::RowReporter) gives them. What it writes is
-//! exactly the text of its definition in `specs/`, and is characters of XML 1.0 ([`documents_are_xml_characters`]).
+//! [`write_junit`] writes [`IndexedRows`] as a [`Suite`], with the lines that a caller's [`RowReporter`](rv_rows::RowReporter) makes for
+//! them. The output is exactly the text of its definition in `specs/`, and consists of XML 1.0 characters
+//! ([`documents_are_xml_characters`]).
 #![tactic(auto)]
 
 mod junit;

@@ -1,4 +1,4 @@
-//! Documents that are put together from pieces.
+//! Documents assembled from parts.
 
 ghost use Rattle.std.specs.Prelude.{◌≡◌, ◌++◌, OnOk, string_bytes};
 ghost use Rattle.std.specs.List.{flat_map};
@@ -8,22 +8,22 @@ use rv_text::{Within, push_xml_text};
 use std::alloc::{AllocError, Global};
 use std::fmt::Write;
 
-/// A piece of a document.
+/// A part of a document.
 #[derive(Clone, Copy)]
 pub(crate) enum Piece<'a> {
-    /// Text as it stands, markup with it.
+    /// Text as it is, including markup.
     Text(&'a str),
-    /// A number's decimal digits.
+    /// A number in decimal digits.
     Number(u64),
-    /// An attribute of a name and a value, as XML takes it.
+    /// An attribute with a name and a value, escaped for XML.
     Attribute(&'a str, &'a [u8]),
-    /// An attribute of a name whose value is a number.
+    /// An attribute with a name and a number as its value.
     NumberAttribute(&'a str, u64),
-    /// The text of an element, as XML takes it.
+    /// The text of an element, escaped for XML.
     Element(&'a [u8]),
 }
 
-/// Appends pieces, one behind the other.
+/// Appends parts one after another.
 pub(crate) fn push_pieces(
     alloc: Global,
     text: &mut String,

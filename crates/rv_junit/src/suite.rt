@@ -2,10 +2,10 @@
 
 use rv_expect::Judge;
 
-/// The one suite of a document.
+/// The single suite of a document.
 #[derive(Clone, Copy)]
 pub struct Suite<'a> {
-    /// Its name, and that of the class of its cases.
+    /// The suite's name, which is also the class name of its cases.
     pub name: &'a [u8],
     /// How its rows are counted.
     pub judge: Judge<'a>,

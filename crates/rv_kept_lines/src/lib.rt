@@ -1,7 +1,7 @@
-//! The lines of jobs that failed, kept so that they are told once.
+//! The lines of failed jobs, kept so that they are made only once.
 //!
-//! A [`RecordingReporter`] tells of rows, and keeps the lines of those that failed as [`RecordedLines`]. A [`ReplayingReporter`] tells
-//! of the same rows again: it takes the lines that are kept, and tells only of the others anew.
+//! A [`RecordingReporter`] reports rows, and keeps the lines of those that failed as [`RecordedLines`]. A [`ReplayingReporter`] reports the
+//! same rows again: it uses the lines that are kept, and makes only the others anew.
 #![tactic(auto)]
 
 mod recorded_lines;

@@ -1,4 +1,4 @@
-//! The lines of rows, kept so that they are told once.
+//! The lines of rows, kept so that they are made only once.
 
 ghost use Rattle.std.specs.Prelude.{◌≡◌, IfOk, IfSome};
 ghost use Rattle.std.specs.Bool.{OnTrue};
@@ -9,12 +9,12 @@ use std::alloc::{AllocError, Global};
 use std::collections::BTreeMap;
 use std::marker::{Brand, PhantomData};
 
-/// What is told of rows. Each run picks its own.
+/// Specifies what is reported of rows. Each run chooses its own.
 pub trait LinesSpec {
     ghost use Rattle.std.specs.Prelude.{ℕ, List};
     ghost use Rattle.rv_rows.specs.declared_row.Row.{Row};
 
-    // The lines of the job at a place and its row.
+    // The lines of the row of the job at an index.
     ghost lines: { ℕ → Row → List ℕ };
 }
 
@@ -24,7 +24,7 @@ impl LinesSpec for Brand {
     ghost lines = { λ _ _. [] };
 }
 
-/// A row of the job at a place, and its lines.
+/// The row of the job at an index, and its lines.
 #[derive(Drop)]
 pub(crate) struct RecordedRow<J: LinesSpec> {
     place: usize,
@@ -35,7 +35,7 @@ pub(crate) struct RecordedRow<J: LinesSpec> {
 }
 
 impl<J: LinesSpec> RecordedRow<J> {
-    /// The row is copied.
+    /// Creates an entry with a copy of the row.
     pub(crate) fn of_row(
         alloc: Global,
         place: usize,
@@ -60,24 +60,25 @@ impl<J: LinesSpec> RecordedRow<J> {
         self.place == place && are_equal_rows(&self.row, row)
     }
 
-    // How many bytes it keeps.
+    // Returns the number of bytes that it keeps.
     fn size(&self) -> usize {
         self.lines.len().saturating_add(row_size(&self.row))
     }
 }
 
-/// How many bytes are kept at most: of lines, and of the names, consoles and signatures of their rows.
+/// The maximum number of bytes kept: of lines, and of the names, consoles and signatures of their rows.
 const MOST_KEPT: usize = 16_777_216;
 
-/// The lines of rows, each with its row, by the places of their jobs.
+/// The lines of rows, each with its row, by the indices of their jobs.
 #[derive(Drop)]
 pub struct RecordedLines<J: LinesSpec> {
     rows: BTreeMap<usize, RecordedRow<J>>,
-    // How many bytes more are kept.
+    // The number of bytes that can still be kept.
     room: usize,
 }
 
 impl<J: LinesSpec> RecordedLines<J> {
+    /// Creates an empty collection.
     pub fn new(alloc: Global) -> RecordedLines<J> {
         RecordedLines {
             rows: BTreeMap::new(alloc),
@@ -85,7 +86,7 @@ impl<J: LinesSpec> RecordedLines<J> {
         }
     }
 
-    /// The lines of the job at a place and its row, where they are kept.
+    /// Returns the lines of the row of the job at an index, if they are kept.
     pub(crate) fn find(&self, place: usize, row: &Row) -> Option<&[u8]>
         ensures { IfSome result (λ lines. lines.now ≡ J.lines place row.now) }
     {
@@ -95,7 +96,7 @@ impl<J: LinesSpec> RecordedLines<J> {
         }
     }
 
-    /// Keeps the lines of a row, where there is room.
+    /// Keeps the lines of a row, if there is room.
     pub(crate) fn keep(&mut self, kept: RecordedRow<J>) -> Result<(), AllocError> {
         let size = kept.size();
         if size > self.room {

@@ -11,19 +11,20 @@ use rv_rows::{Row, RowReporter};
 use std::alloc::{AllocError, Global};
 use std::sync::{Mutex, Wait};
 
-/// Tells what another reporter tells, and keeps the lines of rows that count as failures. Workers share what is kept.
+/// Reports what another reporter reports, and keeps the lines of rows that count as failures. Workers share the kept lines.
 #[derive(Drop)]
 pub struct RecordingReporter<'r, 't, 'k, J: LinesSpec, R: Wait, T: RowReporter> {
     rt: &'r R,
     reporter: &'t T,
     judge: Judge<'k>,
-    // None where nothing is kept.
+    // `None` if nothing is kept.
     kept: Option<&'k Mutex<RecordedLines<J>>>,
     ghost told: { ForSome kept (λ _. (place : ℕ) (row : ARow) → fails (judging_of judge) row ≡ true
         → T.line reporter.now place row ≡ J.lines place row) },
 }
 
 impl<'r, 't, 'k, J: LinesSpec, R: Wait, T: RowReporter> RecordingReporter<'r, 't, 'k, J, R, T> {
+    /// Creates a reporter that keeps lines in `kept`, or keeps none if it is `None`.
     pub fn new(
         rt: &'r R,
         reporter: &'t T,
@@ -42,7 +43,7 @@ impl<'r, 't, 'k, J: LinesSpec, R: Wait, T: RowReporter> RecordingReporter<'r, 't
         }
     }
 
-    // Tells of a row, and keeps its lines.
+    // Reports a row, and keeps its lines.
     fn push_and_keep(
         &self,
         alloc: Global,

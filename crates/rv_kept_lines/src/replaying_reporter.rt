@@ -1,4 +1,4 @@
-//! A reporter that takes what is kept.
+//! A reporter that reuses kept lines.
 
 ghost use Rattle.std.specs.Prelude.{◌≡◌, ℕ};
 ghost use Rattle.rv_rows.specs.declared_row.Row.{Row as ARow};
@@ -7,7 +7,7 @@ use crate::recorded_lines::{LinesSpec, RecordedLines};
 use rv_rows::{Row, RowReporter};
 use std::alloc::{AllocError, Global};
 
-/// Tells what another reporter tells: the lines that are kept, and only those of the other rows anew.
+/// Reports what another reporter reports: uses the lines that are kept, and makes only those of the other rows anew.
 #[derive(Drop)]
 pub struct ReplayingReporter<'t, 'k, J: LinesSpec, T: RowReporter> {
     reporter: &'t T,
@@ -16,6 +16,7 @@ pub struct ReplayingReporter<'t, 'k, J: LinesSpec, T: RowReporter> {
 }
 
 impl<'t, 'k, J: LinesSpec, T: RowReporter> ReplayingReporter<'t, 'k, J, T> {
+    /// Creates a reporter that reuses the lines in `kept`.
     pub fn new(reporter: &'t T, kept: &'k RecordedLines<J>) -> ReplayingReporter<'t, 'k, J, T>
         requires { (place : ℕ) (row : ARow) → T.line reporter.now place row ≡ J.lines place row }
         ensures { result.reporter.now ≡ reporter.now }

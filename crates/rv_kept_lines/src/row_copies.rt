@@ -1,4 +1,4 @@
-//! Copies of rows, and whether a row is equal to its copy.
+//! Copies of rows, and equality with a copy.
 
 ghost use Rattle.std.specs.Prelude.{◌≡◌, IfOk};
 ghost use Rattle.std.specs.Bool.{OnTrue};
@@ -7,7 +7,7 @@ use rv_base::{Bytes, Text};
 use rv_rows::{Row, Words, are_same_signatures};
 use std::alloc::{AllocError, Global};
 
-/// A row that is equal in all fields.
+/// Returns a copy that is equal in all fields.
 pub(crate) fn copy_row(alloc: Global, row: &Row) -> Result<Row, AllocError>
     ensures { IfOk result (λ copy. copy ≡ row.now) }
 {
@@ -56,7 +56,7 @@ fn are_equal_signatures(signature: &Option<Words>, other: &Option<Words>) -> boo
     are_same_signatures(signature, other)
 }
 
-/// How many bytes of memory the name, the console and the signature of a row have.
+/// Returns the memory, in bytes, of a row's name, console and signature.
 pub(crate) fn row_size(row: &Row) -> usize {
     let words = match &row.signature {
         Some(words) => words.as_slice().len(),

@@ -5,10 +5,10 @@ use Rattle.std.specs.Prelude.{Err, Ok, OnOk, Result}
 use Rattle.std.proofs.lemmas.List.Concat.{flat_map-append}
 use Rattle.rv_lists.specs.declared.error.JobError.{JobError}
 use Rattle.rv_text.specs.Printable.{printable_text}
-use Rattle.rv_list_errors.specs.Lines.{PutsLineOfEach, PutsLines, TellEach, printable_line}
+use Rattle.rv_list_errors.specs.Lines.{AppendsLineOfEach, PutsLines, TellEach, printable_line}
 
 -- no line
-pub no_lines : (Is : JobError → List ℕ → Type 0) (bytes : List ℕ) → PutsLineOfEach Is [] bytes bytes
+pub no_lines : (Is : JobError → List ℕ → Type 0) (bytes : List ℕ) → AppendsLineOfEach Is [] bytes bytes
 no_lines Is bytes = ([], tt, sym (append-nil bytes))
 
 -- one message more
@@ -23,9 +23,9 @@ one_message_more Is (f ∷ faults) [] fault message told so = elim told [ ]
 
 -- a message is shown, and its line ends
 pub one_line_more : (Is : JobError → List ℕ → Type 0) (faults : List JobError) (i : ℕ) (d : JobError)
-    (before bytes after message : List ℕ) → i < length faults → PutsLineOfEach Is (take i faults) before bytes
+    (before bytes after message : List ℕ) → i < length faults → AppendsLineOfEach Is (take i faults) before bytes
     → Is (get_or faults i d) message → after ≡ bytes ++ (printable_text message ++ 10 ∷ [])
-    → PutsLineOfEach Is (take (i + 1) faults) before after
+    → AppendsLineOfEach Is (take (i + 1) faults) before after
 one_line_more Is faults i d before bytes after message low (messages, told, is) so shows =
     rw (take_more faults i d low) (
       messages ++ message ∷ [],
@@ -45,7 +45,7 @@ each_so Is Other (fault ∷ faults) [] so told = elim told [ ]
 
 pub lines_so : {T E : Type 0} (result : Result T E) (Is Other : JobError → List ℕ → Type 0) (faults : List JobError)
     (before after : List ℕ) → ((fault : JobError) (message : List ℕ) → Is fault message → Other fault message)
-    → OnOk result (PutsLineOfEach Is faults before after) → OnOk result (PutsLineOfEach Other faults before after)
+    → OnOk result (AppendsLineOfEach Is faults before after) → OnOk result (AppendsLineOfEach Other faults before after)
 lines_so (Ok done) Is Other faults before after so (messages, told, is) =
     (messages, each_so Is Other faults messages so told, is)
 lines_so (Err error) Is Other faults before after so puts = tt
@@ -59,7 +59,7 @@ count_each Is [] (message ∷ messages) told = elim told [ ]
 count_each Is (fault ∷ faults) [] told = elim told [ ]
 
 pub count_of_lines : {T E : Type 0} (result : Result T E) (Is : JobError → List ℕ → Type 0) (faults : List JobError)
-    (before after : List ℕ) → OnOk result (PutsLineOfEach Is faults before after)
+    (before after : List ℕ) → OnOk result (AppendsLineOfEach Is faults before after)
     → OnOk result (PutsLines (length faults) before after)
 count_of_lines (Ok done) Is faults before after (messages, told, is) = (messages, count_each Is faults messages told, is)
 count_of_lines (Err error) Is faults before after puts = tt

@@ -9,7 +9,7 @@ use Rattle.rv_lists.specs.declared.keys.Kind.{Kind}
 use Rattle.rv_list_errors.specs.JobFaults.{BeginsWithRegion, BeginsWithValue, TellsSameAs, TellsName, TellsWanted}
 use Rattle.rv_list_errors.specs.JobFaults.{is_known_of_other_kind, is_of_other_kind, key_and_kind}
 use Rattle.rv_list_errors.specs.Lines.{BeginsWith}
-use Rattle.rv_list_errors.specs.Explanation.{IsKeyAndValue, IsWantedValue, region_number_text}
+use Rattle.rv_list_errors.specs.Explanation.{IsKeyAndValue, IsExpectedValue, region_number_text}
 use Rattle.rv_list_errors.specs.declared.explanations.Expected.{Expected}
 use Rattle.rv_list_errors.proofs.NamesFound.{find_of_map}
 
@@ -19,7 +19,7 @@ value_of_wanted wanted key ms told e (met, is, so) =
     (met, subst (λ name. IsKeyAndValue name (get_member name ms) met) e is, (_, so))
 
 pub value_of_words : (key words : List ℕ) (ms : Members) (told : List ℕ)
-    → IsWantedValue key (get_member key ms) words told → BeginsWithValue key ms told
+    → IsExpectedValue key (get_member key ms) words told → BeginsWithValue key ms told
 value_of_words key words ms told (met, is, so) = (met, is, (_, so))
 
 pub region_of_number : (key : List ℕ) (ms : Members) (place : ℕ) (told : List ℕ) → BeginsWith (region_number_text place) told

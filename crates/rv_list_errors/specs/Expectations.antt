@@ -1,5 +1,4 @@
--- What is told of an expectation that is bad, and of a set of instructions that is none: the key whose value is told, if one is, and
--- the words.
+-- How a bad expectation and an unknown instruction set are explained: the key whose value is shown, if any, and the words.
 use Rattle.std.specs.Prelude.{◌≡◌, ◌⊎◌, ◌==◌, ◌||◌, ◌++◌, ℕ, Bool, true, List, Option, Some, None, codes, drop, if◌then◌else◌, is_some, length}
 use Rattle.std.specs.Prelude.{nat_eq, nat_lt}
 use Rattle.std.specs.Fmt.{decimal}
@@ -28,14 +27,14 @@ kinds_told = (
   codes "expected \"budget\" or a fault kind: " ++ first_kinds_text (length fault_kinds),
 )
 
--- an exit is expected by a key of its own
+-- an exit is expected by a separate key
 abbrev pub end_told : Option (List ℕ) → Option (List ℕ) × List ℕ
 end_told None = kinds_told
 end_told (Some end) =
     if bytes_eq end (codes "exit")
     then (None, codes "expect_end = \"exit\": to expect an exit, set \"expect_exit\" to its code") else kinds_told
 
--- by the texts of `expect_console`, `expect_console_file` and `expect_end`
+-- given the texts of `expect_console`, `expect_console_file` and `expect_end`
 abbrev pub console_told : Option (List ℕ) → Option (List ℕ) → Option (List ℕ) → Option (List ℕ) × List ℕ
 console_told (Some text) (Some path) end =
     (None, codes "\"expect_console\" and \"expect_console_file\" cannot both be set")
@@ -46,7 +45,7 @@ console_told None (Some path) end =
     if is_no_path path then (Some (codes "expect_console_file"), path_words) else end_told end
 console_told None None end = end_told end
 
--- by whether a signature is asked for, and by the text of `expect_signature`; else as the rest is told
+-- given whether there is a signature, and the text of `expect_signature`; otherwise as the rest is explained
 abbrev pub reference_told : Bool → Option (List ℕ) → Option (List ℕ) × List ℕ → Option (List ℕ) × List ℕ
 reference_told asked None rest = rest
 reference_told asked (Some path) rest =
@@ -64,14 +63,14 @@ abbrev pub reference_told_of : Members → Option (List ℕ) × List ℕ
 reference_told_of ms = reference_told (is_some (get_member (codes "signature") ms))
     (text_at_key (codes "expect_signature") ms) (console_told_of ms)
 
--- of a job's expectations the first that is bad: of its exit, if it has one, or of another
+-- the first bad expectation of a job is explained: its exit, if it has one, or another
 abbrev pub IsExpectationTold : Members → Option (List ℕ) × List ℕ → Type 0
 IsExpectationTold ms told =
     ((is_some (get_member (codes "expect_exit") ms) ≡ true) × (told ≡ exit_told)) ⊎ (told ≡ reference_told_of ms)
 
 -- ---- sets of instructions
 
--- which part of a set is not simulated, of those that people ask for most
+-- which part of an instruction set is not simulated, for the sets requested most often
 abbrev pub set_words : List ℕ → List ℕ
 set_words isa =
     if starts_with nat_eq isa (codes "rv64") then codes "RV64 is not simulated: " ++ sets_words

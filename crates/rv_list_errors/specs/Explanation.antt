@@ -1,4 +1,4 @@
--- What is told of a fault behind the place where it stands.
+-- The explanation of an error, after its location.
 use Rattle.std.specs.Prelude.{◌≡◌, ◌+◌, ◌++◌, ℕ, Bool, List, [], Option, Some, None, IsOk, MatchOption, OnOk, codes, if◌then◌else◌}
 use Rattle.std.specs.Prelude.{◌==◌, ◌||◌, zero, suc, false, length, not, slice_index_or}
 use Rattle.std.specs.Fmt.{decimal}
@@ -24,31 +24,31 @@ use Rattle.rv_list_errors.specs.declared.message.Message.{Message}
 
 -- ---- a message that grows by a text of which only some things are known
 
--- unless a growth was refused, it has a text behind what it had of which this is so
+-- unless an allocation failed, the message has been extended by a text that satisfies the predicate
 abbrev pub AddsSome : Message → Message → (List ℕ → Type 0) → Type 0
 AddsSome before after IsSo = OnOk after.grown
     (IsOk before.grown × ((text : List ℕ) × IsSo text × (after.bytes.items ≡ before.bytes.items ++ text)))
 
 -- ---- values that were met
 
--- a text stands in quotes, and another value as TOML writes it
+-- a text is shown in quotes, another value as in TOML
 abbrev pub IsShownValue : Data → List ℕ → Type 0
 IsShownValue value shown = MatchOption (as_str value)
     ((text : List ℕ) × IsValueText false value text × (shown ≡ printable_value text)) (λ text. shown ≡ quoted text)
 
--- a key, and its value or that it is absent
+-- a key with its value, or that it is missing
 abbrev pub IsKeyAndValue : List ℕ → Option Data → List ℕ → Type 0
 IsKeyAndValue key None told = told ≡ key ++ codes " is missing"
 IsKeyAndValue key (Some value) told = (shown : List ℕ) × IsShownValue value shown × (told ≡ key ++ codes " = " ++ shown)
 
--- the same, and what is wanted of the value
-abbrev pub IsWantedValue : List ℕ → Option Data → List ℕ → List ℕ → Type 0
-IsWantedValue key value wanted told =
+-- a key with its value, or that it is missing, and what is expected of the value
+abbrev pub IsExpectedValue : List ℕ → Option Data → List ℕ → List ℕ → Type 0
+IsExpectedValue key value wanted told =
     (met : List ℕ) × IsKeyAndValue key value met × (told ≡ met ++ (codes ": " ++ wanted))
 
 -- ---- faults of the whole list
 
--- of a text that is no TOML: the line and the column of the error, and then a reason
+-- for a text that is not TOML: the line and column of the error, followed by a reason
 abbrev pub IsNotToml : List ℕ → ℕ → List ℕ → Type 0
 IsNotToml text place told = (reason : List ℕ) × (told
     ≡ codes ":" ++ (decimal (line_at place text) ++ (codes ":" ++ (decimal (column_at place text)
@@ -64,7 +64,7 @@ is_key_of_owner owner.List key = is_list_key key
 is_key_of_owner owner.Job key = is_job_key key
 is_key_of_owner owner.Region key = is_region_key key
 
--- the first key that is not known
+-- the first unknown key
 unfoldable pub first_unknown_key : (List ℕ → Bool) → Members → Option (List ℕ)
 first_unknown_key known no_members = None
 first_unknown_key known (member key value members) =
@@ -73,7 +73,7 @@ first_unknown_key known (member key value members) =
 abbrev pub unknown_key_text : List ℕ → List ℕ
 unknown_key_text key = codes "unknown key " ++ quoted key
 
--- which region, counted from 1
+-- the number of a region, counted from 1
 abbrev pub region_number_text : ℕ → List ℕ
 region_number_text place = codes "region " ++ decimal (place + 1)
 
@@ -84,35 +84,35 @@ abbrev pub nearest_job_text : List (Option (List ℕ)) → Option (List ℕ) →
 nearest_job_text names (Some name) = codes "; a similar name exists: " ++ quoted name
 nearest_job_text names None = codes "; the earlier jobs are " ++ names_text (present names)
 
--- it tells which of these names is probably meant by one that no job has
+-- the text suggests which of these names is probably meant by an unknown job name
 abbrev pub IsNearestJob : List (Option (List ℕ)) → List ℕ → List ℕ → Type 0
 IsNearestJob names wanted told =
     (near : Option (List ℕ)) × IsNearName names wanted near × (told ≡ nearest_job_text names near)
 
 -- ---- what is wanted
 
--- the name of the kind of faults at a place, in quotes, behind what parts it from the kind before
+-- the name of the fault kind at an index, in quotes, after the separator from the kind before
 abbrev pub kind_text : ℕ → List ℕ
 kind_text place =
     (if place == 0 then [] else if place + 1 == length fault_kinds then codes " or " else codes ", ")
     ++ quoted (fault_name (slice_index_or fault_kinds place fault.FetchAccess))
 
--- the first so many kinds of faults, as a sentence lists them
+-- the first n kinds of faults, as a sentence lists them
 unfoldable pub first_kinds_text : ℕ → List ℕ
 first_kinds_text zero = []
 first_kinds_text (suc count) = first_kinds_text count ++ kind_text count
 
--- the most that is taken, or all kinds of faults
+-- the maximum, or all kinds of faults
 abbrev pub rest_words : Rest → List ℕ
 rest_words rest.Nothing = []
 rest_words (rest.Most most) = decimal most
 rest_words rest.FaultKinds = first_kinds_text (length fault_kinds)
 
-abbrev pub told_words : Explanation → List ℕ
-told_words (told.Text text) = text.now
-told_words (told.Expected wanted) = wanted.now.before.now ++ (rest_words wanted.now.rest ++ wanted.now.behind.now)
+abbrev pub explained_words : Explanation → List ℕ
+explained_words (told.Text text) = text.now
+explained_words (told.Expected wanted) = wanted.now.before.now ++ (rest_words wanted.now.rest ++ wanted.now.behind.now)
 
--- of the values of keys, by what is wrong, where this alone says it
+-- the words for a key's value, if they depend only on the error
 abbrev pub key_words : What → Option (List ℕ)
 key_words what.Name =
     Some (codes "expected 1 to " ++ (decimal most_name ++ codes " ASCII letters, digits, \".\", \"_\" or \"-\""))
@@ -129,17 +129,17 @@ key_words _ = None
 abbrev pub sets_words : List ℕ
 sets_words = codes "expected \"rv32i\", \"rv32im\", \"rv32ic\" or \"rv32imc\""
 
--- a letter that stands for none of I, M and C
+-- whether a letter is none of I, M and C
 abbrev pub is_unsimulated : ℕ → Bool
 is_unsimulated letter = not (letter == 105 || letter == 109 || letter == 99)
 
--- of the first such letter: A, or F and D, are not simulated
+-- the words for the first such letter: A, or F and D, are not simulated
 abbrev pub letter_words : Option ℕ → List ℕ
 letter_words None = sets_words
 letter_words (Some letter) =
     if letter == 97 then codes "A is not simulated: " ++ sets_words
     else if letter == 102 || letter == 100 then codes "F and D are not simulated: " ++ sets_words else sets_words
 
--- of the letters behind rv32
+-- the words for the letters after rv32
 abbrev pub letters_words : List ℕ → List ℕ
 letters_words letters = letter_words (find is_unsimulated letters)

@@ -1,4 +1,5 @@
--- How the line of a fault begins: the path of the list, and of a fault of a job where the job begins, its number and its name.
+-- The beginning of an error's line: the path of the list, and for an error of a job the line on which the job begins, its number and its
+-- name.
 use Rattle.std.specs.Prelude.{◌-◌, ◌==◌, ◌++◌, ℕ, List, [], ◌∷◌, Option, Some, None, codes, if◌then◌else◌, map, option_map}
 use Rattle.std.specs.Prelude.{slice_get, slice_index_or, unwrap_or}
 use Rattle.std.specs.Borrow.{Bor}
@@ -14,7 +15,7 @@ use Rattle.rv_list_errors.specs.declared.fault_text.FaultView.TheVariants as loo
 
 -- ---- the names of jobs
 
--- the name of an element, where it is a table that has a text for that
+-- the name of an element, if it is a table with a text as its name
 abbrev pub element_name : Data → Option (List ℕ)
 element_name (table ms) = text_at_key (codes "name") ms
 element_name _ = None
@@ -23,7 +24,7 @@ unfoldable pub element_names : Items → List (Option (List ℕ))
 element_names no_items = []
 element_names (item d ds) = element_name d ∷ element_names ds
 
--- the elements of `job`; none where that is no array
+-- the elements of `job`, or none if it is not an array
 abbrev pub elements_of_job : Members → Items
 elements_of_job ms = unwrap_or (array_at_key (codes "job") ms) no_items
 
@@ -46,20 +47,20 @@ abbrev pub job_number_and_name : List (Option (List ℕ)) → ℕ → List ℕ
 job_number_and_name names number =
     codes ": error: job " ++ (decimal number ++ (name_text (slice_index_or names (number - 1) None) ++ codes ": "))
 
--- of the job of a number: the line on which it begins, the number, and its name
+-- the line on which the job with this number begins, the number, and its name
 abbrev pub job_heading : List ℕ → List (Option (List ℕ)) → ℕ → List ℕ
 job_heading lines names number = line_text (slice_get lines (number - 1)) ++ job_number_and_name names number
 
--- the number 0 stands for the whole list
+-- the number 0 is the whole list
 abbrev pub fault_place : List ℕ → List (Option (List ℕ)) → ℕ → List ℕ
 fault_place lines names number = if number == 0 then codes ": error: " else job_heading lines names number
 
--- nothing is known of jobs where the text is no document
+-- nothing is known of the jobs if the text is not a document
 abbrev pub place_in_document : List ℕ → Option Members → ℕ → List ℕ
 place_in_document text None number = []
 place_in_document text (Some ms) number = fault_place (job_lines text) (job_names ms) number
 
--- how the line begins that tells a fault of a list which is read at a path
+-- the beginning of the line that reports an error of the list read from a path
 abbrev pub fault_head : List ℕ → List ℕ → JobError → List ℕ
 fault_head path text fault = path ++ place_in_document text (document_of text) fault.job
 
@@ -71,7 +72,7 @@ borrowed_name name = option_map (λ text. text.now) name
 abbrev pub borrowed_names : List (Option (Bor (List ℕ))) → List (Option (List ℕ))
 borrowed_names names = map borrowed_name names
 
--- the same of a second look at the text
-abbrev pub look_place : FaultView → ℕ → List ℕ
-look_place (look.NoToml text error) number = []
-look_place (look.List list) number = fault_place list.lines.items (borrowed_names list.names.items) number
+-- the location as found by reading the text a second time
+abbrev pub location_in_view : FaultView → ℕ → List ℕ
+location_in_view (look.NoToml text error) number = []
+location_in_view (look.List list) number = fault_place list.lines.items (borrowed_names list.names.items) number

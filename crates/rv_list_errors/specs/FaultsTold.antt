@@ -1,4 +1,4 @@
--- What the lines of a list's faults tell, by the text of the list.
+-- What the lines of a list's errors report, given the text of the list.
 use Rattle.std.specs.Prelude.{◌-◌, ◌<◌, ℕ, List, Option, Some, None, ⊤}
 use Rattle.toml.specs.Data.{Members}
 use Rattle.rv_lists.specs.JobList.{document_of}
@@ -6,17 +6,17 @@ use Rattle.rv_lists.specs.declared.error.JobError.{JobError}
 use Rattle.rv_list_errors.specs.FaultHeads.{elements_of_job, fault_head, job_names}
 use Rattle.rv_list_errors.specs.JobFaults.{EndsSo, TellsJobFault, element_at}
 
--- of a document: a fault of the job of a number is told by that job's own values
+-- for a document: an error of a numbered job is explained by that job's own values
 abbrev pub TellsFaultOfDocument : Members → JobError → List ℕ → Type 0
 TellsFaultOfDocument ms fault told = 0 < fault.job → TellsJobFault
     (job_names ms) (element_at (elements_of_job ms) (fault.job - 1)) fault.what told
 
--- a text that is no document has no jobs
+-- a text that is not a document has no jobs
 abbrev pub TellsFaultIn : Option Members → JobError → List ℕ → Type 0
 TellsFaultIn None fault told = ⊤
 TellsFaultIn (Some ms) fault told = TellsFaultOfDocument ms fault told
 
--- a message is the head of a fault, and then what is told of it
+-- a message is the head of an error followed by its explanation
 abbrev pub TellsFaultOfText : List ℕ → List ℕ → JobError → List ℕ → Type 0
 TellsFaultOfText path text fault message =
     EndsSo (TellsFaultIn (document_of text) fault) (fault_head path text fault) message

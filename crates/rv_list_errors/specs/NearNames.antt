@@ -1,4 +1,4 @@
--- Which of some names is probably meant by a text, and how names are told.
+-- Which of several names is probably meant by a text, and how names are listed.
 use Rattle.std.specs.Prelude.{◌≡◌, ◌+◌, ◌-◌, ◌^◌, ◌<◌, ◌≤◌, ◌==◌, ◌&&◌, ◌++◌, ℕ, List, [], ◌∷◌, Option, Some, None, OnOk, IsOk}
 use Rattle.std.specs.Prelude.{codes, if◌then◌else◌, length, nat_eq, nat_le, nat_lt, slice_index_or, take, unwrap_or}
 use Rattle.std.specs.Fmt.{decimal}
@@ -11,17 +11,17 @@ use Rattle.rv_list_errors.specs.declared.message.Message.{Message}
 
 -- ---- a message that grows
 
--- unless a growth was refused, it has this text behind what it had
+-- unless an allocation failed, this text has been appended to the message
 abbrev pub Adds : Message → Message → List ℕ → Type 0
 Adds before after text = OnOk after.grown (IsOk before.grown × (after.bytes.items ≡ before.bytes.items ++ text))
 
 -- ---- the nearest name
 
--- the least number of characters that are put in, taken out or changed to come from a text to another
+-- the edit distance of two texts: the least number of characters inserted, deleted or changed
 abbrev pub text_distance : List ℕ → List ℕ → ℕ
 text_distance text other = levenshtein_row nat_eq (chars text) (chars other) (length (chars other))
 
--- how far any text is from no name, or from a text that is longer than a name may be
+-- the distance of a text from a missing name, or of a text longer than a name may be
 abbrev pub farthest : ℕ
 farthest = 2 ^ 64 - 1
 
@@ -33,13 +33,13 @@ name_distance text (Some name) =
 abbrev pub distance_at : List (Option (List ℕ)) → List ℕ → ℕ → ℕ
 distance_at names text place = name_distance text (slice_index_or names place None)
 
--- no name is nearer than that at the place, and each before it is farther
+-- no name is nearer than the one at the index, and every earlier one is farther
 pub record IsNearestName (names : List (Option (List ℕ))) (text : List ℕ) (place : ℕ) : Type 0 where
   pub within : place < length names
   pub least : (other : ℕ) → other < length names → distance_at names text place ≤ distance_at names text other
   pub first : (other : ℕ) → other < place → distance_at names text place < distance_at names text other
 
--- the name at the place is near to the text
+-- the name at the index is near the text
 abbrev pub IsNearAt : List (Option (List ℕ)) → List ℕ → ℕ → Type 0
 IsNearAt names text place = (distance_at names text place < farthest)
     × IsNear (distance_at names text place) (unwrap_or (slice_index_or names place None) [])
@@ -52,29 +52,29 @@ IsNearName names text (Some name) = (place : ℕ) × IsNearestName names text pl
 
 -- ---- names that are told
 
--- the names that there are
+-- the names that are present
 unfoldable pub present : List (Option (List ℕ)) → List (List ℕ)
 present [] = []
 present (None ∷ names) = present names
 present (Some name ∷ names) = name ∷ present names
 
--- so many are told at most
+-- the maximum number of names listed
 abbrev pub most_told : ℕ
 most_told = 20
 
 abbrev pub quoted : List ℕ → List ℕ
 quoted name = codes "\"" ++ (printable_value name ++ codes "\"")
 
--- what stands before the name at a place, of so many
+-- the separator before the name at an index, given the number of names
 abbrev pub separator : ℕ → ℕ → List ℕ
 separator count place = if place == 0 then [] else if place + 1 == count then codes " and " else codes ", "
 
--- the names from a place on, each in quotes
+-- the names from an index on, each in quotes
 unfoldable pub names_from : ℕ → ℕ → List (List ℕ) → List ℕ
 names_from count place [] = []
 names_from count place (name ∷ names) = separator count place ++ (quoted name ++ names_from count (place + 1) names)
 
--- how many are left
+-- the number of names not listed
 abbrev pub left_text : ℕ → List ℕ
 left_text count = if nat_lt most_told count then codes " and " ++ (decimal (count - most_told) ++ codes " more") else []
 

@@ -1,4 +1,4 @@
--- The lines that tell all faults of a list, each with its line and column.
+-- The lines that report all errors of a list, each with its line and column.
 use Rattle.std.specs.Prelude.{◌≡◌, ◌⊎◌, ◌<◌, ◌++◌, ℕ, List, [], ◌∷◌, Option, Some, None, codes, length}
 use Rattle.std.specs.Fmt.{decimal}
 use Rattle.std.specs.List.{All, flat_map}
@@ -9,19 +9,19 @@ use Rattle.rv_list_errors.specs.FaultHeads.{job_names, job_number_and_name}
 use Rattle.rv_list_errors.specs.Lines.{BeginsWith, printable_line}
 use Rattle.rv_list_locations.specs.Places.{column_at, line_at}
 
--- the line and the column of a place in a text
+-- the line and column of a location in a text
 abbrev pub place_text : ℕ → List ℕ → List ℕ
 place_text place text = codes ":" ++ (decimal (line_at place text) ++ (codes ":" ++ decimal (column_at place text)))
 
--- how the line begins that tells of a job a fault at a place: the path, the place, and the job's number and name
+-- the beginning of the line that reports a job's error at a location: the path, the location, and the job's number and name
 abbrev pub placed_head : List ℕ → List ℕ → List (Option (List ℕ)) → ℕ → ℕ → List ℕ
 placed_head path text names number place = path ++ (place_text place text ++ job_number_and_name names number)
 
--- a fault of a job, at some place of the text
+-- a message on an error of a job, at some location in the text
 abbrev pub IsPlacedMessage : List ℕ → List ℕ → List (Option (List ℕ)) → ℕ → List ℕ → Type 0
 IsPlacedMessage path text names number message = (place : ℕ) × BeginsWith (placed_head path text names number place) message
 
--- of a document: a fault of the whole list, whose number is 0, or one of a job
+-- for a document: a message on an error of the whole list, whose number is 0, or of a job
 abbrev pub IsToldInList : List ℕ → List ℕ → List (Option (List ℕ)) → JobError → List ℕ → Type 0
 IsToldInList path text names fault message = ((fault.job ≡ 0) × BeginsWith (path ++ codes ": error: ") message)
     ⊎ ((0 < fault.job) × IsPlacedMessage path text names fault.job message)
@@ -30,16 +30,16 @@ abbrev pub IsToldInDocument : List ℕ → List ℕ → Option Members → JobEr
 IsToldInDocument path text None fault message = BeginsWith path message
 IsToldInDocument path text (Some ms) fault message = IsToldInList path text (job_names ms) fault message
 
--- a message tells a fault of the list of a path and a text
+-- a message that reports an error of the list with a path and a text
 abbrev pub IsToldFault : List ℕ → List ℕ → JobError → List ℕ → Type 0
 IsToldFault path text fault message = IsToldInDocument path text (document_of text) fault message
 
--- behind what was there stand lines, one at least, each of a message of which this is so
+-- one or more lines have been appended, each with a message that satisfies the predicate
 abbrev pub PutsLinesThat : (List ℕ → Type 0) → List ℕ → List ℕ → Type 0
 PutsLinesThat Is before after = (messages : List (List ℕ)) × (0 < length messages) × All Is messages
     × (after ≡ before ++ flat_map printable_line messages)
 
--- behind what was there stand the lines of each fault in turn
+-- the lines of each error in turn have been appended
 abbrev pub PutsEachFault : (JobError → List ℕ → Type 0) → List JobError → List ℕ → List ℕ → Type 0
 PutsEachFault Is [] before after = after ≡ before
 PutsEachFault Is (fault ∷ faults) before after =

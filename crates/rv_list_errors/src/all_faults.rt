@@ -1,4 +1,4 @@
-//! The lines of all faults of a list, each with its place.
+//! The lines of all errors of a list, each with its location.
 
 ghost use Rattle.std.specs.Prelude.{◌≡◌, ◌<◌, ◌++◌, IfOk, OnOk, codes, length};
 ghost use Rattle.std.specs.Fmt.{decimal};
@@ -17,9 +17,9 @@ use rv_lists::JobError;
 use rv_text::{Span, push_spans, push_text};
 use std::alloc::{AllocError, Global};
 
-/// Appends all faults of a list's jobs, each on a line with its line and column: the faults of a job in the order of its keys, and before
-/// them the keys that it lacks, where the job begins. `file` is the path of the list as the person wrote it, and the faults are those that
-/// `read_faults` of `rv_lists` tells of its text, one for each bad job. The text is read once more.
+/// Appends all errors of a list's jobs, each on a line with its line and column: the errors of a job in the order of its keys, preceded by
+/// its missing keys, which are reported where the job begins. `file` is the path of the list as the user wrote it, and `faults` are the
+/// errors that `read_faults` of `rv_lists` returns for its text, one for each bad job. The text is parsed again.
 pub fn push_all_faults<'a>(
     alloc: Global,
     bytes: &mut Vec<u8>,
@@ -52,7 +52,7 @@ pub fn push_all_faults<'a>(
     }
 }
 
-// Lines of faults that know their places in a list.
+// Error lines with their locations in a list.
 #[derive(Drop)]
 struct PlacedLines<'a> {
     file: &'a str,
@@ -101,7 +101,7 @@ impl<'a> PlacedLines<'a> {
         self.push_found_faults(alloc, bytes, fault.job, found.as_slice())
     }
 
-    // Appends a line for each of some faults of a job.
+    // Appends a line for each of a job's errors.
     fn push_found_faults(
         &mut self,
         alloc: Global,
@@ -125,7 +125,7 @@ impl<'a> PlacedLines<'a> {
         Ok(())
     }
 
-    // What is told of a fault of a job, behind its place.
+    // Returns the message on an error of a job, after its location.
     fn placed_message(
         &mut self,
         alloc: Global,

@@ -1,5 +1,5 @@
-//! Expectations that are none: of the keys `expect_exit`, `expect_signature`, `expect_console`, `expect_console_file` and
-//! `expect_end` the first that is bad.
+//! Invalid expectations: the first bad one of the keys `expect_exit`, `expect_signature`, `expect_console`, `expect_console_file` and
+//! `expect_end`.
 
 ghost use Rattle.std.specs.Prelude.{◌≡◌, codes};
 ghost use Rattle.toml.specs.View.{table_view};
@@ -7,8 +7,8 @@ ghost use Rattle.rv_lists.specs.Keys.{text_at_key};
 ghost use Rattle.rv_list_errors.specs.Expectations.{IsExpectationTold, console_told, console_told_of, end_told, is_no_path};
 ghost use Rattle.rv_list_errors.specs.Expectations.{reference_told, reference_told_of};
 ghost use Rattle.rv_list_errors.specs.FaultHeads.{borrowed_name};
-ghost use Rattle.rv_list_errors.specs.JobFaults.{told_key};
-ghost use Rattle.rv_list_errors.specs.Explanation.{told_words};
+ghost use Rattle.rv_list_errors.specs.JobFaults.{explained_key};
+ghost use Rattle.rv_list_errors.specs.Explanation.{explained_words};
 
 use crate::explanations::{
     EXPECT_CONSOLE, EXPECT_CONSOLE_FILE, EXPECT_END, EXPECT_EXIT, EXPECT_SIGNATURE, Explanation,
@@ -18,9 +18,9 @@ use crate::values::{text_at_key, value_at_key, word_at_key};
 use rv_lists::limits::{MOST_CONSOLE, MOST_PATH};
 use toml::Table;
 
-/// What is told of the expectation of a job that is bad.
+/// Returns the explanation of a job's bad expectation.
 pub(crate) fn expectation_explanation(table: &Table) -> Explanation
-    ensures { IsExpectationTold (table_view table.now) (told_key result, told_words result) }
+    ensures { IsExpectationTold (table_view table.now) (explained_key result, explained_words result) }
 {
     if value_at_key(table, "expect_exit").is_some() && word_at_key(table, "expect_exit").is_none() {
         Explanation::Expected(&EXPECT_EXIT)
@@ -29,9 +29,9 @@ pub(crate) fn expectation_explanation(table: &Table) -> Explanation
     }
 }
 
-// Of the expectations beside an exit.
+// Returns the explanation of a bad expectation other than the exit.
 fn reference_or_console_explanation(table: &Table) -> Explanation
-    ensures { (told_key result, told_words result) ≡ reference_told_of (table_view table.now) }
+    ensures { (explained_key result, explained_words result) ≡ reference_told_of (table_view table.now) }
 {
     reference_explanation(
         value_at_key(table, "signature").is_some(),
@@ -40,10 +40,10 @@ fn reference_or_console_explanation(table: &Table) -> Explanation
     )
 }
 
-// Of a reference, where a signature is asked for or not; else what is told of the rest.
+// Returns the explanation of a bad reference, depending on whether there is a signature, or else that of the rest.
 fn reference_explanation(is_asked: bool, path: Option<&str>, rest: Explanation) -> Explanation
-    ensures { (told_key result, told_words result)
-        ≡ reference_told is_asked (borrowed_name path.entry) (told_key rest, told_words rest) }
+    ensures { (explained_key result, explained_words result)
+        ≡ reference_told is_asked (borrowed_name path.entry) (explained_key rest, explained_words rest) }
 {
     match path {
         Some(_) if !is_asked => Explanation::Expected(&UNASKED),
@@ -59,7 +59,7 @@ fn is_no_path(path: &str) -> bool
 }
 
 fn console_or_end_explanation(table: &Table) -> Explanation
-    ensures { (told_key result, told_words result) ≡ console_told_of (table_view table.now) }
+    ensures { (explained_key result, explained_words result) ≡ console_told_of (table_view table.now) }
 {
     console_explanation(
         text_at_key(table, "expect_console"),
@@ -69,7 +69,7 @@ fn console_or_end_explanation(table: &Table) -> Explanation
 }
 
 fn console_explanation(text: Option<&str>, path: Option<&str>, end: Option<&str>) -> Explanation
-    ensures { (told_key result, told_words result)
+    ensures { (explained_key result, explained_words result)
         ≡ console_told (borrowed_name text.entry) (borrowed_name path.entry) (borrowed_name end.entry) }
 {
     match (text, path) {
@@ -80,19 +80,19 @@ fn console_explanation(text: Option<&str>, path: Option<&str>, end: Option<&str>
     }
 }
 
-/// What is told of a console that is expected twice.
+/// The explanation of a console that is expected twice.
 pub(crate) const BOTH_CONSOLES: &str =
     "\"expect_console\" and \"expect_console_file\" cannot both be set";
 
-/// Of an end that is none: an exit is expected by a key of its own.
+/// Returns the explanation of an invalid end. An exit is expected by a separate key.
 pub(crate) fn end_explanation(table: &Table) -> Explanation
-    ensures { (told_key result, told_words result) ≡ end_told (text_at_key (codes "expect_end") (table_view table.now)) }
+    ensures { (explained_key result, explained_words result) ≡ end_told (text_at_key (codes "expect_end") (table_view table.now)) }
 {
     end_text_explanation(text_at_key(table, "expect_end"))
 }
 
 fn end_text_explanation(end: Option<&str>) -> Explanation
-    ensures { (told_key result, told_words result) ≡ end_told (borrowed_name end.entry) }
+    ensures { (explained_key result, explained_words result) ≡ end_told (borrowed_name end.entry) }
 {
     match end {
         Some(end) if end == "exit" => Explanation::Text(EXIT),

@@ -1,4 +1,4 @@
-//! What is wanted of the values of keys.
+//! What is expected of the values of keys.
 
 ghost use Rattle.std.specs.Prelude.{◌≡◌, ◌++◌, ◌<◌, IfSome, codes, length};
 ghost use Rattle.toml.specs.View.{table_view};
@@ -15,14 +15,14 @@ use rv_lists::limits::{MOST_BUDGET, MOST_CONSOLE, MOST_NAME, MOST_PATH, MOST_SCR
 use rv_machine::FaultKind;
 use toml::Table;
 
-/// What is told of one key, or of two.
+/// The explanation of one key, or of two.
 #[derive(Clone, Copy)]
 pub(crate) enum Explanation {
     Expected(&'static Expected),
     Text(&'static str),
 }
 
-/// What is wanted of the value of a key: words, or words around what is told between them.
+/// What is expected of the value of a key: words, or words around an inserted text.
 pub(crate) struct Expected {
     key: &'static str,
     before: &'static str,
@@ -31,22 +31,22 @@ pub(crate) struct Expected {
     bytes: Bytes,
 }
 
-/// What stands behind the first words.
+/// What follows the first words.
 #[derive(Clone, Copy)]
 enum Rest {
     Nothing,
-    /// The most that is taken.
+    /// The maximum.
     Most(u64),
     /// The names of all kinds of faults.
     FaultKinds,
 }
 
-/// Whether a text's bytes are told where they are more than the most that is taken.
+/// Whether the number of a text's bytes is shown if it exceeds the maximum.
 #[derive(Clone, Copy)]
 enum Bytes {
     Untold,
     Each,
-    /// Two characters are a byte's digits.
+    /// Two characters are the digits of a byte.
     Pairs,
 }
 
@@ -202,7 +202,7 @@ pub(crate) const MISALIGNED: Expected = Expected {
     bytes: Bytes::Untold,
 };
 
-/// What is wanted of the value of a key that takes a few texts alone.
+/// Returns what is expected of the value of a key that accepts only a few texts.
 pub(crate) fn taken_texts(key: &str) -> Option<&'static Expected>
     ensures { IfSome result (λ wanted. wanted.now.key.now ≡ key.now) }
 {
@@ -215,7 +215,7 @@ pub(crate) fn taken_texts(key: &str) -> Option<&'static Expected>
     }
 }
 
-/// Appends what is told.
+/// Appends an explanation.
 pub(crate) fn push_explanation(message: &mut Message, table: &Table, told: Explanation)
     ensures { AddsSome message.old message.new (TellsExplanation told (table_view table.now)) }
 {
@@ -225,7 +225,7 @@ pub(crate) fn push_explanation(message: &mut Message, table: &Table, told: Expla
     }
 }
 
-// Appends a key, its value, and what is wanted of it.
+// Appends a key, its value, and what is expected of it.
 fn push_wanted(message: &mut Message, table: &Table, wanted: &Expected)
     ensures { AddsSome message.old message.new (TellsWanted wanted.now (table_view table.now)) }
 {
@@ -233,7 +233,7 @@ fn push_wanted(message: &mut Message, table: &Table, wanted: &Expected)
     push_wanted_words(message, reported_byte_count(table, wanted), wanted);
 }
 
-// Appends what is wanted, behind the bytes that there are where they are too many.
+// Appends the number of bytes, if there are too many, and what is expected.
 fn push_wanted_words(message: &mut Message, bytes: u64, wanted: &Expected)
     ensures { Adds message.old message.new (bytes_text wanted.now.rest bytes ++ (codes ": " ++ wanted_words wanted.now)) }
 {
@@ -244,7 +244,7 @@ fn push_wanted_words(message: &mut Message, bytes: u64, wanted: &Expected)
     message.push(wanted.behind);
 }
 
-// Appends how many bytes there are, where they are more than the most that is taken.
+// Appends the number of bytes, if it exceeds the maximum.
 fn push_byte_count(message: &mut Message, bytes: u64, rest: Rest)
     ensures { Adds message.old message.new (bytes_text rest bytes) }
 {
@@ -285,13 +285,14 @@ fn push_fault_kind(message: &mut Message, place: usize)
     message.push_quoted(FaultKind::ALL[place].name());
 }
 
-// The bytes of the text at a key, where they are told.
+// Returns the number of bytes of the text at a key, if it is to be shown.
 fn reported_byte_count(table: &Table, wanted: &Expected) -> u64
     ensures { result ≡ told_bytes wanted.now.bytes (text_length (text_at_key wanted.now.key.now (table_view table.now))) }
 {
     told_byte_count(wanted.bytes, text_at_key(table, wanted.key))
 }
 
+// Returns the number of bytes that a text represents, or 0 if it is not to be shown.
 fn told_byte_count(bytes: Bytes, text: Option<&str>) -> u64
     ensures { result ≡ told_bytes bytes (text_length (borrowed_name text.entry)) }
 {

@@ -1,7 +1,7 @@
-//! What is told of a fault.
+//! The message on an error.
 
 ghost use Rattle.std.specs.Prelude.{◌≡◌, ◌++◌, ◌<◌, IfOk, None, OnOk, codes, slice_get, slice_index_or};
-ghost use Rattle.rv_list_errors.specs.FaultHeads.{borrowed_name, borrowed_names, fault_place, job_heading, line_text, look_place};
+ghost use Rattle.rv_list_errors.specs.FaultHeads.{borrowed_name, borrowed_names, fault_place, job_heading, line_text, location_in_view};
 ghost use Rattle.rv_list_errors.specs.FaultHeads.{job_number_and_name, name_text};
 ghost use Rattle.rv_list_errors.specs.JobFaults.{EndsSo, TellsFaultOfList, TellsFoundFault};
 ghost use Rattle.rv_list_errors.specs.Lines.{BeginsWith};
@@ -16,17 +16,17 @@ use rv_text::{Span, push_spans, push_text};
 use std::alloc::{AllocError, Global};
 use toml::de::Error;
 
-/// What a second look at a list's text finds.
+/// The result of parsing a list's text again.
 #[derive(Drop)]
 pub(crate) enum FaultView<'a> {
     /// It is a document.
     List(List<'a>),
-    /// It is no TOML document, for this reason.
+    /// It is not a TOML document, for this reason.
     NoToml(&'a [u8], Error),
 }
 
-/// What is told of a fault, without the end of its line. `file` is the path of the list as the person wrote it; the name that is
-/// nearest to one which no job has is told where that is asked.
+/// Returns the message on an error, without the line end. `file` is the path of the list as the user wrote it; the nearest name to an
+/// unknown one is included if requested.
 pub(crate) fn message_of_fault(
     alloc: Global,
     file: &str,
@@ -34,9 +34,9 @@ pub(crate) fn message_of_fault(
     fault: JobError,
     suggestion: Suggestion,
 ) -> Result<Vec<u8>, AllocError>
-    ensures head { IfOk result (λ message. BeginsWith (file.now ++ look_place look.now fault.job) message.items) }
+    ensures head { IfOk result (λ message. BeginsWith (file.now ++ location_in_view look.now fault.job) message.items) }
     ensures told { IfOk result (λ message. EndsSo (TellsFoundFault look.now fault)
-        (file.now ++ look_place look.now fault.job) message.items) }
+        (file.now ++ location_in_view look.now fault.job) message.items) }
 {
     let mut message = Vec::new(alloc);
     push_text(&mut message, file)?;
@@ -46,7 +46,7 @@ pub(crate) fn message_of_fault(
     Ok(message)
 }
 
-/// What is told of a fault of a whole list, without the end of its line.
+/// Returns the message on an error of a whole list, without the line end.
 pub(crate) fn list_fault_message(
     alloc: Global,
     file: &str,
@@ -63,9 +63,9 @@ pub(crate) fn list_fault_message(
     Ok(message)
 }
 
-// Appends where a fault stands in the list, as far as its jobs are known.
+// Appends the location of an error in the list, as far as its jobs are known.
 fn push_fault_place(message: &mut Vec<u8>, look: &FaultView<'_>, job: u32) -> Result<(), AllocError>
-    ensures { OnOk result (message.new.items ≡ message.old.items ++ look_place look.now job) }
+    ensures { OnOk result (message.new.items ≡ message.old.items ++ location_in_view look.now job) }
 {
     match look {
         FaultView::NoToml(_, _) => Ok(()),
@@ -84,7 +84,7 @@ fn push_place_in_list(message: &mut Vec<u8>, list: &List<'_>, job: u32) -> Resul
     }
 }
 
-// Appends the line on which a job begins, its number, and its name where that is a text.
+// Appends the line on which a job begins, its number, and its name if that is a text.
 fn push_job_heading(message: &mut Vec<u8>, list: &List<'_>, number: u32) -> Result<(), AllocError>
     requires { 0 < number }
     ensures { OnOk result (message.new.items ≡ message.old.items
@@ -95,7 +95,7 @@ fn push_job_heading(message: &mut Vec<u8>, list: &List<'_>, number: u32) -> Resu
     push_job_number_and_name(message, list, number)
 }
 
-/// Appends the number of a job, and its name where that is a text.
+/// Appends the number of a job, and its name if that is a text.
 pub(crate) fn push_job_number_and_name(
     message: &mut Vec<u8>,
     list: &List<'_>,
@@ -148,7 +148,7 @@ fn push_name_in_quotes(message: &mut Vec<u8>, name: Option<&str>) -> Result<(), 
     }
 }
 
-// What is wrong, as it is told behind the place.
+// Returns the explanation of an error, which follows its location.
 fn fault_explanation(
     alloc: Global,
     look: &FaultView<'_>,

@@ -1,10 +1,10 @@
-//! The lines of a list's faults.
+//! The lines of a list's errors.
 
 ghost use Rattle.std.specs.Prelude.{◌++◌, OnOk, length};
-ghost use Rattle.rv_list_errors.specs.FaultHeads.{fault_head, look_place};
+ghost use Rattle.rv_list_errors.specs.FaultHeads.{fault_head, location_in_view};
 ghost use Rattle.rv_list_errors.specs.FaultsTold.{TellsFaultOfText};
 ghost use Rattle.rv_list_errors.specs.JobFaults.{EndsSo, TellsFoundFault};
-ghost use Rattle.rv_list_errors.specs.Lines.{PutsFaultLines, PutsLineOfEach, PutsLines};
+ghost use Rattle.rv_list_errors.specs.Lines.{PutsFaultLines, AppendsLineOfEach, PutsLines};
 
 use crate::fault_text::{FaultView, message_of_fault};
 use crate::list::List;
@@ -13,11 +13,11 @@ use rv_lists::JobError;
 use rv_text::{Span, push_spans};
 use std::alloc::{AllocError, Global};
 
-// Of how many faults the nearest name or key is told: to look for it takes as long as there are names.
+// The number of errors for which the nearest name or key is suggested: the search takes time in proportion to the number of names.
 const NEAR_TOLD: usize = 64;
 
-/// Appends a line for each fault of a list, in their order. `file` is the path of the list as the person wrote it, and the
-/// faults are those that `read_jobs` or `read_faults` of `rv_lists` tells of its text. The text is read once more.
+/// Appends a line for each error of a list, in order. `file` is the path of the list as the user wrote it, and `faults` are the errors that
+/// `read_jobs` or `read_faults` of `rv_lists` returns for its text. The text is parsed again.
 pub fn push_faults(
     alloc: Global,
     bytes: &mut Vec<u8>,
@@ -26,11 +26,11 @@ pub fn push_faults(
     faults: &[JobError],
 ) -> Result<(), AllocError>
     ensures lines { OnOk result (PutsLines (length faults.now) bytes.old.items bytes.new.items) }
-    // Each begins with the path and with the job that the fault is of.
+    // Each begins with the path and the job in error.
     ensures heads { OnOk result (PutsFaultLines (fault_head file.now text.now) faults.now
         bytes.old.items bytes.new.items) }
-    // Behind that stands what is told of the fault, by the values of that job.
-    ensures told { OnOk result (PutsLineOfEach (TellsFaultOfText file.now text.now) faults.now
+    // The explanation of the error follows, based on the values of that job.
+    ensures told { OnOk result (AppendsLineOfEach (TellsFaultOfText file.now text.now) faults.now
         bytes.old.items bytes.new.items) }
 {
     match toml::table_from_slice(alloc, text) {
@@ -55,8 +55,8 @@ fn push_fault_lines(
     look: &FaultView<'_>,
     faults: &[JobError],
 ) -> Result<(), AllocError>
-    ensures { OnOk result (PutsLineOfEach
-        (λ fault message. EndsSo (TellsFoundFault look.now fault) (file.now ++ look_place look.now fault.job) message)
+    ensures { OnOk result (AppendsLineOfEach
+        (λ fault message. EndsSo (TellsFoundFault look.now fault) (file.now ++ location_in_view look.now fault.job) message)
         faults.now bytes.old.items bytes.new.items) }
 {
     for (at, fault) in faults.iter().enumerate() {
@@ -66,7 +66,7 @@ fn push_fault_lines(
     Ok(())
 }
 
-/// What is told beside a name that no job has, or a key, in the fault at a place.
+/// Returns what is suggested for an unknown job name or key in the error at an index.
 pub(crate) fn suggestion_for_fault(place: usize) -> Suggestion {
     if place < NEAR_TOLD {
         Suggestion::Nearest

@@ -1,4 +1,4 @@
-//! The faults of a job, with their places in the list's text.
+//! The errors of a job, with their locations in the list's text.
 
 ghost use Rattle.std.specs.Prelude.{◌<◌, IfOk, length};
 
@@ -13,18 +13,19 @@ use rv_lists::JobError;
 use std::alloc::{AllocError, Global};
 use toml::Value;
 
-// How many faults of one job are told.
+// The maximum number of errors reported for one job.
 const MOST_FAULTS: usize = 64;
 
-/// A fault of a job: the place where it stands in the list's text, and what is told of it.
+/// An error of a job: its offset in the list's text, and its message.
 #[derive(Drop)]
 pub(crate) struct FoundFault {
     pub(crate) place: usize,
     pub(crate) explanation: Vec<u8>,
 }
 
-/// The faults of a job, of which there is one at least: the fault that is known where no key is found to be bad. Where there are very many,
-/// the first ones, and that the keys behind them are not checked. The texts are those from each job on, and the first is the longest.
+/// Returns the errors of a job, of which there is at least one: if no bad key is found, the error that is already known. If there are very
+/// many, returns the first ones, followed by a note that the later keys are not checked. `jobs` are the texts from each job on, of which
+/// the first is the longest.
 pub(crate) fn faults_of_job(
     alloc: Global,
     list: &List<'_>,
@@ -60,7 +61,7 @@ pub(crate) fn faults_of_job(
 }
 
 impl<'a> FaultyJob<'a> {
-    // Notes the keys that a job lacks, where it begins.
+    // Records the missing keys of a job, at the location where it begins.
     fn find_absent_keys(
         &self,
         alloc: Global,
@@ -78,7 +79,7 @@ impl<'a> FaultyJob<'a> {
         Ok(())
     }
 
-    // Notes the keys that have bad values, each where it stands first, until too many faults are noted.
+    // Records the keys with bad values, each at its first occurrence, until there are too many errors.
     fn find_bad_keys(
         &self,
         alloc: Global,
@@ -100,7 +101,7 @@ impl<'a> FaultyJob<'a> {
         Ok(())
     }
 
-    // Notes that the keys from one on are not checked.
+    // Records that the keys from this one on are not checked.
     fn stop_at_key(
         &self,
         alloc: Global,
@@ -115,6 +116,7 @@ impl<'a> FaultyJob<'a> {
         Ok(())
     }
 
+    // Records what is wrong with the value of a key, if anything is.
     fn find_key_fault(
         &self,
         alloc: Global,

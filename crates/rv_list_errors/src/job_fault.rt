@@ -1,4 +1,4 @@
-//! Faults of a job.
+//! Errors of a job.
 
 ghost use Rattle.std.specs.Prelude.{◌≡◌, IfSome, None, Some, codes, option_map};
 ghost use Rattle.std.specs.Char.{is_ascii_hexdigit};
@@ -8,8 +8,8 @@ ghost use Rattle.rv_lists.specs.declared.error.What.TheVariants.{Expect, Input, 
 ghost use Rattle.rv_list_errors.specs.Expectations.{IsExpectationTold, isa_told, set_words};
 ghost use Rattle.rv_list_errors.specs.FaultHeads.{borrowed_name, borrowed_names};
 ghost use Rattle.rv_list_errors.specs.JobFaults.{TellsFaultOfTable, TellsJobFault, TellsNoTable, TellsName, TellsOwnFault, element_at, free_words};
-ghost use Rattle.rv_list_errors.specs.JobFaults.{are_digit_pairs, key_of, script_told, script_told_of, told_key};
-ghost use Rattle.rv_list_errors.specs.Explanation.{AddsSome, is_unsimulated, key_words, letters_words, told_words};
+ghost use Rattle.rv_list_errors.specs.JobFaults.{are_digit_pairs, key_of, script_told, script_told_of, explained_key};
+ghost use Rattle.rv_list_errors.specs.Explanation.{AddsSome, is_unsimulated, key_words, letters_words, explained_words};
 
 use crate::expectation_fault::expectation_explanation;
 use crate::explanations::{
@@ -27,7 +27,7 @@ use crate::values::text_at_key;
 use rv_lists::What;
 use toml::{Table, Value};
 
-/// Appends a fault of the job at a place. The nearest name of a job is told where it may be meant and is asked for.
+/// Appends an error of the job at an index. The nearest job name is suggested if one may be meant and it is requested.
 pub(crate) fn push_job_fault(
     message: &mut Message,
     list: &List<'_>,
@@ -61,7 +61,7 @@ fn element_at(elements: &[Value], place: usize) -> Option<&Value>
     elements.get(place)
 }
 
-// Appends that an element is no table.
+// Appends that an element is not a table.
 fn push_no_table(message: &mut Message, element: &Value)
     ensures { AddsSome message.old message.new (TellsNoTable (view element.now)) }
 {
@@ -69,7 +69,7 @@ fn push_no_table(message: &mut Message, element: &Value)
     message.push(": expected a table");
 }
 
-// Appends a fault of a job that is a table.
+// Appends an error of a job that is a table.
 fn push_fault_of_table(message: &mut Message, job: FaultyJob<'_>, what: What)
     ensures { AddsSome message.old message.new (TellsFaultOfTable
         (borrowed_names job.entry.list.now.names.items) (table_view job.entry.table.now) what) }
@@ -87,7 +87,7 @@ fn push_fault_of_table(message: &mut Message, job: FaultyJob<'_>, what: What)
     }
 }
 
-/// Appends that an earlier job has the name of a job.
+/// Appends that an earlier job has the same name.
 pub(crate) fn push_taken_name(message: &mut Message, list: &List<'_>, table: &Table)
     ensures { AddsSome message.old message.new
         (TellsName (borrowed_names list.now.names.items) (codes "name") free_words (table_view table.now)) }
@@ -97,7 +97,7 @@ pub(crate) fn push_taken_name(message: &mut Message, list: &List<'_>, table: &Ta
 
 const FREE: &str = "expected a unique name";
 
-// Appends a fault that a job has whatever the other jobs are.
+// Appends an error that does not depend on the other jobs.
 fn push_fault_within_job(message: &mut Message, table: &Table, what: What)
     ensures { AddsSome message.old message.new (TellsOwnFault what (table_view table.now)) }
 {
@@ -109,13 +109,13 @@ fn push_fault_within_job(message: &mut Message, table: &Table, what: What)
     }
 }
 
-// What is told of a fault that one value has.
+// Returns the explanation of an error of a single value.
 fn key_explanation(table: &Table, what: What) -> Explanation
-    ensures words { IfSome (key_words what) (λ words. told_words result ≡ words) }
-    ensures key { IfSome (key_of what) (λ key. told_key result ≡ Some key) }
-    ensures script { what ≡ Input → (told_key result, told_words result) ≡ script_told_of (table_view table.now) }
-    ensures expectation { what ≡ Expect → IsExpectationTold (table_view table.now) (told_key result, told_words result) }
-    ensures isa { what ≡ Isa → (told_key result, told_words result) ≡ isa_told (table_view table.now) }
+    ensures words { IfSome (key_words what) (λ words. explained_words result ≡ words) }
+    ensures key { IfSome (key_of what) (λ key. explained_key result ≡ Some key) }
+    ensures script { what ≡ Input → (explained_key result, explained_words result) ≡ script_told_of (table_view table.now) }
+    ensures expectation { what ≡ Expect → IsExpectationTold (table_view table.now) (explained_key result, explained_words result) }
+    ensures isa { what ≡ Isa → (explained_key result, explained_words result) ≡ isa_told (table_view table.now) }
 {
     match what {
         What::Name => Explanation::Expected(&NAME),
@@ -131,9 +131,9 @@ fn key_explanation(table: &Table, what: What) -> Explanation
     }
 }
 
-/// Of the sets that people ask for most, which part is not simulated.
+/// Returns which part of an instruction set is not simulated, for the sets requested most often.
 pub(crate) fn isa_explanation(table: &Table) -> Explanation
-    ensures { (told_key result, told_words result) ≡ isa_told (table_view table.now) }
+    ensures { (explained_key result, explained_words result) ≡ isa_told (table_view table.now) }
 {
     match text_at_key(table, "isa") {
         Some(isa) => set_explanation(isa.as_bytes()),
@@ -141,10 +141,10 @@ pub(crate) fn isa_explanation(table: &Table) -> Explanation
     }
 }
 
-// Of the name of a set.
+// Returns the explanation of the name of an instruction set.
 fn set_explanation(isa: &[u8]) -> Explanation
-    ensures key { told_key result ≡ Some (codes "isa") }
-    ensures words { told_words result ≡ set_words isa.now }
+    ensures key { explained_key result ≡ Some (codes "isa") }
+    ensures words { explained_words result ≡ set_words isa.now }
 {
     if isa.starts_with(b"rv64") {
         Explanation::Expected(&ISA_OF_64_BITS)
@@ -155,10 +155,10 @@ fn set_explanation(isa: &[u8]) -> Explanation
     }
 }
 
-// Of the letters of a set of 32 bits.
+// Returns the explanation of the letters of a 32-bit instruction set.
 fn letters_explanation(letters: &[u8]) -> Explanation
-    ensures key { told_key result ≡ Some (codes "isa") }
-    ensures words { told_words result ≡ letters_words letters.now }
+    ensures key { explained_key result ≡ Some (codes "isa") }
+    ensures words { explained_words result ≡ letters_words letters.now }
 {
     match unsimulated_letter(letters) {
         Some(b'a') => Explanation::Expected(&ISA_WITH_A),
@@ -167,7 +167,7 @@ fn letters_explanation(letters: &[u8]) -> Explanation
     }
 }
 
-// The first letter that stands for none of I, M and C.
+// Returns the first letter that is none of I, M and C.
 fn unsimulated_letter(letters: &[u8]) -> Option<&u8>
     ensures { option_map (λ letter. letter.now) result ≡ find is_unsimulated letters.now }
 {
@@ -180,15 +180,15 @@ fn is_unsimulated(letter: u8) -> bool
     !(letter == b'i' || letter == b'm' || letter == b'c')
 }
 
-// Of a script, by the texts of both of its keys.
+// Returns the explanation of a bad script, given the texts of both its keys.
 fn input_explanation(table: &Table) -> Explanation
-    ensures { (told_key result, told_words result) ≡ script_told_of (table_view table.now) }
+    ensures { (explained_key result, explained_words result) ≡ script_told_of (table_view table.now) }
 {
     script_explanation(text_at_key(table, "input"), text_at_key(table, "input_hex"))
 }
 
 fn script_explanation(text: Option<&str>, digits: Option<&str>) -> Explanation
-    ensures { (told_key result, told_words result) ≡ script_told (borrowed_name text.entry) (borrowed_name digits.entry) }
+    ensures { (explained_key result, explained_words result) ≡ script_told (borrowed_name text.entry) (borrowed_name digits.entry) }
 {
     match (text, digits) {
         (Some(_), Some(_)) => Explanation::Text(BOTH_INPUTS),
@@ -199,7 +199,7 @@ fn script_explanation(text: Option<&str>, digits: Option<&str>) -> Explanation
 }
 
 fn digits_explanation(digits: &str) -> Explanation
-    ensures { (told_key result, told_words result) ≡ script_told None (Some digits.now) }
+    ensures { (explained_key result, explained_words result) ≡ script_told None (Some digits.now) }
 {
     if are_hex_digit_pairs(digits) {
         Explanation::Expected(&INPUT_HEX)
@@ -208,10 +208,10 @@ fn digits_explanation(digits: &str) -> Explanation
     }
 }
 
-/// What is told of a script that stands twice.
+/// The explanation of a script that is set twice.
 pub(crate) const BOTH_INPUTS: &str = "\"input\" and \"input_hex\" cannot both be set";
 
-/// Whether digits stand for bytes.
+/// Whether digits represent bytes.
 pub(crate) fn are_hex_digit_pairs(digits: &str) -> bool
     ensures { result ≡ are_digit_pairs digits.now }
 {

@@ -1,4 +1,4 @@
-//! What is wrong with the value of one key of a job, whatever its other keys are.
+//! What is wrong with the value of one key of a job, whatever its other keys.
 
 ghost use Rattle.std.specs.Prelude.{◌<◌, IfSome};
 
@@ -23,7 +23,7 @@ use std::alloc::{AllocError, Global};
 use std::collections::BTreeMap;
 use toml::{Table, Value};
 
-/// The keys of a job that were met.
+/// The keys of a job that have been seen.
 #[derive(Drop)]
 pub(crate) struct FoundKeys<'k> {
     names: BTreeMap<&'k str, ()>,
@@ -46,7 +46,7 @@ impl<'k> FoundKeys<'k> {
     }
 }
 
-// The place of a key among those that jobs have.
+// Returns the index of a key among those that jobs have.
 fn place_of_key(name: &str) -> Option<usize>
     ensures { IfSome result (λ place. place < 16) }
 {
@@ -58,11 +58,11 @@ fn place_of_key(name: &str) -> Option<usize>
     None
 }
 
-/// A job whose keys are looked at.
+/// A job whose keys are being checked.
 #[derive(Clone, Copy)]
 pub(crate) struct FaultyJob<'a> {
     pub(crate) list: &'a List<'a>,
-    /// The place of the job, counted from 0.
+    /// The index of the job, counted from 0.
     pub(crate) place: usize,
     pub(crate) table: &'a Table,
     pub(crate) suggestion: Suggestion,
@@ -81,8 +81,8 @@ enum KeyFault {
 }
 
 impl<'a> FaultyJob<'a> {
-    /// Appends what is wrong with the value of a key, if anything is, and gives whether anything is. Of two keys that do not go together
-    /// it is told at the one that is met last.
+    /// Appends what is wrong with the value of a key, and returns whether anything is. If two keys cannot be used together, the error is
+    /// reported at the one seen last.
     pub(crate) fn push_key_fault(
         &self,
         message: &mut Message,
@@ -110,6 +110,7 @@ impl<'a> FaultyJob<'a> {
         true
     }
 
+    // Returns what is wrong with the value of a key, if anything is.
     fn key_fault(&self, key: &str, met: &FoundKeys<'_>) -> Option<KeyFault> {
         let Some(place) = place_of_key(key) else {
             return Some(KeyFault::Unknown);
@@ -125,7 +126,7 @@ impl<'a> FaultyJob<'a> {
         }
     }
 
-    // What is wrong with a value of the kind that its key has.
+    // Returns what is wrong with a value whose kind is right.
     fn value_fault(
         &self,
         kind: Kind,
@@ -143,6 +144,7 @@ impl<'a> FaultyJob<'a> {
         }
     }
 
+    // Returns what is wrong with the text at a key, if anything is.
     fn text_fault(&self, key: &str, text: &str, met: &FoundKeys<'_>) -> Option<KeyFault> {
         match key {
             "name" => self.name_fault(text),
@@ -163,7 +165,7 @@ impl<'a> FaultyJob<'a> {
         }
     }
 
-    // Whether a job before this one has a good name.
+    // Whether an earlier job has a valid name equal to this one.
     fn is_earlier_job(&self, name: &str) -> bool {
         match self.list.job_number_of_name(Some(name)) {
             Some(number) => number <= self.place as u64 && is_name(name.as_bytes()),
@@ -187,7 +189,7 @@ impl<'a> FaultyJob<'a> {
         }
     }
 
-    // What is told where another key was met that has a text too.
+    // Returns the explanation if another key with a text value has been seen.
     fn told_of_two(&self, other: &str, met: &FoundKeys, both: &'static str) -> Option<Explanation> {
         if met.has(other) && text_at_key(self.table, other).is_some() {
             Some(Explanation::Text(both))
@@ -227,7 +229,7 @@ impl<'a> FaultyJob<'a> {
         }
     }
 
-    // Of a key that takes a few texts alone.
+    // Returns what is wrong with the value of a key that accepts only a few texts.
     fn choice_fault(&self, key: &str, text: &str) -> Option<Explanation> {
         match key {
             "load" if text != "physical" && text != "virtual" => Some(Explanation::Expected(&LOAD)),
@@ -258,7 +260,7 @@ fn number_fault(key: &str, number: i64) -> Option<Explanation> {
     }
 }
 
-// Of an array of texts.
+// Returns what is wrong with an array of texts.
 fn signature_fault(names: &[Value]) -> Option<Explanation> {
     let is_good = names.len() == 2 && is_symbol(&names[0]) && is_symbol(&names[1]);
     if is_good {
@@ -289,10 +291,10 @@ fn is_end(text: &str) -> bool {
     text == "budget" || FaultKind::from_name(text.as_bytes()).is_some()
 }
 
-/// The keys that every job has.
+/// The keys that every job must have.
 pub(crate) const NEEDED: [&str; 3] = ["name", "image", "budget"];
 
-/// Appends that a job lacks a key which every job has.
+/// Appends that a job lacks a required key.
 pub(crate) fn push_absent_key(message: &mut Message, table: &Table, key: &str) {
     match key {
         "name" => push_explanation(message, table, Explanation::Expected(&NAME)),

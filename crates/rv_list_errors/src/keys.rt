@@ -1,4 +1,4 @@
-//! Keys that the format does not have.
+//! Unknown keys.
 
 ghost use Rattle.std.specs.Prelude.{◌≡◌, ◌+◌, ◌++◌, ◌^◌, ◌<◌, [], IfSome, codes, length, option_map, string_bytes};
 ghost use Rattle.std.specs.List.{list_any};
@@ -17,7 +17,7 @@ use crate::values::elements_at_key;
 use rv_lists::{JOB_KEYS, Kind};
 use toml::{Table, Value};
 
-/// Whose keys they are.
+/// The table that keys belong to.
 #[derive(Clone, Copy)]
 pub(crate) enum Owner {
     List,
@@ -25,7 +25,7 @@ pub(crate) enum Owner {
     Region,
 }
 
-/// The first key of a table that its owner does not have.
+/// Returns the first key of a table that its owner does not have.
 pub(crate) fn unknown_key(table: &Table, owner: Owner) -> Option<&str>
     ensures { option_map (λ key. key.now) result
         ≡ first_unknown_key (is_key_of_owner owner) (table_view table.now) }
@@ -79,7 +79,7 @@ fn is_region_key(name: &str) -> bool
     }
 }
 
-/// Appends that a key is not known.
+/// Appends that a key is unknown.
 pub(crate) fn push_unknown_key(message: &mut Message, key: &str)
     ensures { Adds message.old message.new (unknown_key_text key.now) }
 {
@@ -87,8 +87,7 @@ pub(crate) fn push_unknown_key(message: &mut Message, key: &str)
     message.push_quoted(key);
 }
 
-/// Appends the first key of a job, or of one of its regions, that the format does not have, and those that it has: of the
-/// keys of a job the nearest, where one is near.
+/// Appends the first unknown key of a job or of one of its regions, and the known keys: for a job only the nearest one, if one is near.
 pub(crate) fn push_unknown_job_key(message: &mut Message, table: &Table)
     ensures { AddsSome message.old message.new (TellsUnknownKey (table_view table.now)) }
 {
@@ -98,7 +97,7 @@ pub(crate) fn push_unknown_job_key(message: &mut Message, table: &Table)
     }
 }
 
-/// Appends a key that no job has. The nearest that jobs have, or all of them, are told where that is asked for.
+/// Appends an unknown key of a job. The nearest known key, or all of them, are suggested if requested.
 pub(crate) fn push_unknown_job_key_of(message: &mut Message, key: &str, suggestion: Suggestion)
     ensures { AddsSome message.old message.new (BeginsWith (unknown_key_text key.now)) }
 {
@@ -109,7 +108,7 @@ pub(crate) fn push_unknown_job_key_of(message: &mut Message, key: &str, suggesti
     }
 }
 
-// Appends the key of a job that is nearest to a text, or all keys where none is near.
+// Appends the nearest key of a job to a text, or all keys if none is near.
 fn push_nearest_key(message: &mut Message, text: &str)
     ensures { AddsSome message.old message.new (BeginsWith []) }
 {
@@ -129,7 +128,7 @@ fn push_nearest_key(message: &mut Message, text: &str)
     }
 }
 
-/// Appends the first key of a region that no region has, and those that regions have.
+/// Appends the first unknown key of a region, and the known keys of regions.
 pub(crate) fn push_unknown_region_key(message: &mut Message, table: &Table)
     ensures { AddsSome message.old message.new TellsUnknownRegionKey }
 {
@@ -140,7 +139,7 @@ pub(crate) fn push_unknown_region_key(message: &mut Message, table: &Table)
     }
 }
 
-// The place of the first region with a key that no region has, and that key.
+// Returns the index of the first region with an unknown key, and that key.
 fn first_unknown_region_key(regions: &[Value]) -> Option<(usize, &str)>
     ensures { IfSome result (λ unknown. unknown.0 < length regions.now) }
 {
@@ -162,7 +161,7 @@ fn push_unknown_key_of_region(message: &mut Message, at: usize, key: &str)
     message.push(": valid keys are \"base\", \"size\" and \"write\"");
 }
 
-/// Whether a region of a job has a key that no region has.
+/// Whether a region of a job has an unknown key.
 pub(crate) fn region_with_unknown_key(table: &Table) -> bool {
     for region in elements_at_key(table, "region") {
         if unknown_region_key(region).is_some() {

@@ -1,4 +1,4 @@
-//! Values of another TOML kind than their key has.
+//! Values of another TOML kind than their key requires.
 
 ghost use Rattle.std.specs.Prelude.{◌≡◌, ◌+◌, ◌^◌, ◌<◌, IfSome, codes, is_some, length, map, not, option_map, true};
 ghost use Rattle.std.specs.List.{find, list_all, position};
@@ -18,7 +18,7 @@ use crate::values::{elements_at_key, push_expected_value, value_at_key};
 use rv_lists::{JOB_KEYS, Kind};
 use toml::{Table, Value};
 
-/// Appends the first key of a job, in the order of the format, whose value is of another kind, and the kind that is wanted.
+/// Appends the first key of a job, in the order of the format, whose value is of another kind, and the expected kind.
 pub(crate) fn push_wrong_kind(message: &mut Message, table: &Table)
     ensures { AddsSome message.old message.new (TellsWrongKind (table_view table.now)) }
 {
@@ -28,7 +28,7 @@ pub(crate) fn push_wrong_kind(message: &mut Message, table: &Table)
     }
 }
 
-// The first of these keys whose value is of another kind, by the names of the keys.
+// Returns the first of these keys, by name, whose value is of another kind.
 fn wrong_key<'k>(
     table: &Table,
     keys: &'k [(&'static str, Kind)],
@@ -39,7 +39,7 @@ fn wrong_key<'k>(
     first_key_of_other_kind(table, keys)
 }
 
-// The first of these keys whose value is of another kind.
+// Returns the first of these keys whose value is of another kind.
 fn first_key_of_other_kind<'k>(
     table: &Table,
     keys: &'k [(&'static str, Kind)],
@@ -111,7 +111,7 @@ fn is_region(value: &Value) -> bool
     }
 }
 
-// The first key of a region whose value is of another kind, and what is wanted of it.
+// Returns the first key of a region whose value is of another kind, and what is expected of it.
 fn region_key_of_wrong_kind(table: &Table) -> Option<(&'static str, &'static str)>
     ensures { is_some result ≡ not (has_kinds_of_keys region_keys (table_view table.now)) }
 {
@@ -146,7 +146,7 @@ fn is_other_than_boolean(value: Option<&Value>) -> bool
 
 const NUMBER: &str = "expected an integer";
 
-/// Appends the value of a key, which is of another kind than this.
+/// Appends the value of a key that is not of this kind.
 pub(crate) fn push_value_of_wrong_kind(message: &mut Message, table: &Table, key: &str, kind: Kind)
     ensures { AddsSome message.old message.new (TellsOtherKind key.now kind (table_view table.now)) }
 {
@@ -158,7 +158,7 @@ pub(crate) fn push_value_of_wrong_kind(message: &mut Message, table: &Table, key
     }
 }
 
-// Appends the value of a key that wants a text, and which texts it takes, where these are few.
+// Appends the value of a key that expects a text, and the accepted texts if they are few.
 fn push_text_of_wrong_kind(message: &mut Message, table: &Table, key: &str)
     ensures { AddsSome message.old message.new (BeginsWithValue key.now (table_view table.now)) }
 {
@@ -178,7 +178,7 @@ fn push_regions_of_wrong_kind(message: &mut Message, table: &Table, key: &str)
     }
 }
 
-// The place of the first element that is no region.
+// Returns the index of the first element that is not a region.
 fn place_of_no_region(elements: &[Value]) -> Option<usize>
     ensures within { IfSome result (λ place. place < length elements.now) }
     ensures first { result ≡ position (λ v. not (is_region (view v))) elements.now }
@@ -186,7 +186,7 @@ fn place_of_no_region(elements: &[Value]) -> Option<usize>
     elements.iter().position(|element| !is_region(element))
 }
 
-// Appends a region at a place that is of another kind.
+// Appends the region at an index that is of another kind.
 fn push_region_of_wrong_kind(message: &mut Message, place: usize, region: &Value)
     ensures { place + 1 < 2 ^ 64 → AddsSome message.old message.new (BeginsWith (region_number_text place)) }
 {

@@ -1,9 +1,8 @@
-//! What a person is told of a job list that is refused.
+//! The messages on the errors of a rejected job list.
 //!
-//! [`push_faults`] appends a line for each fault, in the manner of compilers: the file and the line where the job begins, the job's
-//! number and name, the key with the value that was met, and what is taken instead. Contracts fix parts of what a line tells
-//! behind the job's name: keys with their values, limits, places. [`near_job`] gives the job that
-//! is probably meant by a name that no job has, where one is near.
+//! [`push_faults`] appends a line for each error in the style of compilers: the file and the line where the job begins, the job's number
+//! and name, the key with its actual value, and what is expected instead. Contracts determine parts of the explanation after the job's
+//! name: keys with their values, limits, locations. [`near_job`] returns the job that is probably meant by an unknown name, if one is near.
 #![tactic(auto)]
 
 mod all_faults;

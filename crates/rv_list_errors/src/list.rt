@@ -1,4 +1,4 @@
-//! A list whose faults are told, as a look at its text finds it.
+//! A list whose errors are reported, as found by parsing its text again.
 
 ghost use Rattle.std.specs.Prelude.{◌≡◌, ◌<◌, IfOk, IfSome, Some, length};
 ghost use Rattle.std.specs.List.{position};
@@ -18,18 +18,18 @@ use toml::{Table, Value};
 #[derive(Drop)]
 pub(crate) struct List<'a> {
     pub(crate) table: &'a Table,
-    /// The elements of `job`; none where that is no array.
+    /// The elements of `job`, or none if it is not an array.
     pub(crate) jobs: &'a [Value],
-    /// What each of them has as a name, where that is a text.
+    /// The name of each of them, if it is a text.
     pub(crate) names: Vec<Option<&'a str>>,
     /// The line on which each of them begins.
     pub(crate) lines: Vec<usize>,
-    /// The bytes of the list's text.
+    /// The length of the list's text in bytes.
     pub(crate) len: usize,
 }
 
 impl<'a> List<'a> {
-    /// The list of a text and its table.
+    /// Returns the list of a text and its table.
     pub(crate) fn from_table(
         alloc: Global,
         text: &[u8],
@@ -50,12 +50,12 @@ impl<'a> List<'a> {
         })
     }
 
-    /// The place at which an end of the list's text begins.
+    /// Returns the offset at which a suffix of the list's text begins.
     pub(crate) fn place_of_rest(&self, rest: &str) -> usize {
         self.len.saturating_sub(rest.len())
     }
 
-    /// The number, counted from 1, of the first job that has a name.
+    /// Returns the number, counted from 1, of the first job with a name.
     pub(crate) fn job_number_of_name(&self, name: Option<&str>) -> Option<u64>
         ensures { result ≡ number_of_name (borrowed_names self.now.names.items) (borrowed_name name.entry) }
     {

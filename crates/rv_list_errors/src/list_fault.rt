@@ -1,4 +1,4 @@
-//! Faults of a whole list.
+//! Errors of a whole list.
 
 ghost use Rattle.std.specs.Prelude.{◌++◌, codes};
 ghost use Rattle.toml.specs.Errors.{IsMemory, span_start};
@@ -16,7 +16,7 @@ use std::alloc::{AllocError, Global};
 use toml::Table;
 use toml::de::Error;
 
-/// Appends why a text is no TOML, behind its line and column.
+/// Appends the line and column of a TOML error, and its reason.
 pub(crate) fn push_not_toml(message: &mut Message, text: &[u8], error: &Error)
     ensures { (IsMemory error.now → ⊥)
         → AddsSome message.old message.new (IsNotToml text.now (span_start error.now)) }
@@ -37,7 +37,7 @@ fn push_reason(message: &mut Message, reason: &str)
     message.push(reason);
 }
 
-/// The key of a text that stands twice, where it is no TOML for that.
+/// Returns the duplicate key of a text, if that is why it is not TOML.
 pub(crate) fn repeated_key_of_error<'a>(
     alloc: Global,
     text: &'a [u8],
@@ -51,7 +51,7 @@ pub(crate) fn repeated_key_of_error<'a>(
     }
 }
 
-/// Appends a key that stands twice in a text, and the line where it stands first, if that was found.
+/// Appends a duplicate key of a text, and the line of its first occurrence, if that was found.
 pub(crate) fn push_repeated_key(message: &mut Message, text: &[u8], repeated: &RepeatedKey<'_>) {
     message.push(" \"");
     for part in &repeated.key.path {
@@ -66,7 +66,7 @@ pub(crate) fn push_repeated_key(message: &mut Message, text: &[u8], repeated: &R
     }
 }
 
-/// Appends a fault of the whole list.
+/// Appends an error of the whole list.
 pub(crate) fn push_list_fault(message: &mut Message, list: &List<'_>, what: What) {
     match what {
         What::NoJobs => push_no_jobs(message, list.table),
@@ -79,7 +79,7 @@ pub(crate) fn push_list_fault(message: &mut Message, list: &List<'_>, what: What
 
 const TABLES: &str = "expected an array of tables, [[job]]";
 
-// Appends that a list has no jobs. A key beside `job` is told too, since it may be meant.
+// Appends that a list has no jobs. A key other than `job` is reported too, since it may be meant.
 fn push_no_jobs(message: &mut Message, table: &Table) {
     push_expected_value(
         message,

@@ -1,4 +1,4 @@
-//! A text that grows.
+//! A message under construction.
 
 ghost use Rattle.std.specs.Prelude.{◌≡◌, ◌↔◌, ◌++◌, ℕ, List, [], IfOk, IsOk, OnOk, false, string_bytes};
 ghost use Rattle.std.specs.Fmt.{decimal};
@@ -15,8 +15,7 @@ use std::fmt::{Display, Formatter};
 use strsim::levenshtein;
 use toml::Value;
 
-/// What is told of a fault, as far as it is written. It keeps the first refused growth to itself and asks for none after it, so
-/// that who writes has one way out.
+/// The text of a message so far. It records the first failed allocation and makes none after it, so that its writers have only one exit.
 #[derive(Drop)]
 pub(crate) struct Message {
     alloc: Global,
@@ -36,7 +35,7 @@ impl Message {
         }
     }
 
-    /// The whole text, if no growth was refused.
+    /// Returns the whole text, unless an allocation failed.
     pub(crate) fn finish(self) -> Result<Vec<u8>, AllocError>
         ensures whole { IfOk result (λ text. text ≡ self.bytes) }
         ensures refused { IsOk result ↔ IsOk self.grown }
@@ -61,7 +60,7 @@ impl Message {
         }
     }
 
-    /// Appends a number between texts.
+    /// Appends a number between two texts.
     pub(crate) fn push_number_between(&mut self, before: &str, number: u64, behind: &str)
         ensures { Adds self.old self.new (before.now ++ (decimal number ++ behind.now)) }
     {
@@ -70,7 +69,7 @@ impl Message {
         self.push(behind);
     }
 
-    /// Appends a word's eight hexadecimal digits.
+    /// Appends a word as eight hexadecimal digits.
     pub(crate) fn push_hex_word(&mut self, word: u32)
         ensures { Adds self.old self.new (word_digits word) }
     {
@@ -79,7 +78,7 @@ impl Message {
         }
     }
 
-    /// Appends a value: a text in quotes, with its control characters as `\xNN`, and another value as TOML writes it.
+    /// Appends a value: a text in quotes, with its control characters as `\xNN`, and another value as in TOML.
     pub(crate) fn push_value(&mut self, value: &Value)
         ensures { AddsSome self.old self.new (IsShownValue (view value.now)) }
     {
@@ -89,7 +88,7 @@ impl Message {
         }
     }
 
-    // Appends a value as TOML writes it.
+    // Appends a value as in TOML.
     fn push_value_in_toml(&mut self, value: &Value)
         ensures { AddsSome self.old self.new
             (λ shown. (text : List ℕ) × IsValueText false (view value.now) text × (shown ≡ printable_value text)) }
@@ -121,8 +120,8 @@ impl Message {
         }
     }
 
-    /// How many characters must be put in, taken out or changed to make one text of another, for which memory is wanted; once a
-    /// growth was refused, more than any two texts differ by.
+    /// Returns the number of characters inserted, deleted or changed to turn one text into the other, which takes memory; once an
+    /// allocation has failed, returns more than any two texts differ by.
     pub(crate) fn edit_distance(&mut self, text: &str, other: &str) -> usize
         ensures distance { OnOk self.new.grown (IsOk self.old.grown × (result ≡ text_distance text.now other.now)) }
         ensures unwritten { self.new.bytes ≡ self.old.bytes }
@@ -140,7 +139,7 @@ impl Message {
     }
 }
 
-// A value as TOML writes it on the right of `=`.
+// Returns a value as TOML writes it to the right of `=`.
 fn value_in_toml(alloc: Global, value: &Value) -> Result<String, AllocError>
     ensures { IfOk result (λ text. IsValueText false (view value.now) (string_bytes text)) }
 {

@@ -1,4 +1,4 @@
-//! The job whose name is nearest to a text: the one that a person probably meant.
+//! The job whose name is nearest to a text: the one that the user probably meant.
 
 ghost use Rattle.std.specs.Prelude.{◌≡◌, ◌↔◌, ◌<◌, ℕ, IfOk, IsTrue, MatchOption, length};
 ghost use Rattle.rv_list_errors.specs.NearestJob.{IsNear, IsNearJob, IsNearestJob, job_name, job_name_distance};
@@ -8,8 +8,8 @@ use rv_lists::limits::MOST_NAME;
 use std::alloc::{AllocError, Global};
 use strsim::levenshtein;
 
-/// The place of the job that a person probably meant by a text, counted from 0: the one whose name is nearest, where at most a third
-/// of the characters of that name differ. What is longer than a name may be is near to nothing, so that a look has its bound.
+/// Returns the index, counted from 0, of the job that the user probably meant by a text: the one with the nearest name, if at most a third
+/// of the characters of that name differ. A text longer than a name may be is near no name, which bounds the search time.
 pub fn near_job(alloc: Global, jobs: &[Job], text: &str) -> Result<Option<usize>, AllocError>
     ensures { IfOk result (λ near. MatchOption near
         ((place : ℕ) → IsNearestJob jobs.now text.now place → IsNearJob jobs.now text.now place → ⊥)
@@ -33,15 +33,15 @@ fn is_job_near(alloc: Global, jobs: &[Job], text: &str, place: usize) -> Result<
     Ok(is_near(distance, jobs[place].name.as_str()))
 }
 
-/// Whether so many characters that differ are at most a third of a name's. A name is ASCII: a byte is a character.
+/// Whether the number of differing characters is at most a third of the name's length. A name is ASCII: a byte is a character.
 pub(crate) fn is_near(distance: usize, name: &str) -> bool
     ensures { IsTrue result ↔ IsNear distance name.now }
 {
     distance <= name.len() / 3
 }
 
-// The place of the job whose name is nearest to a text: the first of those from whose names the fewest characters must be put in,
-// taken out or changed. None where there is no job.
+// Returns the index of the job whose name is nearest to a text: the first of those with the fewest characters inserted, deleted or changed.
+// Returns `None` if there are no jobs.
 fn nearest_job(alloc: Global, jobs: &[Job], text: &str) -> Result<Option<usize>, AllocError>
     ensures { IfOk result (λ nearest. MatchOption nearest (length jobs.now ≡ 0)
         (λ place. IsNearestJob jobs.now text.now place)) }

@@ -1,4 +1,4 @@
-//! Names of jobs: which job has one, and which one is probably meant.
+//! Names of jobs: which job has a name, and which one is probably meant.
 
 ghost use Rattle.std.specs.Prelude.{◌≡◌, ◌++◌, ◌∷◌, ◌+◌, ◌-◌, ◌<◌, ◌≤◌, [], IsOk, MatchOption, OnOk, is_some, length, min, take};
 ghost use Rattle.std.specs.List.{count_by};
@@ -18,7 +18,7 @@ use crate::values::{push_key_and_value, text_at_key};
 use rv_lists::limits::MOST_NAME;
 use toml::Table;
 
-/// Appends a key with a name, which earlier job has it, if one does, and what is wanted.
+/// Appends a key with a name, which earlier job has it, if any, and what is expected.
 pub(crate) fn push_name_fault(
     message: &mut Message,
     list: &List<'_>,
@@ -35,7 +35,7 @@ pub(crate) fn push_name_fault(
     message.push(wanted);
 }
 
-// Appends which job has a name, if one does.
+// Appends which job has a name, if any.
 fn push_job_of_name(message: &mut Message, number: Option<u64>)
     ensures { Adds message.old message.new (job_of_name_text number) }
 {
@@ -44,15 +44,15 @@ fn push_job_of_name(message: &mut Message, number: Option<u64>)
     }
 }
 
-/// What is told beside a name that no job has, or a key.
+/// What is suggested for an unknown job name or key.
 #[derive(Clone, Copy)]
 pub(crate) enum Suggestion {
-    /// The nearest name that there is. To look for it takes as long as there are names.
+    /// The nearest existing name. The search takes time in proportion to the number of names.
     Nearest,
     Nothing,
 }
 
-/// Appends that `same_as` of the job at a place is the name of no earlier one. The nearest is told where it is asked for.
+/// Appends that `same_as` of the job at an index is not the name of an earlier job. The nearest name is suggested if requested.
 pub(crate) fn push_unknown_same_as(
     message: &mut Message,
     list: &List<'_>,
@@ -81,7 +81,7 @@ pub(crate) fn push_unknown_same_as(
     }
 }
 
-// Appends which of the jobs before a place has the name that is nearest to one that no job has, or which names they have.
+// Appends which of the jobs before an index has the nearest name to an unknown one, or which names they have.
 fn push_nearest_job(message: &mut Message, list: &List<'_>, wanted: Option<&str>, place: usize)
     ensures { AddsSome message.old message.new (BeginsWith []) }
 {
@@ -94,14 +94,14 @@ fn push_nearest_job(message: &mut Message, list: &List<'_>, wanted: Option<&str>
     }
 }
 
-// The first so many names, or all where there are fewer.
+// Returns the first `count` names, or all if there are fewer.
 fn first_names<'n, 'a>(names: &'n [Option<&'a str>], count: usize) -> &'n [Option<&'a str>]
     ensures { result.now ≡ take count names.now }
 {
     &names[..count.min(names.len())]
 }
 
-// Appends which of some names is nearest to one that no job has, or all of them.
+// Appends which of several names is nearest to an unknown one, or all of them.
 fn push_nearest_name(message: &mut Message, names: &[Option<&str>], wanted: &str)
     ensures { AddsSome message.old message.new (IsNearestJob (borrowed_names names.now) wanted.now) }
 {
@@ -117,8 +117,8 @@ fn push_nearest_name(message: &mut Message, names: &[Option<&str>], wanted: &str
     }
 }
 
-/// The name that is nearest to a text, if one is near: the first of those from which the fewest characters must be put in, taken out or
-/// changed. What is longer than a name may be is near to nothing, so that a look has its bound.
+/// Returns the nearest name to a text, if one is near: the first of those with the fewest characters inserted, deleted or changed. A text
+/// longer than a name may be is near no name, which bounds the search time.
 pub(crate) fn near_name<'a>(
     message: &mut Message,
     names: &[Option<&'a str>],
@@ -143,6 +143,7 @@ pub(crate) fn near_name<'a>(
     }
 }
 
+// Returns the name if the distance is at most a third of its length.
 fn name_if_near(name: &str, distance: usize) -> Option<&str>
     ensures { MatchOption result (IsNear distance name.now → ⊥) (λ near. (near.now ≡ name.now) × IsNear distance name.now) }
 {
@@ -153,10 +154,10 @@ fn name_if_near(name: &str, distance: usize) -> Option<&str>
     }
 }
 
-// How many names are told at most.
+// The maximum number of names listed.
 const MOST_TOLD: usize = 20;
 
-/// Appends names in quotes, the first of them where there are many, and how many there are beside them.
+/// Appends names in quotes: only the first if there are many, and how many more there are.
 pub(crate) fn push_names(message: &mut Message, names: &[Option<&str>])
     ensures { Adds message.old message.new (names_text (present (borrowed_names names.now))) }
 {
@@ -173,7 +174,7 @@ fn present_count(names: &[Option<&str>]) -> usize
     names.iter().filter(|name| name.is_some()).count()
 }
 
-// Appends the first of so many names, and gives how many were told.
+// Appends the first of `count` names, and returns how many were listed.
 fn push_first_names(message: &mut Message, names: &[Option<&str>], count: usize) -> usize
     ensures told { result ≡ min (length (present (borrowed_names names.now))) most_told }
     ensures text { Adds message.old message.new (names_from count 0 (take most_told (present (borrowed_names names.now)))) }
@@ -185,7 +186,7 @@ fn push_first_names(message: &mut Message, names: &[Option<&str>], count: usize)
     told
 }
 
-// Appends a name, if it is one, behind so many that are told, and gives how many are told then.
+// Appends a name, if it is present, after those already listed, and returns how many are listed now.
 fn push_next_name(message: &mut Message, name: Option<&str>, told: usize, count: usize) -> usize
     requires { told ≤ most_told }
     ensures told { result ≡ min (told + length (present (borrowed_name name.entry ∷ []))) most_told }
@@ -198,6 +199,7 @@ fn push_next_name(message: &mut Message, name: Option<&str>, told: usize, count:
     }
 }
 
+// Appends a name unless the maximum number has been listed, and returns how many are listed now.
 fn push_name_if_few(message: &mut Message, name: &str, told: usize, count: usize) -> usize
     requires { told ≤ most_told }
     ensures told { result ≡ min (told + 1) most_told }
@@ -210,7 +212,7 @@ fn push_name_if_few(message: &mut Message, name: &str, told: usize, count: usize
     told + 1
 }
 
-// Appends the name at a place, of so many, behind those before it.
+// Appends the name at an index after those before it.
 fn push_name_of_many(message: &mut Message, name: &str, place: usize, count: usize)
     requires { place < most_told }
     ensures { Adds message.old message.new (separator count place ++ quoted name.now) }
@@ -223,6 +225,7 @@ fn push_name_of_many(message: &mut Message, name: &str, place: usize, count: usi
     message.push_quoted(name);
 }
 
+// Returns the edit distance of a name from a text, or the maximum if the name is missing or one of them is longer than a name may be.
 #[tactic(auto, unfolding(crate::specs::NearNames::name_distance))]
 fn name_distance(message: &mut Message, name: Option<&str>, text: &str) -> usize
     ensures distance { OnOk message.new.grown (IsOk message.old.grown

@@ -1,4 +1,4 @@
-//! Regions that share addresses, with one another or with the console.
+//! Regions that overlap one another or the console.
 
 ghost use Rattle.std.specs.Prelude.{◌≡◌, ◌+◌, ◌^◌, ◌<◌, IfSome, MatchOption, length};
 ghost use Rattle.rv_list_errors.specs.JobFaults.{AreAllApart, AreApart, IsApartBefore, IsApartBehind, IsFirstOverlap, IsFirstShared};
@@ -18,14 +18,14 @@ const CONSOLE: Region = Region {
     writable: true,
 };
 
-/// The address past the last byte of a region.
+/// Returns the address past the last byte of a region.
 pub(crate) fn region_end(region: &Region) -> u64
     ensures { result ≡ region.now.base + region.now.size }
 {
     u64::from(region.base) + u64::from(region.size)
 }
 
-// The first address that two regions share.
+// Returns the first address that two regions share.
 fn shared_address(region: &Region, other: &Region) -> Option<u32>
     ensures { MatchOption result (AreApart region.now other.now) (λ address. IsFirstShared region.now other.now address) }
 {
@@ -37,7 +37,7 @@ fn shared_address(region: &Region, other: &Region) -> Option<u32>
     }
 }
 
-// Two regions of a list that share an address, the first of which they have.
+// Two overlapping regions of a list, and the first address that they share.
 #[derive(Clone, Copy)]
 struct Overlap {
     at: usize,
@@ -45,7 +45,7 @@ struct Overlap {
     address: u32,
 }
 
-/// Appends the first two regions that share an address.
+/// Appends the first two regions that overlap.
 pub(crate) fn push_region_overlap(message: &mut Message, regions: &[Region])
     ensures overlap { length regions.now < 2 ^ 64 → (AreAllApart regions.now → ⊥)
         → AddsSome message.old message.new (TellsOverlap regions.now) }
@@ -69,21 +69,21 @@ fn push_overlap(message: &mut Message, overlap: Overlap)
     message.push(": expected disjoint regions");
 }
 
-// The first two regions of a list that share an address.
+// Returns the first two regions of a list that overlap.
 fn first_overlap(regions: &[Region]) -> Option<Overlap>
     ensures { MatchOption result (AreAllApart regions.now)
         (λ overlap. IsFirstOverlap regions.now overlap.at overlap.later overlap.address) }
 {
     for at in 0..regions.len() {
-        if let Some(overlap) = overlap_behind(regions, at) {
+        if let Some(overlap) = overlap_with_later(regions, at) {
             return Some(overlap);
         }
     }
     None
 }
 
-// The first region behind one that shares an address with it.
-fn overlap_behind(regions: &[Region], at: usize) -> Option<Overlap>
+// Returns the first later region that overlaps the region at an index.
+fn overlap_with_later(regions: &[Region], at: usize) -> Option<Overlap>
     requires { at < length regions.now }
     ensures { MatchOption result (IsApartBehind regions.now at)
         (λ overlap. (overlap.at ≡ at) × IsOverlap regions.now overlap.at overlap.later overlap.address
@@ -97,7 +97,7 @@ fn overlap_behind(regions: &[Region], at: usize) -> Option<Overlap>
     None
 }
 
-/// Appends the first region that has an address of the console.
+/// Appends the first region that includes an address of the console.
 pub(crate) fn push_console_overlap(message: &mut Message, regions: &[Region])
     ensures { length regions.now < 2 ^ 64 → AddsSome message.old message.new TellsRegions }
 {
@@ -107,7 +107,7 @@ pub(crate) fn push_console_overlap(message: &mut Message, regions: &[Region])
     }
 }
 
-// The place of the first region that has an address of the console, and the first such address.
+// Returns the index of the first region that includes an address of the console, and the first such address.
 fn first_shared_with_console(regions: &[Region]) -> Option<(usize, u32)>
     ensures { IfSome result (λ shared. shared.0 < length regions.now) }
 {

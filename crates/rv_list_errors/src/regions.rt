@@ -1,4 +1,4 @@
-//! Regions that are no map.
+//! Regions that do not form a map.
 
 ghost use Rattle.std.specs.Prelude.{◌+◌, ◌^◌, ◌<◌, IfSome, length};
 ghost use Rattle.rv_list_errors.specs.JobFaults.{TellsRegions};
@@ -16,7 +16,7 @@ const BASE: &str = "expected a multiple of 4 from 0 to 0xfffffffc";
 
 const SIZE: &str = "expected a multiple of 4 from 4 to 16777216";
 
-/// Appends which region it is, counted from 1.
+/// Appends the number of a region, counted from 1.
 pub(crate) fn push_region_number(message: &mut Message, at: usize)
     ensures { at + 1 < 2 ^ 64 → Adds message.old message.new (region_number_text at) }
 {
@@ -34,7 +34,7 @@ pub(crate) fn are_map(elements: &[Value]) -> bool {
     elements.len() <= regions.len() && Map::of(&regions[..elements.len()]).is_ok()
 }
 
-// The first four regions, of which some may be empty.
+// Returns the first four regions, some of which may be empty.
 fn first_regions(elements: &[Value]) -> [Region; 4] {
     [
         region_or_empty(elements, 0),
@@ -44,7 +44,7 @@ fn first_regions(elements: &[Value]) -> [Region; 4] {
     ]
 }
 
-/// Appends why the regions of a job are no map.
+/// Appends why the regions of a job do not form a map.
 pub(crate) fn push_region_fault(message: &mut Message, table: &Table)
     ensures { AddsSome message.old message.new TellsRegions }
 {
@@ -55,7 +55,7 @@ pub(crate) fn push_region_fault(message: &mut Message, table: &Table)
     }
 }
 
-// The place of the first element whose base and size are not both 32-bit numbers.
+// Returns the index of the first element whose base and size are not both 32-bit numbers.
 fn place_of_unreadable_region(elements: &[Value]) -> Option<usize>
     ensures { IfSome result (λ place. place < length elements.now) }
 {
@@ -64,7 +64,7 @@ fn place_of_unreadable_region(elements: &[Value]) -> Option<usize>
         .position(|element| region_of_element(element).is_none())
 }
 
-// Appends why elements that are regions are no map.
+// Appends why elements that are regions do not form a map.
 fn push_fault_of_regions(message: &mut Message, elements: &[Value])
     ensures { AddsSome message.old message.new TellsRegions }
 {
@@ -76,7 +76,7 @@ fn push_fault_of_regions(message: &mut Message, elements: &[Value])
     }
 }
 
-// The region at a place; an empty one where there is none.
+// Returns the region at an index, or an empty one past the end.
 fn region_or_empty(elements: &[Value], at: usize) -> Region {
     let region = match elements.get(at) {
         Some(element) => region_of_element(element),
@@ -89,7 +89,7 @@ fn region_or_empty(elements: &[Value], at: usize) -> Region {
     })
 }
 
-// The region of an element, where its base and its size are 32-bit numbers.
+// Returns the region of an element, if its base and size are 32-bit numbers.
 fn region_of_element(element: &Value) -> Option<Region> {
     let Value::Table(table) = element else {
         return None;
@@ -104,7 +104,7 @@ fn region_of_element(element: &Value) -> Option<Region> {
     }
 }
 
-// Appends the base or the size of a region that is no 32-bit number.
+// Appends the base or size of a region that is not a 32-bit number.
 fn push_bad_base_or_size(message: &mut Message, at: usize, element: &Value)
     ensures { at + 1 < 2 ^ 64 → AddsSome message.old message.new TellsRegions }
 {
@@ -119,7 +119,7 @@ fn push_bad_base_or_size(message: &mut Message, at: usize, element: &Value)
     }
 }
 
-// Appends why regions are no map.
+// Appends why regions do not form a map.
 fn push_map_error(message: &mut Message, regions: &[Region])
     ensures { AddsSome message.old message.new TellsRegions }
 {
@@ -139,7 +139,7 @@ fn push_region_count(message: &mut Message, count: usize)
     message.push_number_between("region has ", count as u64, " tables: expected 1 to 4");
 }
 
-// Appends the first base or size that is no multiple of 4.
+// Appends the first base or size that is not a multiple of 4.
 fn push_unaligned_region(message: &mut Message, regions: &[Region])
     ensures { AddsSome message.old message.new TellsRegions }
 {
@@ -169,7 +169,7 @@ fn push_unaligned(message: &mut Message, at: usize, region: &Region)
     }
 }
 
-// Appends the first region that is too small or goes past the address space, or that all of them are too much.
+// Appends the first region that is too small or extends beyond the address space, or that their total size is too large.
 fn push_region_size_fault(message: &mut Message, regions: &[Region])
     ensures { AddsSome message.old message.new TellsRegions }
 {
@@ -179,6 +179,7 @@ fn push_region_size_fault(message: &mut Message, regions: &[Region])
     }
 }
 
+// Returns the index of the first region that is smaller than 4 bytes or extends beyond the address space.
 fn place_of_region_without_room(regions: &[Region]) -> Option<usize>
     ensures { IfSome result (λ place. place < length regions.now) }
 {
@@ -187,7 +188,7 @@ fn place_of_region_without_room(regions: &[Region]) -> Option<usize>
         .position(|region| region.size < 4 || region_end(region) > ADDRESSES)
 }
 
-// How many addresses there are.
+// The number of addresses.
 const ADDRESSES: u64 = 0x1_0000_0000;
 
 fn push_region_without_room(message: &mut Message, at: usize, region: &Region)

@@ -1,22 +1,22 @@
-//! Values as they were met, and what is wanted.
+//! Actual values, and what is expected.
 
 ghost use Rattle.std.specs.Prelude.{◌≡◌, option_map, unwrap_or};
 ghost use Rattle.toml.specs.Data.{get_member, no_items};
 ghost use Rattle.toml.specs.View.{items_view, table_view, view};
 ghost use Rattle.rv_lists.specs.Keys.{array_at_key, text_at_key};
-ghost use Rattle.rv_list_errors.specs.Explanation.{AddsSome, IsKeyAndValue, IsWantedValue};
+ghost use Rattle.rv_list_errors.specs.Explanation.{AddsSome, IsKeyAndValue, IsExpectedValue};
 
 use crate::message::Message;
 use toml::{Table, Value};
 
-/// The value at a key.
+/// Returns the value at a key.
 pub(crate) fn value_at_key<'a>(table: &'a Table, key: &str) -> Option<&'a Value>
     ensures { option_map (λ v. view v.now) result ≡ get_member key.now (table_view table.now) }
 {
     table.get(key)
 }
 
-/// The text at a key.
+/// Returns the text at a key.
 pub(crate) fn text_at_key<'a>(table: &'a Table, key: &str) -> Option<&'a str>
     ensures { option_map (λ s. s.now) result ≡ text_at_key key.now (table_view table.now) }
 {
@@ -26,7 +26,7 @@ pub(crate) fn text_at_key<'a>(table: &'a Table, key: &str) -> Option<&'a str>
     }
 }
 
-/// The number at a key, where it is one of 32 bits.
+/// Returns the number at a key, if it has 32 bits.
 pub(crate) fn word_at_key(table: &Table, key: &str) -> Option<u32> {
     match value_at_key(table, key) {
         Some(Value::Integer(number)) => u32::try_from(*number).ok(),
@@ -34,7 +34,7 @@ pub(crate) fn word_at_key(table: &Table, key: &str) -> Option<u32> {
     }
 }
 
-/// The elements of the array at a key; none where there is no array.
+/// Returns the elements of the array at a key, or none if there is no array.
 pub(crate) fn elements_at_key<'a>(table: &'a Table, key: &str) -> &'a [Value]
     ensures { items_view result.now ≡ unwrap_or (array_at_key key.now (table_view table.now)) no_items }
 {
@@ -44,7 +44,7 @@ pub(crate) fn elements_at_key<'a>(table: &'a Table, key: &str) -> &'a [Value]
     }
 }
 
-/// Appends a key and its value, or that it is absent.
+/// Appends a key and its value, or that it is missing.
 pub(crate) fn push_key_and_value(message: &mut Message, table: &Table, key: &str)
     ensures { AddsSome message.old message.new
         (IsKeyAndValue key.now (get_member key.now (table_view table.now))) }
@@ -59,10 +59,10 @@ pub(crate) fn push_key_and_value(message: &mut Message, table: &Table, key: &str
     }
 }
 
-/// Appends a key, its value, and what is wanted of it.
+/// Appends a key, its value, and what is expected of it.
 pub(crate) fn push_expected_value(message: &mut Message, table: &Table, key: &str, wanted: &str)
     ensures { AddsSome message.old message.new
-        (IsWantedValue key.now (get_member key.now (table_view table.now)) wanted.now) }
+        (IsExpectedValue key.now (get_member key.now (table_view table.now)) wanted.now) }
 {
     push_key_and_value(message, table, key);
     message.push(": ");

@@ -1,4 +1,4 @@
--- What stands where a job begins, by TOML's grammar.
+-- The text at the beginning of a job, by TOML's grammar.
 use Rattle.std.specs.Prelude.{◌≡◌, ◌≢◌, ◌⊎◌, ℕ, List, [], Some, codes, drop}
 use Rattle.toml_parser.specs.Lexical.{first, left_bracket, right_bracket, skip_blank}
 use Rattle.toml.specs.Parse.{expression, key_equals}
@@ -6,11 +6,11 @@ use Rattle.toml.specs.Tables.{array_table}
 use Rattle.rv_list_locations.specs.JobPlaces.{after_comma, after_value}
 use Rattle.rv_list_locations.specs.Places.{line_at}
 
--- a header `[[job]]`, however the key is spelt
+-- a header `[[job]]`, however the key is spelled
 abbrev pub BeginsWithJobHeader : List ℕ → Type 0
 BeginsWithJobHeader text = (rest : List ℕ) × (expression text ≡ Some ((([], codes "job"), array_table), rest))
 
--- the end of a list's text that stands in an array `job = [..]`, at an element or at the closing bracket
+-- a suffix of a list's text inside an array `job = [..]`, at an element or at the closing bracket
 pub data IsInJobArray (list : List ℕ) : List ℕ → Type 0 where
   opened : (place : ℕ) (value : List ℕ) → key_equals (drop place list) ≡ Some (([], codes "job"), value) →
       first value ≡ left_bracket → IsInJobArray list (skip_blank (drop 1 value))
@@ -20,7 +20,7 @@ pub data IsInJobArray (list : List ℕ) : List ℕ → Type 0 where
 abbrev pub BeginsWithElement : List ℕ → List ℕ → Type 0
 BeginsWithElement list text = IsInJobArray list text × (first text ≢ right_bracket)
 
--- the line of a list on which a header of `job` or an element of an array of `job` begins
+-- the line of a list on which a `job` header or an element of a `job` array begins
 abbrev pub IsLineOfJob : List ℕ → ℕ → Type 0
 IsLineOfJob list line = (place : ℕ) × (line ≡ line_at place list)
     × (BeginsWithJobHeader (drop place list) ⊎ BeginsWithElement list (drop place list))

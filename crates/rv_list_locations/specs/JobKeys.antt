@@ -1,4 +1,4 @@
--- The keys of a job where they stand, by TOML's grammar.
+-- The keys of a job in its text, by TOML's grammar.
 use Rattle.std.specs.Prelude.{◌≡◌, ◌⊎◌, ◌==◌, ℕ, List, Some, codes, drop, if◌then◌else◌, slice_get, slice_index, unwrap_or}
 use Rattle.toml_parser.specs.Lexical.{left_bracket, skip_ws}
 use Rattle.toml_parser.specs.Strings.{Key, key}
@@ -10,7 +10,7 @@ first_part name = unwrap_or (slice_get name.0 0) name.1
 abbrev pub second_part : Key → List ℕ
 second_part name = unwrap_or (slice_get name.0 1) name.1
 
--- a key that has this as its first part
+-- the text begins with a key that has this as its first part
 abbrev pub BeginsWithKey : List ℕ → List ℕ → Type 0
 BeginsWithKey name text = (read : Key × List ℕ) × (key text ≡ Some read) × (first_part read.0 ≡ name)
 
@@ -18,11 +18,11 @@ BeginsWithKey name text = (read : Key × List ℕ) × (key text ≡ Some read) �
 unfoldable pub header_key : List ℕ → List ℕ
 header_key text = skip_ws (drop (if slice_index text 1 == left_bracket then 2 else 1) text)
 
--- the header of a table in a job, whose key has this behind the part `job`
+-- the text begins with the header of a table in a job, whose key has this part after `job`
 abbrev pub BeginsWithTable : List ℕ → List ℕ → Type 0
 BeginsWithTable name text = (slice_index text 0 ≡ left_bracket) × (read : Key × List ℕ) × (key (header_key text) ≡ Some read)
     × (slice_get read.0.0 0 ≡ Some (codes "job")) × (second_part read.0 ≡ name)
 
--- a key of this name stands there, or the header of its table
+-- the text begins with a key of this name, or with the header of its table
 abbrev pub BeginsWithName : List ℕ → List ℕ → Type 0
 BeginsWithName name text = BeginsWithKey name text ⊎ BeginsWithTable name text

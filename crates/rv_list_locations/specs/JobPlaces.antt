@@ -1,6 +1,5 @@
--- Where the jobs of a list begin in its text: at each header `[[job]]`, and where the list is an array
--- `job = [..]` at each of its elements. Keys, strings and blanks are those of TOML's grammar; of other
--- values no more than the end is looked for.
+-- Where the jobs of a list begin in its text: at each header `[[job]]`, or, if the list is an array `job = [..]`, at each of its elements.
+-- Keys, strings and blanks follow TOML's grammar; of other values only the end is determined.
 use Rattle.std.specs.Prelude.{◌==◌, ◌&&◌, ◌||◌, ◌+◌, ◌-◌, ℕ, zero, suc, Bool, true, false, List, [], ◌∷◌}
 use Rattle.std.specs.Prelude.{Option, Some, None, codes, drop, if◌then◌else◌, length, map, option_and_then, option_map}
 use Rattle.std.specs.Prelude.{slice_index}
@@ -20,7 +19,7 @@ o >>= f = option_and_then f o
 
 -- ---- behind a value
 
--- a word goes on at a byte before another one; in that of a date and a time a space may part the two
+-- whether a word continues at a byte, given the next one; a space may separate date and time
 abbrev pub is_in_word : ℕ → ℕ → Bool
 is_in_word byte next = is_word byte || (byte == space && is_ascii_digit next)
 
@@ -28,7 +27,7 @@ abbrev pub after_letters : List ℕ → List ℕ
 after_letters [] = []
 after_letters (byte ∷ rest) = if is_in_word byte (first rest) then after_letters rest else byte ∷ rest
 
--- a key without quotes, or a value that is no text
+-- an unquoted key, or a value that is not a text
 unfoldable pub after_word : List ℕ → Option (List ℕ)
 after_word text = if is_in_word (first text) (slice_index text 1) then Some (after_letters text) else None
 
@@ -47,11 +46,11 @@ is_sign byte = is_opening byte || is_closing byte || byte == comma || byte == eq
 unfoldable pub after_token : List ℕ → Option (List ℕ)
 after_token text = if is_sign (first text) then Some (drop 1 text) else after_string_or_word text
 
--- how many brackets are open behind a byte
+-- the number of open brackets after a byte
 abbrev pub depth_after : ℕ → ℕ → ℕ
 depth_after depth byte = if is_opening byte then depth + 1 else if is_closing byte then depth - 1 else depth
 
--- the bracket that leaves none open, where so many are and fewer than n tokens are left
+-- the text after the bracket that closes the last of the open ones, if fewer than n tokens are left
 unfoldable pub after_brackets : ℕ → ℕ → List ℕ → Option (List ℕ)
 after_brackets zero depth text = None
 after_brackets (suc n) depth text = after_token text >>= (λ rest.
@@ -64,16 +63,16 @@ after_value text =
 
 -- ---- behind a line
 
--- the next header or entry; nothing where the line does not end with a comment or nothing more
+-- the next header or entry; empty if the line has anything but a comment left
 unfoldable pub after_line : List ℕ → List ℕ
 after_line text = let rest = skip_ws text in
     if first rest == hash || first rest == line_feed || first rest == carriage_return then skip_blank rest else []
 
--- the next element, or the bracket behind the last one
+-- the next element, or the bracket after the last one
 unfoldable pub after_comma : List ℕ → List ℕ
 after_comma text = let rest = skip_blank text in if first rest == comma then skip_blank (drop 1 rest) else rest
 
--- the value of an entry; nothing where no sign parts it from the key
+-- the value of an entry; empty if no equals sign follows the key
 unfoldable pub after_equals : List ℕ → List ℕ
 after_equals text = if first text == equals then skip_ws (drop 1 text) else []
 
@@ -82,11 +81,11 @@ after_equals text = if first text == equals then skip_ws (drop 1 text) else []
 abbrev pub is_job : Key → Bool
 is_job name = length name.0 == 0 && bytes_eq name.1 (codes "job")
 
--- whether a job begins there, what comes next, and the text from there on
+-- whether a job begins here, what comes next, and the text from there on
 abbrev pub Step : Type 0
 Step = Bool × Next × List ℕ
 
--- behind the brackets that open a header
+-- the text after the brackets that open a header
 unfoldable pub array_header : List ℕ → Option Step
 array_header inside = key (skip_ws inside) >>= (λ name.
     if first name.1 == right_bracket && slice_index name.1 1 == right_bracket
@@ -105,14 +104,14 @@ is_top Top = true
 is_top Table = false
 is_top Element = false
 
--- above the first header an array of `job` is the list: its elements come next
+-- before the first header, an array `job` is the list: its elements come next
 unfoldable pub keyed_entry : Next → List ℕ → Option Step
 keyed_entry next text = key text >>= (λ name. let value = after_equals name.1 in
     if (is_job name.0 && is_top next) && first value == left_bracket
     then Some (false, Element, skip_blank (drop 1 value))
     else option_map (λ rest. (false, next, after_line rest)) (after_value value))
 
--- an element, or the bracket behind the last one
+-- an element, or the bracket after the last one
 unfoldable pub element : List ℕ → Option Step
 element text =
     if first text == right_bracket then Some (false, Top, after_line (drop 1 text))
@@ -133,17 +132,17 @@ jobs_of_step jobs text None = []
 jobs_of_step jobs text (Some found) =
     if found.0 then text ∷ jobs found.1 found.2 else jobs found.1 found.2
 
--- the texts from each job on, where fewer than n steps are left
+-- the texts from each job on, if fewer than n steps are left
 unfoldable pub jobs_from : ℕ → Next → List ℕ → List (List ℕ)
 jobs_from zero next text = []
 jobs_from (suc n) next text =
     if length text == 0 then [] else jobs_of_step (jobs_from n) text (step next text)
 
--- those of a text without a byte order mark
+-- the jobs of a text without a byte order mark
 unfoldable pub jobs_of_text : List ℕ → List (List ℕ)
 jobs_of_text text = jobs_from (suc (length text)) Top (skip_blank text)
 
--- the line on which the last bytes of a text begin
+-- the line on which a suffix of a text begins
 abbrev pub line_of_rest : List ℕ → List ℕ → ℕ
 line_of_rest text rest = line_at (length text - length rest) text
 

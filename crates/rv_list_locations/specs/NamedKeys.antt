@@ -1,8 +1,8 @@
--- The keys that a walk over a job finds.
+-- The keys found by scanning a job.
 use Rattle.std.specs.Prelude.{string_bytes}
 use Rattle.rv_list_locations.specs.JobKeys.{BeginsWithName}
 use Rattle.rv_list_locations.specs.declared.keys.JobKey.{JobKey}
 
--- the key, or the header of its table, stands where the text begins
+-- the text begins with the key or with the header of its table
 abbrev pub IsNamedKey : JobKey → Type 0
 IsNamedKey found = BeginsWithName (string_bytes found.name) found.text.now

@@ -6,18 +6,18 @@ use Rattle.std.specs.List.{after_last}
 abbrev pub is_feed : ℕ → Bool
 is_feed byte = byte == 10
 
--- the line on which the byte at a place stands
+-- the line of the byte at an index
 abbrev pub line_at : ℕ → List ℕ → ℕ
 line_at place text = 1 + count_by is_feed (take place text)
 
--- a byte at which a character begins: each but the continuation bytes of UTF-8
+-- whether a character begins at a byte: any byte but a continuation byte of UTF-8
 abbrev pub begins_character : ℕ → Bool
 begins_character byte = not (is_in_range 0x80 0xBF byte)
 
--- the column at which the byte at a place stands: characters count, behind the last line feed before it
+-- the column of the byte at an index: the number of characters after the last line feed before it, counted from 1
 abbrev pub column_at : ℕ → List ℕ → ℕ
 column_at place text = 1 + count_by begins_character (after_last is_feed (take place text))
 
--- how many lines a text has; behind a line feed at its end there is one more, which is empty
+-- the number of lines of a text; a line feed at its end is followed by one more, empty line
 abbrev pub text_line_count : List ℕ → ℕ
 text_line_count text = 1 + count_by is_feed text

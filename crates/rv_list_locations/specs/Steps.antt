@@ -1,4 +1,4 @@
--- How what is read stands to the definitions.
+-- How the results of the code relate to the definitions.
 use Rattle.std.specs.Prelude.{◌≡◌, ℕ, List, Result, MatchResult, map}
 use Rattle.std.specs.Borrow.{Bor}
 use Rattle.toml_parser.specs.declared.error.ParseError.{ParseError}
@@ -8,9 +8,9 @@ use Rattle.rv_list_locations.specs.declared.scan.Step as code
 use Rattle.rv_list_locations.specs.JobPlaces.{Step}
 use Rattle.std.specs.Prelude.{Option}
 
--- the text behind something
-abbrev pub GivesText : Result (Bor (List ℕ)) ParseError → Option (List ℕ) → Type 0
-GivesText result expected = Gives (λ rest. rest.now) result expected
+-- the remaining text
+abbrev pub ReturnsText : Result (Bor (List ℕ)) ParseError → Option (List ℕ) → Type 0
+ReturnsText result expected = Gives (λ rest. rest.now) result expected
 
 abbrev pub step_view : code.Step → Step
 step_view step = (step.is_job, step.next, step.rest.now)
@@ -22,6 +22,6 @@ GivesStep result expected = Gives step_view result expected
 abbrev pub UnlessMemory : {A : Type 0} → Result A ParseError → Type 0 → Type 0
 UnlessMemory result P = MatchResult result (λ _. P) (λ e. (e ≡ OutOfMemory → ⊥) → P)
 
--- the texts that are borrowed
+-- the borrowed texts
 abbrev pub now_texts : List (Bor (List ℕ)) → List (List ℕ)
 now_texts texts = map (λ text. text.now) texts

@@ -1,7 +1,7 @@
--- Where values of jobs stand in the text of a list.
+-- The locations of job values in the text of a list.
 use Rattle.std.specs.Prelude.{◌≤◌, ℕ, List, length}
 use Rattle.rv_list_locations.specs.declared.spans.ValueSpan.{ValueSpan}
 
--- it stands in the text, and begins before it ends
+-- the span is within the text, and begins before it ends
 abbrev pub IsSpanIn : List ℕ → ValueSpan → Type 0
 IsSpanIn text span = (span.begin ≤ span.end) × (span.end ≤ length text)

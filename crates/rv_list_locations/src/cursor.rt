@@ -1,11 +1,11 @@
-//! Lines and columns in a text, counted from one place to the next.
+//! Lines and columns in a text, counted incrementally.
 
 ghost use Rattle.std.specs.Prelude.{◌≡◌, ◌≤◌, length, min};
 ghost use Rattle.rv_list_locations.specs.Places.{column_at, line_at};
 
 use crate::lines::Place;
 
-/// A place in a text, up to which its lines are counted, so that of places in the order of the text each byte is counted once.
+/// An index into a text up to which lines have been counted, so that each byte is counted once if indices are looked up in order.
 #[derive(Clone, Copy)]
 pub struct Cursor<'a> {
     text: &'a [u8],
@@ -18,7 +18,7 @@ pub struct Cursor<'a> {
 }
 
 impl<'a> Cursor<'a> {
-    /// A cursor at the beginning of a text.
+    /// Creates a cursor at the beginning of a text.
     pub fn new(text: &'a [u8]) -> Cursor<'a>
         ensures text { result.text.now ≡ text.now }
         ensures counted { result.counted ≡ 0 }
@@ -31,7 +31,7 @@ impl<'a> Cursor<'a> {
         }
     }
 
-    /// The line and the column of a place, or of the end where the text is shorter.
+    /// Returns the line and column of an index, or of the end if the text is shorter.
     pub fn place_at(&mut self, place: usize) -> Place
         ensures text { self.new.text.now ≡ self.old.text.now }
         ensures line { result.line ≡ line_at place self.old.text.now }
@@ -47,7 +47,7 @@ impl<'a> Cursor<'a> {
         }
     }
 
-    // The cursor at a place behind it.
+    // Returns the cursor advanced to a later index.
     fn moved_to(self, place: usize) -> Cursor<'a>
         requires later { self.counted ≤ place }
         requires within { place ≤ length self.text.now }

@@ -1,4 +1,4 @@
-//! The keys of a job, where they stand in its text.
+//! The keys of a job and their locations in its text.
 
 ghost use Rattle.std.specs.Prelude.{◌≡◌, ◌<◌, ◌≤◌, IfOk, IfSome, length, slice_get, slice_index, string_bytes, unwrap_or};
 ghost use Rattle.std.specs.List.{All};
@@ -13,7 +13,7 @@ use std::alloc::{AllocError, Global};
 use toml_parser::text::{byte_at, first, skip, skip_ws};
 use toml_parser::{Key, ParseError, dotted_key};
 
-/// A key of a job: its name, and the text from the place on where it stands.
+/// A key of a job: its name, and the text from its location on.
 #[derive(Drop)]
 pub struct JobKey<'a> {
     pub name: String,
@@ -25,13 +25,13 @@ pub struct JobKey<'a> {
 pub(crate) enum Inside {
     /// An entry of its table, or a header.
     Table,
-    /// An entry of its inline table, or the bracket behind the last one.
+    /// An entry of its inline table, or the bracket after the last one.
     Braces,
-    /// An entry of a table in it, or a header.
+    /// An entry of a nested table, or a header.
     Below,
 }
 
-/// What is walked over, and the key of the job that it has.
+/// The rest of the text after a step, and the job key that the step found.
 #[derive(Drop)]
 pub(crate) struct KeyStep<'a> {
     pub(crate) name: Option<String>,
@@ -39,8 +39,8 @@ pub(crate) struct KeyStep<'a> {
     pub(crate) rest: &'a str,
 }
 
-/// The keys of the job that a text begins with, in their order. A key of more parts counts by its first, and the header of a table in the
-/// job by the part behind `job`; so a name may come again.
+/// Returns the keys of the job that a text begins with, in order. A dotted key counts by its first part, and the header of a table in the
+/// job by the part after `job`, so a name may be repeated.
 pub fn job_keys<'a>(alloc: Global, job: &'a str) -> Result<Vec<JobKey<'a>>, AllocError>
     ensures { IfOk result (λ keys. All IsNamedKey keys.items) }
 {
@@ -75,7 +75,7 @@ fn note_job_keys<'a>(
     Ok(())
 }
 
-// Behind the header or the bracket with which a job begins.
+// Skips the header or bracket with which a job begins.
 fn open_job(alloc: Global, job: &str) -> Result<(Inside, &str), ParseError> {
     if first(job) == b'{' {
         return Ok((Inside::Braces, skip_blank_lines(skip(job, 1))));
@@ -84,7 +84,7 @@ fn open_job(alloc: Global, job: &str) -> Result<(Inside, &str), ParseError> {
     Ok((Inside::Table, step.rest))
 }
 
-/// Behind an entry or a header in the text of a job.
+/// Scans one entry or header in the text of a job.
 pub(crate) fn scan_key_step(
     alloc: Global,
     here: &str,
@@ -108,6 +108,7 @@ pub(crate) fn scan_key_step(
     }
 }
 
+// Scans an entry of a job's table, and returns the first part of its key.
 fn scan_job_entry(alloc: Global, here: &str) -> Result<KeyStep<'_>, ParseError>
     ensures named { IfOk result (λ step. IfSome step.name (λ name. BeginsWithName (string_bytes name) here.now)) }
     ensures shorter { IfOk result (λ step. length step.rest.now < length here.now) }
@@ -121,7 +122,7 @@ fn scan_job_entry(alloc: Global, here: &str) -> Result<KeyStep<'_>, ParseError>
     })
 }
 
-// At an entry of an inline table, or at the bracket behind the last one.
+// Scans an entry of an inline table, or the bracket after the last one.
 fn scan_inline_entry(alloc: Global, here: &str) -> Result<KeyStep<'_>, ParseError>
     ensures named { IfOk result (λ step. IfSome step.name (λ name. BeginsWithName (string_bytes name) here.now)) }
     ensures shorter { IfOk result (λ step. length step.rest.now < length here.now) }
@@ -135,7 +136,7 @@ fn scan_inline_entry(alloc: Global, here: &str) -> Result<KeyStep<'_>, ParseErro
     })
 }
 
-// The first part of a key, and what stands behind the key.
+// Scans a key, and returns its first part and the text after the key.
 fn scan_name(alloc: Global, here: &str) -> Result<(String, &str), ParseError>
     ensures named { IfOk result (λ found. BeginsWithKey (string_bytes found.0) here.now) }
     ensures shorter { IfOk result (λ found. length found.1.now < length here.now) }
@@ -145,7 +146,7 @@ fn scan_name(alloc: Global, here: &str) -> Result<(String, &str), ParseError>
     Ok((name, behind))
 }
 
-// At a header: of the next job, or of a table in this one.
+// Scans a header: of the next job, or of a table in this one.
 fn scan_inner_header(alloc: Global, here: &str) -> Result<KeyStep<'_>, ParseError>
     requires { slice_index here.now 0 ≡ left_bracket }
     ensures named { IfOk result (λ step. IfSome step.name (λ name. BeginsWithName (string_bytes name) here.now)) }
@@ -166,7 +167,7 @@ fn scan_inner_header(alloc: Global, here: &str) -> Result<KeyStep<'_>, ParseErro
     })
 }
 
-// The part behind `job` of the key of a header.
+// Returns the part after `job` of a header's key.
 fn scan_table_name(alloc: Global, header: &str) -> Result<Option<String>, ParseError>
     requires { slice_index header.now 0 ≡ left_bracket }
     ensures { IfOk result (λ found. IfSome found (λ name. BeginsWithTable (string_bytes name) header.now)) }
@@ -181,7 +182,7 @@ fn scan_table_name(alloc: Global, header: &str) -> Result<Option<String>, ParseE
     }
 }
 
-/// The key of a header.
+/// Returns the text from the key of a header on.
 #[tactic(auto, unfolding(crate::specs::JobKeys::header_key))]
 pub(crate) fn after_brackets(header: &str) -> &str
     requires { slice_index header.now 0 ≡ left_bracket }
@@ -194,7 +195,7 @@ pub(crate) fn after_brackets(header: &str) -> &str
     }
 }
 
-/// The part of a key at a place before the last part, else the last.
+/// Returns the part of a key at an index, or the last part if the index is past it.
 #[tactic(auto, using(crate::proofs::KeyParts::some_part, crate::proofs::KeyParts::no_part))]
 pub(crate) fn part_or_last(key: &Key, place: usize) -> &str
     ensures { result.now ≡ unwrap_or (slice_get (key_view key.now).0 place) (key_view key.now).1 }

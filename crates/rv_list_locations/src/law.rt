@@ -1,12 +1,12 @@
-//! The law of the lines of jobs, with nothing to run.
+//! The law on the lines of jobs, with no code to run.
 
 ghost use Rattle.std.specs.Prelude.{ℕ, List};
 ghost use Rattle.std.specs.List.{All};
 ghost use Rattle.rv_list_locations.specs.JobBegins.{IsLineOfJob};
 ghost use Rattle.rv_list_locations.specs.JobPlaces.{job_lines};
 
-/// Each line of a job, as [`job_line_numbers`](crate::job_line_numbers) answers it, is one on which a header `[[job]]` or an element of
-/// an array of `job` begins.
+/// Each job line that [`job_line_numbers`](crate::job_line_numbers) returns is one on which a header `[[job]]` or an element of a `job`
+/// array begins.
 pub fn job_lines_are_of_headers_and_elements()
     ensures { (list : List ℕ) → All (IsLineOfJob list) (job_lines list) }
 {}

@@ -1,9 +1,9 @@
-//! Where the jobs of a list stand in its text: their lines, their keys and their values.
+//! Where the jobs of a list are in its text: their lines, their keys and their values.
 //!
-//! [`job_line_numbers`] walks over the text with the readers of `toml_parser`: a header of `job` counts outside strings and
-//! comments, however it is spelt, and of an array each element. [`job_texts`] gives the text from the beginning of each job,
-//! [`job_keys`] the keys of a job, [`repeated_key`] the first key that is set twice, and [`value_spans`] where the values of jobs begin
-//! and end. [`line_and_column`] and [`Cursor`] turn a number of bytes into a line and a column.
+//! [`job_line_numbers`] scans the text with the functions of `toml_parser`: a `job` header counts outside strings and comments, however it
+//! is spelled, and so does each element of a `job` array. [`job_texts`] returns the text from the beginning of each job, [`job_keys`] the
+//! keys of a job, [`repeated_key`] the first key that is set twice, and [`value_spans`] where the values of jobs begin and end.
+//! [`line_and_column`] and [`Cursor`] convert a byte count into a line and a column.
 #![tactic(auto)]
 
 mod cursor;

@@ -1,4 +1,4 @@
-//! The lines of places in a text.
+//! The lines of locations in a text.
 
 ghost use Rattle.std.specs.Prelude.{◌≡◌, ◌≤◌, ◌<◌, ◌-◌, [], ◌∷◌, ◌++◌, OnOk, count_by, length, max};
 ghost use Rattle.std.specs.List.{All, after_last};
@@ -7,11 +7,11 @@ ghost use Rattle.rv_list_locations.specs.Places.{begins_character, column_at, is
 
 use std::alloc::{AllocError, Global};
 
-/// The lines, counted from 1, of places that are noted in the order in which they stand.
+/// The lines, counted from 1, of locations recorded in text order.
 #[derive(Drop)]
 pub(crate) struct Lines<'a> {
     text: &'a [u8],
-    // How many bytes are counted, and the line on which the next one stands.
+    // The number of bytes counted, and the line of the next one.
     counted: usize,
     line: usize,
     noted: Vec<usize>,
@@ -35,7 +35,7 @@ impl<'a> Lines<'a> {
         }
     }
 
-    /// Notes the line of the place behind which so many bytes are left, or where the last one stands if that is behind it.
+    /// Records the line of the location with `left` bytes after it, or of the last location if that is later.
     pub(crate) fn note_line(&mut self, left: usize) -> Result<(), AllocError>
         ensures text { self.new.text.now ≡ self.old.text.now }
         ensures counted { self.new.counted ≡ max (length self.old.text.now - left) self.old.counted }
@@ -60,7 +60,7 @@ impl<'a> Lines<'a> {
     }
 }
 
-/// A place in a text, as people count: from 1.
+/// A location in a text, as people count: from 1.
 #[derive(Clone, Copy)]
 pub struct Place {
     pub line: usize,
@@ -68,7 +68,7 @@ pub struct Place {
     pub column: usize,
 }
 
-/// The place behind so many bytes of a text, or behind all of them.
+/// Returns the location after the first `count` bytes of a text, or its end if it is shorter.
 pub fn line_and_column(text: &[u8], count: usize) -> Place
     ensures line { result.line ≡ line_at count text.now }
     ensures column { result.column ≡ column_at count text.now }
@@ -80,7 +80,7 @@ pub fn line_and_column(text: &[u8], count: usize) -> Place
     }
 }
 
-// How many characters stand behind the last line feed.
+// Returns the number of characters after the last line feed.
 fn character_count_of_last_line(text: &[u8]) -> usize
     ensures characters { result ≡ count_by begins_character (after_last is_feed text.now) }
     ensures within { result ≤ length text.now }
@@ -96,7 +96,7 @@ fn character_count_of_last_line(text: &[u8]) -> usize
     count
 }
 
-// How many line feeds a text has.
+// Returns the number of line feeds in a text.
 fn line_feed_count(text: &[u8]) -> usize
     ensures { result ≡ count_by is_feed text.now }
 {

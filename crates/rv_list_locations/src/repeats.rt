@@ -1,4 +1,4 @@
-//! A key that stands twice in one table.
+//! A key that is set twice in one table.
 
 ghost use Rattle.std.specs.Prelude.{◌≤◌, length};
 
@@ -9,11 +9,11 @@ use std::alloc::{AllocError, Global};
 use toml_parser::text::first;
 use toml_parser::{Key, ParseError, dotted_key};
 
-/// A key that stands twice in one table.
+/// A key that is set twice in one table.
 #[derive(Drop)]
 pub struct RepeatedKey<'a> {
     pub key: Key,
-    /// The text from the place on where it stands first, if that was found: that of a table with a header is not looked for.
+    /// The text from its first occurrence on, if that was found: a table with a header is not searched.
     pub first: Option<&'a str>,
 }
 
@@ -24,7 +24,7 @@ struct Entries<'a> {
     inside: Inside,
 }
 
-/// The key that stands for the second time where so many bytes of a text are left.
+/// Returns the key that is set for the second time at the location with `left` bytes after it.
 pub fn repeated_key<'a>(
     alloc: Global,
     text: &'a str,
@@ -59,7 +59,7 @@ fn find_repeated_key<'a>(
     Ok(None)
 }
 
-// In a header, an entry or an element: its own key, or one of an inline table in it.
+// Looks in a header, an entry or an element: for its own key, or one of an inline table in it.
 fn repeated_in_step<'a>(
     alloc: Global,
     table: &'a str,
@@ -80,7 +80,7 @@ fn repeated_in_step<'a>(
     Ok(Some(repeated_entry(alloc, entries, step)?))
 }
 
-// In the innermost table in braces that is open where so many bytes are left.
+// Looks in the innermost inline table that is open at the location with `left` bytes after it.
 fn repeated_in_braces<'a>(
     alloc: Global,
     step: &'a str,
@@ -111,7 +111,7 @@ fn repeated_in_braces<'a>(
     }
 }
 
-// The key of an entry, and the first entry of its table that has it.
+// Returns the key of an entry, and the first entry of its table that has it.
 fn repeated_entry<'a>(
     alloc: Global,
     entries: Entries<'a>,
@@ -137,7 +137,7 @@ fn repeated_entry<'a>(
     Ok(RepeatedKey { key, first: None })
 }
 
-// Whether the parts of a key begin with all those of another.
+// Whether the parts of a key begin with all parts of another.
 fn begins_with_parts(key: &Key, parts: &Key) -> bool {
     let count = parts.path.len();
     if key.path.len() < count {

@@ -1,4 +1,4 @@
-//! A walk over the headers and entries of a text.
+//! Scanning the headers and entries of a text.
 
 ghost use Rattle.std.specs.Prelude.{◌≡◌, ◌≤◌, ◌<◌, ◌+◌, ◌++◌, IfOk, length, map, option_map, slice_index};
 ghost use Rattle.std.specs.List.{All};
@@ -17,8 +17,8 @@ use std::alloc::{AllocError, Global};
 use toml_parser::text::{byte_at, first, skip, skip_ws};
 use toml_parser::{ErrorKind, ParseError, dotted_key};
 
-/// The line, counted from 1, on which each job of a list begins: that of its header, or where the list is an array that of
-/// the element. A text that is no TOML is walked over up to where no header, entry or element stands.
+/// Returns the line, counted from 1, on which each job of a list begins: the line of its header, or of the element if the list is an array.
+/// A text that is not TOML is scanned up to where no header, entry or element follows.
 pub fn job_line_numbers(alloc: Global, text: &str) -> Result<Vec<usize>, AllocError>
     ensures lines { IfOk result (λ lines. lines.items ≡ spec.job_lines text.now) }
     ensures rising { IfOk result (λ lines. IsNonDecreasing lines.items) }
@@ -32,7 +32,7 @@ pub fn job_line_numbers(alloc: Global, text: &str) -> Result<Vec<usize>, AllocEr
     }
 }
 
-/// The text behind a byte order mark, if it begins with one.
+/// Returns the text after a byte order mark, if it begins with one.
 pub(crate) fn skip_byte_order_mark(text: &str) -> &str
     ensures text { result.now ≡ skip_bom text.now }
     ensures within { length result.now ≤ length text.now }
@@ -40,18 +40,18 @@ pub(crate) fn skip_byte_order_mark(text: &str) -> &str
     text.strip_prefix('\u{feff}').unwrap_or(text)
 }
 
-/// What comes next in a walk.
+/// What comes next in a scan.
 #[derive(Clone, Copy)]
 pub(crate) enum Next {
     /// An entry of the whole list, or the first header.
     Top,
-    /// An element of the array that is the list, or its end.
+    /// An element of the array that is the list, or the end of the array.
     Element,
     /// An entry of a table, or a header.
     Table,
 }
 
-/// A header, an entry or an element that is walked over.
+/// A header, an entry or an element that was scanned.
 #[derive(Clone, Copy)]
 pub(crate) struct Step<'a> {
     pub(crate) is_job: bool,
@@ -59,7 +59,7 @@ pub(crate) struct Step<'a> {
     pub(crate) rest: &'a str,
 }
 
-/// The text of a list from each of its jobs on.
+/// Returns the text of a list from each of its jobs on.
 pub fn job_texts<'a>(alloc: Global, text: &'a str) -> Result<Vec<&'a str>, AllocError>
     ensures { IfOk result (λ jobs. now_texts jobs.items ≡ spec.jobs_of_text (skip_bom text.now)) }
 {
@@ -110,7 +110,7 @@ fn note_job_lines(alloc: Global, text: &str, lines: &mut Lines<'_>) -> Result<()
     Ok(())
 }
 
-/// Behind a header, an entry or an element.
+/// Scans a header, an entry or an element.
 #[tactic(auto, unfolding(crate::specs::JobPlaces::step))]
 pub(crate) fn scan_step(alloc: Global, text: &str, next: Next) -> Result<Step<'_>, ParseError>
     ensures step { GivesStep result (spec.step next text.now) }
@@ -123,7 +123,7 @@ pub(crate) fn scan_step(alloc: Global, text: &str, next: Next) -> Result<Step<'_
     }
 }
 
-// At an element, or at the bracket behind the last one.
+// Scans an element, or the bracket after the last one.
 #[tactic(auto, unfolding(crate::specs::JobPlaces::element))]
 fn scan_element(alloc: Global, text: &str) -> Result<Step<'_>, ParseError>
     ensures step { GivesStep result (spec.element text.now) }
@@ -156,7 +156,7 @@ fn scan_header(alloc: Global, text: &str) -> Result<Step<'_>, ParseError>
     }
 }
 
-// Behind the brackets that open the header of an element of an array of tables.
+// Scans the header of an array-of-tables element, after its opening brackets.
 #[tactic(auto, unfolding(crate::specs::JobPlaces::array_header))]
 fn scan_array_header(alloc: Global, inside: &str) -> Result<Step<'_>, ParseError>
     ensures step { GivesStep result (spec.array_header inside.now) }
@@ -174,7 +174,7 @@ fn scan_array_header(alloc: Global, inside: &str) -> Result<Step<'_>, ParseError
     }
 }
 
-// Behind the bracket that opens the header of a table.
+// Scans the header of a table, after its opening bracket.
 #[tactic(auto, unfolding(crate::specs::JobPlaces::table_header))]
 fn scan_table_header(alloc: Global, inside: &str) -> Result<Step<'_>, ParseError>
     ensures step { GivesStep result (spec.table_header inside.now) }
@@ -192,7 +192,7 @@ fn scan_table_header(alloc: Global, inside: &str) -> Result<Step<'_>, ParseError
     }
 }
 
-// At the top, an array of `job` is the list: its elements come next.
+// At the top level a `job` array is the list: its elements come next.
 #[tactic(auto, unfolding(crate::specs::JobPlaces::keyed_entry))]
 fn scan_entry(alloc: Global, text: &str, next: Next) -> Result<Step<'_>, ParseError>
     ensures step { GivesStep result (spec.keyed_entry next text.now) }
@@ -215,7 +215,7 @@ fn scan_entry(alloc: Global, text: &str, next: Next) -> Result<Step<'_>, ParseEr
     })
 }
 
-/// The value of an entry; nothing where no sign parts it from the key.
+/// Returns the text from the value of an entry on, or an empty text if no equals sign follows the key.
 #[tactic(auto, unfolding(crate::specs::JobPlaces::after_equals))]
 pub(crate) fn skip_equals_sign(text: &str) -> &str
     ensures text { result.now ≡ spec.after_equals text.now }
@@ -228,7 +228,7 @@ pub(crate) fn skip_equals_sign(text: &str) -> &str
     }
 }
 
-/// The next element, or the bracket behind the last one.
+/// Returns the text from the next element, or from the bracket after the last one, on.
 #[tactic(auto, unfolding(crate::specs::JobPlaces::after_comma))]
 pub(crate) fn skip_comma(text: &str) -> &str
     ensures text { result.now ≡ spec.after_comma text.now }
@@ -242,7 +242,7 @@ pub(crate) fn skip_comma(text: &str) -> &str
     }
 }
 
-// The next header or entry; nothing where the line does not end with a comment or nothing more.
+// Returns the text from the next header or entry on, or an empty text if the line has anything but a comment left.
 #[tactic(auto, unfolding(crate::specs::JobPlaces::after_line))]
 fn skip_line_end(text: &str) -> &str
     ensures text { result.now ≡ spec.after_line text.now }
@@ -256,7 +256,7 @@ fn skip_line_end(text: &str) -> &str
     }
 }
 
-// Whether a key is `job`, and the text behind it. The key itself ends here, so that it is alive at no other way out.
+// Returns whether a key is `job`, and the text after it. The key is dropped here, so that it is not alive at any other exit.
 fn scan_key(alloc: Global, text: &str) -> Result<(bool, &str), ParseError>
     ensures key { Reads (λ is_job. is_job) result
         (option_map (λ name. (spec.is_job name.0, name.1)) (key text.now)) }

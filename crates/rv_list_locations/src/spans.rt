@@ -1,4 +1,4 @@
-//! Where the values of jobs stand in the text of a list.
+//! The locations of job values in the text of a list.
 
 ghost use Rattle.std.specs.Prelude.{◌≡◌, ◌≤◌, IfOk, IfSome, length};
 ghost use Rattle.std.specs.List.{All};
@@ -10,21 +10,21 @@ use std::alloc::{AllocError, Global};
 use toml_parser::text::first;
 use toml_parser::{ParseError, dotted_key};
 
-/// Where the value of a key of a job stands in the text of a list.
+/// The location of the value of a job's key in the text of a list.
 #[derive(Drop)]
 pub struct ValueSpan {
-    /// The job's place in the list, counted from 0.
+    /// The index of the job in the list, counted from 0.
     pub job: usize,
-    /// The key, without quotes.
+    /// The key, unquoted.
     pub key: String,
-    /// The place of the value's first byte.
+    /// The offset of the value's first byte.
     pub begin: usize,
-    /// The place behind its last byte.
+    /// The offset after its last byte.
     pub end: usize,
 }
 
-/// Where the values stand of the jobs that have a header `[[job]]`, in their order. Those of inline tables are not among them, nor
-/// those at keys of more than one part or in tables below a job. A text that is no TOML is walked over up to where that shows.
+/// Returns the spans of the values of jobs with a header `[[job]]`, in order. Values in inline tables, at dotted keys and in tables below a
+/// job are not included. A text that is not TOML is scanned up to where that shows.
 pub fn value_spans(alloc: Global, text: &str) -> Result<Vec<ValueSpan>, AllocError>
     ensures { IfOk result (λ spans. All (IsSpanIn text.now) spans.items) }
 {
@@ -59,7 +59,7 @@ fn note_value_spans(alloc: Global, text: &str, spans: &mut Vec<ValueSpan>) -> Re
     Ok(())
 }
 
-// Whether a header stands there.
+// Whether the text is at a header.
 fn is_header(here: &str, what: Next) -> bool {
     match what {
         Next::Element => false,
@@ -67,7 +67,7 @@ fn is_header(here: &str, what: Next) -> bool {
     }
 }
 
-// Notes where the value of an entry stands, with which an end of the text begins.
+// Records the span of the value of an entry, given the text from the entry on.
 fn note_value_span(
     alloc: Global,
     text: &str,

@@ -1,20 +1,20 @@
-//! What stands behind a value.
+//! Skipping values.
 
 ghost use Rattle.std.specs.Prelude.{◌≡◌, ◌-◌, ◌^◌, ◌<◌, ◌≤◌, IfOk, length, min, slice_index, suc};
 ghost use Rattle.rv_list_locations.specs.JobPlaces.{after_brackets, after_string_or_word, after_token, after_value};
 ghost use Rattle.toml_parser.specs.Lexical.{skip_blank as behind_blank};
 ghost use Rattle.rv_list_locations.specs.JobPlaces.{after_word, depth_after, is_in_word};
-ghost use Rattle.rv_list_locations.specs.Steps.{GivesText};
+ghost use Rattle.rv_list_locations.specs.Steps.{ReturnsText};
 
 use std::alloc::Global;
 use toml_parser::bytes::is_word;
 use toml_parser::text::{byte_at, first, skip, skip_blank};
 use toml_parser::{ErrorKind, ParseError, quoted, starts_string};
 
-/// The text behind a value.
+/// Returns the text after a value.
 #[tactic(auto, unfolding(crate::specs::JobPlaces::after_value))]
 pub(crate) fn skip_value(alloc: Global, text: &str) -> Result<&str, ParseError>
-    ensures value { GivesText result (after_value text.now) }
+    ensures value { ReturnsText result (after_value text.now) }
     ensures shorter { IfOk result (λ rest. length rest.now < length text.now) }
 {
     if matches!(first(text), b'[' | b'{') {
@@ -24,9 +24,9 @@ pub(crate) fn skip_value(alloc: Global, text: &str) -> Result<&str, ParseError>
     }
 }
 
-// The text behind an array or an inline table: behind the bracket that leaves none open.
+// Returns the text after an array or an inline table, that is after the bracket that closes the last open one.
 fn skip_brackets(alloc: Global, text: &str) -> Result<&str, ParseError>
-    ensures value { GivesText result (after_brackets (suc (length text.now)) 0 text.now) }
+    ensures value { ReturnsText result (after_brackets (suc (length text.now)) 0 text.now) }
     ensures shorter { IfOk result (λ rest. length rest.now < length text.now) }
 {
     let mut rest = text;
@@ -41,7 +41,7 @@ fn skip_brackets(alloc: Global, text: &str) -> Result<&str, ParseError>
     }
 }
 
-// The text behind blanks, line ends and comments.
+// Returns the text after blanks, line ends and comments.
 pub(crate) fn skip_blank_lines(text: &str) -> &str
     ensures rest { result.now ≡ behind_blank text.now }
     ensures within { length result.now ≤ length text.now }
@@ -49,7 +49,7 @@ pub(crate) fn skip_blank_lines(text: &str) -> &str
     skip_blank(text, true)
 }
 
-// How many brackets are open behind a byte.
+// Returns the number of open brackets after a byte.
 fn bracket_depth_after(depth: usize, byte: u8) -> usize
     ensures { result ≡ min (depth_after depth byte) (2 ^ 64 - 1) }
 {
@@ -60,10 +60,10 @@ fn bracket_depth_after(depth: usize, byte: u8) -> usize
     }
 }
 
-/// The text behind a sign, a string or a word.
+/// Returns the text after a punctuation sign, a string or a word.
 #[tactic(auto, unfolding(crate::specs::JobPlaces::after_token))]
 pub(crate) fn skip_token(alloc: Global, text: &str) -> Result<&str, ParseError>
-    ensures value { GivesText result (after_token text.now) }
+    ensures value { ReturnsText result (after_token text.now) }
     ensures shorter { IfOk result (λ rest. length rest.now < length text.now) }
 {
     if matches!(first(text), b'[' | b']' | b'{' | b'}' | b',' | b'=') {
@@ -73,10 +73,10 @@ pub(crate) fn skip_token(alloc: Global, text: &str) -> Result<&str, ParseError>
     }
 }
 
-// The text behind a string or a word.
+// Returns the text after a string or a word.
 #[tactic(auto, unfolding(crate::specs::JobPlaces::after_string_or_word))]
 fn skip_string_or_word(alloc: Global, text: &str) -> Result<&str, ParseError>
-    ensures value { GivesText result (after_string_or_word text.now) }
+    ensures value { ReturnsText result (after_string_or_word text.now) }
     ensures shorter { IfOk result (λ rest. length rest.now < length text.now) }
 {
     if starts_string(text) {
@@ -87,13 +87,13 @@ fn skip_string_or_word(alloc: Global, text: &str) -> Result<&str, ParseError>
     }
 }
 
-// The text behind a key without quotes, or a value that is no text.
+// Returns the text after an unquoted key, or a value that is not a text.
 fn skip_word(text: &str) -> Result<&str, ParseError>
-    ensures value { GivesText result (after_word text.now) }
+    ensures value { ReturnsText result (after_word text.now) }
     ensures shorter { IfOk result (λ rest. length rest.now < length text.now) }
 {
     let mut rest = text;
-    'letters: while bare_word_goes_on(rest) {
+    'letters: while bare_word_continues(rest) {
         rest = skip(rest, 1);
     }
     if rest.len() == text.len() {
@@ -102,8 +102,8 @@ fn skip_word(text: &str) -> Result<&str, ParseError>
     Ok(rest)
 }
 
-// Whether a word begins or goes on: in that of a date and a time a space may part the two.
-fn bare_word_goes_on(text: &str) -> bool
+// Whether a word begins or continues here; a space may separate date and time.
+fn bare_word_continues(text: &str) -> bool
     ensures { result ≡ is_in_word (slice_index text.now 0) (slice_index text.now 1) }
 {
     is_word(first(text)) || (first(text) == b' ' && byte_at(text, 1).is_ascii_digit())

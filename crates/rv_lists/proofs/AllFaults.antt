@@ -15,11 +15,11 @@ use Rattle.rv_lists.specs.declared.job.Job.{Job}
 use Rattle.rv_lists.specs.Keys.{has_unknown_job_or_region_key, has_wrong_kind}
 use Rattle.rv_lists.specs.Reading.{◌>>=◌, fault_if, numbered_reading}
 use Rattle.rv_lists.specs.JobList.{job_from_table, name_from_table, image_from_table, budget_from_table, script_from_table, map_from_table, load_from_table}
-use Rattle.rv_base.specs.Names.{place_in}
+use Rattle.rv_base.specs.Names.{index_in}
 use Rattle.rv_lists.specs.JobList.{signature_from_table, exit_from_table, reference_from_table, console_from_table, end_from_table, same_as_from_table, isa_from_table}
 use Rattle.rv_lists.specs.JobList.{misaligned_from_table, job_from_element, jobs_of_elements, job_elements, jobs_of_document, job_list_of, document_of}
 use Rattle.rv_lists.specs.JobList.{names_of_jobs}
-use Rattle.rv_lists.specs.ListFaults.{numbered_fault, untaken_name, name_taken_by_element, names_with_taken, faults_of_elements, faults_or_list_fault, faults_of_document}
+use Rattle.rv_lists.specs.ListFaults.{numbered_fault, unused_name, name_taken_by_element, names_with_taken, faults_of_elements, faults_or_list_fault, faults_of_document}
 use Rattle.rv_lists.specs.ListFaults.{list_faults}
 
 reads : {A : Type 0} (P : Job → Type 0) (r : Result A What) (f : A → Result Job What)
@@ -32,19 +32,19 @@ none_there None x e = refl
 none_there (Some k) x e = cc
 
 new_name : (names : List (List ℕ)) (r : Result (List ℕ) What) (name : List ℕ) → r ≡ Ok name
-    → place_in names name ≡ None → untaken_name names r ≡ Some name
+    → index_in names name ≡ None → unused_name names r ≡ Some name
 new_name names r name e fresh = rw (e, fresh) refl
 
 -- the name of a good job is taken by it
 job_takes : (names : List (List ℕ)) (ms : Members)
-    → IfOk (job_from_table names ms) (λ job. untaken_name names (name_from_table ms) ≡ Some job.name)
+    → IfOk (job_from_table names ms) (λ job. unused_name names (name_from_table ms) ≡ Some job.name)
 unfolding job_from_table
 job_takes names ms =
-    let P : Job → Type 0 = λ job. untaken_name names (name_from_table ms) ≡ Some job.name in
+    let P : Job → Type 0 = λ job. unused_name names (name_from_table ms) ≡ Some job.name in
     reads P (fault_if (has_unknown_job_or_region_key ms) what.UnknownKey) _ (λ known is1.
     reads P (fault_if (has_wrong_kind ms) what.WrongType) _ (λ typed is2.
     reads P (name_from_table ms) _ (λ name named.
-    reads P (fault_if (is_some (place_in names name)) what.Duplicate) _ (λ fresh free.
+    reads P (fault_if (is_some (index_in names name)) what.Duplicate) _ (λ fresh free.
     reads P (image_from_table ms) _ (λ image is5.
     reads P (budget_from_table ms) _ (λ budget is6.
     reads P (script_from_table ms) _ (λ script is7.
@@ -58,7 +58,7 @@ job_takes names ms =
     reads P (same_as_from_table names ms) _ (λ same is15.
     reads P (isa_from_table ms) _ (λ set is16.
     reads P (misaligned_from_table ms) _ (λ choice is17.
-    new_name names (name_from_table ms) name named (none_there (place_in names name) fresh free))))))))))))))))))
+    new_name names (name_from_table ms) name named (none_there (index_in names name) fresh free))))))))))))))))))
 
 takes : (names : List (List ℕ)) (d : Data) → IfOk (job_from_element names d) (λ job. name_taken_by_element names d ≡ Some job.name)
 unfolding job_from_element name_taken_by_element

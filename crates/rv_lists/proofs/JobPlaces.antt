@@ -14,7 +14,7 @@ use Rattle.std.proofs.Math.Seq.{get_or-append_seam}
 use Rattle.rv_lists.specs.declared.job.Job.{Job}
 use Rattle.rv_lists.specs.Jobs.{IsJob, AreJobs}
 use Rattle.rv_base.specs.Limits.{most_jobs}
-use Rattle.rv_base.specs.Names.{place_in}
+use Rattle.rv_base.specs.Names.{index_in}
 use Rattle.rv_base.proofs.Public.{place_below, texts_more}
 use Rattle.rv_lists.specs.JobList.{names_of_jobs}
 
@@ -23,10 +23,10 @@ within_length None n m e h = tt
 within_length (Some k) n m e h = omega arith
 
 -- the place of a job's name is that of a job
-pub within_names : (js : List Job) (t : List ℕ) (o : Option ℕ) → o ≡ place_in (names_of_jobs js) t
+pub within_names : (js : List Job) (t : List ℕ) (o : Option ℕ) → o ≡ index_in (names_of_jobs js) t
     → IfSome o (λ k. k < length js)
 within_names js t o e = subst (λ p. IfSome p (λ k. k < length js)) (sym e)
-    (within_length (place_in (names_of_jobs js) t) (length (names_of_jobs js)) (length js) (length-map js (λ (j : Job). j.name))
+    (within_length (index_in (names_of_jobs js) t) (length (names_of_jobs js)) (length js) (length-map js (λ (j : Job). j.name))
     (place_below (names_of_jobs js) t))
 
 pub no_jobs_are : (js : List Job) → js ≡ [] → AreJobs js
@@ -48,8 +48,8 @@ jobs_more js new job are good room pushed = record {
 
 pub names_more : (m n : BTreeMap (String Global) ℕ) (js new : List Job) (job : Job) (key : String Global) (at : ℕ)
     → Updates string_cmp m n key (Some at) → string_bytes key ≡ job.name → at ≡ length js
-    → ((t : List ℕ) → get_by_text m t ≡ place_in (names_of_jobs js) t) → place_in (names_of_jobs js) job.name ≡ None
-    → new ≡ js ++ job ∷ [] → (t : List ℕ) → get_by_text n t ≡ place_in (names_of_jobs new) t
+    → ((t : List ℕ) → get_by_text m t ≡ index_in (names_of_jobs js) t) → index_in (names_of_jobs js) job.name ≡ None
+    → new ≡ js ++ job ∷ [] → (t : List ℕ) → get_by_text n t ≡ index_in (names_of_jobs new) t
 names_more m n js new job key at updates is_key is before fresh pushed =
     texts_more m n (names_of_jobs js) (names_of_jobs new) job.name key at updates is_key
     (is ∙ sym (length-map js (λ (j : Job). j.name))) before fresh

@@ -8,17 +8,17 @@ use Rattle.rv_lists.specs.declared.job.ExpectedEnd.{ExpectedEnd}
 use Rattle.rv_lists.specs.declared.job.Job.{Job}
 use Rattle.rv_lists.specs.declared.job.ExpectedConsole.{ExpectedConsole}
 use Rattle.rv_lists.specs.declared.job.Symbols.{Symbols}
-use Rattle.rv_lists.specs.declared.run_keys.Manner.{Manner}
+use Rattle.rv_lists.specs.declared.run_keys.RunOptions.{RunOptions}
 use Rattle.rv_lists.specs.declared.results.Results.{Results}
 use Rattle.rv_lists.specs.declared.setup.Setup.{Setup}
 use Rattle.rv_elf.specs.declared.loading.LoadAt.{LoadAt}
 use Rattle.rv_memory.specs.declared.map.Region.{Region}
 use Rattle.rv_lists.specs.Keys.{has_unknown_job_or_region_key, has_wrong_kind}
 use Rattle.rv_lists.specs.JobList.{job_from_table, name_from_table, image_from_table, budget_from_table, script_from_table, map_from_table, load_from_table}
-use Rattle.rv_base.specs.Names.{place_in}
+use Rattle.rv_base.specs.Names.{index_in}
 use Rattle.rv_lists.specs.JobList.{signature_from_table, exit_from_table, reference_from_table, console_from_table, end_from_table, same_as_from_table, isa_from_table}
 use Rattle.rv_lists.specs.JobList.{misaligned_from_table}
-use Rattle.rv_lists.specs.JobSteps.{job_from_remaining_keys, manner_from_table, setup_from_table, results_from_table}
+use Rattle.rv_lists.specs.JobSteps.{job_from_remaining_keys, run_options_from_table, setup_from_table, results_from_table}
 use Rattle.rv_lists.specs.Reading.{◌>>=◌}
 
 under : {A B : Type 0} (r : Result A What) (f g : A → Result B What) → ((x : A) → f x ≡ g x) → (r >>= f) ≡ (r >>= g)
@@ -26,7 +26,7 @@ under (Ok x) f g same = same x
 under (Err e) f g same = refl
 
 four_steps : (end : Result (Option ExpectedEnd) What) (same : Result (Option ℕ) What) (set : Result Isa What)
-    (choice : Result Misaligned What) (k : Manner → Result Job What)
+    (choice : Result Misaligned What) (k : RunOptions → Result Job What)
     → (end >>= λ e. same >>= λ s. set >>= λ i. choice >>= λ c.
     k (record { expect_end = e; same_as = s; isa = i; misaligned = c }))
     ≡ ((end >>= λ e. same >>= λ s. set >>= λ i. choice >>= λ c.
@@ -72,11 +72,11 @@ result_steps (Ok s) (Ok e) reference console k = on_reference (reference s)
 -- a job whose keys and kinds are in order is the one that is described, where no earlier job has its name
 pub job_described : (earlier : List (List ℕ)) (ms : Members) (name image : List ℕ) (budget : ℕ)
     → has_unknown_job_or_region_key ms ≡ false → has_wrong_kind ms ≡ false → name_from_table ms ≡ Ok name
-    → is_some (place_in earlier name) ≡ false → image_from_table ms ≡ Ok image → budget_from_table ms ≡ Ok budget
+    → is_some (index_in earlier name) ≡ false → image_from_table ms ≡ Ok image → budget_from_table ms ≡ Ok budget
     → job_from_table earlier ms ≡ job_from_remaining_keys earlier name image budget ms
-unfolding job_from_table job_from_remaining_keys manner_from_table setup_from_table results_from_table
+unfolding job_from_table job_from_remaining_keys run_options_from_table setup_from_table results_from_table
 job_described earlier ms name image budget known typed named fresh imaged budgeted =
-    let described : Setup → Results → Manner → Result Job What
+    let described : Setup → Results → RunOptions → Result Job What
     = λ setup results manner. Ok (record {
       name = name;
       image = image;

@@ -1,11 +1,11 @@
--- How the jobs that are read so far stand beside the places of their names.
+-- How the jobs read so far relate to the indices of their names.
 use Rattle.std.specs.Prelude.{◌≡◌, ℕ, List}
 use Rattle.std.specs.BTreeMap.{get_by_text}
 use Rattle.rv_lists.specs.declared.earlier_jobs.EarlierJobs.TheInside.{Inside}
 use Rattle.rv_lists.specs.Jobs.{AreJobs}
 use Rattle.rv_lists.specs.JobList.{names_of_jobs}
-use Rattle.rv_base.specs.Names.{place_in}
+use Rattle.rv_base.specs.Names.{index_in}
 
 pub record IsEarlierJobsInside (a : Inside) : Type 0 where
   pub jobs : AreJobs a.jobs.items
-  pub places : (t : List ℕ) → get_by_text a.places t ≡ place_in (names_of_jobs a.jobs.items) t
+  pub places : (t : List ℕ) → get_by_text a.places t ≡ index_in (names_of_jobs a.jobs.items) t

@@ -1,4 +1,4 @@
--- The words for the faults of a list.
+-- The names of a list's errors.
 use Rattle.std.specs.Prelude.{ℕ, List, codes}
 use Rattle.rv_lists.specs.declared.error.What.{What}
 use Rattle.rv_lists.specs.declared.error.What.TheVariants as what

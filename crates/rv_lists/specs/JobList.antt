@@ -1,5 +1,5 @@
--- The list of jobs that a document stands for, or the job and its fault: the keys of a job in the
--- order of their faults.
+-- The job list that a document represents, or the job in error and its error: the keys of a job in the order in which their errors are
+-- checked.
 use Rattle.std.specs.Prelude.{◌+◌, ◌==◌, ℕ, ℤ, pos, negsuc, Bool, true, false, not, ◌&&◌, ◌||◌}
 use Rattle.std.specs.Prelude.{List, [], ◌∷◌, ◌++◌, length, Option, Some, None, Result, Ok, Err}
 use Rattle.std.specs.Prelude.{codes, option_and_then, option_map, is_some, unwrap_or, if◌then◌else◌}
@@ -34,7 +34,7 @@ use Rattle.rv_machine.specs.declared.ending.FaultKind.{FaultKind}
 use Rattle.rv_machine.specs.Faults.{fault_named}
 use Rattle.rv_base.specs.Limits.{is_within, most_budget, most_symbol}
 use Rattle.rv_base.specs.Limits.{most_console, most_jobs, most_path, most_script}
-use Rattle.rv_base.specs.Names.{is_name, place_in}
+use Rattle.rv_base.specs.Names.{is_name, index_in}
 use Rattle.rv_lists.specs.Jobs.{default_regions}
 use Rattle.rv_lists.specs.Reading.{◌>>=◌, fault_if, passing_value, reading_or_default, numbered_reading}
 use Rattle.rv_lists.specs.Keys.{any_unknown_key, is_list_key, item_count, text_at_key, number_at_key}
@@ -51,7 +51,7 @@ name_from_table ms = passing_value is_name what.Name (text_at_key (codes "name")
 unfoldable pub image_from_table : Members → Result (List ℕ) What
 image_from_table ms = passing_value is_path what.Image (text_at_key (codes "image") ms)
 
--- a number from low to high, else the fault
+-- a number from low to high, or else the error
 abbrev pub number_or_fault : ℕ → ℕ → What → ℤ → Result ℕ What
 number_or_fault low high fault (pos n) = if is_within low high n then Ok n else Err fault
 number_or_fault low high fault (negsuc n) = Err fault
@@ -73,7 +73,7 @@ abbrev pub script_from_decoded : Result (List ℕ) FromHexError → Result (List
 script_from_decoded (Ok bytes) = script_from_bytes bytes
 script_from_decoded (Err e) = Err what.Input
 
--- of `input` and `input_hex`, of which one stands at most
+-- the script from `input` or `input_hex`, of which at most one is set
 abbrev pub script_from_either : Option (List ℕ) → Option (List ℕ) → Result (List ℕ) What
 script_from_either None None = Ok []
 script_from_either (Some text) None = script_from_bytes text
@@ -105,7 +105,7 @@ regions_from_elements (item d ds) = do
   regions ← regions_from_elements ds
   Ok (region ∷ regions)
 
--- the regions, where they are a map
+-- the regions, if they form a map
 abbrev pub regions_if_map : List Region → Option MapError → Result (List Region) What
 regions_if_map regions None = Ok regions
 regions_if_map regions (Some e) = Err what.Region
@@ -128,7 +128,7 @@ load_from_table ms = reading_or_default load_from_text Physical (text_at_key (co
 
 -- ---- the signature
 
--- not empty, not too long, and without a zero byte
+-- whether it is not empty, not too long, and has no zero byte
 unfoldable pub is_signature_symbol : List ℕ → Bool
 is_signature_symbol t = is_within 1 most_symbol (length t) && list_all (λ b. not (b == 0)) t
 
@@ -153,14 +153,14 @@ exit_from_number z = number_or_fault 0 0xffff_ffff what.Expect z >>= (λ n. Ok (
 unfoldable pub exit_from_table : Members → Result (Option ℕ) What
 exit_from_table ms = reading_or_default exit_from_number None (number_at_key (codes "expect_exit") ms)
 
--- a path, where a signature is asked for
+-- a path, which requires a signature
 abbrev pub reference_from_path : Bool → List ℕ → Result (Option (List ℕ)) What
 reference_from_path asked path = if asked && is_path path then Ok (Some path) else Err what.Expect
 
 unfoldable pub reference_from_table : Bool → Members → Result (Option (List ℕ)) What
 reference_from_table asked ms = reading_or_default (reference_from_path asked) None (text_at_key (codes "expect_signature") ms)
 
--- the bytes of a text, where they are no more than a console holds
+-- the bytes of a text, if the console can hold as many
 abbrev pub console_from_text : List ℕ → Result (Option ExpectedConsole) What
 console_from_text text =
     if nat_le (length text) most_console then Ok (Some (Text text)) else Err what.Expect
@@ -168,7 +168,7 @@ console_from_text text =
 abbrev pub console_from_path : List ℕ → Result (Option ExpectedConsole) What
 console_from_path path = if is_path path then Ok (Some (File path)) else Err what.Expect
 
--- of `expect_console` and `expect_console_file`, of which one stands at most
+-- the console from `expect_console` or `expect_console_file`, of which at most one is set
 abbrev pub console_from_either : Option (List ℕ) → Option (List ℕ) → Result (Option ExpectedConsole) What
 console_from_either None None = Ok None
 console_from_either (Some text) None = console_from_text text
@@ -199,7 +199,7 @@ same_as_from_place None = Err what.SameAs
 same_as_from_place (Some k) = Ok (Some k)
 
 abbrev pub same_as_from_name : List (List ℕ) → List ℕ → Result (Option ℕ) What
-same_as_from_name earlier t = same_as_from_place (place_in earlier t)
+same_as_from_name earlier t = same_as_from_place (index_in earlier t)
 
 unfoldable pub same_as_from_table : List (List ℕ) → Members → Result (Option ℕ) What
 same_as_from_table earlier ms = reading_or_default (same_as_from_name earlier) None (text_at_key (codes "same_as") ms)
@@ -226,13 +226,13 @@ misaligned_from_table ms = reading_or_default misaligned_from_text Fault (text_a
 
 -- ---- a job
 
--- the job of a table behind jobs of these names, or the fault of the lowest number
+-- the job of a table that follows jobs with these names, or the first error
 unfoldable pub job_from_table : List (List ℕ) → Members → Result Job What
 job_from_table earlier ms = do
   known ← fault_if (has_unknown_job_or_region_key ms) what.UnknownKey
   typed ← fault_if (has_wrong_kind ms) what.WrongType
   name ← name_from_table ms
-  fresh ← fault_if (is_some (place_in earlier name)) what.Duplicate
+  fresh ← fault_if (is_some (index_in earlier name)) what.Duplicate
   image ← image_from_table ms
   budget ← budget_from_table ms
   script ← script_from_table ms
@@ -269,8 +269,7 @@ job_from_element earlier _ = Err what.WrongType
 
 -- ---- the whole list
 
--- the jobs of the elements, of which the first has the number n, or the first bad one with its
--- fault
+-- the jobs of the elements, counted from the number n, or the first bad job with its error
 unfoldable pub jobs_of_elements : ℕ → List (List ℕ) → Items → Result (List Job) JobError
 jobs_of_elements n earlier no_items = Ok []
 jobs_of_elements n earlier (item d ds) = do
@@ -278,7 +277,7 @@ jobs_of_elements n earlier (item d ds) = do
   jobs ← jobs_of_elements (n + 1) (earlier ++ job.name ∷ []) ds
   Ok (job ∷ jobs)
 
--- `job` is absent or an empty array
+-- `job` is missing or an empty array
 abbrev pub has_no_jobs : Option Data → Bool
 has_no_jobs None = true
 has_no_jobs (Some (array no_items)) = true
@@ -292,7 +291,7 @@ abbrev pub array_elements : Option Data → Result Items What
 array_elements (Some (array ds)) = Ok ds
 array_elements _ = Err what.WrongType
 
--- the elements of `job`, or the lowest fault of the whole list
+-- the elements of `job`, or the first error of the whole list
 unfoldable pub job_elements : Members → Result Items What
 job_elements ms = do
   some ← fault_if (has_no_jobs (get_member (codes "job") ms)) what.NoJobs
@@ -300,12 +299,12 @@ job_elements ms = do
   known ← fault_if (any_unknown_key is_list_key ms) what.UnknownKey
   array_elements (get_member (codes "job") ms)
 
--- of a document, which no jobs are in without one
+-- the jobs of a document; bytes that are not a document are an error
 unfoldable pub jobs_of_document : Option Members → Result (List Job) JobError
 jobs_of_document None = Err (record { job = 0; what = what.NotToml })
 jobs_of_document (Some ms) = numbered_reading 0 (job_elements ms) >>= jobs_of_elements 1 []
 
--- what bytes are as a document: no text that is not UTF-8 is one
+-- the document that bytes represent, if any; text that is not UTF-8 is not a document
 abbrev pub document_of : List ℕ → Option Members
 document_of bytes = if is_utf8 bytes then parse_document bytes else None
 

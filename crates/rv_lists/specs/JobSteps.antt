@@ -1,9 +1,9 @@
--- What a job's reading goes through behind its name, its image and its budget.
+-- The steps of reading a job after its name, its image and its budget.
 use Rattle.std.specs.Prelude.{ℕ, List, Result, Ok, is_some}
 use Rattle.toml.specs.Data.{Members}
 use Rattle.rv_lists.specs.declared.error.What.{What}
 use Rattle.rv_lists.specs.declared.job.Job.{Job}
-use Rattle.rv_lists.specs.declared.run_keys.Manner.{Manner}
+use Rattle.rv_lists.specs.declared.run_keys.RunOptions.{RunOptions}
 use Rattle.rv_lists.specs.declared.results.Results.{Results}
 use Rattle.rv_lists.specs.declared.setup.Setup.{Setup}
 use Rattle.rv_lists.specs.JobList.{script_from_table, map_from_table, load_from_table, signature_from_table, exit_from_table}
@@ -11,16 +11,16 @@ use Rattle.rv_lists.specs.JobList.{reference_from_table, console_from_table}
 use Rattle.rv_lists.specs.JobList.{end_from_table, same_as_from_table, isa_from_table, misaligned_from_table}
 use Rattle.rv_lists.specs.Reading.{◌>>=◌}
 
--- how a job runs and is to end, behind jobs of these names
-unfoldable pub manner_from_table : List (List ℕ) → Members → Result Manner What
-manner_from_table earlier ms = do
+-- how a job runs and should end, given the names of the earlier jobs
+unfoldable pub run_options_from_table : List (List ℕ) → Members → Result RunOptions What
+run_options_from_table earlier ms = do
   expect_end ← end_from_table ms
   same_as ← same_as_from_table earlier ms
   set ← isa_from_table ms
   choice ← misaligned_from_table ms
   Ok (record { expect_end = expect_end; same_as = same_as; isa = set; misaligned = choice })
 
--- what a job starts with
+-- the initial state of a job
 unfoldable pub setup_from_table : Members → Result Setup What
 setup_from_table ms = do
   script ← script_from_table ms
@@ -28,7 +28,7 @@ setup_from_table ms = do
   load ← load_from_table ms
   Ok (record { script = script; regions = regions; load = load })
 
--- what is taken of a job's run, and what it is expected to be
+-- what is collected from a job's run, and what is expected of it
 unfoldable pub results_from_table : Members → Result Results What
 results_from_table ms = do
   signature ← signature_from_table ms
@@ -37,12 +37,12 @@ results_from_table ms = do
   console ← console_from_table ms
   Ok (record { signature = signature; exit = exit; reference = reference; console = console })
 
--- the job of this name, image and budget
+-- the job with this name, image and budget
 unfoldable pub job_from_remaining_keys : List (List ℕ) → List ℕ → List ℕ → ℕ → Members → Result Job What
 job_from_remaining_keys earlier name image budget ms = do
   setup ← setup_from_table ms
   results ← results_from_table ms
-  manner ← manner_from_table earlier ms
+  manner ← run_options_from_table earlier ms
   Ok (record {
     name = name;
     image = image;

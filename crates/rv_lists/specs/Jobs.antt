@@ -10,18 +10,17 @@ use Rattle.rv_lists.specs.declared.job.ExpectedConsole.{ExpectedConsole}
 use Rattle.rv_lists.specs.declared.job.ExpectedConsole.TheVariants.{Text, File}
 use Rattle.rv_base.specs.Limits.{most_jobs, most_script}
 
--- the path of the file that a console is expected to hold, where one is named
+-- the path of the file with the expected console text, if one is given
 abbrev pub console_path : Option ExpectedConsole → Option (List ℕ)
 console_path None = None
 console_path (Some (Text bytes)) = None
 console_path (Some (File path)) = Some path
 
--- the regions of a job without any of its own
+-- the default regions of a job that sets none
 abbrev pub default_regions : List Region
 default_regions = record { base = 0x8000_0000; size = 0x10_0000; writable = true } ∷ []
 
--- the job at a place of a list: its script fits a bus, its symbols have names, and it names an
--- earlier job if any
+-- the job at an index of a list: its script fits a bus, its symbols have names, and its `same_as`, if any, is an earlier job
 pub record IsJob (at : ℕ) (job : Job) : Type 0 where
   pub script : length job.script ≤ most_script
   pub named : IfSome job.signature (λ s. (0 < length s.begin) × (0 < length s.end))
@@ -32,16 +31,16 @@ pub record AreJobs (jobs : List Job) : Type 0 where
   pub few : length jobs ≤ most_jobs
   pub each : (k : ℕ) (d : Job) → k < length jobs → IsJob k (slice_index_or jobs k d)
 
--- a job, with this budget in place of its own
+-- a job with its budget overridden
 abbrev pub job_with_budget : ℕ → Job → Job
 job_with_budget steps job = record job { budget = steps }
 
--- jobs in their order, each with this budget in place of its own, where there is one
+-- jobs in order, each with its budget overridden if a budget is given
 abbrev pub with_budget : Option ℕ → List Job → List Job
 with_budget None jobs = jobs
 with_budget (Some steps) jobs = map (job_with_budget steps) jobs
 
--- the job of a path that is run alone
+-- the job for the path of an image that is run alone
 abbrev pub single_job : List ℕ → ℕ → List ℕ → Job
 single_job image budget script = record {
   name = codes "one";
@@ -60,7 +59,7 @@ single_job image budget script = record {
   misaligned = Fault;
 }
 
--- a job of which nothing is expected, and which names no other
+-- a job without its expectations and its `same_as`
 abbrev pub without_expectations : Job → Job
 without_expectations job = record job {
   expect_exit = None;

@@ -9,12 +9,12 @@ use Rattle.toml.specs.Data.{get_member, as_str, as_integer, as_bool, as_array}
 
 -- ---- values
 
--- some item is so
+-- whether some item satisfies the predicate
 unfoldable pub any_item : (Data → Bool) → Items → Bool
 any_item p no_items = false
 any_item p (item d ds) = p d || any_item p ds
 
--- every item is so
+-- whether every item satisfies the predicate
 unfoldable pub all_items : (Data → Bool) → Items → Bool
 all_items p no_items = true
 all_items p (item d ds) = p d && all_items p ds
@@ -23,7 +23,7 @@ abbrev pub item_count : Items → ℕ
 item_count no_items = 0
 item_count (item d ds) = item_count ds + 1
 
--- the text, the number, the truth value and the array at a key
+-- the text, the number, the Boolean and the array at a key
 abbrev pub text_at_key : List ℕ → Members → Option (List ℕ)
 text_at_key k ms = option_and_then as_str (get_member k ms)
 
@@ -38,7 +38,7 @@ array_at_key k ms = option_and_then as_array (get_member k ms)
 
 -- ---- keys, each with its kind
 
--- a key, and whether a value is of its kind
+-- a key, and the predicate of its value's kind
 pub record Key : Type 0 where
   pub name : List ℕ
   pub is_of_kind : Data → Bool
@@ -46,15 +46,15 @@ pub record Key : Type 0 where
 abbrev pub key : List ℕ → (Data → Bool) → Key
 key name is_of_kind = record { name = name; is_of_kind = is_of_kind }
 
--- the key is absent, or its value is so
+-- whether the key is missing or its value satisfies the predicate
 abbrev pub absent_or : (Data → Bool) → List ℕ → Members → Bool
 absent_or p k ms = option_map_or p (get_member k ms) true
 
--- each of these keys is absent, or its value is of its kind
+-- whether each of these keys is missing or its value is of its kind
 abbrev pub has_kinds_of_keys : List Key → Members → Bool
 has_kinds_of_keys keys ms = list_all (λ (k : Key). absent_or k.is_of_kind k.name ms) keys
 
--- one of these keys has the name
+-- whether one of these keys has the name
 abbrev pub is_key_among : List Key → List ℕ → Bool
 is_key_among keys name = list_any (λ (k : Key). bytes_eq name k.name) keys
 
@@ -75,17 +75,17 @@ region_keys =
 abbrev pub is_text : Data → Bool
 is_text d = is_some (as_str d)
 
--- an array of texts
+-- whether it is an array of texts
 abbrev pub is_text_array : Data → Bool
 is_text_array (array ds) = all_items is_text ds
 is_text_array _ = false
 
--- a table whose values are of the kinds of a region's keys
+-- whether it is a table whose values have the kinds of a region's keys
 abbrev pub is_region : Data → Bool
 is_region (table ms) = has_kinds_of_keys region_keys ms
 is_region _ = false
 
--- an array of them
+-- whether it is an array of regions
 abbrev pub is_region_array : Data → Bool
 is_region_array (array ds) = all_items is_region ds
 is_region_array _ = false
@@ -110,7 +110,7 @@ job_keys =
     ∷ key (codes "misaligned") is_text
     ∷ []
 
--- a value of another TOML kind than its key has, in a region or a signature too
+-- whether a value has another TOML kind than its key requires, including in a region or a signature
 unfoldable pub has_wrong_kind : Members → Bool
 has_wrong_kind ms = not (has_kinds_of_keys job_keys ms)
 
@@ -122,25 +122,25 @@ is_job_key name = is_key_among job_keys name
 abbrev pub is_region_key : List ℕ → Bool
 is_region_key name = is_key_among region_keys name
 
--- the whole list has one key
+-- the only key of the whole list
 abbrev pub is_list_key : List ℕ → Bool
 is_list_key name = bytes_eq name (codes "job")
 
--- a key that is not known
+-- whether there is an unknown key
 unfoldable pub any_unknown_key : (List ℕ → Bool) → Members → Bool
 any_unknown_key known no_members = false
 any_unknown_key known (member k d ms) = not (known k) || any_unknown_key known ms
 
--- a table with a key that no region has
+-- whether it is a table with a key that regions do not have
 abbrev pub region_has_unknown_key : Data → Bool
 region_has_unknown_key (table ms) = any_unknown_key is_region_key ms
 region_has_unknown_key _ = false
 
--- a region with one
+-- whether some region has such a key
 abbrev pub regions_have_unknown_key : Members → Bool
 regions_have_unknown_key ms =
     option_map_or (any_item region_has_unknown_key) (array_at_key (codes "region") ms) false
 
--- a key that no job has, or in a region that no region has
+-- whether there is a key that jobs do not have, or one in a region that regions do not have
 unfoldable pub has_unknown_job_or_region_key : Members → Bool
 has_unknown_job_or_region_key ms = any_unknown_key is_job_key ms || regions_have_unknown_key ms

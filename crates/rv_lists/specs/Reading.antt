@@ -1,45 +1,44 @@
--- Readings that may find a fault: one step after another, each only where the earlier ones found
--- none.
+-- Parsing steps that may fail, each run only if the earlier ones succeeded.
 use Rattle.std.specs.Prelude.{◌≡◌, ℕ, Bool, if◌then◌else◌, List, ◌++◌, Option, Some, None, Result}
 use Rattle.std.specs.Prelude.{Ok, Err, MatchResult}
 use Rattle.rv_lists.specs.declared.error.What.{What}
 use Rattle.rv_lists.specs.declared.error.What.TheVariants.{OutOfMemory}
 use Rattle.rv_lists.specs.declared.error.JobError.{JobError}
 
--- the second step, if the first found no fault
+-- the second step, if the first succeeded
 infixl 10 ◌>>=◌
 abbrev pub ◌>>=◌ : {F A B : Type 0} → Result A F → (A → Result B F) → Result B F
 (Ok x) >>= f = f x
 (Err e) >>= f = Err e
 
--- a fault where the test holds
+-- an error if the condition holds
 abbrev pub fault_if : Bool → What → Result (Unit {0}) What
 fault_if b fault = if b then Err fault else Ok tt
 
--- the value where it is there and passes, else the fault
+-- the value if it exists and passes, or else the error
 abbrev pub passing_value : {X : Type 0} → (X → Bool) → What → Option X → Result X What
 passing_value p fault None = Err fault
 passing_value p fault (Some x) = if p x then Ok x else Err fault
 
--- what a reading makes of a value, or the value for none
+-- the result of parsing a value, or the default if there is none
 abbrev pub reading_or_default : {X Y : Type 0} → (X → Result Y What) → Y → Option X → Result Y What
 reading_or_default f y None = Ok y
 reading_or_default f y (Some x) = f x
 
--- a fault with the number of its job
+-- an error with the number of its job
 abbrev pub numbered_reading : {A : Type 0} → ℕ → Result A What → Result A JobError
 numbered_reading n (Ok x) = Ok x
 numbered_reading n (Err w) = Err (record { job = n; what = w })
 
--- the values before those that are read
+-- the parsed values with earlier values in front
 abbrev pub with_front : {F A : Type 0} → List A → Result (List A) F → Result (List A) F
 with_front front (Ok xs) = Ok (front ++ xs)
 with_front front (Err e) = Err e
 
--- what a function returned is what reading gives, unless memory ran out
+-- a function returned the specified result, unless memory ran out
 abbrev pub Gives : {X : Type 0} → Result X What → Result X What → Type 0
 Gives r read = MatchResult r (λ x. read ≡ Ok x) (λ e. (e ≡ OutOfMemory → ⊥) → read ≡ Err e)
 
--- the same of a list, whose fault has the number of its job
+-- a function on lists returned the specified result, whose error has the number of its job, unless memory ran out
 abbrev pub GivesJobs : {X : Type 0} → Result X JobError → Result X JobError → Type 0
 GivesJobs r read = MatchResult r (λ x. read ≡ Ok x) (λ e. (e.what ≡ OutOfMemory → ⊥) → read ≡ Err e)

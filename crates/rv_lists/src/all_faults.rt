@@ -1,4 +1,4 @@
-//! All faults of a list: of each bad job the first.
+//! All errors of a list: the first error of each bad job.
 
 ghost use Rattle.std.specs.Prelude.{◌≡◌, ◌<◌, ◌≤◌, ◌+◌, ◌∷◌, ◌++◌, [], ℕ, List, IfOk, IfSome, OnOk};
 ghost use Rattle.std.specs.Prelude.{None, Some, length, option_map, slice_get};
@@ -6,7 +6,7 @@ ghost use Rattle.std.specs.Result.{result_err};
 ghost use Rattle.toml.specs.View.{view, table_view, items_view};
 ghost use Rattle.rv_base.specs.Limits.{most_jobs};
 ghost use Rattle.rv_lists.specs.JobList.{job_from_element, job_list_of, names_of_jobs};
-ghost use Rattle.rv_base.specs.Names.{place_in};
+ghost use Rattle.rv_base.specs.Names.{index_in};
 ghost use Rattle.rv_lists.specs.ListFaults.{numbered_fault, faults_of_elements, faults_of_document, list_faults, name_taken_by_element};
 ghost use Rattle.rv_lists.specs.ListFaults.{names_with_taken};
 
@@ -19,9 +19,8 @@ use rv_base::{Bytes, Text};
 use std::alloc::{AllocError, Global};
 use toml::{Table, Value};
 
-/// All faults of a list: one of the whole list, with job 0, which stands alone; or of each bad job the
-/// first, in list order. The name of a bad job counts as taken, where it is a good one that no job before
-/// has taken. A refused growth alone is an error.
+/// Returns all errors of a list: a single one of the whole list, with job 0, or the first error of each bad job, in list order. The name of
+/// a bad job counts as taken if it is valid and no earlier job has taken it. Fails only if an allocation fails.
 #[tactic(auto, unfolding(crate::specs::ListFaults::list_faults))]
 pub fn read_faults(alloc: Global, bytes: &[u8]) -> Result<Vec<JobError>, AllocError>
     ensures { IfOk result (λ faults. faults.items ≡ list_faults bytes.now) }
@@ -38,7 +37,7 @@ pub fn read_faults(alloc: Global, bytes: &[u8]) -> Result<Vec<JobError>, AllocEr
     }
 }
 
-/// A fault of the whole list, alone.
+/// Returns a single error of the whole list.
 fn single_list_fault(alloc: Global, what: What) -> Result<Vec<JobError>, AllocError>
     ensures { IfOk result (λ faults. faults.items ≡ record { job = 0; what = what } ∷ []) }
 {
@@ -70,7 +69,7 @@ fn faults_of_elements(alloc: Global, elements: &[Value]) -> Result<Vec<JobError>
     Ok(faults)
 }
 
-/// The jobs behind an element of a number; its fault is noted where it has one.
+/// Adds an element to the jobs read so far, and records its error if it has one.
 fn add_element_or_fault(
     alloc: Global,
     earlier: EarlierJobs,
@@ -95,7 +94,7 @@ fn add_element_or_fault(
     }
 }
 
-/// The jobs behind a bad element: where it takes a name, a job of that name stands in its place.
+/// Adds a bad element to the jobs read so far: if it takes a name, a job with that name represents it.
 fn reserve_bad_job_name(
     alloc: Global,
     earlier: EarlierJobs,
@@ -117,12 +116,12 @@ fn reserve_bad_job_name(
     }
 }
 
-/// The name that an element takes, be its job good or bad.
+/// Returns the name that an element takes, whether its job is good or bad.
 #[tactic(auto, unfolding(crate::specs::ListFaults::name_taken_by_element))]
 fn name_taken_by_element<'a>(earlier: &EarlierJobs, element: &'a Value) -> Option<&'a str>
     ensures value { option_map (λ name. name.now) result
         ≡ name_taken_by_element (names_of_jobs earlier.now) (view element.now) }
-    ensures fresh { IfSome result (λ name. place_in (names_of_jobs earlier.now) name.now ≡ None) }
+    ensures fresh { IfSome result (λ name. index_in (names_of_jobs earlier.now) name.now ≡ None) }
 {
     let name = match element.as_table() {
         Some(table) => match name_from_table(table) {
@@ -137,8 +136,8 @@ fn name_taken_by_element<'a>(earlier: &EarlierJobs, element: &'a Value) -> Optio
     }
 }
 
-/// A law of lists, with nothing to run: the first of all faults is the one that a list is refused by, and
-/// there is none exactly where the list is one of jobs.
+/// A law of lists, with no code to run: the first of all errors is the one for which a list is rejected, and there is no error exactly if
+/// the list is valid.
 pub fn first_fault_refuses_a_list()
     ensures { (bytes : List ℕ) → slice_get (list_faults bytes) 0 ≡ result_err (job_list_of bytes) }
 {}

@@ -1,17 +1,17 @@
-//! The jobs of a list that are read so far, with the place of each name.
+//! The jobs of a list read so far, with the index of each name.
 
 ghost use Rattle.std.specs.Prelude.{◌≡◌, ◌<◌, ◌++◌, ◌∷◌, [], IfSome, IfOk, None, length};
 ghost use Rattle.rv_lists.specs.Jobs.{IsJob};
 ghost use Rattle.rv_base.specs.Limits.{most_jobs};
 ghost use Rattle.rv_lists.specs.JobList.{names_of_jobs};
-ghost use Rattle.rv_base.specs.Names.{place_in};
+ghost use Rattle.rv_base.specs.Names.{index_in};
 
 use crate::job::{Job, JobList};
 use std::alloc::{AllocError, Global};
 use std::collections::BTreeMap;
 use std::marker::Model;
 
-/// The jobs that are read so far, with the place of each name.
+/// The jobs read so far, with the index of each name.
 #[derive(Drop)]
 pub(crate) struct EarlierJobs {
     jobs: Vec<Job>,
@@ -41,18 +41,18 @@ impl EarlierJobs {
         }
     }
 
-    /// The place of the job of a name.
+    /// Returns the index of the job with this name.
     pub(crate) fn place_of_name(&self, name: &str) -> Option<usize>
-        ensures value { result ≡ place_in (names_of_jobs self.now) name.now }
+        ensures value { result ≡ index_in (names_of_jobs self.now) name.now }
         ensures within { IfSome result (λ k. k < length self.now) }
     {
         let _ = &self.jobs;
         self.places.get(name).copied()
     }
 
-    /// The jobs and one more.
+    /// Returns the jobs with one appended.
     pub(crate) fn append_job(self, alloc: Global, job: Job) -> Result<EarlierJobs, AllocError>
-        requires fresh { place_in (names_of_jobs self) job.name ≡ None }
+        requires fresh { index_in (names_of_jobs self) job.name ≡ None }
         requires good { IsJob (length self) job }
         requires room { length self < most_jobs }
         ensures { IfOk result (λ g. g ≡ self ++ job ∷ []) }

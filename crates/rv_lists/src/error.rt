@@ -1,4 +1,4 @@
-//! Why a list is refused.
+//! Why a list is rejected.
 
 ghost use Rattle.std.specs.Prelude.{◌≡◌};
 ghost use Rattle.rv_lists.specs.Faults.{what_name};
@@ -6,45 +6,43 @@ ghost use Rattle.rv_lists.specs.declared.error.What.TheVariants.{OutOfMemory};
 
 use std::alloc::{AllocError, AllocFailed};
 
-/// What is wrong with a list or with a job of it. The first five are asked of the whole list before any
-/// job; of two faults of a job the one that stands first here is told.
+/// What is wrong with a list or with one of its jobs. The first five are checked for the whole list before any job; if a job has two
+/// errors, the first in this order is reported.
 #[derive(Clone, Copy, Debug, PartialEq, Eq)]
 pub enum What {
-    /// The bytes are no TOML document.
+    /// The bytes are not a TOML document.
     NotToml = 1,
-    /// `job` is absent, or an empty array.
+    /// `job` is missing, or an empty array.
     NoJobs,
     /// There are more than 4,096 jobs.
     TooMany,
-    /// A key that the format does not have: beside `job`, in a job or in a region.
+    /// A key that the format does not have: next to `job`, in a job or in a region.
     UnknownKey,
-    /// A value of another TOML kind than its key has, in a region or a signature too; or an element of
-    /// `job` that is no table.
+    /// A value has another TOML kind than its key requires, including in a region or a signature; or an element of `job` is not a table.
     WrongType,
-    /// `name` is absent, or not 1 to 64 of the ASCII letters, digits, `.`, `_` and `-`.
+    /// `name` is missing, or is not 1 to 64 of the ASCII letters, digits, `.`, `_` and `-`.
     Name,
-    /// An earlier job has the name.
+    /// An earlier job has the same name.
     Duplicate,
-    /// `image` is absent, or not 1 to 4,096 bytes.
+    /// `image` is missing, or is not 1 to 4,096 bytes.
     Image,
-    /// `budget` is absent, or not from 1 to 1,000,000,000.
+    /// `budget` is missing, or is not from 1 to 1,000,000,000.
     Budget,
-    /// `input` and `input_hex` both stand there, the digits are bad, or the script has more than 65,536
-    /// bytes.
+    /// `input` and `input_hex` are both set, the digits are invalid, or the script has more than 65,536 bytes.
     Input,
-    /// A region lacks a base or a size, one of them is no 32-bit number, or the regions are no map.
+    /// A region has no base or no size, one of them is not a 32-bit number, or the regions do not form a map.
     Region,
     /// `load` is neither `physical` nor `virtual`.
     Load,
-    /// `signature` has not two texts, or one of them not 1 to 255 bytes without a zero byte.
+    /// `signature` does not have two texts, or one of them is not 1 to 255 bytes without a zero byte.
     Signature,
-    /// `expect_exit` is no 32-bit number; `expect_signature` is not 1 to 4,096 bytes, or stands without `signature`;
-    /// `expect_console` has more than 65,536 bytes; `expect_console_file` is not 1 to 4,096 bytes, or stands beside
-    /// `expect_console`; or `expect_end` is neither `budget` nor the name of a fault.
+    /// `expect_exit` is not a 32-bit number; `expect_signature` is not 1 to 4,096 bytes, or is set without `signature`; `expect_console`
+    /// has more than 65,536 bytes; `expect_console_file` is not 1 to 4,096 bytes, or is set together with `expect_console`; or `expect_end`
+    /// is neither `budget` nor the name of a fault.
     Expect,
-    /// `same_as` is the name of no earlier job.
+    /// `same_as` is not the name of an earlier job.
     SameAs,
-    /// A growth was refused; told where it is met.
+    /// An allocation failed; reported as soon as it occurs.
     OutOfMemory,
     /// `isa` is none of `rv32i`, `rv32im`, `rv32ic` and `rv32imc`.
     Isa,
@@ -52,7 +50,7 @@ pub enum What {
     Misaligned,
 }
 
-/// A fault and its job, counted from 1; 0 is the whole list.
+/// An error and its job, counted from 1; 0 is the whole list.
 #[derive(Clone, Copy, Debug, PartialEq, Eq)]
 pub struct JobError {
     pub job: u32,
@@ -60,7 +58,7 @@ pub struct JobError {
 }
 
 impl What {
-    /// The word for it in the program's messages.
+    /// Returns the error's name in the program's messages.
     pub fn name(self) -> &'static str
         ensures { result.now ≡ what_name self }
     {

@@ -102,6 +102,7 @@ pub(crate) fn end_from_table(table: &Table) -> Result<Option<ExpectedEnd>, What>
     }
 }
 
+// Parses `budget` or the name of a fault.
 fn end_from_text(text: &str) -> Result<Option<ExpectedEnd>, What>
     ensures { result ≡ end_from_text text.now }
 {

@@ -12,24 +12,24 @@ use rv_memory::{Map, Misaligned};
 use std::alloc::{AllocError, Global};
 use std::marker::Model;
 
-/// The names of the symbols that a signature stands between, 1 to 255 bytes each.
+/// The names of the symbols at the begin and end of a signature, 1 to 255 bytes each.
 #[derive(Debug, Drop)]
 pub struct Symbols {
     pub begin: Text,
     pub end: Text,
 }
 
-/// What the console of a run is expected to hold.
+/// The console text that a run is expected to print.
 #[derive(Debug, Drop)]
 pub enum ExpectedConsole {
     /// These bytes, at most 65,536: the key `expect_console`.
     Text(Bytes),
-    /// The bytes of the file at a path of 1 to 4,096 bytes: the key `expect_console_file`.
+    /// The bytes of the file at this path of 1 to 4,096 bytes: the key `expect_console_file`.
     File(Text),
 }
 
 impl ExpectedConsole {
-    /// The path of the file, where one is named.
+    /// Returns the path of the file, if one is given.
     pub fn path(&self) -> Option<&str>
         ensures { option_map (λ path. path.now) result ≡ console_path (Some self.now) }
     {
@@ -43,44 +43,43 @@ impl ExpectedConsole {
 /// How a run is expected to end.
 #[derive(Clone, Copy, Debug, PartialEq, Eq)]
 pub enum ExpectedEnd {
-    /// The budget is used up.
+    /// The budget is exhausted.
     Budget,
-    /// By a fault of this kind, wherever it is met.
+    /// A fault of this kind, wherever it occurs.
     Fault(FaultKind),
 }
 
-/// A run of an image, and what is expected of it. The limits that the fields tell are those that
-/// [`read_jobs`](crate::read_jobs) asks of a list; what every [`JobList`] promises of its jobs is the
-/// script's length, that the names of a signature's symbols are not empty, and that `same_as` is the
-/// place of an earlier job.
+/// A run of an image, and what is expected of it. [`read_jobs`](crate::read_jobs) checks the limits given for the fields; every [`JobList`]
+/// guarantees the length of the script, that the names of a signature's symbols are not empty, and that `same_as` is the index of an
+/// earlier job.
 #[derive(Drop)]
 pub struct Job {
-    /// 1 to 64 ASCII letters, digits, `.`, `_` and `-`, which no other job of the list has.
+    /// 1 to 64 ASCII letters, digits, `.`, `_` and `-`; unique in the list.
     pub name: Text,
     /// The path of the ELF file, 1 to 4,096 bytes.
     pub image: Text,
-    /// The most steps, 1 to 1,000,000,000.
+    /// The maximum number of steps, 1 to 1,000,000,000.
     pub budget: u32,
-    /// What the console gives, at most 65,536 bytes: the key `input` or `input_hex`.
+    /// The console input, at most 65,536 bytes: the key `input` or `input_hex`.
     pub script: Bytes,
     pub load: LoadAt,
     /// The regions of memory: the key `region`.
     pub regions: Map,
     pub signature: Option<Symbols>,
     pub expect_exit: Option<u32>,
-    /// The path of the reference, 1 to 4,096 bytes; only where there is a signature.
+    /// The path of the reference signature, 1 to 4,096 bytes; only if there is a signature.
     pub expect_signature: Option<Text>,
-    /// The keys `expect_console` and `expect_console_file`, of which one stands at most.
+    /// The keys `expect_console` and `expect_console_file`, of which at most one is set.
     pub expect_console: Option<ExpectedConsole>,
     pub expect_end: Option<ExpectedEnd>,
-    /// The place of an earlier job, counted from 0.
+    /// The index of an earlier job, counted from 0.
     pub same_as: Option<usize>,
     pub isa: Isa,
     pub misaligned: Misaligned,
 }
 
 impl Job {
-    /// A job of these four, and of what a list gives where it leaves a key out.
+    /// Creates a job from these four values and the defaults of all other keys.
     pub(crate) fn job_with_defaults(name: Text, image: Text, budget: u32, script: Bytes) -> Job
         ensures { result ≡ record (single_job image budget script) { name = name } }
     {
@@ -119,7 +118,7 @@ impl Job {
     }
 }
 
-/// 1 to 4,096 jobs in the order of their list. Contracts see their list.
+/// 1 to 4,096 jobs in list order. Contracts see them as a list.
 #[derive(Drop)]
 pub struct JobList {
     items: Vec<Job>,
@@ -139,7 +138,7 @@ impl Model for JobList {
 }
 
 impl JobList {
-    /// One job named `one`, and what a list gives where it leaves a key out.
+    /// Creates a list of one job named `one`, with the defaults of all other keys.
     pub fn single(
         alloc: Global,
         image: &str,
@@ -160,7 +159,7 @@ impl JobList {
         Ok(JobList { items })
     }
 
-    /// The list of jobs that are one.
+    /// Wraps jobs that form a valid list.
     pub(crate) fn new(items: Vec<Job>) -> JobList
         requires { AreJobs items.items }
         ensures { result ≡ items.items }
@@ -168,7 +167,7 @@ impl JobList {
         JobList { items }
     }
 
-    /// The same jobs, each with this budget in place of its own, where there is one. Takes no memory.
+    /// Overrides each job's budget, if a budget is given. Does not allocate.
     pub fn with_budget(self, budget: Option<u32>) -> JobList
         ensures jobs { result ≡ with_budget budget self }
         ensures count { length result ≡ length self }
@@ -179,7 +178,7 @@ impl JobList {
         }
     }
 
-    // The same jobs, each with this budget.
+    // Overrides each job's budget.
     fn with_one_budget(self, steps: u32) -> JobList
         ensures { result ≡ map (job_with_budget steps) self }
     {
@@ -197,7 +196,7 @@ impl JobList {
         &self.items
     }
 
-    /// The same jobs, of which nothing is expected. Takes no memory.
+    /// Removes the expectations of all jobs. Does not allocate.
     pub fn without_expectations(self) -> JobList
         ensures { result ≡ map without_expectations self }
     {
@@ -208,7 +207,7 @@ impl JobList {
         JobList { items }
     }
 
-    /// Takes no memory.
+    /// Returns the underlying vector without allocating.
     pub fn into_vec(self) -> Vec<Job>
         ensures value { result.items ≡ self }
         ensures jobs { AreJobs self }

@@ -1,11 +1,11 @@
-//! A job of a list: its keys in the order of their faults, a function each.
+//! A job of a list: its keys in the order in which their errors are checked, one function each.
 
 ghost use Rattle.std.specs.Prelude.{◌≡◌, IfOk, None, length};
 ghost use Rattle.toml.specs.View.{view, table_view};
 ghost use Rattle.rv_lists.specs.Reading.{Gives};
 ghost use Rattle.rv_lists.specs.Jobs.{IsJob};
 ghost use Rattle.rv_lists.specs.JobList.{name_from_table, image_from_table, budget_from_table, names_of_jobs, job_from_table, job_from_element};
-ghost use Rattle.rv_base.specs.Names.{place_in};
+ghost use Rattle.rv_base.specs.Names.{index_in};
 ghost use Rattle.rv_lists.specs.JobSteps.{job_from_remaining_keys};
 ghost use Rattle.std.specs.Prelude.{MatchResult, Ok, Err};
 
@@ -15,7 +15,7 @@ use crate::job::Job;
 use crate::keys::{number_at_key, text_at_key};
 use crate::kinds::{has_unknown_job_or_region_key, has_wrong_kind};
 use crate::results::{Results, results_from_table};
-use crate::run_keys::{Manner, manner_from_table};
+use crate::run_keys::{RunOptions, run_options_from_table};
 use crate::setup::{Setup, setup_from_table};
 use crate::texts::is_path;
 use rv_base::limits::MOST_BUDGET;
@@ -23,7 +23,7 @@ use rv_base::{Text, is_name};
 use std::alloc::Global;
 use toml::{Table, Value};
 
-/// The job of an element of a list, behind the jobs that are read so far.
+/// Parses an element of a list as a job, given the jobs read so far.
 #[tactic(auto, unfolding(crate::specs::JobList::job_from_element))]
 pub(crate) fn job_from_element(
     alloc: Global,
@@ -32,7 +32,7 @@ pub(crate) fn job_from_element(
 ) -> Result<Job, What>
     ensures value { Gives result (job_from_element (names_of_jobs earlier.now) (view value.now)) }
     ensures good { IfOk result (IsJob (length earlier.now)) }
-    ensures fresh { IfOk result (λ job. place_in (names_of_jobs earlier.now) job.name ≡ None) }
+    ensures fresh { IfOk result (λ job. index_in (names_of_jobs earlier.now) job.name ≡ None) }
 {
     match value.as_table() {
         Some(table) => job_from_table(alloc, earlier, table),
@@ -44,7 +44,7 @@ pub(crate) fn job_from_element(
 fn job_from_table(alloc: Global, earlier: &EarlierJobs, table: &Table) -> Result<Job, What>
     ensures value { Gives result (job_from_table (names_of_jobs earlier.now) (table_view table.now)) }
     ensures good { IfOk result (IsJob (length earlier.now)) }
-    ensures fresh { IfOk result (λ job. place_in (names_of_jobs earlier.now) job.name ≡ None) }
+    ensures fresh { IfOk result (λ job. index_in (names_of_jobs earlier.now) job.name ≡ None) }
 {
     if has_unknown_job_or_region_key(table) {
         return Err(What::UnknownKey);
@@ -62,7 +62,7 @@ fn job_from_table(alloc: Global, earlier: &EarlierJobs, table: &Table) -> Result
 }
 
 impl EarlierJobs {
-    /// The job of a name that no earlier job has, of an image and a budget.
+    /// Parses the remaining keys of a job with a name that no earlier job has, an image and a budget.
     #[tactic(auto, unfolding(crate::specs::JobSteps::job_from_remaining_keys))]
     fn job_from_remaining_keys(
         &self,
@@ -72,15 +72,15 @@ impl EarlierJobs {
         budget: u32,
         table: &Table,
     ) -> Result<Job, What>
-        requires { place_in (names_of_jobs self.now) name.now ≡ None }
+        requires { index_in (names_of_jobs self.now) name.now ≡ None }
         ensures value { Gives result
             (job_from_remaining_keys (names_of_jobs self.now) name.now image.now budget (table_view table.now)) }
         ensures good { IfOk result (IsJob (length self.now)) }
-        ensures fresh { IfOk result (λ job. place_in (names_of_jobs self.now) job.name ≡ None) }
+        ensures fresh { IfOk result (λ job. index_in (names_of_jobs self.now) job.name ≡ None) }
     {
         let setup = setup_from_table(alloc, table)?;
         let results = results_from_table(alloc, table)?;
-        let manner = manner_from_table(self, table)?;
+        let manner = run_options_from_table(self, table)?;
         let name = Text::copy(alloc, name)?;
         let image = Text::copy(alloc, image)?;
         Ok(setup.into_job(name, image, budget, results, manner))
@@ -88,8 +88,15 @@ impl EarlierJobs {
 }
 
 impl Setup {
-    // The job of all that its keys say.
-    fn into_job(self, name: Text, image: Text, budget: u32, results: Results, manner: Manner) -> Job
+    // Assembles a job from the values of its keys.
+    fn into_job(
+        self,
+        name: Text,
+        image: Text,
+        budget: u32,
+        results: Results,
+        manner: RunOptions,
+    ) -> Job
         ensures { result ≡ record {
           name = name;
           image = image;

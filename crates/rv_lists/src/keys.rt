@@ -1,4 +1,4 @@
-//! The keys of a list's tables and their values, and which keys no table has.
+//! The keys of a list's tables, their values, and unknown keys.
 
 ghost use Rattle.std.specs.Prelude.{◌≡◌, option_map};
 ghost use Rattle.std.specs.List.{list_any};
@@ -11,7 +11,7 @@ ghost use Rattle.rv_lists.specs.Keys.{is_job_key, is_region_key, is_list_key, an
 use toml::value::Array;
 use toml::{Table, Value};
 
-/// What the value of a job's key is in TOML.
+/// The TOML kind of the value of a job's key.
 #[derive(Clone, Copy)]
 pub enum Kind {
     Text,
@@ -84,21 +84,21 @@ pub(crate) fn array_at_key<'a>(table: &'a Table, key: &str) -> Option<&'a Array>
     }
 }
 
-/// Whether a job has a key that the format does not have.
+/// Whether a job has an unknown key.
 pub(crate) fn has_unknown_job_key(table: &Table) -> bool
     ensures { result ≡ any_unknown_key is_job_key (table_view table.now) }
 {
     table.keys().any(|key| !is_job_key(key.as_str()))
 }
 
-/// Whether a region has one.
+/// Whether a region has an unknown key.
 pub(crate) fn has_unknown_region_key(table: &Table) -> bool
     ensures { result ≡ any_unknown_key is_region_key (table_view table.now) }
 {
     table.keys().any(|key| !is_region_key(key.as_str()))
 }
 
-/// Whether the whole list has a key beside `job`.
+/// Whether the whole list has a key other than `job`.
 pub(crate) fn has_unknown_list_key(table: &Table) -> bool
     ensures { result ≡ any_unknown_key is_list_key (table_view table.now) }
 {

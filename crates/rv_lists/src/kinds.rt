@@ -1,4 +1,4 @@
-//! Whether the keys and the kinds of their values are a job's.
+//! Whether a table has the keys of a job, with values of the right kinds.
 
 ghost use Rattle.std.specs.Prelude.{◌≡◌, true, false};
 ghost use Rattle.std.specs.List.{list_all, list_any};
@@ -14,7 +14,7 @@ use crate::keys::{
 };
 use toml::{Table, Value};
 
-/// Whether a job or one of its regions has a key that the format does not have.
+/// Whether a job or one of its regions has an unknown key.
 #[tactic(auto, unfolding(crate::specs::Keys::has_unknown_job_or_region_key))]
 pub(crate) fn has_unknown_job_or_region_key(table: &Table) -> bool
     ensures { result ≡ has_unknown_job_or_region_key (table_view table.now) }
@@ -22,7 +22,7 @@ pub(crate) fn has_unknown_job_or_region_key(table: &Table) -> bool
     has_unknown_job_key(table) || regions_have_unknown_key(table)
 }
 
-/// Whether a value is of another TOML kind than its key has, in a region or a signature too.
+/// Whether a value has another TOML kind than its key requires, including in a region or a signature.
 #[tactic(auto, unfolding(crate::specs::Keys::has_wrong_kind))]
 pub(crate) fn has_wrong_kind(table: &Table) -> bool
     ensures { result ≡ has_wrong_kind (table_view table.now) }
@@ -68,6 +68,7 @@ fn has_kinds_of_keys(table: &Table, keys: &[(&str, Kind)]) -> bool
         .all(|key| is_absent_or_kind(table, key.0, key.1))
 }
 
+// Whether the key is missing or its value is of the kind.
 fn is_absent_or_kind(table: &Table, key: &str, kind: Kind) -> bool
     ensures { result ≡ absent_or (is_value_of_kind kind) key.now (table_view table.now) }
 {

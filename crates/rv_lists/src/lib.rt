@@ -1,8 +1,7 @@
-//! Job lists: which jobs a TOML text stands for.
+//! Job lists: the jobs that a TOML text defines.
 //!
-//! [`read_jobs`] reads bytes as a [`JobList`], or names the job and its fault ([`JobError`], [`What`]); [`read_faults`]
-//! names the first fault of every bad job.
-//! Callers see a list of [`Job`]s, each with one field for each key of the format.
+//! [`read_jobs`] parses bytes as a [`JobList`], or returns the job in error and its error ([`JobError`], [`What`]); [`read_faults`] returns
+//! the first error of every bad job. Callers see a list of [`Job`]s, with one field for each key of the format.
 #![tactic(auto)]
 
 mod all_faults;

@@ -1,4 +1,4 @@
-//! Job lists: from bytes to jobs, or the first fault.
+//! Parsing job lists: from bytes to jobs, or the first error.
 
 ghost use Rattle.std.specs.Prelude.{◌≡◌, ◌≤◌, [], MatchResult, IfOk, Some, Ok, Err, length};
 ghost use Rattle.std.specs.Prelude.{vec_len, option_map};
@@ -19,8 +19,8 @@ use std::alloc::Global;
 use toml::value::Array;
 use toml::{Table, Value};
 
-/// Reads bytes as a job list, or names its first fault: those of the whole list stand before all
-/// others, with job 0, and then comes the first bad job in list order.
+/// Parses bytes as a job list, or returns its first error: errors of the whole list, with job 0, come before all others, followed by that
+/// of the first bad job in list order.
 #[tactic(auto, unfolding(crate::specs::JobList::job_list_of))]
 pub fn read_jobs(alloc: Global, bytes: &[u8]) -> Result<JobList, JobError>
     ensures { GivesJobs result (job_list_of bytes.now) }
@@ -37,7 +37,7 @@ pub fn read_jobs(alloc: Global, bytes: &[u8]) -> Result<JobList, JobError>
     }
 }
 
-/// A fault of the whole list.
+/// Returns an error of the whole list.
 pub(crate) fn list_error(what: What) -> JobError
     ensures { result ≡ record { job = 0; what = what } }
 {
@@ -54,7 +54,7 @@ fn jobs_of_table(alloc: Global, table: &Table) -> Result<JobList, JobError>
     }
 }
 
-/// The elements of `job`, where the whole list has no fault.
+/// Returns the elements of `job`, if the whole list has no error.
 #[tactic(auto, unfolding(crate::specs::JobList::job_elements))]
 pub(crate) fn job_elements(table: &Table) -> Result<&Array, What>
     ensures value { MatchResult result (λ a. job_elements (table_view table.now)

@@ -13,7 +13,7 @@ use rv_memory::{Map, Region};
 use std::alloc::Global;
 use toml::{Table, Value};
 
-/// The map of a job's regions, the default one where it has none.
+/// Returns the map of a job's regions, or the default map if it has none.
 #[tactic(auto, unfolding(crate::specs::JobList::map_from_table))]
 pub(crate) fn map_from_table(alloc: Global, table: &Table) -> Result<Map, What>
     ensures { Gives result (map_from_table (table_view table.now)) }
@@ -73,6 +73,7 @@ fn region_from_table(table: &Table) -> Result<Region, What>
     })
 }
 
+// Returns the number at a key of a region, which must have 32 bits.
 fn region_word(table: &Table, key: &str) -> Result<u32, What>
     ensures { result ≡ region_word key.now (table_view table.now) }
 {

@@ -1,4 +1,4 @@
-//! What is taken of a job's run, and what it is expected to be.
+//! What is collected from a job's run, and what is expected of it.
 
 ghost use Rattle.std.specs.Prelude.{◌≡◌, ◌<◌, IfOk, IfSome, length};
 ghost use Rattle.toml.specs.View.{table_view};
@@ -13,7 +13,7 @@ use rv_base::Text;
 use std::alloc::Global;
 use toml::Table;
 
-/// What is taken of a run, and what it is expected to be.
+/// What is collected from a run, and what is expected of it.
 #[derive(Drop)]
 pub(crate) struct Results {
     pub(crate) signature: Option<Symbols>,
@@ -22,7 +22,7 @@ pub(crate) struct Results {
     pub(crate) console: Option<ExpectedConsole>,
 }
 
-/// The signature of a job, and what its exit code, its signature and its console are expected to be.
+/// Parses the signature of a job, and its expected exit code, signature and console.
 #[tactic(auto, unfolding(crate::specs::JobSteps::results_from_table))]
 pub(crate) fn results_from_table(alloc: Global, table: &Table) -> Result<Results, What>
     ensures value { Gives result (results_from_table (table_view table.now)) }

@@ -1,9 +1,9 @@
-//! How a job runs and is to end: the last four keys of a job, in the order of their faults.
+//! How a job runs and should end: the last four keys of a job, in the order in which their errors are checked.
 
 ghost use Rattle.std.specs.Prelude.{◌≡◌, ◌<◌, IfOk, IfSome, length};
 ghost use Rattle.toml.specs.View.{table_view};
 ghost use Rattle.rv_lists.specs.JobList.{names_of_jobs, same_as_from_table, isa_from_text, isa_from_table, misaligned_from_text, misaligned_from_table};
-ghost use Rattle.rv_lists.specs.JobSteps.{manner_from_table};
+ghost use Rattle.rv_lists.specs.JobSteps.{run_options_from_table};
 
 use crate::earlier_jobs::EarlierJobs;
 use crate::error::What;
@@ -14,19 +14,22 @@ use rv_isa::Isa;
 use rv_memory::Misaligned;
 use toml::Table;
 
-/// How a job runs and is to end.
+/// How a job runs and should end.
 #[derive(Clone, Copy)]
-pub(crate) struct Manner {
+pub(crate) struct RunOptions {
     pub(crate) expect_end: Option<ExpectedEnd>,
     pub(crate) same_as: Option<usize>,
     pub(crate) isa: Isa,
     pub(crate) misaligned: Misaligned,
 }
 
-/// The last four keys of a job, behind the jobs that are read so far.
-#[tactic(auto, unfolding(crate::specs::JobSteps::manner_from_table))]
-pub(crate) fn manner_from_table(earlier: &EarlierJobs, table: &Table) -> Result<Manner, What>
-    ensures value { result ≡ manner_from_table (names_of_jobs earlier.now) (table_view table.now) }
+/// Parses the last four keys of a job, given the jobs read so far.
+#[tactic(auto, unfolding(crate::specs::JobSteps::run_options_from_table))]
+pub(crate) fn run_options_from_table(
+    earlier: &EarlierJobs,
+    table: &Table,
+) -> Result<RunOptions, What>
+    ensures value { result ≡ run_options_from_table (names_of_jobs earlier.now) (table_view table.now) }
     ensures earlier { IfOk result
         (λ manner. IfSome manner.same_as (λ place. place < length earlier.now)) }
 {
@@ -34,7 +37,7 @@ pub(crate) fn manner_from_table(earlier: &EarlierJobs, table: &Table) -> Result<
     let same_as = same_as_from_table(earlier, table)?;
     let isa = isa_from_table(table)?;
     let misaligned = misaligned_from_table(table)?;
-    Ok(Manner {
+    Ok(RunOptions {
         expect_end,
         same_as,
         isa,

@@ -1,4 +1,4 @@
-//! What a job starts with: its script, its regions, and where its segments go.
+//! The initial state of a job: its script, its regions, and the load addresses of its segments.
 
 ghost use Rattle.std.specs.Prelude.{◌≡◌, ◌≤◌, ◌==◌, IfOk, length};
 ghost use Rattle.hex.specs.Hex.{decode_of};
@@ -20,7 +20,7 @@ use rv_memory::Map;
 use std::alloc::Global;
 use toml::Table;
 
-/// What a job starts with.
+/// The initial state of a job.
 #[derive(Drop)]
 pub(crate) struct Setup {
     pub(crate) script: Bytes,
@@ -28,7 +28,7 @@ pub(crate) struct Setup {
     pub(crate) load: LoadAt,
 }
 
-/// The script, the regions and the choice of addresses of a job.
+/// Parses the script, the regions and the choice of load addresses of a job.
 #[tactic(auto, unfolding(crate::specs::JobSteps::setup_from_table))]
 pub(crate) fn setup_from_table(alloc: Global, table: &Table) -> Result<Setup, What>
     ensures value { Gives result (setup_from_table (table_view table.now)) }

@@ -17,7 +17,7 @@ use rv_base::limits::MOST_SYMBOL;
 use std::alloc::Global;
 use toml::{Table, Value};
 
-/// The symbols of a job's signature, where it has one.
+/// Parses the symbols of a job's signature, if it has one.
 #[tactic(auto, unfolding(crate::specs::JobList::signature_from_table))]
 pub(crate) fn signature_from_table(alloc: Global, table: &Table) -> Result<Option<Symbols>, What>
     ensures value { Gives result (signature_from_table (table_view table.now)) }
@@ -67,6 +67,7 @@ fn element_text<'a>(values: &'a [Value], at: usize) -> Option<&'a str>
     values[at].as_str()
 }
 
+// Whether a text is 1 to 255 bytes without a zero byte.
 #[tactic(auto, unfolding(crate::specs::JobList::is_signature_symbol))]
 fn is_signature_symbol(text: &str) -> bool
     ensures { result ≡ is_signature_symbol text.now }

@@ -1,4 +1,4 @@
-//! Which texts a list takes as a path.
+//! Which texts are valid paths in a list.
 
 ghost use Rattle.std.specs.Prelude.{◌≡◌};
 ghost use Rattle.rv_lists.specs.JobList.{is_path};
@@ -13,6 +13,7 @@ pub(crate) fn is_in_bounds(low: usize, high: usize, n: usize) -> bool
     low <= n && n <= high
 }
 
+/// Whether a text is 1 to 4,096 bytes long.
 pub(crate) fn is_path(text: &str) -> bool
     ensures { result ≡ is_path text.now }
 {

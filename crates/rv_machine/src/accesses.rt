@@ -1,4 +1,4 @@
-//! The instructions that reach memory: loads and stores.
+//! The instructions that access memory: loads and stores.
 ghost use Rattle.std.specs.Prelude.{◌≡◌, ◌<◌, ◌*◌, ◌^◌, MatchResult, false, is_ok, Ok};
 ghost use Rattle.rv_isa.specs.Words.{IsWellFormed};
 ghost use Rattle.rv_memory.specs.Bus.{size_of};
@@ -13,7 +13,7 @@ use crate::kept::DecodeCache;
 use rv_isa::{Instr, sign_extend};
 use rv_memory::Width;
 
-/// What a load makes of a value that is narrower than a word.
+/// How a load extends a value narrower than a word.
 #[derive(Clone, Copy)]
 pub(crate) enum Extend {
     Zero,
@@ -21,7 +21,7 @@ pub(crate) enum Extend {
 }
 
 impl Hart {
-    /// A load: the value goes into its register.
+    /// Executes a load: writes the value to its register.
     #[inline]
     pub(crate) fn load(
         &mut self,
@@ -46,7 +46,7 @@ impl Hart {
         }
     }
 
-    /// A store, which puts to sleep what is kept of its bytes.
+    /// Executes a store, and invalidates the cached instructions that it overlaps.
     #[inline(always)]
     pub(crate) fn store(
         &mut self,
@@ -76,6 +76,7 @@ impl Hart {
     }
 }
 
+// Returns a loaded value as a word, sign- or zero-extended.
 #[inline]
 fn load_value(value: u32, width: Width, extend: Extend) -> u32
     requires { value < 2 ^ (8 * size_of width) }

@@ -1,10 +1,9 @@
-//! One hart over a bus: fetch, effect, and runs within a budget of steps.
+//! One hart on a bus: fetch, execution, and runs within a step budget.
 //!
-//! Callers see a machine as its state (the pc, the 32 registers, what stands in the bus, and the set of
-//! instructions) and the instructions that it keeps. `step` is one fetch and one effect of the instruction
-//! definitions, and `run` is as many steps as the budget allows: what is kept shows in `kept` and in the time that
-//! a run takes, and in no other answer. A step that ends a run leaves the state as it was. Nothing here takes
-//! memory once a machine is made.
+//! Callers see a machine as its state (the pc, the 32 registers, the contents of the bus, and the instruction set) and its decode cache.
+//! `step` is one fetch and one effect as the instruction definitions specify, and `run` is as many steps as the budget allows. The cache is
+//! visible only through `kept` and in the run time. A step that ends a run leaves the state unchanged. Nothing here allocates once a
+//! machine has been created.
 #![tactic(auto)]
 
 mod accesses;

@@ -1,4 +1,4 @@
-//! Where an instruction leads: the next one, or the target of a jump or a branch.
+//! Where execution continues: at the next instruction, or at the target of a jump or a branch.
 ghost use Rattle.std.specs.Prelude.{◌≡◌, ◌+◌, ◌%◌, ◌⊎◌, MatchResult, false, is_ok, Ok};
 ghost use Rattle.rv_isa.specs.Words.{IsWellFormed};
 ghost use Rattle.rv_machine.specs.Arithmetic.{even};
@@ -11,8 +11,8 @@ use crate::hart::{Hart, set_pc};
 use rv_isa::Instr;
 
 impl Hart {
-    /// The address behind an instruction of `length` bytes. It is found by a branch of the processor, not by a sum, so
-    /// that what stands there is looked up before the length is known.
+    /// Returns the address after an instruction of `length` bytes. It is computed by a processor branch rather than a sum, so that the next
+    /// entry is looked up before the length is known.
     #[inline(always)]
     pub(crate) fn following_pc(&mut self, pc: u32, length: u32) -> u32
         requires { (length ≡ 2) ⊎ (length ≡ 4) }
@@ -20,14 +20,14 @@ impl Hart {
         ensures same { self.new ≡ self.old }
     {
         if length == 2 {
-            // x0 is 0 already: the store keeps the compiler from making a choice of a value of the branch.
+            // x0 is 0 already: the store keeps the compiler from turning the branch into a select of a value.
             self.registers[0] = 0;
             return pc.wrapping_add(2);
         }
         pc.wrapping_add(4)
     }
 
-    /// JALR: the target is read before the link is written, and its lowest bit is cleared.
+    /// Executes JALR: the target is read before the link is written, and its lowest bit is cleared.
     #[inline]
     pub(crate) fn jump_and_link_register(
         &mut self,
@@ -49,7 +49,7 @@ impl Hart {
         self.jump_and_link(pc, instr, next, target)
     }
 
-    /// A jump: the link is written where the target is reached.
+    /// Executes a jump: the link is written only if the target is valid.
     #[inline]
     pub(crate) fn jump_and_link(
         &mut self,
@@ -72,7 +72,7 @@ impl Hart {
         self.complete(pc, instr.rd, next, target)
     }
 
-    /// A branch, of the instruction at `here`, which is the pc.
+    /// Executes a branch; `here`, the pc, is the address of its instruction.
     #[inline]
     pub(crate) fn branch(
         &mut self,

@@ -1,4 +1,4 @@
-//! `rv_machine`: what is kept, by the lines of a table: an image, what its machine is asked, and what it answers.
+//! `rv_machine`: the decode cache, tested with the lines of a table: an image, requests to its machine, and the results.
 use rv_isa::Isa;
 use rv_machine::Machine;
 use rv_memory::{Bus, Map, Misaligned, Region};
@@ -6,11 +6,10 @@ use samples::{agree, cell_of, has_lines, hex_of, numbers};
 use std::alloc::{AllocError, Global};
 use std::test::Fail;
 
-// AUIPC, a store over itself, and FENCE.I. C.LI at the first halfword of the address space; an entry in the middle of a
-// word; an instruction whose halves are the last and the first halfword of the address space. Steps behind an ending end
-// too, and a run within no budget does nothing. Last, in each of 70,000 rounds the immediate of the loop's first
-// instruction is stored anew, and FENCE.I follows; the first store is over the image's first instruction: label | entry |
-// parts of the image | dialogue.
+// AUIPC, a store over itself, and FENCE.I. C.LI at the first halfword of the address space; an entry in the middle of a word; an
+// instruction whose halves are the last and the first halfword of the address space. Steps after an end also end, and a run with a budget
+// of 0 does nothing. Last, in each of 70,000 rounds the immediate of the loop's first instruction is stored again, followed by FENCE.I; the
+// first store is over the image's first instruction: label | entry | parts of the image | dialogue.
 const KEPT: &str = "\
 fallen asleep | 80000000 | 80000000: 00000297 0052a223 0000100f | kept 80000000 = nothing; step = goes on; kept 80000000 = Auipc 5 0 0 0, 4 bytes; kept 80000001 = nothing; kept 80000002 = nothing; kept 80000004 = nothing; kept 80002000 = nothing; clean 80000004 = yes; step = goes on; kept 80000004 = Sw 0 5 5 4, 4 bytes; clean 80000004 = no; step = goes on; kept 80000000 = Auipc 5 0 0 0, 4 bytes; kept 80000004 = nothing; clean 80000004 = yes
 first halfword | 0 | 0: 4515 9002 | run 10 = 1; kept 0 = Addi 10 0 0 5, 2 bytes
@@ -29,7 +28,7 @@ fn region(base: u32, size: u32) -> Region {
     }
 }
 
-// Places a part `ADDRESS: NUMBERS` of an image.
+// Writes a part `ADDRESS: NUMBERS` of an image to memory.
 fn place(alloc: Global, bus: &mut Bus, part: &str) -> Result<(), Fail> {
     let (addr, code) = part.split_once(": ").ok_or("an address and numbers")?;
     let addr = hex_of(addr)?;
@@ -48,7 +47,7 @@ fn load(alloc: Global, bus: &mut Bus, image: &str) -> Result<(), Fail> {
     Ok(())
 }
 
-// A machine of all instructions over memory at both ends and in the middle of the address space.
+// Returns a machine with all instructions, with memory at both ends and in the middle of the address space.
 fn machine_of(alloc: Global, entry: u32, image: &str) -> Result<Machine, Fail> {
     if entry % 2 != 0 {
         return Err("an entry".into());
@@ -92,13 +91,13 @@ fn clean(machine: &Machine, addr: u32) -> &'static str {
     }
 }
 
-// How many steps of a run complete.
+// Returns how many steps of a run complete.
 fn run(alloc: Global, machine: &mut Machine, budget: u32) -> Result<String, AllocError> {
     let steps = machine.run(budget).steps;
     format!(in alloc; "{steps}")
 }
 
-// Whether a machine answers `ASK = ANSWER` so, which asks `run BUDGET`, `step`, `kept ADDRESS` or `clean ADDRESS`.
+// Checks that a machine responds as `ASK = ANSWER` says, where the request is `run BUDGET`, `step`, `kept ADDRESS` or `clean ADDRESS`.
 fn ask(alloc: Global, machine: &mut Machine, line: &str, exchange: &str) -> Result<(), Fail> {
     let (ask, wanted) = exchange.split_once(" = ").unwrap_or((exchange, ""));
     let (verb, number) = ask.split_once(' ').unwrap_or((ask, "0"));

@@ -1,6 +1,5 @@
--- What stands in a bus, and what each access gives and leaves. Memory is little-endian (RISC-V
--- Unprivileged ISA 20191213, sections 1.4 and 2.6); the fences' part is that of its chapter 3,
--- "Zifencei".
+-- The contents of a bus, and the result and effect of each access. Memory is little-endian (RISC-V Unprivileged ISA 20191213, sections 1.4
+-- and 2.6); the fence follows its chapter 3, "Zifencei".
 use Rattle.std.specs.Prelude.{ℕ, ◌+◌, ◌*◌, ◌/◌, ◌%◌, Bool, false, ◌&&◌, ◌||◌, ◌==◌, nat_lt, not}
 use Rattle.std.specs.Prelude.{if◌then◌else◌, List, [], ◌∷◌, ◌++◌, length, drop, unwrap_or, Option}
 use Rattle.std.specs.Prelude.{Some, None, Result, Ok, Err, is_ok}
@@ -17,24 +16,24 @@ use Rattle.rv_memory.specs.declared.access.Misaligned.TheVariants.{Fault, Allow}
 use Rattle.rv_memory.specs.declared.faults.FetchFault.{FetchFault}
 use Rattle.rv_memory.specs.declared.faults.FetchFault.TheVariants.{Unmapped, Stale}
 use Rattle.rv_memory.specs.declared.limits.TheConstants.{CONSOLE_ROOM}
-use Rattle.rv_memory.specs.Regions.{in_one, in_writable, addresses, tabulate}
+use Rattle.rv_memory.specs.Regions.{in_one, is_in_writable_region, addresses, tabulate}
 
--- what callers see of a bus
+-- a bus as callers see it
 pub record Contents : Type 0 where
   pub regions : List Region
   -- from the regions' addresses to bytes
   pub memory : fin.FinMap nat_cmp ℕ
-  -- the addresses stored since the start or the last FENCE.I
+  -- the addresses stored to since the start or the last FENCE.I
   pub stored : set.FinSet nat_cmp
-  -- what is left of the script
+  -- the unread rest of the script
   pub script : List ℕ
-  -- what the console was given so far
+  -- the console output so far
   pub output : List ℕ
-  -- what becomes of misaligned accesses, which never changes
+  -- how misaligned accesses are handled; never changes
   pub misaligned : Choice
 
--- The byte at an address of the regions. Memory has one at each of them, and no access reads
--- another address: the 0 is never read.
+-- The byte at an address of the regions. Memory has a byte at each of them and no access reads another address, so the default 0 is never
+-- read.
 abbrev pub byte_at : fin.FinMap nat_cmp ℕ → ℕ → ℕ
 byte_at m a = unwrap_or (fin.get m a) 0
 
@@ -42,7 +41,7 @@ byte_at m a = unwrap_or (fin.get m a) 0
 abbrev pub half_at : fin.FinMap nat_cmp ℕ → ℕ → ℕ
 half_at m a = byte_at m a + 0x100 * byte_at m (a + 1)
 
--- the little-endian word of four
+-- the little-endian word of four bytes
 abbrev pub word_at : fin.FinMap nat_cmp ℕ → ℕ → ℕ
 word_at m a =
     byte_at m a + 0x100 * byte_at m (a + 1) + 0x1_0000 * byte_at m (a + 2)
@@ -60,23 +59,23 @@ value_at m a Byte = byte_at m a
 value_at m a Half = half_at m a
 value_at m a Word = word_at m a
 
--- Whether the choice refuses an access for its address: `Fault` does where that is no multiple of
--- the number of bytes, `Allow` never.
+-- Whether an access is rejected because of its address: `Fault` rejects an address that is not a multiple of the access width, `Allow`
+-- none.
 abbrev pub refuses : Choice → ℕ → Width → Bool
 refuses Fault a w = not (a % size_of w == 0)
 refuses Allow a w = false
 
--- one of the n bytes from the address on is one of the console's 16, 0x1000_0000 to 0x1000_000f
+-- whether one of the n bytes from the address on is among the console's 16, 0x1000_0000 to 0x1000_000f
 abbrev pub touches_console : ℕ → ℕ → Bool
 touches_console a n = nat_lt 0x1000_0000 (a + n) && nat_lt a 0x1000_0010
 
--- what a read of the script gives: its next byte, or all ones at its end
+-- the value of a script read: the next byte, or all ones at the end
 abbrev pub next_of : List ℕ → ℕ
 next_of [] = 0xffff_ffff
 next_of (b ∷ bs) = b
 
--- A load from the console: a word at its first address takes a byte of the script, and the word
--- after it counts the bytes that are left. Every other one is refused.
+-- A load from the console: a word load at its first address reads a byte of the script, and a word load at the next word returns the number
+-- of bytes left. Every other load is rejected.
 abbrev pub console_load : Contents → ℕ → Width → Result (ℕ × Contents) BusFault
 console_load c a Byte = Err Access
 console_load c a Half = Err Access
@@ -84,28 +83,27 @@ console_load c a Word =
     if a == 0x1000_0000 then Ok (next_of c.script, record c { script = drop 1 c.script })
     else (if a == 0x1000_0004 then Ok (length c.script, c) else Err Access)
 
--- A load gives an unsigned value and what it leaves of the bus. Misaligned ones are refused first,
--- unless they are allowed; then those that neither touch the console nor lie in one region.
+-- A load returns an unsigned value and the new contents of the bus. Misaligned loads are rejected first, unless they are allowed; then
+-- loads that neither touch the console nor fit in one region.
 abbrev pub load_from : Contents → ℕ → Width → Result (ℕ × Contents) BusFault
 load_from c a w =
     if refuses c.misaligned a w then Err Misaligned
     else (if touches_console a (size_of w) then console_load c a w
     else (if in_one c.regions a (size_of w) then Ok (value_at c.memory a w, c) else Err Access))
 
--- one byte stored, and marked as stored whatever it held before
-abbrev pub put_byte : Contents → ℕ → ℕ → Contents
-put_byte c a b = record c { memory = fin.insert c.memory a b; stored = set.insert c.stored a }
+-- one byte stored, and marked as stored whatever its previous value
+abbrev pub with_stored_byte : Contents → ℕ → ℕ → Contents
+with_stored_byte c a b = record c { memory = fin.insert c.memory a b; stored = set.insert c.stored a }
 
--- the low bytes of a value stored, the lowest first
+-- the low bytes of a value stored, lowest first
 abbrev pub put : Contents → ℕ → Width → ℕ → Contents
-put c a Byte v = put_byte c a (v % 0x100)
-put c a Half v = put_byte (put_byte c a (v % 0x100)) (a + 1) (v / 0x100 % 0x100)
+put c a Byte v = with_stored_byte c a (v % 0x100)
+put c a Half v = with_stored_byte (with_stored_byte c a (v % 0x100)) (a + 1) (v / 0x100 % 0x100)
 put c a Word v =
-    put_byte (put_byte (put_byte (put_byte c a (v % 0x100)) (a + 1) (v / 0x100 % 0x100))
+    with_stored_byte (with_stored_byte (with_stored_byte (with_stored_byte c a (v % 0x100)) (a + 1) (v / 0x100 % 0x100))
     (a + 2) (v / 0x1_0000 % 0x100)) (a + 3) (v / 0x100_0000 % 0x100)
 
--- A store to the console: a word at its first address appends its low byte, until the output is
--- full. Every other one is refused.
+-- A store to the console: a word store at its first address appends its low byte, until the output is full. Every other store is rejected.
 abbrev pub console_store : Contents → ℕ → Width → ℕ → Result Contents BusFault
 console_store c a Byte v = Err Access
 console_store c a Half v = Err Access
@@ -115,53 +113,53 @@ console_store c a Word v =
     then Ok (record c { output = c.output ++ (v % 0x100) ∷ [] })
     else Err ConsoleFull)
 
--- A store gives what it leaves of the bus. Misaligned ones are refused first, unless they are
--- allowed; then those that neither touch the console nor lie in one region that may be written.
+-- A store returns the new contents of the bus. Misaligned stores are rejected first, unless they are allowed; then stores that neither
+-- touch the console nor fit in one writable region.
 abbrev pub store_to : Contents → ℕ → Width → ℕ → Result Contents BusFault
 store_to c a w v =
     if refuses c.misaligned a w then Err Misaligned
     else (if touches_console a (size_of w) then console_store c a w v
-    else (if in_writable c.regions a (size_of w) then Ok (put c a w v) else Err Access))
+    else (if is_in_writable_region c.regions a (size_of w) then Ok (put c a w v) else Err Access))
 
--- one of the two bytes was stored since the last FENCE.I
+-- whether one of the two bytes was stored to since the last FENCE.I
 abbrev pub is_stale : Contents → ℕ → Bool
 is_stale c a = set.contains c.stored a || set.contains c.stored (a + 1)
 
--- a fetch of the halfword of the two bytes, which lie in one region and were not stored
+-- a fetch of a halfword, whose two bytes must be in one region and not stored to
 abbrev pub fetch_half_from : Contents → ℕ → Result ℕ FetchFault
 fetch_half_from c a =
     if not (in_one c.regions a 2) then Err Unmapped
     else (if is_stale c a then Err Stale else Ok (half_at c.memory a))
 
--- a fetch of the word of the four bytes, where they lie in one region and none was stored
+-- a fetch of a word, if its four bytes are in one region and none was stored to
 abbrev pub fetch_word_from : Contents → ℕ → Option ℕ
 fetch_word_from c a =
     if in_one c.regions a 4 && not (is_stale c a || is_stale c (a + 2))
     then Some (word_at c.memory a)
     else None
 
--- a fetch of the halfword would give one
+-- whether a fetch of the halfword would succeed
 abbrev pub is_clean_half : Contents → ℕ → Bool
 is_clean_half c a = is_ok (fetch_half_from c a)
 
--- a fetch of each halfword of the n bytes (2 or 4) from an address on would give one
+-- whether a fetch of each halfword of the n bytes (2 or 4) from an address on would succeed
 unfoldable pub clean_from : Contents → ℕ → ℕ → Bool
 clean_from c a n = is_clean_half c a && (not (n == 4) || is_clean_half c ((a + 2) % 0x1_0000_0000))
 
--- FENCE.I: nothing counts as stored
+-- FENCE.I: clears the marks of all stored bytes
 abbrev pub without_stored : Contents → Contents
 without_stored c = record c { stored = set.empty }
 
--- the memory with bytes put one after another, from an address on
-abbrev pub bytes_put : fin.FinMap nat_cmp ℕ → ℕ → List ℕ → fin.FinMap nat_cmp ℕ
-bytes_put m a [] = m
-bytes_put m a (b ∷ bs) = bytes_put (fin.insert m a b) (a + 1) bs
+-- the memory with bytes written consecutively from an address on
+abbrev pub with_bytes_written : fin.FinMap nat_cmp ℕ → ℕ → List ℕ → fin.FinMap nat_cmp ℕ
+with_bytes_written m a [] = m
+with_bytes_written m a (b ∷ bs) = with_bytes_written (fin.insert m a b) (a + 1) bs
 
--- bytes placed from an address on, as an image's are: none of them counts as stored
+-- an image's bytes written from an address on: none of them counts as stored
 abbrev pub with_bytes : Contents → ℕ → List ℕ → Contents
-with_bytes c a bytes = record c { memory = bytes_put c.memory a bytes }
+with_bytes c a bytes = record c { memory = with_bytes_written c.memory a bytes }
 
--- a new bus: zero memory, and nothing stored
+-- a new bus: zeroed memory, and no byte stored
 unfoldable pub new_bus : List Region → List ℕ → Choice → Contents
 new_bus regions script misaligned = record {
   regions = regions;

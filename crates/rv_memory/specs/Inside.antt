@@ -1,5 +1,4 @@
--- What the code keeps in place of regions and contents, and how the prover stores them. The
--- contracts of public functions cite nothing of it.
+-- What the code holds in place of regions and contents, and how the prover stores them. No contract of a public function uses any of it.
 pub mod Codes
 pub mod Places
 pub mod Map

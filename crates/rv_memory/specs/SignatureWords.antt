@@ -1,4 +1,4 @@
--- The words of a range of memory: a signature's, once a run has ended.
+-- The words of a memory range, such as the signature at the end of a run.
 use Rattle.std.specs.Prelude.{ℕ, ◌+◌, ◌-◌, ◌*◌, ◌/◌, List, map}
 use Rattle.std.specs.List.{range_with_len}
 use Rattle.std.specs.Ordering.{nat_cmp}

@@ -1,9 +1,9 @@
-//! A bus, and what a hart does with it: loads, stores, fetches and FENCE.I; and the placing of an image's bytes.
+//! A bus and what a hart does with it (loads, stores, fetches and FENCE.I), and the writing of an image's bytes.
 ghost use Rattle.std.specs.Prelude.{◌≡◌, ◌+◌, ◌*◌, ◌/◌, ◌%◌, ◌^◌, ◌<◌, ◌⊎◌, IsTrue, IfOk, IfSome, MatchResult, Ok};
 ghost use Rattle.std.specs.Prelude.{None, length};
 ghost use Rattle.rv_memory.specs.Regions.{in_one};
 ghost use Rattle.rv_memory.specs.Maps.{map_error};
-ghost use Rattle.rv_memory.specs.Inside.Places.{IsPlace};
+ghost use Rattle.rv_memory.specs.Inside.Places.{IsStoredAt};
 ghost use Rattle.rv_memory.specs.Bus.{size_of, load_from, store_to, fetch_half_from, fetch_word_from, clean_from};
 ghost use Rattle.rv_memory.specs.Bus.{put, without_stored, with_bytes};
 
@@ -14,23 +14,22 @@ use crate::marks::{has_mark, mark};
 use crate::place::Place;
 use std::marker::Model;
 
-/// The memory of a map with its marks of stored bytes, and the console.
+/// The memory of a map, with marks on its stored bytes, and the console.
 ///
-/// The console has the addresses `0x1000_0000` to `0x1000_000f`. A word load at the first gives the next byte of the
-/// script, or `0xffff_ffff` at its end, and a word store there appends its low byte to the output, which takes 65,536
-/// bytes. A word load at `0x1000_0004` gives the number of bytes that are left of the script. Every other access that
-/// touches one of the 16 bytes is refused.
+/// The console occupies the addresses `0x1000_0000` to `0x1000_000f`. A word load at the first returns the next byte of the script, or
+/// `0xffff_ffff` at its end; a word store there appends its low byte to the output, which holds up to 65,536 bytes. A word load at
+/// `0x1000_0004` returns the number of script bytes left. Every other access that touches one of the 16 bytes is rejected.
 #[derive(Drop)]
 pub struct Bus {
     pub(crate) map: Map,
-    // The bytes of the regions, one region after another, and their marks.
+    // The bytes of all regions, concatenated, and their marks.
     pub(crate) bytes: Vec<u8>,
     pub(crate) marks: Vec<u16>,
-    // A byte is stored where its mark is this generation; the older ones are below it.
+    // A byte counts as stored if its mark equals this generation; older marks are below it.
     pub(crate) generation: u16,
     pub(crate) console: Vec<u8>,
     pub(crate) script: Vec<u8>,
-    // How many bytes of the script were read.
+    // The number of script bytes read.
     pub(crate) taken: usize,
     pub(crate) misaligned: Misaligned,
 }
@@ -51,7 +50,7 @@ impl Model for Bus {
 }
 
 impl Bus {
-    /// Places bytes from an address on, as an image's are: in read-only regions too, and none counts as stored.
+    /// Writes an image's bytes from an address on, in read-only regions too. None of them counts as stored.
     pub fn place(&mut self, addr: u32, bytes: &[u8])
         requires { IsTrue (in_one self.old.regions addr (length bytes.now)) }
         ensures { self.new ≡ with_bytes self.old addr bytes.now }
@@ -65,16 +64,16 @@ impl Bus {
         self.bytes[place.at..place.at + bytes.len()].copy_from_slice(bytes);
     }
 
-    /// The unsigned value of the bytes at an address.
+    /// Returns the unsigned value of the bytes at an address.
     #[inline]
     pub fn load(&mut self, addr: u32, width: Width) -> Result<u32, BusFault>
         ensures narrow { IfOk result (λ v. v < 2 ^ (8 * size_of width)) }
-        // The value and what is left of the script, or a fault, which changes nothing.
+        // The value and the rest of the script, or a fault that changes nothing.
         ensures value { MatchResult result (λ v. load_from self.old addr width ≡ Ok (v, self.new))
             (λ e. (load_from self.old addr width ≡ Err e) × (self.new ≡ self.old)) }
     {
         if width.divides(addr) {
-            if let Some(place) = self.map.place_in_first_region(addr, width) {
+            if let Some(place) = self.map.index_in_first_region(addr, width) {
                 return Ok(read_value(&self.bytes, place.at, width));
             }
         }
@@ -90,12 +89,12 @@ impl Bus {
     /// Writes the low bytes of a value, and marks them as stored.
     #[inline]
     pub fn store(&mut self, addr: u32, width: Width, value: u32) -> Result<(), BusFault>
-        // The contents that the store leaves, or a fault, which changes nothing.
+        // The contents after the store, or a fault that changes nothing.
         ensures { MatchResult result (λ _. store_to self.old addr width value ≡ Ok self.new)
             (λ e. (store_to self.old addr width value ≡ Err e) × (self.new ≡ self.old)) }
     {
         if width.divides(addr) {
-            if let Some(place) = self.map.place_in_first_region(addr, width) {
+            if let Some(place) = self.map.index_in_first_region(addr, width) {
                 if place.writable {
                     self.put(place, addr, width, value);
                     return Ok(());
@@ -115,19 +114,19 @@ impl Bus {
         Ok(())
     }
 
-    // Writes the low bytes of a value at the place of an address, and marks them as stored.
+    // Writes the low bytes of a value at the index of an address, and marks them as stored.
     #[inline(always)]
     fn put(&mut self, place: Place, addr: u32, width: Width, value: u32)
-        requires { IsPlace self.old.regions addr (size_of width) place.at place.writable }
+        requires { IsStoredAt self.old.regions addr (size_of width) place.at place.writable }
         ensures { self.new ≡ put self.old addr width value }
     {
-        // The clauses alone speak of the address.
+        // Only the contract uses the address.
         let _ = addr;
         write_value(&mut self.bytes, place.at, width, value);
         mark(&mut self.marks, place.at, width, self.generation);
     }
 
-    /// The halfword of the two bytes at an address, which may be odd.
+    /// Fetches the halfword at an address, which may be odd.
     #[inline]
     pub fn fetch_half(&self, addr: u32) -> Result<u16, FetchFault>
         ensures { result ≡ fetch_half_from self.now addr }
@@ -144,12 +143,12 @@ impl Bus {
         Ok(u16::from(self.bytes[place.at]) + 0x100 * u16::from(self.bytes[place.at + 1]))
     }
 
-    /// The word of the four bytes at an address, where they lie in one region and none was stored
-    /// since the last FENCE.I: its two halfwords are those that [`Bus::fetch_half`] gives.
+    /// Fetches the word at an address if its four bytes are in one region and none was stored to since the last FENCE.I. Its two halfwords
+    /// are those that [`Bus::fetch_half`] returns.
     #[inline]
     pub fn fetch_word(&self, addr: u32) -> Option<u32>
         ensures value { result ≡ fetch_word_from self.now addr }
-        // Its halves are what fetches of the two halfwords give.
+        // Its halves equal the results of fetching the two halfwords.
         ensures halves { IfSome result (λ w. (fetch_half_from self.now addr ≡ Ok (w % 0x1_0000))
             × (fetch_half_from self.now ((addr + 2) % 0x1_0000_0000) ≡ Ok (w / 0x1_0000))) }
     {
@@ -160,7 +159,7 @@ impl Bus {
         Some(read_word(&self.bytes, place.at))
     }
 
-    /// Whether [`Bus::fetch_half`] would give each halfword of the 2 or 4 bytes from an address on, which may be odd.
+    /// Whether [`Bus::fetch_half`] would succeed for each halfword of the 2 or 4 bytes from an address on, which may be odd.
     #[tactic(auto, unfolding(crate::specs::Bus::clean_from))]
     pub fn clean(&self, addr: u32, len: u32) -> bool
         requires { (len ≡ 2) ⊎ (len ≡ 4) }
@@ -169,7 +168,7 @@ impl Bus {
         self.fetch_half(addr).is_ok() && (len != 4 || self.fetch_half(addr.wrapping_add(2)).is_ok())
     }
 
-    /// What FENCE.I does to memory: nothing counts as stored.
+    /// Applies FENCE.I to memory: clears the marks of all stored bytes.
     pub fn sync_code(&mut self)
         ensures { self.new ≡ without_stored self.old }
     {
@@ -181,7 +180,7 @@ impl Bus {
         }
     }
 
-    /// The map that the bus was made with.
+    /// Returns the map that the bus was created with.
     pub fn map(&self) -> Map
         ensures value { result ≡ self.now.regions }
         ensures accepted { map_error self.now.regions ≡ None }

@@ -1,4 +1,4 @@
-//! The console of a bus: its addresses, and the loads and stores of its words.
+//! The console of a bus: its addresses, and word loads and stores.
 ghost use Rattle.std.specs.Prelude.{◌≡◌, ◌*◌, ◌^◌, ◌<◌, IfOk, MatchResult, Ok, drop};
 ghost use Rattle.rv_memory.specs.Bus.{size_of, console_load, console_store, next_of};
 
@@ -7,21 +7,21 @@ use crate::bus::Bus;
 use crate::faults::BusFault;
 use crate::limits::CONSOLE_ROOM;
 
-// Where a word load takes a byte of the script, and a word store appends one to the output.
+// The address at which a word load reads a script byte, and a word store appends an output byte.
 const CONSOLE_BYTE: u32 = 0x1000_0000;
 
-// Where a word load counts what is left of the script.
+// The address at which a word load returns the number of script bytes left.
 const SCRIPT_LEFT: u32 = 0x1000_0004;
 
 impl Bus {
-    /// The output so far.
+    /// Returns the output so far.
     pub fn console(&self) -> &[u8]
         ensures { result.now ≡ self.now.output }
     {
         &self.console
     }
 
-    /// A load whose bytes don't lie in one region.
+    /// Performs a load whose bytes are not in one region.
     #[inline]
     pub(crate) fn load_console(&mut self, addr: u32, width: Width) -> Result<u32, BusFault>
         ensures narrow { IfOk result (λ v. v < 2 ^ (8 * size_of width)) }
@@ -41,7 +41,7 @@ impl Bus {
         Err(BusFault::Access)
     }
 
-    // The next byte of the script, or all ones at its end.
+    // Reads the next byte of the script, or all ones at its end.
     #[inline]
     fn take_script_byte(&mut self) -> u32
         ensures value { result ≡ next_of self.old.script }
@@ -55,7 +55,7 @@ impl Bus {
         u32::from(byte)
     }
 
-    /// A store whose bytes don't lie in one region.
+    /// Performs a store whose bytes are not in one region.
     #[inline]
     pub(crate) fn store_console(
         &mut self,

@@ -1,22 +1,22 @@
-//! Why a bus refuses an access or a fetch.
+//! Why a bus rejects an access or a fetch.
 
-/// Why a load or a store is refused; of two reasons the one that stands first here.
+/// Why a load or a store is rejected. If two reasons apply, the first in this order is reported.
 #[derive(Clone, Copy, Debug, PartialEq, Eq)]
 pub enum BusFault {
-    /// The address is no multiple of the width, and misaligned accesses are refused.
+    /// The address is not a multiple of the width, and misaligned accesses are rejected.
     Misaligned,
-    /// The bytes do not lie in one region, or for a store not in a writable one; or some are the console's, which has
-    /// no such access.
+    /// The bytes are not in one region, or, for a store, not in a writable one; or some belong to the console, which does not support the
+    /// access.
     Access,
-    /// The console's output has its 65,536 bytes.
+    /// The console's output already has its maximum of 65,536 bytes.
     ConsoleFull,
 }
 
-/// Why a fetch of a halfword is refused; of two reasons the one that stands first here.
+/// Why a fetch of a halfword is rejected. If two reasons apply, the first in this order is reported.
 #[derive(Clone, Copy, Debug, PartialEq, Eq)]
 pub enum FetchFault {
-    /// The two bytes lie in no region.
+    /// The two bytes are not in one region.
     Unmapped,
-    /// One of them was stored since the last FENCE.I.
+    /// One of them was stored to since the last FENCE.I.
     Stale,
 }

@@ -1,4 +1,4 @@
-//! Buses as they begin: in new memory, or in that of a bus which is done with.
+//! New buses, in newly allocated memory or in that of a bus no longer needed.
 ghost use Rattle.std.specs.Prelude.{◌≡◌, ◌≤◌, IfOk, vec_len};
 ghost use Rattle.rv_memory.specs.Bus.{new_bus};
 
@@ -10,9 +10,8 @@ use crate::marks::next_generation;
 use std::alloc::{AllocError, Global};
 
 impl Bus {
-    /// A bus over the regions of a map: zero memory, nothing stored, and no output. The script has at most 65,536
-    /// bytes.
-    // In its callers the loop of a run stands where no branch of it ends at a multiple of 32 (docs/PERFORMANCE.md).
+    /// Creates a bus over the regions of a map: zeroed memory, no byte stored, and no output. The script has at most 65,536 bytes.
+    // Inlined so that in the callers no branch in the loop of a run ends at a multiple of 32 (docs/PERFORMANCE.md).
     #[inline(always)]
     pub fn new(
         alloc: Global,
@@ -39,9 +38,9 @@ impl Bus {
         })
     }
 
-    /// The same as [`Bus::new`], in the memory of another bus where that has as many bytes; else that memory is given
-    /// back first.
-    pub fn renewed(
+    /// Creates the bus that [`Bus::new`] would, reusing the memory of `self` if it has the same number of bytes; otherwise that memory is
+    /// freed first.
+    pub fn new_reusing(
         self,
         alloc: Global,
         map: Map,

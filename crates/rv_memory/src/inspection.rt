@@ -1,4 +1,4 @@
-//! What stands at one address, for those who look at a bus and change nothing of it.
+//! Inspecting one address of a bus without changing anything.
 
 ghost use Rattle.std.specs.Prelude.{◌≡◌, length};
 ghost use Rattle.std.specs.FinMap as fin;
@@ -7,7 +7,7 @@ ghost use Rattle.std.specs.FinSet as set;
 use crate::bus::Bus;
 
 impl Bus {
-    /// The byte at an address, where a region has it. The console has none: a look takes nothing of the script.
+    /// Returns the byte at an address of a region. The console has none: inspecting it does not read the script.
     pub fn byte(&self, addr: u32) -> Option<u8>
         ensures { result ≡ fin.get self.now.memory addr }
     {
@@ -17,7 +17,7 @@ impl Bus {
         }
     }
 
-    /// Whether the byte at an address was stored since the start or the last FENCE.I, so that a fetch of it is stale.
+    /// Whether the byte at an address was stored to since the start or the last FENCE.I, so that a fetch of it is stale.
     pub fn is_stored(&self, addr: u32) -> bool
         ensures { result ≡ set.contains self.now.stored addr }
     {
@@ -26,8 +26,8 @@ impl Bus {
             None => false,
         }
     }
-    /// How many bytes of the script are left.
-    pub fn script_left(&self) -> usize
+    /// Returns the number of script bytes left.
+    pub fn script_remaining(&self) -> usize
         ensures { result ≡ length self.now.script }
     {
         self.script.len() - self.taken

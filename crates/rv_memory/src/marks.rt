@@ -1,12 +1,12 @@
-//! Marks of stored bytes, one a byte: a byte is stored where its mark is the generation of the bus. A mark has 16 bits:
-//! all of them are filled anew where the generations are used up, which then costs little a FENCE.I.
+//! Marks of stored bytes, one per byte: a byte counts as stored if its mark equals the generation of the bus. Marks have 16 bits; all are
+//! reset when the generations run out, so the cost per FENCE.I is small.
 ghost use Rattle.std.specs.Prelude.{◌≡◌, ◌+◌, ◌<◌, ◌≤◌, ℕ, length, slice_index};
 ghost use Rattle.rv_memory.specs.Bus.{size_of};
 ghost use Rattle.rv_memory.specs.Inside.View.{marked_at, any_marked};
 
 use crate::access::Width;
 
-/// Marks the bytes at a place as stored in a generation.
+/// Marks the bytes at an index as stored in a generation.
 #[inline]
 pub(crate) fn mark(marks: &mut [u16], at: usize, width: Width, generation: u16)
     requires { at + size_of width ≤ length marks.old }
@@ -27,7 +27,7 @@ pub(crate) fn mark(marks: &mut [u16], at: usize, width: Width, generation: u16)
     }
 }
 
-/// Whether one of the four bytes at a place is marked.
+/// Whether one of the four bytes at an index is marked.
 #[inline]
 pub(crate) fn has_mark(marks: &[u16], at: usize, generation: u16) -> bool
     requires { at + 4 ≤ length marks.now }
@@ -39,7 +39,7 @@ pub(crate) fn has_mark(marks: &[u16], at: usize, generation: u16) -> bool
         || marks[at + 3] == generation
 }
 
-/// Marks and the next generation, in which none of them is.
+/// Returns the marks with the next generation, in which no byte is marked.
 pub(crate) fn next_generation(mut marks: Vec<u16>, generation: u16) -> (Vec<u16>, u16)
     requires { (k : ℕ) → slice_index marks.items k ≤ generation }
     ensures length { length result.0.items ≡ length marks.items }

@@ -1,8 +1,8 @@
-//! Where the bytes of an access stand among those of all regions.
+//! The indices of an access's bytes in the bytes of all regions.
 ghost use Rattle.std.specs.Prelude.{◌≡◌, ◌+◌, ◌%◌, ◌<◌, ◌≤◌, IfSome, MatchOption, false, true};
 ghost use Rattle.std.specs.List.{list_any, list_all};
 ghost use Rattle.rv_memory.specs.Bus.{size_of};
-ghost use Rattle.rv_memory.specs.Inside.Places.{IsPlace, search_place};
+ghost use Rattle.rv_memory.specs.Inside.Places.{IsStoredAt, search_index};
 ghost use Rattle.rv_memory.specs.Maps.{is_aligned, is_sized};
 ghost use Rattle.rv_memory.specs.Regions.{covers, total_size};
 
@@ -10,7 +10,7 @@ use crate::access::Width;
 use crate::limits::MAP_ROOM;
 use crate::map::{Map, Region};
 
-/// Where the bytes of an access stand among the bytes of all regions.
+/// The indices of an access's bytes in the concatenated bytes of all regions.
 #[derive(Clone, Copy)]
 pub(crate) struct Place {
     pub(crate) at: usize,
@@ -18,15 +18,14 @@ pub(crate) struct Place {
 }
 
 impl Map {
-    /// Where the `len` bytes from an address on stand, if they lie in one region.
+    /// Returns where the `len` bytes from an address on are stored, if they are in one region.
     ///
-    /// Every access goes through here, so the first region is tried without a loop: most maps have
-    /// one region alone.
+    /// Every access goes through here, so the first region is tried without a loop: most maps have only one.
     #[inline]
     pub(crate) fn place(&self, addr: u32, len: u32) -> Option<Place>
         requires { 0 < len }
         ensures { MatchOption result (list_any (covers addr len) self.now ≡ false)
-            (λ p. IsPlace self.now addr len p.at p.writable) }
+            (λ p. IsStoredAt self.now addr len p.at p.writable) }
     {
         let first = &self.regions[0];
         if let Some(offset) = first.offset_of(addr, len) {
@@ -38,12 +37,12 @@ impl Map {
         search_regions(&self.regions[1..self.count], first.size as usize, addr, len)
     }
 
-    /// The same where the first region has the bytes and the address is a multiple of the width: regions begin and end
-    /// at multiples of 4, so one comparison tells it.
+    /// Returns where the bytes are stored if they are in the first region and the address is a multiple of the width: regions begin and end
+    /// at multiples of 4, so one comparison decides it.
     #[inline(always)]
-    pub(crate) fn place_in_first_region(&self, addr: u32, width: Width) -> Option<Place>
+    pub(crate) fn index_in_first_region(&self, addr: u32, width: Width) -> Option<Place>
         requires { addr % size_of width ≡ 0 }
-        ensures { IfSome result (λ p. IsPlace self.now addr (size_of width) p.at p.writable) }
+        ensures { IfSome result (λ p. IsStoredAt self.now addr (size_of width) p.at p.writable) }
     {
         let first = &self.regions[0];
         let offset = first.offset_of_aligned(addr, width)?;
@@ -54,13 +53,13 @@ impl Map {
     }
 }
 
-// Where the bytes stand, if they lie in one of the regions, whose own bytes begin at a place.
+// Returns where the bytes are stored if they are in one of the regions, whose own bytes begin at index `start`.
 #[inline]
 fn search_regions(regions: &[Region], start: usize, addr: u32, len: u32) -> Option<Place>
     requires some { 0 < len }
     requires sized { list_all is_sized regions.now ≡ true }
     requires room { start + total_size regions.now ≤ MAP_ROOM }
-    ensures { result ≡ search_place regions.now start addr len }
+    ensures { result ≡ search_index regions.now start addr len }
 {
     let mut at = start;
     for region in regions {
@@ -76,8 +75,8 @@ fn search_regions(regions: &[Region], start: usize, addr: u32, len: u32) -> Opti
 }
 
 impl Region {
-    // How far into the region the `len` bytes from an address on begin, if it has them all. An
-    // address below the base wraps to an offset past every region's end.
+    // Returns the offset in the region of the `len` bytes from an address on, if it has them all. An address below the base wraps to an
+    // offset past every region's end.
     #[inline]
     fn offset_of(&self, addr: u32, len: u32) -> Option<u32>
         requires some { 0 < len }
@@ -86,14 +85,14 @@ impl Region {
             (λ k. (covers addr len self.now ≡ true) × (self.now.base + k ≡ addr)) }
     {
         let offset = addr.wrapping_sub(self.base);
-        // A region has four bytes at least: accesses need no test of their length.
+        // A region has at least four bytes, so accesses need no test of their length.
         if (len <= 4 || len <= self.size) && offset <= self.size - len {
             return Some(offset);
         }
         None
     }
 
-    // The same for an access whose address is a multiple of its width.
+    // Returns the offset in the region of an access whose address is a multiple of its width.
     #[inline(always)]
     fn offset_of_aligned(&self, addr: u32, width: Width) -> Option<u32>
         requires aligned { is_aligned self.now ≡ true }

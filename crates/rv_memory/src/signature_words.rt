@@ -1,4 +1,4 @@
-//! The words of a range of memory, which a signature is made of.
+//! The words of a memory range, such as a signature.
 ghost use Rattle.std.specs.Prelude.{◌≡◌, ◌↔◌, ◌-◌, ◌%◌, ◌<◌, ◌≤◌, IfOk, IsTrue};
 ghost use Rattle.rv_memory.specs.Regions.{in_one};
 ghost use Rattle.rv_memory.specs.Bus.{word_at};
@@ -8,11 +8,11 @@ use crate::access::read_word;
 use crate::bus::Bus;
 use std::alloc::{AllocError, Global};
 
-// The bytes of a word.
+// The number of bytes in a word.
 const WORD: u32 = 4;
 
 impl Bus {
-    /// The words of memory from `begin` up to `end`, as it stands.
+    /// Returns the current words of memory from `begin` up to `end`.
     pub fn words(&self, alloc: Global, begin: u32, end: u32) -> Result<Vec<u32>, AllocError>
         requires begin { begin % 4 ≡ 0 }
         requires end { end % 4 ≡ 0 }
@@ -28,7 +28,7 @@ impl Bus {
         Ok(words)
     }
 
-    /// Whether these are the words of memory from `begin` up to `end`, as it stands. It takes no memory.
+    /// Whether these are the current words of memory from `begin` up to `end`. Does not allocate.
     pub fn has_words(&self, begin: u32, end: u32, words: &[u32]) -> bool
         requires begin { begin % 4 ≡ 0 }
         requires end { end % 4 ≡ 0 }
@@ -48,7 +48,7 @@ impl Bus {
         true
     }
 
-    // The word at an address whose four bytes lie in one region.
+    // Returns the word at an address whose four bytes are in one region.
     fn word(&self, addr: u32) -> u32
         requires { IsTrue (in_one self.now.regions addr 4) }
         ensures { result ≡ word_at self.now.memory addr }

@@ -12,7 +12,7 @@ use Rattle.rv_jobs.specs.declared_error.What.TheVariants as what
 use Rattle.rv_jobs.specs.Keys.{any_unknown_key, item_count, has_unknown_job_or_region_key, has_wrong_kind, is_list_key}
 use Rattle.rv_jobs.specs.Reading.{◌>>=◌, fault_if, passing_value, numbered_reading}
 use Rattle.rv_jobs.specs.JobList.{name_from_table, names_of_jobs, image_from_table, budget_from_table, script_from_table, map_from_table}
-use Rattle.rv_jobs.specs.Names.{is_name, place_in}
+use Rattle.rv_jobs.specs.Names.{is_name, index_in}
 use Rattle.rv_jobs.specs.JobList.{load_from_table, signature_from_table, exit_from_table, reference_from_table, console_from_table, end_from_table, same_as_from_table, isa_from_table}
 use Rattle.rv_jobs.specs.JobList.{misaligned_from_table, job_from_table, job_from_element, jobs_of_elements, has_no_jobs, has_too_many_jobs, array_elements}
 use Rattle.rv_jobs.specs.JobList.{job_elements, jobs_of_document}
@@ -49,13 +49,13 @@ unfolding name_from_table
 named_by_rule ms name e = holds is_name _ _ name e
 
 job_named : (earlier : List (List ℕ)) (ms : Members) (job : Job) → job_from_table earlier ms ≡ Ok job
-    → (is_name job.name ≡ true) × (not (is_some (place_in earlier job.name)) ≡ true)
+    → (is_name job.name ≡ true) × (not (is_some (index_in earlier job.name)) ≡ true)
 unfolding job_from_table
 job_named earlier ms job e =
     let known = taken (fault_if (has_unknown_job_or_region_key ms) what.UnknownKey) _ job e in
     let typed = taken (fault_if (has_wrong_kind ms) what.WrongType) _ job known.1.1 in
     let name = taken (name_from_table ms) _ job typed.1.1 in
-    let fresh = taken (fault_if (is_some (place_in earlier name.0)) what.Duplicate) _ job name.1.1 in
+    let fresh = taken (fault_if (is_some (index_in earlier name.0)) what.Duplicate) _ job name.1.1 in
     let image = taken (image_from_table ms) _ job fresh.1.1 in
     let budget = taken (budget_from_table ms) _ job image.1.1 in
     let script = taken (script_from_table ms) _ job budget.1.1 in
@@ -71,13 +71,13 @@ job_named earlier ms job e =
     let choice = taken (misaligned_from_table ms) _ job set.1.1 in
     let is : name.0 ≡ job.name = ap (λ (j : Job). j.name) (same_Ok _ job refl choice.1.1) in
     let good : is_name name.0 ≡ true = named_by_rule ms name.0 name.1.0 in
-    let new : is_some (place_in earlier name.0) ≡ false = passes _ _ fresh.0 fresh.1.0 in (
+    let new : is_some (index_in earlier name.0) ≡ false = passes _ _ fresh.0 fresh.1.0 in (
       subst (λ (t : List ℕ). is_name t ≡ true) is good,
-      subst (λ (t : List ℕ). not (is_some (place_in earlier t)) ≡ true) is (not_false _ new),
+      subst (λ (t : List ℕ). not (is_some (index_in earlier t)) ≡ true) is (not_false _ new),
     )
 
 element_named : (earlier : List (List ℕ)) (d : Data) (job : Job) → job_from_element earlier d ≡ Ok job
-    → (is_name job.name ≡ true) × (not (is_some (place_in earlier job.name)) ≡ true)
+    → (is_name job.name ≡ true) × (not (is_some (index_in earlier job.name)) ≡ true)
 unfolding job_from_element
 element_named earlier (table ms) job e = job_named earlier ms job e
 element_named earlier d job e = cc
@@ -93,12 +93,12 @@ pub record AreNamed (earlier : List (List ℕ)) (count : ℕ) (jobs : List Job) 
   pub many : length jobs ≡ count
 
 named_more : (earlier : List (List ℕ)) (count : ℕ) (job : Job) (jobs : List Job) → is_name job.name ≡ true
-    → not (is_some (place_in earlier job.name)) ≡ true → AreNamed (earlier ++ job.name ∷ []) count jobs
+    → not (is_some (index_in earlier job.name)) ≡ true → AreNamed (earlier ++ job.name ∷ []) count jobs
     → AreNamed earlier (count + 1) (job ∷ jobs)
 unfolding are_new
 named_more earlier count job jobs name new rest = record {
   names = and_from (is_name job.name) (list_all is_name (names_of_jobs jobs)) name rest.names;
-  new = and_from (not (is_some (place_in earlier job.name))) (are_new (earlier ++ job.name ∷ []) (names_of_jobs jobs))
+  new = and_from (not (is_some (index_in earlier job.name))) (are_new (earlier ++ job.name ∷ []) (names_of_jobs jobs))
       new rest.new;
   many = let h = rest.many in omega arith;
 }

@@ -6,7 +6,7 @@ use Rattle.std.specs.Result.{IsErrAnd}
 use Rattle.std.proofs.lemmas.Bool.{false≢true}
 use Rattle.std.proofs.lemmas.List.{take-map}
 use Rattle.std.proofs.lemmas.Option.{slice_get-map}
-use Rattle.rv_jobs.specs.Names.{place_in}
+use Rattle.rv_jobs.specs.Names.{index_in}
 use Rattle.rv_report.specs.declared.row.Row.{Row}
 use Rattle.rv_report.specs.declared.saved.Extent.{Extent}
 use Rattle.rv_report.specs.declared.saved.Extent.TheVariants as extent
@@ -81,11 +81,11 @@ named_never rows place new h =
     let name = λ (row : Row). row.name in
     let there : slice_get (row_names rows) place ≡ Some h.row.name =
     slice_get-map name rows place ∙ ap (option_map name) h.at in
-    let fresh : is_some (place_in ([] ++ take place (row_names rows)) h.row.name) ≡ false =
+    let fresh : is_some (index_in ([] ++ take place (row_names rows)) h.row.name) ≡ false =
     new_at [] (row_names rows) place h.row.name new there in
     let same : take place (row_names rows) ≡ row_names (take place rows) = take-map name place rows in
     false≢true
-    (sym fresh ∙ ap (λ (xs : List (List ℕ)). is_some (place_in xs h.row.name)) same ∙ h.twice)
+    (sym fresh ∙ ap (λ (xs : List (List ℕ)). is_some (index_in xs h.row.name)) same ∙ h.twice)
 
 -- ---- each flaw
 

@@ -19,7 +19,7 @@ use Rattle.rv_jobs.specs.Choices.{selected_indices}
 use Rattle.rv_jobs.specs.Plans.{Planned, jobs_needed_for}
 use Rattle.rv_report.specs.declared.row.Row.{Row}
 use Rattle.rv_rows.specs.Rows.{row_of, rows_at, rows_of}
-use Rattle.rv_rows.specs.Wholes.{KeepSame, plan_of_jobs}
+use Rattle.rv_rows.specs.Wholes.{HaveSameResults, plan_of_jobs}
 use Rattle.rv_report.specs.declared.saved.Extent.TheVariants as extent
 use Rattle.rv_report.specs.declared.saved.Shard.{Shard}
 use Rattle.rv_report.specs.Saved.{IsRow, IsSaved, are_evenly_spaced, matches_job_numbers, is_valid_shard, row_names, saved_text}
@@ -193,7 +193,7 @@ module _ (list : List Job) (answers : List Answer) (run : Run) (listed : AreList
         rows = goods;
       }
 
-  part_from : ((places : List ℕ) (some : List Answer) → All (KeepSame some answers) (jobs_needed_for list places)
+  part_from : ((places : List ℕ) (some : List Answer) → All (HaveSameResults some answers) (jobs_needed_for list places)
       → rows_at (plan_of_jobs list some) places ≡ rows_at (plan_of_jobs list answers) places)
       → (n : ℕ) (bytes : List ℕ) → IsTextFrom list answers run n bytes
       → IsPart (rows_of (plan_of_jobs list answers)) run n bytes
@@ -221,7 +221,7 @@ module _ (list : List Job) (answers : List Answer) (run : Run) (listed : AreList
       → Any (IsPart (rows_of (plan_of_jobs list answers)) run n) texts
   any_from f n texts (k, x, within, here, t) = (k, x, within, here, f x n t)
 
-  pub parts_from : ((places : List ℕ) (some : List Answer) → All (KeepSame some answers) (jobs_needed_for list places)
+  pub parts_from : ((places : List ℕ) (some : List Answer) → All (HaveSameResults some answers) (jobs_needed_for list places)
       → rows_at (plan_of_jobs list some) places ≡ rows_at (plan_of_jobs list answers) places)
       → (texts : List (List ℕ)) → AreTextsFrom list answers run texts
       → AreParts (rows_of (plan_of_jobs list answers)) texts

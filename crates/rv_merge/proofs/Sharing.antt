@@ -10,7 +10,7 @@ use Rattle.std.proofs.lemmas.Option.{same_Some, none-some}
 use Rattle.std.proofs.lemmas.Slice.Eq.{bytes_eq-Decides}
 use Rattle.std.proofs.lemmas.List.{append_assoc, append-nil}
 use Rattle.std.proofs.Math.Nat.{add-mod_right, mod-add-mod, mod-lt}
-use Rattle.rv_jobs.specs.Names.{place_in}
+use Rattle.rv_jobs.specs.Names.{index_in}
 use Rattle.rv_report.specs.Saved.{are_new, are_rising, are_evenly_spaced}
 use Rattle.rv_merge.specs.Shards.{is_in_shard}
 use Rattle.rv_merge.proofs.Named.{new_at}
@@ -124,23 +124,23 @@ some_either : (b : Bool) (o : Option ℕ) → is_some o ≡ true
 some_either true o h = refl
 some_either false o h = some_mapped o ∙ h
 
-place_has : (xs : List (List ℕ)) (j : ℕ) (t : List ℕ) → slice_get xs j ≡ Some t → is_some (place_in xs t) ≡ true
-unfolding place_in
+place_has : (xs : List (List ℕ)) (j : ℕ) (t : List ℕ) → slice_get xs j ≡ Some t → is_some (index_in xs t) ≡ true
+unfolding index_in
 place_has [] j t at = absurd (none-some t at)
 place_has (x ∷ xs) zero t at =
-    ap (λ (b : Bool). is_some (cond b (Some 0) (option_map (λ k. k + 1) (place_in xs t))))
+    ap (λ (b : Bool). is_some (cond b (Some 0) (option_map (λ k. k + 1) (index_in xs t))))
     ((bytes_eq-Decides t x).1 (sym (same_Some x t at)))
-place_has (x ∷ xs) (suc j) t at = some_either (bytes_eq t x) (place_in xs t) (place_has xs j t at)
+place_has (x ∷ xs) (suc j) t at = some_either (bytes_eq t x) (index_in xs t) (place_has xs j t at)
 
-place_found : (xs : List (List ℕ)) (t : List ℕ) → is_some (place_in xs t) ≡ true → (j : ℕ) × (slice_get xs j ≡ Some t)
-unfolding place_in
+place_found : (xs : List (List ℕ)) (t : List ℕ) → is_some (index_in xs t) ≡ true → (j : ℕ) × (slice_get xs j ≡ Some t)
+unfolding index_in
 place_found [] t h = absurd (false≢true h)
 place_found (x ∷ xs) t h = elim (cases_Bool (bytes_eq t x)) [
   | inl hit ↦ (0, ap Some (sym ((bytes_eq-Decides t x).0 hit)))
   | inr miss ↦
       let later = place_found xs t
-      (sym (some_mapped (place_in xs t))
-      ∙ sym (ap (λ (b : Bool). is_some (cond b (Some 0) (option_map (λ k. k + 1) (place_in xs t)))) miss) ∙ h) in
+      (sym (some_mapped (index_in xs t))
+      ∙ sym (ap (λ (b : Bool). is_some (cond b (Some 0) (option_map (λ k. k + 1) (index_in xs t)))) miss) ∙ h) in
       (suc later.0, later.1)
 ]
 
@@ -149,15 +149,15 @@ not_false b e = ap not e
 
 -- texts are all new where none is among those before it
 new_from : (earlier texts : List (List ℕ))
-    → ((k : ℕ) (t : List ℕ) → slice_get texts k ≡ Some t → is_some (place_in (earlier ++ take k texts) t) ≡ false)
+    → ((k : ℕ) (t : List ℕ) → slice_get texts k ≡ Some t → is_some (index_in (earlier ++ take k texts) t) ≡ false)
     → are_new earlier texts ≡ true
 unfolding are_new
 new_from earlier [] h = refl
 new_from earlier (t ∷ ts) h =
-    and_from (not (is_some (place_in earlier t))) (are_new (earlier ++ t ∷ []) ts)
-    (ap not (ap (λ xs. is_some (place_in xs t)) (sym (append-nil earlier)) ∙ h 0 t refl))
+    and_from (not (is_some (index_in earlier t))) (are_new (earlier ++ t ∷ []) ts)
+    (ap not (ap (λ xs. is_some (index_in xs t)) (sym (append-nil earlier)) ∙ h 0 t refl))
     (new_from (earlier ++ t ∷ []) ts
-    (λ k u at. ap (λ xs. is_some (place_in xs u)) (append_assoc earlier (t ∷ []) (take k ts)) ∙ h (suc k) u at))
+    (λ k u at. ap (λ xs. is_some (index_in xs u)) (append_assoc earlier (t ∷ []) (take k ts)) ∙ h (suc k) u at))
 
 slice_get-take : {X : Type 0} (n : ℕ) (xs : List X) (k : ℕ) (x : X) → slice_get (take n xs) k ≡ Some x
     → (k < n) × (slice_get xs k ≡ Some x)
@@ -180,9 +180,9 @@ pub new_under : (before last : ℕ) (ns : List ℕ) (names texts : List (List �
     → (n : ℕ) × (slice_get ns k ≡ Some n) × (slice_get names (n - 1) ≡ Some t))
     → are_new [] texts ≡ true
 new_under before last ns names texts new rises under =
-    new_from [] texts (λ k t at. none k t at (is_some (place_in (take k texts) t)) refl)
+    new_from [] texts (λ k t at. none k t at (is_some (index_in (take k texts) t)) refl)
   where
-    none : (k : ℕ) (t : List ℕ) → slice_get texts k ≡ Some t → (b : Bool) → is_some (place_in (take k texts) t) ≡ b
+    none : (k : ℕ) (t : List ℕ) → slice_get texts k ≡ Some t → (b : Bool) → is_some (index_in (take k texts) t) ≡ b
         → b ≡ false
     none k t at false e = refl
     none k t at true e =

@@ -1,4 +1,4 @@
--- What is gathered of the first of some texts.
+-- What has been gathered from the first n texts.
 use Rattle.std.specs.Prelude.{◌≡◌, ◌+◌, ◌-◌, ◌<◌, ◌≤◌, ℕ, true, List, [], ◌∷◌, length, map, Option}
 use Rattle.std.specs.Prelude.{Some, None, is_some, slice_index_or, slice_set, ◌%◌}
 use Rattle.rv_report.specs.declared.row.Row.{Row}
@@ -29,7 +29,7 @@ pub record IsTextOf (report : SavedReport) (bytes : List ℕ) : Type 0 where
   pub saved : IsSaved report
   pub text : saved_text report ≡ bytes
 
--- a report that is none of a shard
+-- a report that is not that of a shard
 abbrev pub IsOtherKind : Flaw → Extent → Type 0
 IsOtherKind flaw.Whole jobs = jobs ≡ extent.Whole
 IsOtherKind flaw.Choice jobs = (count : ℕ) × (jobs ≡ extent.Choice count)
@@ -44,13 +44,13 @@ IsOtherRun _ first shard = ⊥
 
 -- ---- slots
 
--- rows put into the slots of their jobs
+-- rows written to the slots of their jobs
 abbrev pub filled_slots : {X : Type 0} → List ℕ → List X → List (Option X) → List (Option X)
 filled_slots [] rows slots = slots
 filled_slots (n ∷ ns) [] slots = slots
 filled_slots (n ∷ ns) (row ∷ rows) slots = filled_slots ns rows (slice_set slots (n - 1) (Some row))
 
--- the rows that stand in slots
+-- the rows in filled slots
 abbrev pub rows_from_slots : {X : Type 0} → List (Option X) → List X
 rows_from_slots [] = []
 rows_from_slots (None ∷ slots) = rows_from_slots slots
@@ -58,7 +58,7 @@ rows_from_slots (Some row ∷ slots) = row ∷ rows_from_slots slots
 
 -- ---- what is gathered
 
--- the text is that of a shard whose source is noted, and its rows stand in the slots of their jobs
+-- the text is that of a shard whose source is recorded, and its rows are in the slots of their jobs
 pub record IsTaken (run : Run) (sources : List (Option ℕ)) (slots : List (Option Row))
     (bytes : List ℕ) : Type 0 where
   pub n : ℕ
@@ -67,12 +67,12 @@ pub record IsTaken (run : Run) (sources : List (Option ℕ)) (slots : List (Opti
   pub has :
       map (λ m. slice_index_or slots (m - 1) None) of.report.numbers ≡ map Some of.report.rows
 
--- the source of a shard is one of the texts so far, and that of the shard
+-- the source of a shard is one of the texts so far, and is that of the shard
 pub record IsSource (run : Run) (texts : List (List ℕ)) (count k at : ℕ) : Type 0 where
   pub within : at < count
   pub of : IsReportOf (extent.Shard (shard_in run (k + 1))) (nth_text texts at)
 
--- so many of the texts are taken; all are of the run of the first one's shard
+-- this many of the texts have been added; all belong to the run of the first one's shard
 pub record Holds (texts : List (List ℕ)) (count : ℕ) (shard : Shard)
     (sources : List (Option ℕ)) (slots : List (Option Row)) : Type 0 where
   pub first : IsReportOf (extent.Shard shard) (nth_text texts 0)
@@ -94,21 +94,20 @@ abbrev pub HaveSources : List (Option ℕ) → Type 0
 HaveSources sources =
     (k : ℕ) → k < length sources → is_some (slice_index_or sources k None) ≡ true
 
--- each shard has a source, these are the rows in the slots, and each has a name of its own
+-- each shard has a source, these are the rows in the slots, and each has a unique name
 pub record IsComplete (sources : List (Option ℕ)) (slots : List (Option Row)) (rows : List Row)
     : Type 0 where
   pub all : HaveSources sources
   pub are : rows ≡ rows_from_slots slots
   pub new : are_new [] (row_names rows) ≡ true
 
--- the shard of a number has no source
+-- the shard with a number has no source
 pub record IsWithout (sources : List (Option ℕ)) (n : ℕ) : Type 0 where
   pub low : 0 < n
   pub high : n ≤ length sources
   pub none : slice_index_or sources (n - 1) None ≡ None
 
--- the name of the row of the job of a number stands in a row before it, and its shard's text at a
--- place
+-- the name of the row of a numbered job occurs in an earlier row, and its shard's text is at an index
 pub record IsNamedTwice (sources : List (Option ℕ)) (slots : List (Option Row)) (n at : ℕ)
     : Type 0 where
   pub all : HaveSources sources

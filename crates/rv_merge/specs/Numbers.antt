@@ -1,4 +1,4 @@
--- What the types of a row's parts say of its numbers.
+-- What the types of a row's fields imply about its numbers.
 use Rattle.std.specs.Prelude.{List, ℕ, Option, Some, None}
 use Rattle.std.specs.List.{AllByRecursion}
 use Rattle.hex.specs.Hex.{IsBytes}
@@ -14,7 +14,7 @@ EndsInWords (ending.Fault kind pc value) = IsWord pc × IsWord value
 EndsInWords ending.Budget = Unit {0}
 EndsInWords (ending.Refused why) = Unit {0}
 
--- so have the words of a signature, where there is one
+-- the words of a signature, if there is one, have 32 bits
 abbrev pub HasWords : Option (List ℕ) → Type 0
 HasWords None = Unit {0}
 HasWords (Some words) = AllByRecursion IsWord words

@@ -1,4 +1,4 @@
--- The jobs of a shard, and the texts of a run whose shards ran apart.
+-- The jobs of a shard, and the texts of a run whose shards ran separately.
 use Rattle.std.specs.Prelude.{◌≡◌, ◌==◌, ◌+◌, ◌-◌, ◌%◌, ◌<◌, ◌≤◌, ℕ, Bool, true, List, length}
 use Rattle.std.specs.Prelude.{map, Any}
 use Rattle.std.specs.List.{All, filter, range_with_len}
@@ -8,25 +8,25 @@ use Rattle.rv_jobs.specs.Limits.{most_jobs}
 use Rattle.rv_jobs.specs.declared.answers.Answer.{Answer}
 use Rattle.rv_jobs.specs.Plans.{Planned, jobs_needed_for}
 use Rattle.rv_rows.specs.Rows.{rows_at}
-use Rattle.rv_rows.specs.Wholes.{KeepSame, plan_of_jobs}
+use Rattle.rv_rows.specs.Wholes.{HaveSameResults, plan_of_jobs}
 use Rattle.rv_report.specs.declared.saved.Extent.TheVariants as extent
 use Rattle.rv_report.specs.declared.saved.SavedReport.{SavedReport}
 use Rattle.rv_report.specs.Saved.{saved_text}
 use Rattle.rv_merge.specs.Parts.{Run, shard_in}
 
--- of so many shards the one of a number has the job at a place, counted from 0
+-- whether the shard with a number, of a number of shards, has the job at an index, counted from 0
 abbrev pub is_in_shard : ℕ → ℕ → ℕ → Bool
 is_in_shard shards n place = place % shards == n - 1
 
--- a mark for each of so many jobs, set for those of the shard
+-- the selection of a shard's jobs: a flag for each job of the list
 abbrev pub shard_selection : ℕ → ℕ → ℕ → List Bool
 shard_selection shards n jobs = map (is_in_shard shards n) (range_with_len 0 jobs)
 
--- the places of its jobs, of so many
+-- the indices of its jobs in a list with a number of jobs
 abbrev pub shard_places : ℕ → ℕ → ℕ → List ℕ
 shard_places shards n jobs = filter (is_in_shard shards n) (range_with_len 0 jobs)
 
--- the report of a shard that ran over a plan
+-- the report of a shard that ran from a plan
 abbrev pub shard_report : Run → ℕ → Planned → SavedReport
 shard_report run n plan = record {
   extent = extent.Shard (shard_in run n);
@@ -34,24 +34,23 @@ shard_report run n plan = record {
   rows = rows_at plan (shard_places run.shards n run.jobs);
 }
 
--- a run of the jobs, in up to 4,096 shards, under a name
+-- a run of the jobs, in up to 4,096 shards, under a valid name
 pub record IsRunOf (list : List Job) (run : Run) : Type 0 where
   pub jobs : run.jobs ≡ length list
   pub some : 0 < run.shards
   pub few : run.shards ≤ most_jobs
   pub stamp : is_name run.stamp ≡ true
 
--- the text is the report of the shard of a number, which ran where the same is kept of each path
--- that its jobs need
+-- the text is the report of the shard with a number, run where each path that its jobs need has the same result
 pub record IsTextFrom (list : List Job) (answers : List Answer) (run : Run) (n : ℕ)
     (bytes : List ℕ) : Type 0 where
   pub low : 0 < n
   pub high : n ≤ run.shards
   pub kept : List Answer
-  pub same : All (KeepSame kept answers) (jobs_needed_for list (shard_places run.shards n run.jobs))
+  pub same : All (HaveSameResults kept answers) (jobs_needed_for list (shard_places run.shards n run.jobs))
   pub text : bytes ≡ saved_text (shard_report run n (plan_of_jobs list kept))
 
--- each text is that of a shard, and each shard's is among them
+-- each text is that of a shard, and each shard's text is among them
 pub record AreTextsFrom (list : List Job) (answers : List Answer) (run : Run)
     (texts : List (List ℕ)) : Type 0 where
   pub each : All (λ bytes. (n : ℕ) × IsTextFrom list answers run n bytes) texts

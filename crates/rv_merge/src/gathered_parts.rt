@@ -1,4 +1,4 @@
-//! What is gathered of the parts of a run, text by text.
+//! What is gathered from the parts of a run, text by text.
 
 ghost use Rattle.std.specs.Prelude.{◌≡◌, ◌<◌, ◌≤◌, ◌+◌, ◌↔◌, IfOk, IfErr, OnOk, MatchOption, None, IsTrue, length};
 ghost use Rattle.std.specs.Prelude.{replicate, vec_len};
@@ -19,13 +19,13 @@ use std::alloc::{AllocError, Global};
 pub(crate) struct Gathered {
     /// The shard of the first text.
     pub(crate) first: Shard,
-    /// For each shard the place of its text, where it came.
+    /// For each shard, the index of its text, if there was one.
     pub(crate) sources: Vec<Option<usize>>,
-    /// For each job its row, where it came.
+    /// For each job, its row, if there was one.
     pub(crate) slots: Vec<Option<Row>>,
 }
 
-/// No rows of the run of a shard.
+/// Returns an empty collection for the run of a shard.
 pub(crate) fn no_parts_of_run(alloc: Global, shard: &Shard) -> Result<Gathered, AllocError>
     ensures first { IfOk result (λ g. g.first ≡ shard.now) }
     ensures sources { IfOk result (λ g. g.sources.items ≡ replicate shard.now.shards None) }
@@ -46,6 +46,7 @@ pub(crate) fn no_parts_of_run(alloc: Global, shard: &Shard) -> Result<Gathered, 
     })
 }
 
+// Returns `count` empty slots.
 fn vacant_slots<T: Drop>(alloc: Global, count: u32) -> Result<Vec<Option<T>>, AllocError>
     ensures { IfOk result (λ slots. slots.items ≡ replicate count None) }
 {
@@ -56,7 +57,7 @@ fn vacant_slots<T: Drop>(alloc: Global, count: u32) -> Result<Vec<Option<T>>, Al
     Ok(slots)
 }
 
-/// Takes the rows of the part whose text stands at a place, unless the same text came before.
+/// Adds the rows of the part whose text is at an index, unless there was an identical text before.
 pub(crate) fn add_part(
     gathered: &mut Gathered,
     texts: &[&[u8]],
@@ -77,7 +78,7 @@ pub(crate) fn add_part(
         None => {
             gathered.sources[shard] = Some(at);
             let rows = part.rows.into_vec();
-            put_rows_in_slots(&mut gathered.slots, part.numbers.as_slice(), rows);
+            fill_slots(&mut gathered.slots, part.numbers.as_slice(), rows);
             Ok(())
         }
         Some(earlier) if are_same_texts(texts, earlier, at) => Ok(()),
@@ -85,7 +86,7 @@ pub(crate) fn add_part(
     }
 }
 
-// What tells the run of a shard from that of the first text.
+// Returns how the run of a shard differs from that of the first text.
 fn other_run_flaw(first: &Shard, shard: &Shard) -> Option<Flaw>
     ensures { MatchOption result (run_of_shard shard.now ≡ run_of_shard first.now)
         (λ flaw. IsOtherRun flaw first.now shard.now) }
@@ -111,8 +112,8 @@ fn are_same_texts(texts: &[&[u8]], place: usize, other: usize) -> bool
     texts[place] == texts[other]
 }
 
-// Puts rows into the slots of their jobs.
-fn put_rows_in_slots(slots: &mut Vec<Option<Row>>, numbers: &[u32], rows: Vec<Row>)
+// Writes rows to the slots of their jobs.
+fn fill_slots(slots: &mut Vec<Option<Row>>, numbers: &[u32], rows: Vec<Row>)
     requires numbers { All (λ n. (0 < n) × (n ≤ vec_len slots.old)) numbers.now }
     requires counted { length numbers.now ≡ vec_len rows }
     ensures { slots.new.items ≡ filled_slots numbers.now rows.items slots.old.items }

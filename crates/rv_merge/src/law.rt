@@ -1,4 +1,4 @@
-//! A law of parts, with nothing to run.
+//! A law of parts, with no code to run.
 
 ghost use Rattle.std.specs.Prelude.{ℕ, List};
 ghost use Rattle.rv_jobs.specs.declared.answers.Answer.{Answer};
@@ -10,9 +10,9 @@ ghost use Rattle.rv_merge.specs.Shards.{AreTextsFrom, IsRunOf};
 
 use rv_rows::parts_have_the_rows_of_the_whole;
 
-/// Where a list's shards ran apart, and each kept the same of the paths that its jobs need as one machine keeps for the
-/// whole list, the texts of their reports are the parts of the rows that this machine gives: so these are what
-/// [`merge_parts`](crate::merge_parts) answers.
+/// If a list's shards ran separately, and each obtained the same results for the paths that its jobs need as one machine does for the whole
+/// list, the texts of their reports are the parts of the rows that this machine computes. So these rows are what
+/// [`merge_parts`](crate::merge_parts) returns.
 pub fn shards_give_the_parts_of_the_whole()
     ensures { (list : List Job) (answers : List Answer) (run : Run) (texts : List (List ℕ))
         → AreListed (rows_of (plan_of_jobs list answers)) → IsRunOf list run

@@ -1,12 +1,11 @@
-//! The parts of one run, put together: the rows of the whole list.
+//! Merging the parts of one run into the rows of the whole list.
 //!
-//! [`merge_parts`] takes the texts of parts, as `rv_report` reads them, in any order and with repeats, and answers the
-//! rows of the list that they are the parts of, or says which text is refused, and why ([`MergeError`]). Each shard has
-//! the jobs that [`shard_selection`] marks.
+//! [`merge_parts`] takes the texts of parts, as `rv_report` reads them, in any order and with repeats, and returns the rows of the list
+//! that they are the parts of, or which text is rejected and why ([`MergeError`]). Each shard has the jobs that [`shard_selection`]
+//! selects.
 //!
-//! Three laws, with nothing to run: [`shards_give_the_parts_of_the_whole`], of rows of a list;
-//! [`rows_are_those_of_a_list`], of a list that was read; and of both [`shards_give_the_whole`], from the list's text to
-//! the report that its shards are put together to.
+//! There are three laws, with no code to run: [`shards_give_the_parts_of_the_whole`], on rows of a list; [`rows_are_those_of_a_list`], on a
+//! list that was read; and, combining both, [`shards_give_the_whole`], from the list's text to the report that its shards are merged into.
 #![tactic(auto)]
 
 mod error;

@@ -1,4 +1,4 @@
-//! The rows that a machine gives for a list that was read.
+//! The rows that a machine computes for a list that was read.
 
 ghost use Rattle.std.specs.Prelude.{◌≡◌, ◌<◌, ◌^◌, ℕ, List, Ok};
 ghost use Rattle.std.specs.List.{All, AllByRecursion};
@@ -15,9 +15,9 @@ ghost use Rattle.rv_merge.specs.Numbers.{EndsInWords, HasNumbers, HasWords};
 use rv_jobs::Bytes;
 use rv_rows::{Row, RowEnd, Words};
 
-/// The rows that a machine gives for a list that was read, whatever it kept of the list's paths, are those of a list:
-/// up to 4,096, with names by the list's rule that are all different, numbers of 32 bits, consoles of bytes,
-/// signatures of at most 65,536 words, and no refusal for want of memory.
+/// The rows that a machine computes for a list that was read, whatever the results for the list's paths, are those of a list: up to 4,096,
+/// with distinct names that are valid in lists, numbers of 32 bits, consoles of bytes, signatures of at most 65,536 words, and no refusal
+/// for lack of memory.
 pub fn rows_are_those_of_a_list(rows: &[Row])
     ensures { (bytes : List ℕ) (list : List Job) (answers : List Answer)
         → job_list_of bytes ≡ Ok list → rows.now ≡ rows_of (plan_of_jobs list answers)

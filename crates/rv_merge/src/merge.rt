@@ -15,14 +15,14 @@ use crate::part::part_at;
 use rv_rows::{Row, Rows};
 use std::alloc::{AllocError, Global};
 
-/// The rows of the list whose parts these texts are, in any order, of which one may come again. Takes memory for the
-/// rows, and for reading one text after the other.
+/// Returns the rows of the list whose parts these texts are, in any order and possibly repeated. Takes memory for the rows, and for reading
+/// one text after another.
 pub fn merge_parts(alloc: Global, texts: &[&[u8]]) -> Result<Rows, MergeError>
     // The texts are the parts of one run of these rows.
     ensures found { IfOk result (λ rows. AreParts rows (bytes_of_texts texts.now)) }
-    // Where they are the parts of one run of some rows, these are answered.
+    // If they are the parts of one run of some rows, these rows are returned.
     ensures only { (rows : List Row) → AreParts rows (bytes_of_texts texts.now) → AnswersRows rows result }
-    // What an error says is so.
+    // Every error is justified.
     ensures err { IfErr result (IsRefused (bytes_of_texts texts.now)) }
 {
     if texts.is_empty() {
@@ -32,7 +32,7 @@ pub fn merge_parts(alloc: Global, texts: &[&[u8]]) -> Result<Rows, MergeError>
     rows_of_parts(alloc, gathered)
 }
 
-// What is gathered of all texts.
+// Gathers the rows of all texts.
 fn gather_parts(alloc: Global, texts: &[&[u8]]) -> Result<Gathered, MergeError>
     requires { 0 < length texts.now }
     ensures holds { IfOk result (λ g. HoldsIn (bytes_of_texts texts.now) (length texts.now) g) }
@@ -48,7 +48,7 @@ fn gather_parts(alloc: Global, texts: &[&[u8]]) -> Result<Gathered, MergeError>
     Ok(gathered)
 }
 
-// The rows that were gathered, where none is missing and each has a name of its own.
+// Returns the gathered rows, if none is missing and each has a unique name.
 fn rows_of_parts(alloc: Global, gathered: Gathered) -> Result<Rows, MergeError>
     requires { 0 < length gathered.sources.items }
     ensures rows { IfOk result (λ rows. IsComplete gathered.sources.items gathered.slots.items
@@ -65,7 +65,7 @@ fn rows_of_parts(alloc: Global, gathered: Gathered) -> Result<Rows, MergeError>
     }
 }
 
-// The first place where nothing stands.
+// Returns the index of the first shard without a text.
 fn first_missing_shard(sources: &[Option<usize>]) -> Option<usize>
     ensures { MatchOption result (HaveSources sources.now)
         (λ at. (at < length sources.now) × (slice_index_or sources.now at None ≡ None)) }
@@ -78,7 +78,7 @@ fn first_missing_shard(sources: &[Option<usize>]) -> Option<usize>
     None
 }
 
-// The name of the row at a place is that of a row before it.
+// Returns the error if the name of the row at an index is that of an earlier row.
 fn repeated_name_error(sources: &[Option<usize>], place: usize) -> MergeError
     requires some { 0 < length sources.now }
     requires place { place < usize.MAX }
@@ -93,7 +93,7 @@ fn repeated_name_error(sources: &[Option<usize>], place: usize) -> MergeError
     }
 }
 
-// The rows that stand in slots.
+// Returns the rows in filled slots.
 fn rows_from_slots(alloc: Global, slots: Vec<Option<Row>>) -> Result<Vec<Row>, AllocError>
     ensures { IfOk result (λ rows. rows.items ≡ rows_from_slots slots.items) }
 {

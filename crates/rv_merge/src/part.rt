@@ -1,4 +1,4 @@
-//! A text as the part of a run that it is.
+//! A text as a part of a run.
 
 ghost use Rattle.std.specs.Prelude.{◌≡◌, ◌<◌, IfOk, IfErr, length};
 ghost use Rattle.rv_merge.specs.Parts.{bytes_of_texts, nth_text};
@@ -18,7 +18,7 @@ pub(crate) struct Part {
     pub(crate) rows: Rows,
 }
 
-/// The part whose text stands at a place.
+/// Returns the part whose text is at an index.
 pub(crate) fn part_at(alloc: Global, texts: &[&[u8]], at: usize) -> Result<Part, MergeError>
     requires { at < length texts.now }
     ensures found { IfOk result (λ part. IsTextOf (report_of_part part)
@@ -36,7 +36,7 @@ pub(crate) fn part_at(alloc: Global, texts: &[&[u8]], at: usize) -> Result<Part,
     }
 }
 
-// A report as a part, where it is that of a shard.
+// Returns a report as a part, if it is that of a shard.
 fn part_of_report(report: SavedReport) -> Result<Part, Flaw>
     ensures part { IfOk result (λ part. report_of_part part ≡ report) }
     ensures other { IfErr result (λ flaw. IsOtherKind flaw report.extent) }

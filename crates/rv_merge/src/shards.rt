@@ -6,8 +6,8 @@ ghost use Rattle.rv_merge.specs.Shards.{shard_selection, shard_places};
 
 use std::alloc::{AllocError, Global};
 
-/// A mark for each of so many jobs, which is set where the job is of the shard of a number: where its place, from 0,
-/// leaves one less when it is divided by how many shards there are.
+/// Returns a flag for each job, which is set if the job belongs to the shard with this number: if its index, from 0, modulo the number of
+/// shards is one less than the number.
 pub fn shard_selection(
     alloc: Global,
     jobs: usize,

@@ -1,4 +1,4 @@
-//! A list from its text to the report that its shards are put together to.
+//! From a list's text to the report that its shards are merged into.
 
 ghost use Rattle.std.specs.Prelude.{◌≡◌, ℕ, List, Ok};
 ghost use Rattle.rv_jobs.specs.declared.answers.Answer.{Answer};
@@ -13,10 +13,9 @@ use crate::law::shards_give_the_parts_of_the_whole;
 use crate::list_rows_law::rows_are_those_of_a_list;
 use rv_rows::Row;
 
-/// Where a list that was read ran in shards, and each machine kept the same of the paths that its jobs need as one
-/// machine keeps for the whole list, the texts of their reports are the parts of the rows that this machine gives, as
-/// `run_fleet` does for every number of workers and every group: they are what [`merge_parts`](crate::merge::merge_parts)
-/// answers.
+/// If a list that was read ran in shards, and each machine obtained the same results for the paths that its jobs need as one machine does
+/// for the whole list, the texts of their reports are the parts of the rows that this machine computes, as `run_fleet` does for every
+/// number of workers and every group size: they are what [`merge_parts`](crate::merge::merge_parts) returns.
 pub fn shards_give_the_whole(rows: &[Row])
     ensures { (bytes : List ℕ) (list : List Job) (answers : List Answer) (run : Run)
         (texts : List (List ℕ))

@@ -1,7 +1,7 @@
 -- What functions have of the steps of all spots is no more than that.
 use Rattle.std.proofs.Common.{◌==◌, ◌≤◌, Bool, true, false, ℕ, List, [], ◌∷◌, arith}
-use Rattle.rv_call_tree.specs.Profiles.{has_function, inclusive_behind}
-use Rattle.rv_call_tree.specs.Trees.{all_steps, own_in, path_behind, steps_if}
+use Rattle.rv_call_tree.specs.Profiles.{has_function, inclusive_after}
+use Rattle.rv_call_tree.specs.Trees.{all_steps, own_in, path_after, steps_if}
 use Rattle.rv_call_tree.specs.declared.spot.Spot.{Spot}
 use Rattle.std.specs.List.Sorted.{IsPermutation}
 use Rattle.std.specs.Prelude.{map}
@@ -21,11 +21,11 @@ own_at_most function (s ∷ ss) =
     let rest = own_at_most function ss in
     omega (arith, here, rest)
 
-inclusive_at_most : (function : ℕ) (front : List ℕ) (spots : List Spot) → inclusive_behind function front spots ≤ all_steps spots
+inclusive_at_most : (function : ℕ) (front : List ℕ) (spots : List Spot) → inclusive_after function front spots ≤ all_steps spots
 inclusive_at_most function front [] = omega arith
 inclusive_at_most function front (s ∷ ss) =
-    let here = if_at_most (has_function function (path_behind front s)) s.steps in
-    let rest = inclusive_at_most function (path_behind front s) ss in
+    let here = if_at_most (has_function function (path_after front s)) s.steps in
+    let rest = inclusive_at_most function (path_after front s) ss in
     omega (arith, here, rest)
 
 named_within : (spots : List Spot) (names : List FunctionName) → AreWithin (all_steps spots) (map (profiled spots) names)

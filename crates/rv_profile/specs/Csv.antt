@@ -1,4 +1,4 @@
--- Where the steps of images went as comma-separated values (RFC 4180): a row of names, and a row a function.
+-- Profiles of images as comma-separated values (RFC 4180): a row of column names and a row per function.
 use Rattle.std.specs.Prelude.{◌++◌, ℕ, List, codes}
 use Rattle.std.specs.Fmt.{decimal}
 use Rattle.std.specs.List.{flat_map}

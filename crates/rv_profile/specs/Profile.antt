@@ -1,15 +1,15 @@
--- Where the steps of an image went, by function, by its stacks.
+-- The profile of an image: its steps by function, from its call tree.
 use Rattle.std.specs.Prelude.{◌==◌, ◌≤◌, ◌&&◌, ◌||◌, ℕ, Bool, nat_lt, List, [], map}
 use Rattle.std.specs.List.{All, sum_by}
 use Rattle.std.specs.List.Sorted.{IsPermutation, IsSortedBy}
 use Rattle.rv_count_tables.specs.declared.table.FunctionName.{FunctionName}
-use Rattle.rv_call_tree.specs.Profiles.{arrivals_in, inclusive_behind}
+use Rattle.rv_call_tree.specs.Profiles.{arrivals_in, inclusive_after}
 use Rattle.rv_call_tree.specs.Trees.{own_in}
 use Rattle.rv_call_tree.specs.declared.spot.Spot.{Spot}
 use Rattle.rv_profile.specs.declared.function.FunctionProfile.{FunctionProfile}
 
--- a function by its name: the steps of the spots of which it is the last; those of the spots of which it is one, each once; and how often
--- a run came to it
+-- a function with its name; its own steps: those of the nodes that end in it; its inclusive steps: those of the nodes whose path has it,
+-- each counted once; and how often a run entered it
 pub record Profiled : Type 0 where
   pub name : List ℕ
   pub function : ℕ
@@ -22,15 +22,15 @@ profiled spots named = record {
   name = named.name;
   function = named.function;
   own = own_in named.function spots;
-  inclusive = inclusive_behind named.function [] spots;
+  inclusive = inclusive_after named.function [] spots;
   arrivals = arrivals_in named.function spots;
 }
 
--- more steps of its own, or as many, and a lower address
+-- more own steps come first; with equally many, the lower address
 abbrev pub goes_before : Profiled → Profiled → Bool
 goes_before p q = nat_lt q.own p.own || ((p.own == q.own) && nat_lt p.function q.function)
 
--- each function that has a name, once, in this order; these are the functions of the spots
+-- exactly the functions of the nodes, each with its name and once, in this order
 pub record IsProfileOf (spots : List Spot) (names : List FunctionName) (found : List Profiled) : Type 0 where
   pub each : IsPermutation (map (profiled spots) names) found
   pub order : IsSortedBy goes_before found
@@ -39,7 +39,7 @@ pub record IsProfileOf (spots : List Spot) (names : List FunctionName) (found : 
 abbrev pub own_steps : List Profiled → ℕ
 own_steps found = sum_by (λ p. p.own) found
 
--- no share is of more than there is
+-- no share exceeds the total
 abbrev pub IsWithin : ℕ → Profiled → Type 0
 IsWithin steps p = (p.own ≤ steps) × (p.inclusive ≤ steps)
 

@@ -1,4 +1,4 @@
--- Where the steps of an image went, as it is shown: a line of the image, a head, and a line for each function in the same columns.
+-- The profile table of an image: a line for the image, a header, and a line for each function in aligned columns.
 use Rattle.std.specs.Prelude.{◌==◌, ◌+◌, ◌-◌, ◌*◌, ◌/◌, ◌%◌, ◌++◌, ℕ, max, if◌then◌else◌, List, [], ◌∷◌, codes, length, replicate, take}
 use Rattle.std.specs.Prelude.{Option, Some, None}
 use Rattle.std.specs.Fmt.{decimal}
@@ -11,7 +11,7 @@ use Rattle.rv_profile.specs.declared.sums.Sums.{Sums}
 
 -- ---- columns
 
--- a column has so many places, or two more than the digits of the greatest number in it
+-- the width of a column: the given one, or two more than the digits of its greatest number if that is wider
 abbrev pub places : ℕ → ℕ → ℕ
 places least greatest = max least (2 + length (decimal greatest))
 
@@ -22,11 +22,11 @@ columns_of sums = record {
   arrivals = places 10 sums.arrivals;
 }
 
--- a word at the right end of so many places
+-- a word, right-aligned in a column
 unfoldable pub right_word : ℕ → List ℕ → List ℕ
 right_word places word = replicate (places - length word) 32 ++ word
 
--- above numbers and their percentages
+-- the header above numbers and their percentages
 unfoldable pub share_head : ℕ → List ℕ → List ℕ
 share_head places word = right_word places word ++ codes "       %"
 
@@ -36,11 +36,11 @@ columns_head c = share_head c.own (codes "self") ++ share_head c.inclusive (code
 
 -- ---- shares
 
--- in hundredths of a percent, to the nearest; of two that are as near the greater
+-- hundredths of a percent, rounded to nearest, ties up
 abbrev pub hundredths : ℕ → ℕ → ℕ
 hundredths part whole = if whole == 0 then 0 else (20_000 * part + whole) / (2 * whole)
 
--- so many of these, in eight places
+-- hundredths of a percent as text, eight characters wide
 unfoldable pub percent : ℕ → List ℕ
 percent count = right 4 (count / 100) ++ codes "." ++ decimal (count / 10 % 10) ++ decimal (count % 10) ++ codes "%"
 
@@ -56,7 +56,7 @@ steps_word count = if count == 1 then codes " step\n" else codes " steps\n"
 unfoldable pub steps_line : List ℕ → ℕ → List ℕ
 steps_line path steps = printable_text path ++ codes ": " ++ decimal steps ++ steps_word steps
 
--- of a function, of so many steps of its image
+-- the line of a function, given the total steps of its image
 unfoldable pub function_line : Columns → ℕ → Profiled → List ℕ
 function_line c steps p = share c.own p.own steps ++ share c.inclusive p.inclusive steps ++ right c.arrivals p.arrivals
     ++ codes "  " ++ printable_name p.name ++ codes "\n"
@@ -67,18 +67,18 @@ function_lines c steps ps = flat_map (function_line c steps) ps
 abbrev pub functions_word : ℕ → List ℕ
 functions_word count = if count == 1 then codes " more function\n" else codes " more functions\n"
 
--- how many functions have no line; no line where there are none
+-- the number of functions without a line; no line if there are none
 abbrev pub more_line : ℕ → List ℕ
 more_line left = if left == 0 then [] else decimal left ++ functions_word left
 
 -- ---- an image
 
--- the first so many, or all
+-- the first n elements, or all
 abbrev pub first_of : {X : Type 0} → Option ℕ → List X → List X
 first_of None xs = xs
 first_of (Some count) xs = take count xs
 
--- the head, and the functions that are shown, behind a line of the image; no head where there are no functions
+-- the header and the shown functions, after the line of the image; no header if there are no functions
 abbrev pub functions_text : Option ℕ → Sums → List Profiled → List ℕ
 functions_text top sums [] = []
 functions_text top sums (p ∷ ps) = columns_head (columns_of sums) ++ function_lines (columns_of sums) sums.steps (first_of top (p ∷ ps))

@@ -7,7 +7,7 @@ use crate::sums::Sums;
 use rv_text::push_number;
 use std::alloc::{AllocError, Global};
 
-/// How many places the columns of an image have.
+/// The widths of an image's columns.
 #[derive(Clone, Copy)]
 pub(crate) struct Columns {
     pub(crate) own: usize,
@@ -15,7 +15,7 @@ pub(crate) struct Columns {
     pub(crate) arrivals: usize,
 }
 
-/// Those of an image whose steps and arrivals have these sums.
+/// Returns the columns of an image whose steps and calls have these sums.
 pub(crate) fn columns_of(alloc: Global, sums: Sums) -> Result<Columns, AllocError>
     ensures { IfOk result (λ columns. columns ≡ columns_of sums) }
 {
@@ -26,7 +26,7 @@ pub(crate) fn columns_of(alloc: Global, sums: Sums) -> Result<Columns, AllocErro
     })
 }
 
-// Two places more than a number has digits, or at least so many.
+// Returns the width of a column: two more than a number has digits, but at least `least`.
 fn places(alloc: Global, least: usize, greatest: u64) -> Result<usize, AllocError>
     ensures { IfOk result (λ count. count ≡ places least greatest) }
 {

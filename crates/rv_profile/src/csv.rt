@@ -1,4 +1,4 @@
-//! Where the steps of images went, for tools: comma-separated values (RFC 4180), each line with a line feed at its end.
+//! Profiles of images for tools: comma-separated values (RFC 4180), each line terminated by a line feed.
 
 ghost use Rattle.std.specs.Prelude.{◌≡◌, ◌++◌, OnOk};
 ghost use Rattle.rv_profile.specs.Csv.{csv_head, csv_numbers, csv_row, csv_rows};
@@ -9,7 +9,7 @@ use rv_cover_view::push_csv_field;
 use rv_text::{Span, push_spans, push_text};
 use std::alloc::AllocError;
 
-/// Appends the row of the columns' names.
+/// Appends the row of column names.
 #[tactic(auto, unfolding(crate::specs::Csv::csv_head))]
 pub(crate) fn push_csv_head(bytes: &mut Vec<u8>) -> Result<(), AllocError>
     ensures { OnOk result (bytes.new.items ≡ bytes.old.items ++ csv_head) }
@@ -17,7 +17,7 @@ pub(crate) fn push_csv_head(bytes: &mut Vec<u8>) -> Result<(), AllocError>
     push_text(bytes, "image,function,address,self,inclusive,calls\n")
 }
 
-/// Appends the rows of functions of the image at a path.
+/// Appends the rows of the functions of the image with this path.
 pub(crate) fn push_csv_rows(
     bytes: &mut Vec<u8>,
     path: &[u8],

@@ -1,10 +1,10 @@
-//! How profiles are shown.
+//! Options of a profile report.
 
 /// How the functions of images are shown.
 #[derive(Clone, Copy, Debug, PartialEq, Eq)]
 pub struct ProfileFormat {
-    /// Whether they are rows for tools.
+    /// Whether to write CSV rows for tools.
     pub csv: bool,
-    /// How many functions of each image are shown; absent: all.
+    /// How many functions of each image to show; `None` for all.
     pub top: Option<u32>,
 }

@@ -1,4 +1,4 @@
-//! What runs did in a function with a name.
+//! What runs did in a named function.
 
 ghost use Rattle.std.specs.Prelude.{◌≡◌};
 ghost use Rattle.rv_profile.specs.Profile.{profile_of, profiled};
@@ -10,12 +10,12 @@ use rv_count_tables::FunctionName;
 #[derive(Clone, Copy)]
 pub(crate) struct FunctionProfile<'a> {
     pub(crate) name: &'a str,
-    /// Its address.
+    /// The function's address.
     pub(crate) function: u32,
     pub(crate) steps: FunctionSteps,
 }
 
-/// Those of a function that has a name. Its time grows with the number of spots of the function.
+/// Returns the counts of a named function. Takes time linear in the number of the function's nodes.
 pub(crate) fn profile_of_function<'a>(
     index: &SpotIndex<'_>,
     named: &'a FunctionName,

@@ -1,4 +1,4 @@
-//! The functions of an image, the greatest first.
+//! The functions of an image, those with the most steps first.
 
 ghost use Rattle.std.specs.Prelude.{◌≡◌, IfOk, map, true};
 ghost use Rattle.rv_profile.specs.ImageStacks.{are_few, sums_of};
@@ -10,8 +10,8 @@ use crate::image_stacks::ImageStacks;
 use rv_call_tree::SpotIndex;
 use std::alloc::{AllocError, Global};
 
-/// The functions of an image by its stacks: those with the most steps of their own first, and of those with as many the one at the lower
-/// address. Takes the time to sort the spots and the functions.
+/// Returns the functions of an image from its call tree, sorted by own steps in descending order, then by address. Takes the time to sort
+/// the nodes and the functions.
 pub(crate) fn functions_by_own_steps<'t>(
     alloc: Global,
     stacks: ImageStacks<'t>,
@@ -25,7 +25,7 @@ pub(crate) fn functions_by_own_steps<'t>(
     Ok(functions)
 }
 
-// The same by address.
+// Returns the functions of an image from its call tree, sorted by address.
 fn functions_of_stacks<'t>(
     alloc: Global,
     stacks: ImageStacks<'t>,

@@ -11,7 +11,7 @@ use crate::text::{push_columns_head, push_function_line, push_more_line, push_st
 use crate::top::first_of;
 use std::alloc::{AllocError, Global};
 
-/// Appends the lines of the image at a path: the first so many of its functions, or all.
+/// Appends the lines of the image with this path: its first `top` functions, or all.
 pub(crate) fn push_image_lines(
     alloc: Global,
     bytes: &mut Vec<u8>,
@@ -26,7 +26,7 @@ pub(crate) fn push_image_lines(
     push_functions(alloc, bytes, top, profile)
 }
 
-// Appends the lines of functions, with a head where there are some.
+// Appends the lines of functions, after a header if there are any.
 fn push_functions(
     alloc: Global,
     bytes: &mut Vec<u8>,
@@ -47,7 +47,7 @@ fn push_functions(
     push_more_line(bytes, functions.len() - shown.len())
 }
 
-// Appends the lines of functions of an image with so many steps.
+// Appends the lines of functions, given the total steps of their image.
 fn push_function_lines(
     alloc: Global,
     bytes: &mut Vec<u8>,

@@ -1,4 +1,4 @@
-//! Where the steps of an image went.
+//! The profile of an image.
 
 ghost use Rattle.std.specs.Prelude.{◌≡◌, IfOk, true};
 ghost use Rattle.rv_profile.specs.ImageStacks.{are_few, sums_of};
@@ -11,17 +11,17 @@ use crate::image_stacks::ImageStacks;
 use crate::sums::{Sums, sums_of};
 use std::alloc::{AllocError, Global};
 
-/// Where the steps of an image went.
+/// The profile of an image.
 #[derive(Drop)]
 pub(crate) struct ImageProfile<'t> {
-    /// Those of all functions.
+    /// The sums over all functions.
     pub(crate) sums: Sums,
-    /// Those with the most steps of their own first.
+    /// The functions, those with the most own steps first.
     pub(crate) functions: Vec<FunctionProfile<'t>>,
     ghost within: { AreWithin sums.steps (profiles_of functions.items) },
 }
 
-/// Where those of an image with these stacks went.
+/// Returns the profile of an image with this call tree.
 pub(crate) fn profile_of_image<'t>(
     alloc: Global,
     stacks: ImageStacks<'t>,

@@ -1,4 +1,4 @@
-//! The stacks that a table has of images.
+//! A table's call trees of images.
 
 ghost use Rattle.std.specs.Prelude.{◌≡◌, [], find, option_map, true};
 ghost use Rattle.std.specs.List.{list_any};
@@ -12,16 +12,16 @@ use rv_call_tree::Spot;
 use rv_count_tables::{CountTable, FunctionName, ImageCounts};
 use rv_cover_view::{ImageFile, counted_image};
 
-/// The stacks of an image.
+/// The call tree of an image.
 #[derive(Clone, Copy)]
 pub(crate) struct ImageStacks<'t> {
     pub(crate) spots: &'t [Spot],
-    /// The names of their functions, rising by function.
+    /// The names of its functions, sorted by function address.
     pub(crate) names: &'t [FunctionName],
     ghost rising: { names_rise 0 names.now ≡ true },
 }
 
-/// The stacks that a table has of the image with the digest of a file; there are none where it has no such image.
+/// Returns a table's call tree of the image with the digest of a file. It is empty if the table has no such image.
 pub(crate) fn stacks_of<'t>(table: &'t CountTable, bytes: &[u8]) -> ImageStacks<'t>
     requires { IsTable table.now }
     ensures spots { result.spots.now ≡ spots_of table.now bytes.now }
@@ -58,7 +58,7 @@ fn no_stacks<'t>() -> ImageStacks<'t>
     }
 }
 
-/// Whether a table has stacks of some image.
+/// Whether a table has call paths of some image.
 pub fn has_stacks(table: &CountTable) -> bool
     ensures { result ≡ has_stacks table.now }
 {
@@ -71,7 +71,7 @@ fn has_spots(counted: &ImageCounts) -> bool
     !counted.spots.as_slice().is_empty()
 }
 
-/// The path of the first image whose stacks have 2^64 steps or more, or as many arrivals, in a table.
+/// Returns the path of the first image whose steps or calls in a table add up to 2^64 or more.
 pub fn image_past_64_bits<'a>(table: &CountTable, images: &[ImageFile<'a>]) -> Option<&'a str>
     ensures { option_map (λ path. path.now) result ≡ image_past_64_bits table.now (images_of_files images.now) }
 {

@@ -1,4 +1,4 @@
-//! What is shown of images, by the stacks of a table.
+//! The profile report of images, from a table's call trees.
 
 ghost use Rattle.std.specs.Prelude.{◌≡◌, ◌++◌, IfOk, List, None, OnOk, false, ℕ};
 ghost use Rattle.rv_count_tables.specs.Table.{IsTable};
@@ -17,7 +17,7 @@ use rv_count_tables::CountTable;
 use rv_cover_view::ImageFile;
 use std::alloc::{AllocError, Global};
 
-/// What is shown of images by the stacks of a table: rows for tools behind a head, or lines for people.
+/// Formats the profiles of images by a table's call trees: CSV rows after a header for tools, or lines for people.
 pub fn profile_text(
     alloc: Global,
     format: ProfileFormat,
@@ -46,7 +46,7 @@ fn push_head(text: &mut Vec<u8>, format: ProfileFormat) -> Result<(), AllocError
     }
 }
 
-// Appends what is shown of an image.
+// Appends the profile of an image.
 fn push_image(
     alloc: Global,
     text: &mut Vec<u8>,

@@ -1,4 +1,4 @@
-//! Profiles that another tool made of the same stacks, and some that a person counted.
+//! Tests with profiles that another tool made of the same call trees, and some that were counted by hand.
 
 ghost use Rattle.rv_count_tables.specs.Table.{IsTable};
 
@@ -112,7 +112,7 @@ build/tail.elf: 5661 steps
             2   0.04%          2   0.04%         1  _set_tls
 ";
 
-// A call in a call.
+// A nested call.
 const HAND: &str = "\
 rvcounts 1
 image e3b0c44298fc1c149afbf4c8996fb92427ae41e4649b934ca495991b7852b855 build/hand.elf
@@ -137,7 +137,7 @@ build/hand.elf,_start,80000000,19,67,1
 build/hand.elf,main,800000b0,12,48,1
 ";
 
-// f is the last of three lists of functions, and stands twice in one; no symbol is at the code that ran first.
+// `f` ends three call paths and occurs twice in one of them; the code that ran first has no symbol.
 const MUTUAL: &str = "\
 rvcounts 1
 image e3b0c44298fc1c149afbf4c8996fb92427ae41e4649b934ca495991b7852b855 a,b.elf
@@ -163,7 +163,7 @@ image,function,address,self,inclusive,calls
 \"a,b.elf\",\"g\"\"\",00000020,4,5,4
 ";
 
-// Numbers that need more places than their names.
+// Numbers that are wider than their column headers.
 const WIDE: &str = "\
 rvcounts 1
 image e3b0c44298fc1c149afbf4c8996fb92427ae41e4649b934ca495991b7852b855 a.elf
@@ -195,7 +195,7 @@ a.elf: 20000 steps
             1   0.01%          1   0.01%         1  once
 ";
 
-// A run that came to an instruction, and ended there before it began; and one step alone.
+// A run that reached an instruction and ended before executing it, and a run of one step.
 const NONE_AND_ONE: [(&str, &str); 3] = [
     (
         "rvcounts 1\nimage e3b0c44298fc1c149afbf4c8996fb92427ae41e4649b934ca495991b7852b855 a.elf\nspot 0 00000000 1 0 ?\ndone 1 1\n",
@@ -220,7 +220,7 @@ const PAST_64_BITS: [&str; 2] = [
     "rvcounts 1\nimage e3b0c44298fc1c149afbf4c8996fb92427ae41e4649b934ca495991b7852b855 a.elf\nspot 0 00000000 18446744073709551615 0 f\nspot 1 00000000 1 0 f\ndone 1 1\n",
 ];
 
-// The profile of the image in a table.
+// Returns the profile of the image in a table.
 fn profile_in(alloc: Global, table: &CountTable) -> Result<ImageProfile<'_>, Fail>
     requires { IsTable table.now }
 {

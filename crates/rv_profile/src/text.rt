@@ -1,4 +1,4 @@
-//! Where the steps of an image went, as it is shown.
+//! The profile table of an image.
 
 ghost use Rattle.std.specs.Prelude.{◌≡◌, ◌≤◌, ◌++◌, OnOk};
 ghost use Rattle.rv_profile.specs.Profile.{IsWithin, profile_of};
@@ -47,7 +47,7 @@ pub(crate) fn push_columns_head(bytes: &mut Vec<u8>, columns: Columns) -> Result
     push_text(bytes, "  function\n")
 }
 
-// Appends what stands above numbers and their percentages.
+// Appends the header above numbers and their percentages.
 #[tactic(auto, unfolding(crate::specs::Text::share_head))]
 fn push_share_head(bytes: &mut Vec<u8>, places: usize, word: &str) -> Result<(), AllocError>
     ensures { OnOk result (bytes.new.items ≡ bytes.old.items ++ share_head places word.now) }
@@ -56,7 +56,7 @@ fn push_share_head(bytes: &mut Vec<u8>, places: usize, word: &str) -> Result<(),
     push_text(bytes, "       %")
 }
 
-// Appends a word at the right end of so many places.
+// Appends a word, right-aligned in a column of width `places`.
 #[tactic(auto, unfolding(crate::specs::Text::right_word))]
 fn push_right_word(bytes: &mut Vec<u8>, places: usize, word: &str) -> Result<(), AllocError>
     ensures { OnOk result (bytes.new.items ≡ bytes.old.items ++ right_word places word.now) }
@@ -65,7 +65,7 @@ fn push_right_word(bytes: &mut Vec<u8>, places: usize, word: &str) -> Result<(),
     push_text(bytes, word)
 }
 
-/// Appends the line of a function of an image with so many steps: its numbers, each at the right end of its column, and its name.
+/// Appends the line of a function, given the total steps of its image: its numbers, each right-aligned in its column, and its name.
 #[tactic(auto, unfolding(crate::specs::Text::function_line))]
 pub(crate) fn push_function_line(
     alloc: Global,
@@ -107,7 +107,7 @@ fn push_share(
     push_percent(alloc, bytes, hundredths(part, whole))
 }
 
-// Which share a part is of a whole, in hundredths of a percent.
+// Returns the share of a part in a whole, in hundredths of a percent.
 fn hundredths(part: u64, whole: u64) -> u64
     requires { part ≤ whole }
     ensures { result ≡ hundredths part whole }
@@ -119,7 +119,7 @@ fn hundredths(part: u64, whole: u64) -> u64
     ((20_000 * part + whole) / (2 * whole)) as u64
 }
 
-// Appends so many hundredths of a percent, as a percentage with two decimals.
+// Appends hundredths of a percent as a percentage with two decimals.
 #[tactic(auto, unfolding(crate::specs::Text::percent))]
 fn push_percent(alloc: Global, bytes: &mut Vec<u8>, count: u64) -> Result<(), AllocError>
     ensures { OnOk result (bytes.new.items ≡ bytes.old.items ++ percent count) }
@@ -136,7 +136,7 @@ fn push_percent(alloc: Global, bytes: &mut Vec<u8>, count: u64) -> Result<(), Al
     )
 }
 
-/// Appends how many functions more there are, if there are some.
+/// Appends the number of further functions, if there are any.
 pub(crate) fn push_more_line(bytes: &mut Vec<u8>, left: usize) -> Result<(), AllocError>
     ensures { OnOk result (bytes.new.items ≡ bytes.old.items ++ more_line left) }
 {

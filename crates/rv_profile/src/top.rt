@@ -1,11 +1,11 @@
-//! The first of the functions of an image.
+//! The first functions of an image.
 
 ghost use Rattle.std.specs.Prelude.{◌≡◌};
 ghost use Rattle.rv_profile.specs.Text.{first_of};
 
 use crate::function::FunctionProfile;
 
-/// The first so many functions, or all.
+/// Returns the first `top` functions, or all.
 pub(crate) fn first_of<'f, 't>(
     top: Option<u32>,
     functions: &'f [FunctionProfile<'t>],

@@ -5,7 +5,7 @@ use Rattle.std.specs.Prelude.{nat_le, nat_lt, is_some}
 use Rattle.std.specs.List.{list_all}
 use Rattle.std.proofs.lemmas.Bool.{and_parts, and_from, cases_Bool}
 use Rattle.std.proofs.lemmas.Bool.Decides.{nat_tests}
-use Rattle.rv_base.specs.Names.{is_name, place_in}
+use Rattle.rv_base.specs.Names.{is_name, index_in}
 use Rattle.rv_base.specs.Limits.{most_jobs}
 use Rattle.rv_report.specs.declared.row.Row.{Row}
 use Rattle.rv_report.specs.declared.saved.Extent.{Extent}
@@ -36,7 +36,7 @@ unfolding count_before_repeated_name
 new_within earlier [] = omega arith
 new_within earlier (t ∷ ts) =
     let k = new_within (earlier ++ t ∷ []) ts in
-    elim (cases_Bool (is_some (place_in earlier t))) [
+    elim (cases_Bool (is_some (index_in earlier t))) [
       | inl e ↦
           let s : count_before_repeated_name earlier (t ∷ ts) ≡ 0 =
           ap (λ (b : Bool). cond b 0 (count_before_repeated_name (earlier ++ t ∷ []) ts + 1)) e in
@@ -74,13 +74,13 @@ new_taken earlier (suc count) [] h = refl
 new_taken earlier (suc count) (row ∷ rows) h =
     let t = row.name in
     let later = count_before_repeated_name (earlier ++ t ∷ []) (row_names rows) in
-    elim (cases_Bool (is_some (place_in earlier t))) [
+    elim (cases_Bool (is_some (index_in earlier t))) [
       | inl e ↦
           let s : count_before_repeated_name earlier (row_names (row ∷ rows)) ≡ 0 = ap (λ (b : Bool). cond b 0 (later + 1)) e in
           absurd (omega arith)
       | inr e ↦
           let s : count_before_repeated_name earlier (row_names (row ∷ rows)) ≡ later + 1 = ap (λ (b : Bool). cond b 0 (later + 1)) e in
-          and_from (not (is_some (place_in earlier t))) (are_new (earlier ++ t ∷ []) (row_names (take count rows)))
+          and_from (not (is_some (index_in earlier t))) (are_new (earlier ++ t ∷ []) (row_names (take count rows)))
           (ap not e) (new_taken (earlier ++ t ∷ []) count rows (omega arith))
     ]
 

@@ -27,7 +27,7 @@ use Rattle.rv_report.specs.declared.saved.Extent.{Extent}
 use Rattle.rv_report.specs.declared.saved.Extent.TheVariants.{Whole}
 use Rattle.rv_report.specs.LenientReport.{lines, name_or_dash, job_number_of_line, job_name_of_line, text_after_byte, decimal_number_on, decimal_number, with_digit}
 use Rattle.rv_report.specs.LenientReport.{hex_number, with_zero_digits, hex_word, is_hex_word, hex_bytes, bytes_if_decoded, refusal_or_first, fault_ending_of_text}
-use Rattle.rv_report.specs.LenientReport.{row_ending_of_line, verdict_of_line, part_extent_of_line, Gathered, gathering_between_rows, with_closed_row, with_stage_over, row_so_far, padded_words}
+use Rattle.rv_report.specs.LenientReport.{row_ending_of_line, verdict_of_line, part_extent_of_line, Gathered, gathering_between_rows, with_finished_row, with_stage_over, row_so_far, padded_words}
 use Rattle.rv_report.specs.LenientReport.{at_job_or_last_line, at_ending, at_steps, at_console, at_signature, at_words, with_line_at}
 use Rattle.rv_report.specs.LenientReport.{with_line, with_lines, with_unfinished_row, gather_rows, hex_digit_value}
 use Rattle.rv_report.specs.Saved.{most_words, IsWord, IsEnd, AreWords, IsRow}
@@ -181,8 +181,8 @@ row_good v g h =
       signature = signature_good g.signed g.words (omega arith) h.7;
     }
 
-draft_closed : (v : Verdict) (g : Gathered) → IsDraft g → IsDraft (with_closed_row v g)
-unfolding with_closed_row
+draft_closed : (v : Verdict) (g : Gathered) → IsDraft g → IsDraft (with_finished_row v g)
+unfolding with_finished_row
 draft_closed v g h =
     draft_whole (g.numbers ++ g.number ∷ []) (g.rows ++ row_so_far v g ∷ []) g.extent
     (all-append IsRow g.rows (row_so_far v g ∷ []) h.0 (row_good v g h, tt))
@@ -236,7 +236,7 @@ draft_words : (line : List ℕ) (g : Gathered) → IsDraft g → IsDraft (at_wor
 unfolding at_words
 draft_words line g h =
     let word : Gathered = record g { words = g.words ++ hex_word line ∷ [] } in
-    let row : Gathered = with_closed_row (verdict_of_line line) g in
+    let row : Gathered = with_finished_row (verdict_of_line line) g in
     let ended : Bool = (slice_index line 0 == 118) && (length g.words == g.count) in
     let other : Gathered = if ended then row else with_stage_over g in
     pick_if IsDraft (is_hex_word line && nat_lt (length g.words) g.count) word other
@@ -283,7 +283,7 @@ draft_finished : (g : Gathered) → IsDraft g → IsDraft (with_unfinished_row g
 unfolding with_unfinished_row
 draft_finished g h =
     let filled : Gathered = record g { words = padded_words g.count g.words } in
-    pick IsDraft g.begun (with_closed_row Unasked filled) g (draft_closed Unasked filled (draft_padded g h)) h
+    pick IsDraft g.begun (with_finished_row Unasked filled) g (draft_closed Unasked filled (draft_padded g h)) h
 
 pub gathered_good : (text : List ℕ) → AreGood (gather_rows text).rows
 unfolding gather_rows

@@ -17,7 +17,7 @@ use Rattle.rv_report.specs.LenientReport.{hex_digit_value, with_zero_digits, are
 use Rattle.rv_report.specs.declared.row.Row.{Row}
 use Rattle.std.specs.Prelude.{is_some}
 use Rattle.std.proofs.lemmas.Bool.{false≢true}
-use Rattle.rv_base.specs.Names.{place_in}
+use Rattle.rv_base.specs.Names.{index_in}
 use Rattle.rv_report.specs.LenientReport.{count_before_repeated_name}
 use Rattle.rv_report.specs.Saved.{are_rising, are_evenly_spaced, row_names}
 
@@ -237,7 +237,7 @@ names_taken (r ∷ rows) (suc i) row h =
 
 new_step : (earlier : List (List ℕ)) (rows : List Row) (i : ℕ) (row : Row) → i < length rows
     → count_before_repeated_name earlier (row_names (drop i rows))
-    ≡ cond (is_some (place_in earlier (get_or rows i row).name)) 0
+    ≡ cond (is_some (index_in earlier (get_or rows i row).name)) 0
     (count_before_repeated_name (earlier ++ (get_or rows i row).name ∷ []) (row_names (drop (i + 1) rows)) + 1)
 unfolding count_before_repeated_name
 new_step earlier rows i row h = at_drop_more (λ (rs : List Row). count_before_repeated_name earlier (row_names rs)) rows i row h
@@ -248,23 +248,23 @@ unfolding count_before_repeated_name
 new_end earlier rows i h = at_drop_all (λ (rs : List Row). count_before_repeated_name earlier (row_names rs)) rows i h
 
 pub new_here : (earlier : List (List ℕ)) (rows : List Row) (i : ℕ) (row : Row) (name : List ℕ) → i < length rows
-    → name ≡ (get_or rows i row).name → is_some (place_in earlier name) ≡ true
+    → name ≡ (get_or rows i row).name → is_some (index_in earlier name) ≡ true
     → count_before_repeated_name earlier (row_names (drop i rows)) ≡ 0
 new_here earlier rows i row name h is e =
     new_step earlier rows i row h
     ∙ ap (λ (t : Bool). cond t 0 (count_before_repeated_name (earlier ++ (get_or rows i row).name ∷ [])
     (row_names (drop (i + 1) rows)) + 1))
-    (ap (λ (n : List ℕ). is_some (place_in earlier n)) (sym is) ∙ e)
+    (ap (λ (n : List ℕ). is_some (index_in earlier n)) (sym is) ∙ e)
 
 pub new_later : (earlier : List (List ℕ)) (rows : List Row) (i : ℕ) (row : Row) (name : List ℕ) → i < length rows
-    → name ≡ (get_or rows i row).name → is_some (place_in earlier name) ≡ false
+    → name ≡ (get_or rows i row).name → is_some (index_in earlier name) ≡ false
     → count_before_repeated_name earlier (row_names (drop i rows))
     ≡ count_before_repeated_name (earlier ++ name ∷ []) (row_names (drop (i + 1) rows)) + 1
 new_later earlier rows i row name h is e =
     new_step earlier rows i row h
     ∙ ap (λ (t : Bool). cond t 0 (count_before_repeated_name (earlier ++ (get_or rows i row).name ∷ [])
     (row_names (drop (i + 1) rows)) + 1))
-    (ap (λ (n : List ℕ). is_some (place_in earlier n)) (sym is) ∙ e)
+    (ap (λ (n : List ℕ). is_some (index_in earlier n)) (sym is) ∙ e)
     ∙ ap (λ (n : List ℕ). count_before_repeated_name (earlier ++ n ∷ []) (row_names (drop (i + 1) rows)) + 1) (sym is)
 
 pub names_on : (rows : List Row) (i : ℕ) (row : Row) (name : List ℕ) → i < length rows → name ≡ (get_or rows i row).name

@@ -9,7 +9,7 @@ use Rattle.rv_report.specs.declared.row.Verdict.TheVariants.{Unasked}
 use Rattle.rv_report.specs.declared.gathering.Stage.{Stage}
 use Rattle.rv_report.specs.declared.gathering.Stage.TheVariants as stage
 use Rattle.rv_report.specs.LenientReport.{job_number_of_line, job_name_of_line, decimal_number, is_hex_word, hex_word, hex_bytes}
-use Rattle.rv_report.specs.LenientReport.{row_ending_of_line, verdict_of_line, part_extent_of_line, Gathered, gathering_between_rows, with_closed_row, with_stage_over, row_so_far, padded_words}
+use Rattle.rv_report.specs.LenientReport.{row_ending_of_line, verdict_of_line, part_extent_of_line, Gathered, gathering_between_rows, with_finished_row, with_stage_over, row_so_far, padded_words}
 use Rattle.rv_report.specs.LenientReport.{at_job_or_last_line, at_ending, at_steps, at_console, at_signature, at_words, with_line_at}
 use Rattle.rv_report.specs.LenientReport.{with_line, with_lines, with_unfinished_row}
 use Rattle.rv_report.specs.Saved.{most_words}
@@ -42,8 +42,8 @@ unchanged f = record {
   rows_are = sym (append-nil f.rows);
 }
 
-one_more : (v : Verdict) (g : Gathered) → Extends g.numbers g.rows (with_closed_row v g)
-unfolding with_closed_row gathering_between_rows
+one_more : (v : Verdict) (g : Gathered) → Extends g.numbers g.rows (with_finished_row v g)
+unfolding with_finished_row gathering_between_rows
 one_more v g = record {
   more_numbers = g.number ∷ [];
   more_rows = row_so_far v g ∷ [];
@@ -95,7 +95,7 @@ grown_at stage.Signature l g =
 grown_at stage.Words l g =
     let P : Gathered → Type 0 = λ f. Extends g.numbers g.rows f in
     let word : Gathered = record g { words = g.words ++ hex_word l ∷ [] } in
-    let row : Gathered = with_closed_row (verdict_of_line l) g in
+    let row : Gathered = with_finished_row (verdict_of_line l) g in
     let ended : Bool = (slice_index l 0 == 118) && (length g.words == g.count) in
     let other : Gathered = if ended then row else with_stage_over g in
     chosen P (is_hex_word l && nat_lt (length g.words) g.count) word other (unchanged word)
@@ -106,7 +106,7 @@ finished_grown : (g : Gathered) → Extends g.numbers g.rows (with_unfinished_ro
 unfolding with_unfinished_row
 finished_grown g =
     let filled : Gathered = record g { words = padded_words g.count g.words } in
-    chosen (λ f. Extends g.numbers g.rows f) g.begun (with_closed_row Unasked filled) g (one_more Unasked filled)
+    chosen (λ f. Extends g.numbers g.rows f) g.begun (with_finished_row Unasked filled) g (one_more Unasked filled)
     (unchanged g)
 
 pub grown : (ls : List (List ℕ)) (g : Gathered) → Extends g.numbers g.rows (at_end ls g)

@@ -4,7 +4,7 @@ use Rattle.std.proofs.Common.{length, take, refl, sym, ap, arith, subst, append_
 use Rattle.std.specs.Prelude.{nat_le, nat_lt, is_some}
 use Rattle.std.proofs.lemmas.Bool.{and_parts, and_from, cases_lt}
 use Rattle.std.proofs.lemmas.List.{take-append-le, take-map, map-append}
-use Rattle.rv_base.specs.Names.{place_in}
+use Rattle.rv_base.specs.Names.{index_in}
 use Rattle.rv_base.specs.Limits.{most_jobs}
 use Rattle.rv_report.specs.declared.row.Row.{Row}
 use Rattle.rv_report.specs.declared.saved.Extent.{Extent}
@@ -45,11 +45,11 @@ unfolding count_before_repeated_name are_new
 new_first earlier zero texts more h = omega arith
 new_first earlier (suc c) [] more h = omega arith
 new_first earlier (suc c) (t ∷ ts) more h =
-    let first = and_parts (not (is_some (place_in earlier t))) (are_new (earlier ++ t ∷ []) ts) h in
+    let first = and_parts (not (is_some (index_in earlier t))) (are_new (earlier ++ t ∷ []) ts) h in
     let later = new_first (earlier ++ t ∷ []) c ts more first.1 in
     let next = count_before_repeated_name (earlier ++ t ∷ []) (take c ts ++ more) in
     let s : count_before_repeated_name earlier (t ∷ (take c ts ++ more)) ≡ next + 1 =
-    ap (λ (b : Bool). cond b 0 (next + 1)) (not_not (is_some (place_in earlier t)) first.0) in
+    ap (λ (b : Bool). cond b 0 (next + 1)) (not_not (is_some (index_in earlier t)) first.0) in
     omega arith
 
 numbered_append : (ks bs : List ℕ) (xs ys : List Row) → length ks ≡ length xs

@@ -18,7 +18,7 @@ use Rattle.rv_report.specs.declared.row.RowEnd.TheVariants as ending
 use Rattle.rv_report.specs.declared.row.Verdict.{Verdict}
 use Rattle.rv_report.specs.declared.gathering.Stage.TheVariants as stage
 use Rattle.rv_report.specs.Report.{refusal_name, verdict_name, dash_if_empty}
-use Rattle.rv_report.specs.LenientReport.{lines, is_hex_word, hex_word, are_hex_digits, verdict_of_line, Gathered, gathering_between_rows, with_closed_row, with_stage_over}
+use Rattle.rv_report.specs.LenientReport.{lines, is_hex_word, hex_word, are_hex_digits, verdict_of_line, Gathered, gathering_between_rows, with_finished_row, with_stage_over}
 use Rattle.rv_report.specs.LenientReport.{row_so_far, at_words, with_line, with_lines, with_unfinished_row}
 use Rattle.rv_report.specs.Saved.{IsWord, AreWords, IsRow, most_words}
 use Rattle.rv_report.proofs.Pieces.{lacks}
@@ -148,11 +148,11 @@ and_no false = refl
 -- a line that begins with v is the verdict, once all words are there
 verdict_read : (p : List ℕ) (g : Gathered) → (length g.words == g.count) ≡ true
     → with_line (118 ∷ p) (record g { stage = stage.Words })
-    ≡ with_closed_row (verdict_of_line (118 ∷ p)) (record g { stage = stage.Words })
+    ≡ with_finished_row (verdict_of_line (118 ∷ p)) (record g { stage = stage.Words })
 unfolding with_line at_words are_hex_digits
 verdict_read p g full =
     let here : Gathered = record g { stage = stage.Words } in
-    let row = with_closed_row (verdict_of_line (118 ∷ p)) here in
+    let row = with_finished_row (verdict_of_line (118 ∷ p)) here in
     let word : Gathered = record here { words = g.words ++ hex_word (118 ∷ p) ∷ [] } in
     ap (λ (t : Bool). cond (t && nat_lt (length g.words) g.count) word
     (cond (length g.words == g.count) row (with_stage_over here))) (and_no (nat_lt 0 (length (118 ∷ p))))
@@ -184,8 +184,8 @@ signature_read n row w g is small few =
 closed_row_is : (n : ℕ) (row : Row) (p q : List ℕ) (v : Verdict) (g : Gathered) → verdict_words row.verdict ≡ p ++ q
     → HasRow g.numbers g.rows n (NextAgrees n row (job_words n row.name ∷ end_words row.ending ∷ steps_words row.steps
     ∷ console_words row.console ∷ lines_of_signature row.signature) p)
-    (with_unfinished_row (with_closed_row v (all_words n row g)))
-unfolding with_unfinished_row with_closed_row gathering_between_rows row_so_far
+    (with_unfinished_row (with_finished_row v (all_words n row g)))
+unfolding with_unfinished_row with_finished_row gathering_between_rows row_so_far
 closed_row_is n row p q v g is = record {
   row = row_so_far v (all_words n row g);
   more_numbers = [];
@@ -213,7 +213,7 @@ next_verdict n row b p q g is small few plain begins =
     let first : 118 ≡ b = ap (λ (t : List ℕ). get_or t 0 0) begins in
     let v = verdict_of_line (118 ∷ p) in
     let all = all_words n row g in
-    let read : says (b ∷ p) all ≡ with_closed_row v all =
+    let read : says (b ∷ p) all ≡ with_finished_row v all =
     says_alone b p all plain ∙ ap (λ (c : ℕ). with_line (c ∷ p) all) (sym first)
     ∙ verdict_read p all (same_length (length (words_or_nil row.signature))) in
     subst (λ (f : Gathered). HasRow g.numbers g.rows n (NextAgrees n row (job_words n row.name ∷ end_words row.ending
@@ -228,7 +228,7 @@ unfolding with_line at_words
 word_read l g hex more =
     let here : Gathered = record g { stage = stage.Words } in
     let word : Gathered = record here { words = g.words ++ hex_word l ∷ [] } in
-    let row = with_closed_row (verdict_of_line l) here in
+    let row = with_finished_row (verdict_of_line l) here in
     let other : Gathered = cond ((slice_index l 0 == 118) && (length g.words == g.count)) row (with_stage_over here) in
     let room : nat_lt (length g.words) g.count ≡ true = grind (arith, nat_tests) in
     ap (λ (t : Bool). cond (t && nat_lt (length g.words) g.count) word other) hex

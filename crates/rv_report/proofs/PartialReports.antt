@@ -5,7 +5,7 @@ use Rattle.std.specs.Prelude.{nat_le, nat_lt, is_some}
 use Rattle.std.specs.List.{AllByRecursion, list_all}
 use Rattle.std.proofs.lemmas.Bool.{and_parts, and_from}
 use Rattle.rv_base.specs.Limits.{most_jobs}
-use Rattle.rv_base.specs.Names.{is_name, place_in}
+use Rattle.rv_base.specs.Names.{is_name, index_in}
 use Rattle.rv_report.specs.declared.row.Row.{Row}
 use Rattle.rv_report.specs.declared.saved.Extent.TheVariants as extent
 use Rattle.rv_report.specs.declared.saved.SavedReport.{SavedReport}
@@ -51,8 +51,8 @@ new_first earlier zero rows new = refl
 new_first earlier (suc count) [] new = refl
 new_first earlier (suc count) (row ∷ rows) new =
     let behind = earlier ++ row.name ∷ [] in
-    let parts = and_parts (not (is_some (place_in earlier row.name))) (are_new behind (row_names rows)) new in
-    and_from (not (is_some (place_in earlier row.name))) (are_new behind (row_names (take count rows))) parts.0
+    let parts = and_parts (not (is_some (index_in earlier row.name))) (are_new behind (row_names rows)) new in
+    and_from (not (is_some (index_in earlier row.name))) (are_new behind (row_names (take count rows))) parts.0
     (new_first behind count rows parts.1)
 
 rows_first : (count : ℕ) (rows : List Row) → AllByRecursion IsRow rows → AllByRecursion IsRow (take count rows)

@@ -12,7 +12,7 @@ use Rattle.rv_report.specs.declared.row.Verdict.TheVariants.{Unasked}
 use Rattle.rv_report.specs.declared.gathering.Stage.{Stage}
 use Rattle.rv_report.specs.declared.gathering.Stage.TheVariants as stage
 use Rattle.rv_report.specs.LenientReport.{decimal_number, is_hex_word, hex_word, hex_bytes, row_ending_of_line, verdict_of_line}
-use Rattle.rv_report.specs.LenientReport.{Gathered, gathering_between_rows, with_closed_row, with_stage_over, row_so_far, padded_words}
+use Rattle.rv_report.specs.LenientReport.{Gathered, gathering_between_rows, with_finished_row, with_stage_over, row_so_far, padded_words}
 use Rattle.rv_report.specs.LenientReport.{at_ending, at_steps, at_console, at_signature, at_words, with_line, with_lines, with_unfinished_row}
 use Rattle.rv_report.specs.Saved.{most_words}
 use Rattle.rv_report.proofs.Grown.{chosen, chosen_if, at_end, Extends, grown}
@@ -72,7 +72,7 @@ Kept Knows g f = HasRow g.numbers g.rows g.number (Knows g) f
 
 closed_row : (s : Stage) (g : Gathered) → length g.words ≤ g.count
     → Kept KnowsWords g (with_unfinished_row (record g { begun = true; stage = s }))
-unfolding with_unfinished_row with_closed_row gathering_between_rows row_so_far padded_words
+unfolding with_unfinished_row with_finished_row gathering_between_rows row_so_far padded_words
 closed_row s g within =
     let missing = g.count - length g.words in
     let zeros : List ℕ = replicate missing 0 in
@@ -143,9 +143,9 @@ whole_row v g f full h =
     }
 
 closed_grown : (ls : List (List ℕ)) (v : Verdict) (g : Gathered)
-    → Extends (g.numbers ++ g.number ∷ []) (g.rows ++ row_so_far v g ∷ []) (at_end ls (with_closed_row v g))
-unfolding with_closed_row gathering_between_rows
-closed_grown ls v g = grown ls (with_closed_row v g)
+    → Extends (g.numbers ++ g.number ∷ []) (g.rows ++ row_so_far v g ∷ []) (at_end ls (with_finished_row v g))
+unfolding with_finished_row gathering_between_rows
+closed_grown ls v g = grown ls (with_finished_row v g)
 
 pub words_keep : (ls : List (List ℕ)) (g : Gathered) → length g.words ≤ g.count
     → Kept KnowsWords g (at_end ls (record g { begun = true; stage = stage.Words }))
@@ -156,7 +156,7 @@ words_keep (l ∷ ls) g within =
     let here : Gathered = record g { begun = true; stage = stage.Words } in
     let longer_words = g.words ++ hex_word l ∷ [] in
     let word : Gathered = record here { words = longer_words } in
-    let row : Gathered = with_closed_row (verdict_of_line l) here in
+    let row : Gathered = with_finished_row (verdict_of_line l) here in
     let ended : Bool = (slice_index l 0 == 118) && (length g.words == g.count) in
     let other : Gathered = if ended then row else with_stage_over here in
     chosen_if P (is_hex_word l && nat_lt (length g.words) g.count) word other

@@ -6,7 +6,7 @@ use Rattle.std.specs.Prelude.{nat_le, nat_lt, is_some}
 use Rattle.std.specs.List.{AllByRecursion}
 use Rattle.std.proofs.lemmas.Bool.{and_parts}
 use Rattle.std.proofs.lemmas.Bool.Decides.{nat_tests}
-use Rattle.rv_base.specs.Names.{place_in}
+use Rattle.rv_base.specs.Names.{index_in}
 use Rattle.rv_base.specs.Limits.{most_jobs}
 use Rattle.rv_report.specs.declared.row.Row.{Row}
 use Rattle.rv_report.specs.Report.{line, row_text}
@@ -99,8 +99,8 @@ new_all : (earlier texts : List (List ℕ)) → are_new earlier texts ≡ true �
 unfolding count_before_repeated_name are_new
 new_all earlier [] h = refl
 new_all earlier (t ∷ ts) h =
-    let first = and_parts (not (is_some (place_in earlier t))) (are_new (earlier ++ t ∷ []) ts) h in
-    ap (λ (b : Bool). cond b 0 (count_before_repeated_name (earlier ++ t ∷ []) ts + 1)) (not_not (is_some (place_in earlier t)) first.0)
+    let first = and_parts (not (is_some (index_in earlier t))) (are_new (earlier ++ t ∷ []) ts) h in
+    ap (λ (b : Bool). cond b 0 (count_before_repeated_name (earlier ++ t ∷ []) ts + 1)) (not_not (is_some (index_in earlier t)) first.0)
     ∙ ap (λ (k : ℕ). k + 1) (new_all (earlier ++ t ∷ []) ts first.1) ∙ omega arith
 
 fitting_same : (e : Extent) (ns : List ℕ) → matches_job_numbers e ns ≡ true → extent_or_choice e ns ≡ e

@@ -27,7 +27,7 @@ use Rattle.rv_report.specs.declared.gathering.Stage.TheVariants as stage
 use Rattle.rv_report.specs.declared.saved.Extent.{Extent}
 use Rattle.rv_report.specs.LenientReport.{lines, text_before_byte, text_after_byte, decimal_number, hex_word, are_hex_digits, hex_bytes, name_or_dash}
 use Rattle.rv_report.specs.LenientReport.{job_number_of_line, job_name_of_line, fault_or_first, refusal_or_first, fault_ending_of_text, row_ending_of_line, verdict_of_line}
-use Rattle.rv_report.specs.LenientReport.{decimal_number_on, Gathered, gathering_between_rows, with_closed_row, with_stage_over, row_so_far, at_job_or_last_line, at_ending}
+use Rattle.rv_report.specs.LenientReport.{decimal_number_on, Gathered, gathering_between_rows, with_finished_row, with_stage_over, row_so_far, at_job_or_last_line, at_ending}
 use Rattle.rv_report.specs.LenientReport.{at_steps, at_console, at_signature, at_words, with_line, with_lines}
 use Rattle.rv_base.specs.Limits.{most_jobs}
 use Rattle.std.proofs.lemmas.Bool.Decides.{nat_tests}
@@ -295,7 +295,7 @@ console_says bytes g h = console_text_says (dash_if_empty (encode_lower bytes)) 
 abbrev no_word : List ℕ → Gathered → Gathered
 no_word line g =
     if (slice_index line 0 == 118) && (length g.words == g.count) then
-    with_closed_row (verdict_of_line line) (record g { stage = stage.Words })
+    with_finished_row (verdict_of_line line) (record g { stage = stage.Words })
     else with_stage_over g
 
 pub word_says : (w : ℕ) (g : Gathered) → w < 2 ^ 32 → length g.words < g.count
@@ -374,11 +374,11 @@ signature_says (Some ws) rest g h =
 -- ---- the verdict's line
 
 pub verdict_says : (v : Verdict) (g : Gathered) → (length g.words == g.count) ≡ true
-    → with_line (codes "verdict " ++ verdict_name v) (record g { stage = stage.Words }) ≡ with_closed_row v g
-unfolding with_line at_words are_hex_digits verdict_of_line with_closed_row row_so_far
-verdict_says verdict.Unasked g full = ap (λ (t : Bool). cond t (with_closed_row verdict.Unasked g) (with_stage_over g)) full
-verdict_says verdict.Pass g full = ap (λ (t : Bool). cond t (with_closed_row verdict.Pass g) (with_stage_over g)) full
-verdict_says verdict.Fail g full = ap (λ (t : Bool). cond t (with_closed_row verdict.Fail g) (with_stage_over g)) full
+    → with_line (codes "verdict " ++ verdict_name v) (record g { stage = stage.Words }) ≡ with_finished_row v g
+unfolding with_line at_words are_hex_digits verdict_of_line with_finished_row row_so_far
+verdict_says verdict.Unasked g full = ap (λ (t : Bool). cond t (with_finished_row verdict.Unasked g) (with_stage_over g)) full
+verdict_says verdict.Pass g full = ap (λ (t : Bool). cond t (with_finished_row verdict.Pass g) (with_stage_over g)) full
+verdict_says verdict.Fail g full = ap (λ (t : Bool). cond t (with_finished_row verdict.Fail g) (with_stage_over g)) full
 
 pub lacks-verdict : (v : Verdict) → lacks 10 (codes "verdict " ++ verdict_name v) ≡ true
 lacks-verdict verdict.Unasked = refl
@@ -422,8 +422,8 @@ row_is n row numbers rows extent = ap (λ (s : Option (List ℕ)). record row { 
     (same_signature row.signature)
 
 closed_is : (n : ℕ) (row : Row) (numbers : List ℕ) (rows : List Row) (extent : Extent)
-    → with_closed_row row.verdict (up_to_verdict n row numbers rows extent) ≡ gathering_between_rows (numbers ++ n ∷ []) (rows ++ row ∷ []) extent
-unfolding with_closed_row
+    → with_finished_row row.verdict (up_to_verdict n row numbers rows extent) ≡ gathering_between_rows (numbers ++ n ∷ []) (rows ++ row ∷ []) extent
+unfolding with_finished_row
 closed_is n row numbers rows extent =
     ap (λ (r : Row). gathering_between_rows (numbers ++ n ∷ []) (rows ++ r ∷ []) extent) (row_is n row numbers rows extent)
 

@@ -1,5 +1,5 @@
--- Which lines of a text are the first that no report has: a report is begun by the lines before,
--- and by the same lines and one more it isn't.
+-- Which line of a text is the first that no report has there: some report begins with the lines before it, and none with these lines and
+-- it.
 use Rattle.std.specs.Prelude.{◌≡◌, ◌==◌, ◌-◌, ℕ, if◌then◌else◌, List, [], ◌∷◌, ◌++◌}
 use Rattle.rv_report.specs.declared.read.ReadError.{ReadError}
 use Rattle.rv_report.specs.declared.read.ReadError.TheVariants.{OutOfMemory, Line, CutOff}
@@ -7,23 +7,22 @@ use Rattle.rv_report.specs.declared.saved.SavedReport.{SavedReport}
 use Rattle.rv_report.specs.Saved.{IsSaved, saved_text}
 use Rattle.rv_report.specs.Differences.{count_of_line_feeds}
 
--- the first so many lines of a text, each with its line feed if it has one
+-- the first n lines of a text, each with its line feed if it has one
 unfoldable pub first_lines : ℕ → List ℕ → List ℕ
 first_lines count [] = []
 first_lines count (b ∷ bs) =
     if count == 0 then [] else b ∷ first_lines (if b == 10 then count - 1 else count) bs
 
--- some report's text begins with these bytes
+-- the text of some report begins with these bytes
 abbrev pub BeginsReport : List ℕ → Type 0
 BeginsReport bytes = (report : SavedReport) × (rest : List ℕ) × IsSaved report × (saved_text report ≡ bytes ++ rest)
 
--- a report begins with the lines before this one, and none with those and this one
+-- some report begins with the lines before this one, and none with these lines and this one
 pub record IsLeastRefusedLine (line : ℕ) (bytes : List ℕ) : Type 0 where
   pub before : BeginsReport (first_lines (line - 1) bytes)
   pub refused : BeginsReport (first_lines line bytes) → ⊥
 
--- the line that is told is the least that is refused; of a text that is cut off, the lines that end
--- with a line feed begin a report
+-- the line in the error is the first rejected one; if the text is cut off, a report begins with the lines that end with a line feed
 abbrev pub IsLeast : ReadError → List ℕ → Type 0
 IsLeast OutOfMemory bytes = Unit {0}
 IsLeast (Line line) bytes = IsLeastRefusedLine line bytes

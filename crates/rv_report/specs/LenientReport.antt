@@ -1,5 +1,4 @@
--- What the lines of a text say. Any text says something: whether it is a report is seen by writing
--- what it says.
+-- The content of a text's lines. Any text has some content: whether it is a report is found by writing that content and comparing.
 use Rattle.std.specs.Prelude.{◌==◌, if◌then◌else◌, ◌+◌, ◌-◌, ◌*◌, ◌^◌, ◌&&◌, ◌||◌, ℕ, zero, suc}
 use Rattle.std.specs.Prelude.{nat_lt, nat_le, min, Bool, true, false, not, List, [], ◌∷◌, ◌++◌}
 use Rattle.std.specs.Prelude.{length, replicate, take, drop, slice_index, Option, Some, None}
@@ -7,7 +6,7 @@ use Rattle.std.specs.Prelude.{Result, Ok, Err, codes, is_some}
 use Rattle.std.specs.List.{onto_first}
 use Rattle.hex.specs.Hex.{decode_of}
 use Rattle.hex.specs.declared.error.FromHexError.{FromHexError}
-use Rattle.rv_base.specs.Names.{is_name, place_in}
+use Rattle.rv_base.specs.Names.{is_name, index_in}
 use Rattle.rv_base.specs.Limits.{most_jobs}
 use Rattle.rv_machine.specs.declared.ending.FaultKind.{FaultKind}
 use Rattle.rv_machine.specs.declared.ending.FaultKind.TheVariants as fault
@@ -29,12 +28,12 @@ use Rattle.rv_report.specs.Saved.{matches_job_numbers, row_names, most_words}
 
 -- ---- lines, and the parts of a line
 
--- the lines, without their line feeds
+-- the lines without their line feeds
 unfoldable pub lines : List ℕ → List (List ℕ)
 lines [] = []
 lines (b ∷ bs) = if b == 10 then [] ∷ lines bs else onto_first b (lines bs)
 
--- the place of a byte, or the length where it isn't there
+-- the index of a byte, or the length if it does not occur
 unfoldable pub place_of_byte : ℕ → List ℕ → ℕ
 place_of_byte byte [] = 0
 place_of_byte byte (b ∷ bs) = if b == byte then 0 else place_of_byte byte bs + 1
@@ -67,13 +66,12 @@ unfoldable pub hex_number : ℕ → List ℕ → ℕ
 hex_number value [] = value
 hex_number value (b ∷ bs) = hex_number (with_digit 16 value (hex_digit_value b)) bs
 
--- a value with so many zeros behind it
+-- a value with several zero digits appended
 unfoldable pub with_zero_digits : ℕ → ℕ → ℕ
 with_zero_digits zero value = value
 with_zero_digits (suc count) value = with_zero_digits count (with_digit 16 value 0)
 
--- digits that are missing of eight are zeros: so a word that is cut off differs from its report
--- behind the cut
+-- missing digits of the eight are read as zeros, so a truncated word differs from its report after the truncation
 unfoldable pub hex_word : List ℕ → ℕ
 hex_word text = with_zero_digits (8 - length (take 8 text)) (hex_number 0 (take 8 text))
 
@@ -85,7 +83,7 @@ unfoldable pub are_hex_digits : List ℕ → Bool
 are_hex_digits [] = true
 are_hex_digits (b ∷ bs) = is_hex_digit b && are_hex_digits bs
 
--- a word, or a beginning of one, as no other line of a report is
+-- whether the line is a word or a prefix of one, unlike any other line of a report
 abbrev pub is_hex_word : List ℕ → Bool
 is_hex_word line = nat_lt 0 (length line) && are_hex_digits line
 
@@ -93,22 +91,22 @@ abbrev pub bytes_if_decoded : Result (List ℕ) FromHexError → List ℕ
 bytes_if_decoded (Ok bytes) = bytes
 bytes_if_decoded (Err error) = []
 
--- a dash is no hexadecimal text, and so says no bytes
+-- a dash is not hexadecimal text, and is read as no bytes
 unfoldable pub hex_bytes : List ℕ → List ℕ
 hex_bytes text = bytes_if_decoded (decode_of text)
 
 -- ---- names
 
--- the text itself where it is a name
+-- the text itself if it is a valid name, or else a dash
 abbrev pub name_or_dash : List ℕ → List ℕ
 name_or_dash text = if is_name text then text else codes "-"
 
--- the fault of a name, or any
+-- the fault with this name, or an arbitrary one
 abbrev pub fault_or_first : Option FaultKind → FaultKind
 fault_or_first (Some kind) = kind
 fault_or_first None = fault.FetchAccess
 
--- the refusal of a name, or any
+-- the refusal with this name, or an arbitrary one
 abbrev pub refusal_or_first : Option Refusal → Refusal
 refusal_or_first (Some why) = why
 refusal_or_first None = refusal.ImageUnreadable
@@ -157,7 +155,7 @@ shard_of_text jobs text =
       stamp = name_or_dash (drop 6 (text_after_byte 32 shards));
     })
 
--- part ROWS of JOBS, and of a shard more
+-- part ROWS of JOBS, and more for a shard
 unfoldable pub part_extent_of_line : List ℕ → Extent
 part_extent_of_line line =
     let jobs = drop 3 (text_after_byte 32 (drop 5 line)) in
@@ -167,8 +165,8 @@ part_extent_of_line line =
 
 -- ---- what lines say together
 
--- The rows so far and the numbers of their jobs, the last line, and what is known of the next row.
--- The stage says which line comes next.
+-- The rows so far and the numbers of their jobs, the last line, and what is known of the next row. The stage determines which line comes
+-- next.
 pub record Gathered : Type 0 where
   pub numbers : List ℕ
   pub rows : List Row
@@ -184,7 +182,7 @@ pub record Gathered : Type 0 where
   pub begun : Bool
   pub stage : Stage
 
--- rows with numbers and what the last line says, and nothing of a next row
+-- rows with their numbers and the content of the last line, with no row begun
 unfoldable pub gathering_between_rows : List ℕ → List Row → Extent → Gathered
 gathering_between_rows numbers rows extent = record {
   numbers = numbers;
@@ -202,8 +200,7 @@ gathering_between_rows numbers rows extent = record {
   stage = stage.Between;
 }
 
--- words that are missing are zeros: so a signature that is cut off differs from its report behind
--- the cut
+-- missing words are read as zeros, so a truncated signature differs from its report after the truncation
 unfoldable pub padded_words : ℕ → List ℕ → List ℕ
 padded_words count words = words ++ replicate (count - length words) 0
 
@@ -217,16 +214,16 @@ row_so_far verdict g = record {
   verdict = verdict;
 }
 
--- the row that was begun is one more
-unfoldable pub with_closed_row : Verdict → Gathered → Gathered
-with_closed_row verdict g =
+-- the row in progress added to the rows
+unfoldable pub with_finished_row : Verdict → Gathered → Gathered
+with_finished_row verdict g =
     gathering_between_rows (g.numbers ++ g.number ∷ []) (g.rows ++ row_so_far verdict g ∷ []) g.extent
 
--- a line that doesn't come next: it is read no further
+-- a line that cannot come next: the rest is ignored
 abbrev pub with_stage_over : Gathered → Gathered
 with_stage_over g = record g { stage = stage.Over }
 
--- a job's first line, if there can be one more, or the last of all
+-- the first line of a job, if there may be one more, or the last line of all
 unfoldable pub at_job_or_last_line : List ℕ → Gathered → Gathered
 at_job_or_last_line line g =
     if (slice_index line 0 == 106) && nat_lt (length g.rows) most_jobs then
@@ -251,7 +248,7 @@ at_console line g =
     record g { console = hex_bytes (drop 8 line); stage = stage.Signature }
     else with_stage_over g
 
--- a dash stands for no signature, and says 0 words
+-- a dash represents no signature, and is read as 0 words
 unfoldable pub at_signature : List ℕ → Gathered → Gathered
 at_signature line g =
     if ((slice_index line 0 == 115) && (slice_index line 1 == 105))
@@ -264,13 +261,13 @@ at_signature line g =
     }
     else with_stage_over g
 
--- a word of the signature, or the verdict once all words are there
+-- a word of the signature, or the verdict if all words have been read
 unfoldable pub at_words : List ℕ → Gathered → Gathered
 at_words line g =
     if is_hex_word line && nat_lt (length g.words) g.count then
     record g { words = g.words ++ hex_word line ∷ [] }
     else if (slice_index line 0 == 118) && (length g.words == g.count) then
-    with_closed_row (verdict_of_line line) g
+    with_finished_row (verdict_of_line line) g
     else with_stage_over g
 
 abbrev pub with_line_at : Stage → List ℕ → Gathered → Gathered
@@ -289,33 +286,33 @@ unfoldable pub with_lines : List (List ℕ) → Gathered → Gathered
 with_lines [] g = g
 with_lines (line ∷ lines) g = with_lines lines (with_line line g)
 
--- a row that isn't whole at the end is one too
+-- a row that is incomplete at the end is included
 unfoldable pub with_unfinished_row : Gathered → Gathered
 with_unfinished_row g =
-    if g.begun then with_closed_row verdict.Unasked (record g { words = padded_words g.count g.words }) else g
+    if g.begun then with_finished_row verdict.Unasked (record g { words = padded_words g.count g.words }) else g
 
 unfoldable pub gather_rows : List ℕ → Gathered
 gather_rows text = with_unfinished_row (with_lines (lines text) (gathering_between_rows [] [] extent.Whole))
 
 -- ---- and up to the first row that can't stand there
 
--- how many of the numbers rise, up to the most jobs of a list
+-- the number of leading job numbers that increase, up to the maximum number of jobs in a list
 unfoldable pub rising_count : ℕ → List ℕ → ℕ
 rising_count text_before_byte [] = 0
 rising_count text_before_byte (n ∷ ns) =
     if nat_lt text_before_byte n && nat_le n most_jobs then rising_count n ns + 1 else 0
 
--- how many texts stand before the first that is there already
+-- the number of texts before the first repeated one
 unfoldable pub count_before_repeated_name : List (List ℕ) → List (List ℕ) → ℕ
 count_before_repeated_name earlier [] = 0
 count_before_repeated_name earlier (text ∷ texts) =
-    if is_some (place_in earlier text) then 0 else count_before_repeated_name (earlier ++ text ∷ []) texts + 1
+    if is_some (index_in earlier text) then 0 else count_before_repeated_name (earlier ++ text ∷ []) texts + 1
 
--- any extent that these numbers fit, where they don't fit the given one
+-- the given extent if the numbers fit it, or else any extent that they fit
 unfoldable pub extent_or_choice : Extent → List ℕ → Extent
 extent_or_choice e numbers = if matches_job_numbers e numbers then e else extent.Choice most_jobs
 
--- what a text says
+-- the content of a text
 unfoldable pub lenient_report : List ℕ → SavedReport
 lenient_report text =
     let g = gather_rows text in

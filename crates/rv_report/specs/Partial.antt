@@ -1,4 +1,4 @@
--- The rows that a text has whole which is cut off: it ends before its report does.
+-- The complete rows of a truncated text, which ends before its report does.
 use Rattle.std.specs.Prelude.{◌≡◌, ◌+◌, ◌<◌, ◌≤◌, ℕ, Bool, true, false, List, ◌++◌, length, take}
 use Rattle.rv_base.specs.Limits.{most_jobs}
 use Rattle.rv_report.specs.Differences.{count_of_line_feeds}
@@ -15,7 +15,7 @@ BeginsWith text beginning = (rest : List ℕ) × (text ≡ beginning ++ rest)
 abbrev pub whole_lines : List ℕ → List ℕ
 whole_lines bytes = first_lines (count_of_line_feeds bytes) bytes
 
--- the first so many rows of a report, as those of a choice
+-- the first n rows of a report, as a report of selected jobs
 abbrev pub rows_up_to_failure : ℕ → SavedReport → SavedReport
 rows_up_to_failure count report = record {
   extent = extent.Choice most_jobs;
@@ -23,11 +23,11 @@ rows_up_to_failure count report = record {
   rows = take count report.rows;
 }
 
--- the text of so many rows
+-- the text of the first n rows
 abbrev pub first_rows_text : ℕ → SavedReport → List ℕ
 first_rows_text count report = numbered_text (take count report.numbers) (take count report.rows)
 
--- the whole lines of a text begin a report, of which the text has so many rows whole, and not one more
+-- some report begins with the complete lines of the text, which contain exactly this many complete rows
 pub record HasWholeRows (bytes : List ℕ) (report : SavedReport) (count : ℕ) : Type 0 where
   pub saved : IsSaved report
   pub begun : BeginsWith (saved_text report) (whole_lines bytes)
@@ -39,7 +39,7 @@ pub record HasWholeRows (bytes : List ℕ) (report : SavedReport) (count : ℕ) 
 abbrev pub IsNoReport : List ℕ → Type 0
 IsNoReport bytes = (report : SavedReport) → IsSaved report → saved_text report ≡ bytes → ⊥
 
--- a text that may be cut off is read so: it is the report's; or it is no report's, and these are its whole rows
+-- the result for a text that may be truncated: either the report with this text, or, if no report has it, its complete rows
 abbrev pub IsReadAs : List ℕ → Bool → SavedReport → Type 0
 IsReadAs bytes false read = IsSaved read × (saved_text read ≡ bytes)
 IsReadAs bytes true read = IsNoReport bytes

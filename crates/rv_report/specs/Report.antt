@@ -1,4 +1,4 @@
--- The text of a report: six parts a row, each of whole lines, and a last line.
+-- The text of a report: six parts per row, each of whole lines, and a last line.
 use Rattle.std.specs.Prelude.{◌==◌, if◌then◌else◌, ◌+◌, ℕ, List, [], ◌∷◌, ◌++◌, length, Option}
 use Rattle.std.specs.Prelude.{Some, None, codes, map}
 use Rattle.std.specs.List.{flat_map, find}
@@ -17,12 +17,11 @@ use Rattle.rv_report.specs.declared.row.RowEnd.TheVariants as ending
 use Rattle.rv_report.specs.declared.row.Verdict.{Verdict}
 use Rattle.rv_report.specs.declared.row.Verdict.TheVariants as verdict
 
--- a line ends with a line feed
+-- a line, ended by a line feed
 abbrev pub line : List ℕ → List ℕ
 line text = text ++ 10 ∷ []
 
--- why there is no run; no row is refused out of memory, so that word of an image's errors never
--- stands here
+-- the reason why there is no run; no row is refused for lack of memory, so that name of an image error never occurs here
 abbrev pub refusal_name : Refusal → List ℕ
 refusal_name refusal.ImageUnreadable = codes "image-unreadable"
 refusal_name refusal.ImageTooLong = codes "image-too-long"
@@ -30,7 +29,7 @@ refusal_name refusal.ReferenceUnreadable = codes "reference-unreadable"
 refusal_name refusal.ReferenceTooLong = codes "reference-too-long"
 refusal_name (refusal.Image why) = image_error_name why
 
--- all that a row can have
+-- all refusals that a row can have
 abbrev pub row_refusals : List Refusal
 row_refusals = refusal.ImageUnreadable ∷ refusal.ImageTooLong ∷ refusal.ReferenceUnreadable
     ∷ refusal.ReferenceTooLong ∷ map refusal.Image (image.ShortHeader ∷ image.BadMagic
@@ -40,7 +39,7 @@ row_refusals = refusal.ImageUnreadable ∷ refusal.ImageTooLong ∷ refusal.Refe
     ∷ image.SectionTable ∷ image.NoSymbols ∷ image.SymbolTable ∷ image.StringTable ∷ image.NoBegin
     ∷ image.NoEnd ∷ image.SignatureRange ∷ [])
 
--- the one of this name
+-- the refusal with this name
 abbrev pub refusal_named : List ℕ → Option Refusal
 refusal_named name = find (λ r. bytes_eq name (refusal_name r)) row_refusals
 
@@ -53,7 +52,7 @@ end_line (ending.Fault kind pc value) =
 end_line ending.Budget = line (codes "end budget")
 end_line (ending.Refused why) = line (codes "end refused " ++ refusal_name why)
 
--- a dash stands for no text
+-- a dash if the text is empty
 abbrev pub dash_if_empty : List ℕ → List ℕ
 dash_if_empty text = if length text == 0 then codes "-" else text
 
@@ -61,11 +60,11 @@ dash_if_empty text = if length text == 0 then codes "-" else text
 unfoldable pub console_line : List ℕ → List ℕ
 console_line bytes = line (codes "console " ++ dash_if_empty (encode_lower bytes))
 
--- a word of a signature on a line of its own
+-- a word of a signature on its own line
 abbrev pub word_line : ℕ → List ℕ
 word_line word = line (word_digits word)
 
--- the count of the signature's words, and a line for each; or a dash where none was asked for
+-- the number of words in the signature, and a line for each; or a dash if none was requested
 unfoldable pub signature_lines : Option (List ℕ) → List ℕ
 signature_lines None = line (codes "signature -")
 signature_lines (Some words) = line (codes "signature " ++ decimal (length words))
@@ -76,7 +75,7 @@ verdict_name verdict.Unasked = codes "none"
 verdict_name verdict.Pass = codes "pass"
 verdict_name verdict.Fail = codes "fail"
 
--- the row at a place; places count from 0, and the printed number from 1
+-- the row at an index; indices count from 0, and the printed number from 1
 unfoldable pub row_text : ℕ → Row → List ℕ
 row_text place row = line (codes "job " ++ decimal (place + 1) ++ codes " " ++ row.name)
     ++ end_line row.ending
@@ -85,15 +84,15 @@ row_text place row = line (codes "job " ++ decimal (place + 1) ++ codes " " ++ r
     ++ signature_lines row.signature
     ++ line (codes "verdict " ++ verdict_name row.verdict)
 
--- rows from a place on
+-- rows from an index on
 unfoldable pub rows_text : ℕ → List Row → List ℕ
 rows_text place [] = []
 rows_text place (row ∷ rows) = row_text place row ++ rows_text (place + 1) rows
 
--- the last line says how many rows there were
+-- the last line gives the number of rows
 unfoldable pub done_line : ℕ → List ℕ
 done_line count = line (codes "done " ++ decimal count)
 
--- the rows in order, and how many they are
+-- the rows in order, and their number
 unfoldable pub report_text : List Row → List ℕ
 report_text rows = rows_text 0 rows ++ done_line (length rows)

@@ -1,5 +1,4 @@
--- Reports as files hold them: which jobs of a list they have rows of, their text, and which are
--- good.
+-- Reports in files: which jobs of a list they have rows for, their text, and which reports are valid.
 use Rattle.std.specs.Prelude.{◌≡◌, ◌==◌, ◌+◌, ◌-◌, ◌^◌, ◌<◌, ◌≤◌, ℕ, List, [], ◌∷◌, ◌++◌, length}
 use Rattle.std.specs.Prelude.{map, Option, Some, None, Bool, true, ◌&&◌, not, nat_le, nat_lt, codes}
 use Rattle.std.specs.Prelude.{is_some}
@@ -7,7 +6,7 @@ use Rattle.std.specs.List.{AllByRecursion, list_all}
 use Rattle.std.specs.Fmt.{decimal}
 use Rattle.hex.specs.Hex.{IsBytes}
 use Rattle.rv_elf.specs.declared.error.ImageError.TheVariants as image
-use Rattle.rv_base.specs.Names.{is_name, place_in}
+use Rattle.rv_base.specs.Names.{is_name, index_in}
 use Rattle.rv_base.specs.Limits.{most_jobs}
 use Rattle.rv_report.specs.Report.{line, row_text, done_line}
 use Rattle.rv_report.specs.declared.row.Refusal.TheVariants as refusal
@@ -21,18 +20,18 @@ use Rattle.rv_report.specs.declared.saved.SavedReport.{SavedReport}
 
 -- ---- which jobs
 
--- numbers of jobs that rise from behind one up to the last
+-- job numbers that increase, from above one number up to another
 unfoldable pub are_rising : ℕ → ℕ → List ℕ → Bool
 are_rising before last [] = true
 are_rising before last (n ∷ ns) = nat_lt before n && (nat_le n last && are_rising n last ns)
 
--- this number and each that is so much greater, up to the last
+-- this number and each one `step` greater, up to the last
 unfoldable pub are_evenly_spaced : ℕ → ℕ → ℕ → List ℕ → Bool
 are_evenly_spaced next step last [] = nat_lt last next
 are_evenly_spaced next step last (n ∷ ns) =
     (n == next) && (nat_le n last && are_evenly_spaced (next + step) step last ns)
 
--- a shard's number is one of so many, and its stamp is a name
+-- a shard's number is from 1 to the number of shards, and its stamp is a valid name
 unfoldable pub is_valid_shard : Shard → Bool
 is_valid_shard s = nat_le 1 s.number && (nat_le s.number s.shards && (nat_le s.shards most_jobs
     && (nat_le s.jobs most_jobs && is_name s.stamp)))
@@ -51,7 +50,7 @@ numbered_text (n ∷ ns) (row ∷ rows) = row_text (n - 1) row ++ numbered_text 
 numbered_text [] rows = []
 numbered_text (n ∷ ns) [] = []
 
--- so many rows of a list of so many jobs
+-- the number of rows, and the number of jobs in the list
 abbrev pub part_words : ℕ → ℕ → List ℕ
 part_words count jobs = codes "part " ++ decimal count ++ codes " of " ++ decimal jobs
 
@@ -59,7 +58,7 @@ abbrev pub shard_words : Shard → List ℕ
 shard_words s = codes " shard " ++ decimal s.number ++ codes "/" ++ decimal s.shards
     ++ codes " stamp " ++ s.stamp
 
--- what stands below so many rows
+-- the last line after that many rows
 unfoldable pub extent_line : Extent → ℕ → List ℕ
 extent_line extent.Whole count = done_line count
 extent_line (extent.Choice jobs) count = line (part_words count jobs)
@@ -73,14 +72,14 @@ saved_text r = numbered_text r.numbers r.rows ++ extent_line r.extent (length r.
 abbrev pub IsWord : ℕ → Type 0
 IsWord word = word < 2 ^ 32
 
--- no row is refused for want of memory
+-- no row is refused for lack of memory
 abbrev pub IsEnd : RowEnd → Type 0
 IsEnd (ending.Exit code) = IsWord code
 IsEnd (ending.Fault kind pc value) = IsWord pc × IsWord value
 IsEnd ending.Budget = Unit {0}
 IsEnd (ending.Refused why) = why ≡ refusal.Image image.OutOfMemory → ⊥
 
--- the most words of a signature
+-- the maximum number of words in a signature
 abbrev pub most_words : ℕ
 most_words = 65536
 
@@ -88,7 +87,7 @@ abbrev pub AreWords : Option (List ℕ) → Type 0
 AreWords None = Unit {0}
 AreWords (Some words) = (length words ≤ most_words) × AllByRecursion IsWord words
 
--- a row with a name of 1 to 64 letters, digits, `.`, `_` and `-`, and with numbers of 32 bits
+-- a row whose name is 1 to 64 letters, digits, `.`, `_` and `-`, and whose numbers have 32 bits
 pub record IsRow (row : Row) : Type 0 where
   pub name : is_name row.name ≡ true
   pub ending : IsEnd row.ending
@@ -96,16 +95,16 @@ pub record IsRow (row : Row) : Type 0 where
   pub console : IsBytes row.console
   pub signature : AreWords row.signature
 
--- no text is one of the earlier ones, or one before it
+-- no text equals one of the earlier ones, or one before it
 unfoldable pub are_new : List (List ℕ) → List (List ℕ) → Bool
 are_new earlier [] = true
 are_new earlier (text ∷ texts) =
-    not (is_some (place_in earlier text)) && are_new (earlier ++ text ∷ []) texts
+    not (is_some (index_in earlier text)) && are_new (earlier ++ text ∷ []) texts
 
 abbrev pub row_names : List Row → List (List ℕ)
 row_names rows = map (λ (row : Row). row.name) rows
 
--- its rows are those of up to 4,096 jobs, each with a name of its own
+-- its rows are those of up to 4,096 jobs, each with a unique name
 pub record IsListed (r : SavedReport) : Type 0 where
   pub counted : length r.numbers ≡ length r.rows
   pub rising : are_rising 0 most_jobs r.numbers ≡ true
@@ -113,7 +112,7 @@ pub record IsListed (r : SavedReport) : Type 0 where
   pub names : list_all is_name (row_names r.rows) ≡ true
   pub new : are_new [] (row_names r.rows) ≡ true
 
--- a report that can be
+-- a valid report
 pub record IsSaved (r : SavedReport) : Type 0 where
   pub listed : IsListed r
   pub rows : AllByRecursion IsRow r.rows

@@ -1,4 +1,4 @@
--- What is gathered, without where it lies in memory.
+-- The gathered rows, independent of how they are stored in memory.
 use Rattle.std.specs.Prelude.{string_bytes}
 use Rattle.rv_report.specs.declared.gathering.Gathering.{Gathering}
 use Rattle.rv_report.specs.LenientReport.{Gathered}

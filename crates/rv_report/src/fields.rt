@@ -9,7 +9,7 @@ use rv_base::is_name;
 use rv_text::tail_from;
 use std::alloc::{AllocError, Global};
 
-/// The first bytes, or all where there are fewer.
+/// Returns the first `count` bytes, or all if there are fewer.
 pub fn leading_bytes(text: &[u8], count: usize) -> &[u8]
     ensures { result.now ≡ take count text.now }
 {
@@ -20,7 +20,7 @@ pub fn leading_bytes(text: &[u8], count: usize) -> &[u8]
     }
 }
 
-/// The place of a byte, or the length.
+/// Returns the index of a byte, or the length if it does not occur.
 pub(crate) fn place_of_byte(byte: u8, text: &[u8]) -> usize
     ensures place { result ≡ place_of_byte byte text.now }
     ensures within { result ≤ length text.now }
@@ -45,7 +45,7 @@ pub(crate) fn text_after_byte(byte: u8, text: &[u8]) -> &[u8]
     tail_from(text, place_of_byte(byte, text) + 1)
 }
 
-/// The number that decimal digits write.
+/// Returns the value of decimal digits.
 pub(crate) fn decimal_number(text: &[u8]) -> u32
     ensures { result ≡ decimal_number text.now }
 {
@@ -64,7 +64,7 @@ fn hex_digit_value(b: u8) -> u8
     if b < 97 { b.saturating_sub(48) } else { b - 87 }
 }
 
-/// The word that up to eight hexadecimal digits begin, the rest of which are zeros.
+/// Returns the word that begins with up to eight hexadecimal digits; missing digits are zeros.
 #[tactic(auto, unfolding(crate::specs::LenientReport::hex_word))]
 pub(crate) fn hex_word(text: &[u8]) -> u32
     ensures { result ≡ hex_word text.now }
@@ -95,7 +95,7 @@ fn is_hex_digit(b: u8) -> bool
     (48 <= b && b <= 57) || (97 <= b && b <= 102)
 }
 
-/// Whether it is a word in lower-case hexadecimal digits, or a beginning of one.
+/// Whether it is a word in lower-case hexadecimal digits, or a prefix of one.
 pub(crate) fn is_hex_word(text: &[u8]) -> bool
     ensures { result ≡ is_hex_word text.now }
 {
@@ -113,7 +113,7 @@ fn are_hex_digits(text: &[u8]) -> bool
     true
 }
 
-/// The bytes that hexadecimal digits write; none where they write none.
+/// Returns the bytes that hexadecimal digits represent, or none if they represent none.
 #[tactic(auto, unfolding(crate::specs::LenientReport::hex_bytes))]
 pub(crate) fn hex_bytes(alloc: Global, text: &[u8]) -> Result<Vec<u8>, AllocError>
     ensures { IfOk result (λ bytes. bytes.items ≡ hex_bytes text.now) }
@@ -125,7 +125,7 @@ pub(crate) fn hex_bytes(alloc: Global, text: &[u8]) -> Result<Vec<u8>, AllocErro
     }
 }
 
-/// The text itself where it is a name, and else a dash.
+/// Returns the text itself if it is a valid name, or else a dash.
 pub(crate) fn name_or_dash(alloc: Global, text: &[u8]) -> Result<String, AllocError>
     ensures { IfOk result (λ name. string_bytes name ≡ name_or_dash text.now) }
 {

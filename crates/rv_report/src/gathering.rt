@@ -1,7 +1,7 @@
-//! What the lines of a text say together: rows with the numbers of their jobs, and a last line.
+//! The content of all lines of a text: rows with the numbers of their jobs, and a last line.
 
 ghost use Rattle.std.specs.Prelude.{◌≡◌, ◌++◌, ◌∷◌, [], OnOk, IfOk, string_bytes};
-ghost use Rattle.rv_report.specs.LenientReport.{lines, gathering_between_rows, with_closed_row, with_stage_over, at_job_or_last_line, at_ending, at_steps, at_console};
+ghost use Rattle.rv_report.specs.LenientReport.{lines, gathering_between_rows, with_finished_row, with_stage_over, at_job_or_last_line, at_ending, at_steps, at_console};
 ghost use Rattle.rv_report.specs.LenientReport.{at_signature};
 ghost use Rattle.rv_report.specs.LenientReport.{at_words, with_line, with_lines, row_so_far, padded_words, with_unfinished_row, gather_rows};
 ghost use Rattle.rv_report.specs.View.{gathering_view};
@@ -41,7 +41,7 @@ pub struct Gathering {
 /// Which line comes next.
 #[derive(Clone, Copy)]
 pub(crate) enum Stage {
-    /// A job's first, or the last of all.
+    /// The first line of a job, or the last line of all.
     Between,
     Ending,
     Steps,
@@ -49,14 +49,14 @@ pub(crate) enum Stage {
     Signature,
     /// A word of the signature, or the verdict.
     Words,
-    /// None: a line came that doesn't stand there, or the last.
+    /// None: there was an unexpected line, or the last one.
     Over,
 }
 
-/// The most words of a signature.
+/// The maximum number of words in a signature.
 const MOST_WORDS: u32 = 65_536;
 
-/// What the lines of a text say.
+/// Reads the content of a text's lines.
 #[tactic(auto, unfolding(crate::specs::LenientReport::gather_rows))]
 pub fn gather_rows(alloc: Global, text: &[u8]) -> Result<Gathering, AllocError>
     ensures { IfOk result (λ g. gathering_view g ≡ gather_rows text.now) }
@@ -109,6 +109,7 @@ fn add_line(alloc: Global, gathering: &mut Gathering, line: &[u8]) -> Result<(),
     }
 }
 
+// Reads the first line of a job, or the last line of all.
 #[tactic(auto, unfolding(crate::specs::LenientReport::at_job_or_last_line))]
 fn add_job_or_last_line(
     alloc: Global,
@@ -185,6 +186,7 @@ fn add_signature_line(gathering: &mut Gathering, line: &[u8])
     }
 }
 
+// Reads a word of the signature, or the verdict if all words have been read.
 #[tactic(auto, unfolding(crate::specs::LenientReport::at_words))]
 fn add_word_or_verdict_line(
     alloc: Global,
@@ -204,7 +206,7 @@ fn add_word_or_verdict_line(
     }
 }
 
-// A row that isn't whole at the end is one too.
+// Includes a row that is incomplete at the end.
 #[tactic(auto, unfolding(crate::specs::LenientReport::with_unfinished_row))]
 fn close_unfinished_row(alloc: Global, gathering: &mut Gathering) -> Result<(), AllocError>
     ensures { OnOk result (gathering_view gathering.new ≡ with_unfinished_row (gathering_view gathering.old)) }
@@ -216,7 +218,7 @@ fn close_unfinished_row(alloc: Global, gathering: &mut Gathering) -> Result<(), 
     close_row(alloc, gathering, Verdict::Unasked)
 }
 
-// Missing words are zeros.
+// Fills in missing words with zeros.
 #[tactic(auto, unfolding(crate::specs::LenientReport::padded_words))]
 fn pad_signature_words(words: &mut Vec<u32>, count: u32) -> Result<(), AllocError>
     ensures { OnOk result (words.new.items ≡ padded_words count words.old.items) }
@@ -227,10 +229,10 @@ fn pad_signature_words(words: &mut Vec<u32>, count: u32) -> Result<(), AllocErro
     Ok(())
 }
 
-// The row that was begun is one more.
-#[tactic(auto, unfolding(crate::specs::LenientReport::with_closed_row, crate::specs::LenientReport::gathering_between_rows, crate::specs::LenientReport::row_so_far))]
+// Finishes the row in progress and adds it to the rows.
+#[tactic(auto, unfolding(crate::specs::LenientReport::with_finished_row, crate::specs::LenientReport::gathering_between_rows, crate::specs::LenientReport::row_so_far))]
 fn close_row(alloc: Global, gathering: &mut Gathering, verdict: Verdict) -> Result<(), AllocError>
-    ensures { OnOk result (gathering_view gathering.new ≡ with_closed_row verdict (gathering_view gathering.old)) }
+    ensures { OnOk result (gathering_view gathering.new ≡ with_finished_row verdict (gathering_view gathering.old)) }
 {
     gathering.numbers.push(gathering.number)?;
     let row = take_row(alloc, gathering, verdict)?;
@@ -238,7 +240,7 @@ fn close_row(alloc: Global, gathering: &mut Gathering, verdict: Verdict) -> Resu
     Ok(())
 }
 
-// Takes the row that was begun, so that nothing is known of a next one.
+// Takes the row in progress, so that no row is begun.
 #[tactic(auto, unfolding(crate::specs::LenientReport::gathering_between_rows, crate::specs::LenientReport::row_so_far))]
 fn take_row(alloc: Global, gathering: &mut Gathering, verdict: Verdict) -> Result<Row, AllocError>
     ensures row { IfOk result (λ row. row ≡ row_so_far verdict (gathering_view gathering.old)) }

@@ -1,10 +1,10 @@
-//! The report of a fleet: its rows, its text, and that text read back.
+//! The report of a fleet: its rows, its text, and reading that text back.
 //!
-//! A [`Row`] says what one job came to. [`write_report`] appends a report's text to a sink, in few large puts; where it
-//! fails a beginning of the text went out, and nothing after it. [`read_report`] answers the [`SavedReport`] whose text
-//! it is given, a whole report, that of a choice of jobs or that of a shard, or names the first line that no report has
-//! there ([`ReadError`]). It takes each line for what it seems to say, writes the report of that, and compares: so what
-//! it answers has exactly this text, by one comparison. [`one_text_one_report`] is a law of reports.
+//! A [`Row`] is the result of one job. [`write_report`] appends a report's text to a sink in few large writes; if a write fails, a prefix
+//! of the text has been written and nothing after it. [`read_report`] returns the [`SavedReport`] with the given text, whether of a whole
+//! list, of selected jobs or of a shard, or the first line that no report has there ([`ReadError`]). It reads each line for what it appears
+//! to contain, writes the report of that, and compares: a single comparison ensures that the result has exactly this text.
+//! [`one_text_one_report`] is a law of reports.
 #![tactic(auto)]
 
 mod fields;

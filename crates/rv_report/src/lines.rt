@@ -1,4 +1,4 @@
-//! What single lines of a report say. Any line says something: the byte that tells it from others is enough.
+//! The content of single lines of a report. Any line has some content: the byte that distinguishes it from others is enough.
 
 ghost use Rattle.std.specs.Prelude.{◌≡◌, IfOk, string_bytes};
 ghost use Rattle.rv_report.specs.LenientReport.{job_number_of_line, job_name_of_line, fault_or_first, refusal_or_first, fault_ending_of_text, row_ending_of_line};
@@ -16,14 +16,14 @@ use rv_machine::FaultKind;
 use rv_text::{byte_at, tail_from};
 use std::alloc::{AllocError, Global};
 
-/// The number of a job.
+/// Returns the number of a job.
 pub(crate) fn job_number_of_line(line: &[u8]) -> u32
     ensures { result ≡ job_number_of_line line.now }
 {
     decimal_number(text_before_byte(b' ', tail_from(line, 4)))
 }
 
-/// The name of a job.
+/// Returns the name of a job.
 #[tactic(auto, unfolding(crate::specs::LenientReport::job_name_of_line))]
 pub(crate) fn job_name_of_line(alloc: Global, line: &[u8]) -> Result<String, AllocError>
     ensures { IfOk result (λ name. string_bytes name ≡ job_name_of_line line.now) }
@@ -31,7 +31,7 @@ pub(crate) fn job_name_of_line(alloc: Global, line: &[u8]) -> Result<String, All
     name_or_dash(alloc, text_after_byte(b' ', tail_from(line, 4)))
 }
 
-/// How a job ended.
+/// Returns how a job ended.
 #[tactic(auto, unfolding(crate::specs::LenientReport::row_ending_of_line))]
 pub(crate) fn row_ending_of_line(line: &[u8]) -> RowEnd
     ensures { result ≡ row_ending_of_line line.now }
@@ -55,13 +55,14 @@ fn fault_ending_of_text(text: &[u8]) -> RowEnd
     RowEnd::Fault(kind, pc, value)
 }
 
+// Returns the refusal with this name, or an arbitrary one.
 fn refusal_or_unreadable(name: &[u8]) -> Refusal
     ensures { result ≡ refusal_or_first (refusal_named name.now) }
 {
     Refusal::from_name(name).unwrap_or(Refusal::ImageUnreadable)
 }
 
-/// The verdict on a job.
+/// Returns the verdict on a job.
 #[tactic(auto, unfolding(crate::specs::LenientReport::verdict_of_line))]
 pub(crate) fn verdict_of_line(line: &[u8]) -> Verdict
     ensures { result ≡ verdict_of_line line.now }
@@ -73,7 +74,7 @@ pub(crate) fn verdict_of_line(line: &[u8]) -> Verdict
     }
 }
 
-/// Which jobs a part has, by its last line.
+/// Returns which jobs a part has rows for, from its last line.
 #[tactic(auto, unfolding(crate::specs::LenientReport::part_extent_of_line))]
 pub(crate) fn part_extent_of_line(alloc: Global, line: &[u8]) -> Result<Extent, AllocError>
     ensures { IfOk result (λ extent. extent ≡ part_extent_of_line line.now) }

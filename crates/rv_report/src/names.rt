@@ -1,4 +1,4 @@
-//! Names that stand twice.
+//! Repeated names.
 
 ghost use Rattle.std.specs.Prelude.{◌≡◌, [], IfOk};
 ghost use Rattle.rv_report.specs.LenientReport.{count_before_repeated_name};
@@ -8,7 +8,7 @@ use crate::row::Row;
 use std::alloc::{AllocError, Global};
 use std::collections::BTreeMap;
 
-/// How many rows stand before the first whose name is there already.
+/// Returns the number of rows before the first with a repeated name.
 pub fn count_before_repeated_name(alloc: Global, rows: &[Row]) -> Result<usize, AllocError>
     ensures { IfOk result (λ count. count ≡ count_before_repeated_name [] (row_names rows.now)) }
 {

@@ -1,4 +1,4 @@
-//! Reports that may be cut off, as a run leaves one that was killed.
+//! Reports that may be truncated, as left by a killed run.
 
 ghost use Rattle.std.specs.Prelude.{◌≡◌, ◌⊎◌, ◌<◌, ◌≤◌, ◌+◌, ℕ, IfErr, IfOk, OnErr, length};
 ghost use Rattle.rv_base.specs.Limits.{most_jobs};
@@ -15,16 +15,16 @@ use crate::saved::{Extent, Numbers, SavedReport};
 use rv_base::limits::MOST_JOBS;
 use std::alloc::{AllocError, Global};
 
-/// A report that was read from a text that may be cut off.
+/// A report read from a text that may be truncated.
 #[derive(Drop)]
 pub struct PartialReport {
-    /// The report whose text it is; of a text that is cut off, the rows that it has whole, as those of a choice.
+    /// The report with this text; or, if the text is truncated, its complete rows, as a report of selected jobs.
     pub report: SavedReport,
     /// Whether the text ends before its report does.
     pub is_cut_off: bool,
 }
 
-/// The report whose text this is; or, of a text that is cut off, its whole rows. Each beginning of a report's text is read.
+/// Returns the report with this text, or the complete rows of a truncated text. Every prefix of a report's text is accepted.
 pub fn read_partial_report(alloc: Global, bytes: &[u8]) -> Result<PartialReport, ReadError>
     ensures found { IfOk result (λ read. IsReadAs bytes.now read.is_cut_off read.report) }
     ensures saved { IfOk result (λ read. IsSaved read.report) }
@@ -49,7 +49,7 @@ pub fn read_partial_report(alloc: Global, bytes: &[u8]) -> Result<PartialReport,
     }
 }
 
-// The rows that the bytes have whole, of those that their lines say.
+// Returns the complete rows in the bytes, among those of their content.
 fn read_whole_rows(alloc: Global, bytes: &[u8]) -> Result<SavedReport, AllocError>
     ensures rows { IfOk result (λ report. (count : ℕ) × (report ≡ rows_up_to_failure count (lenient_report bytes.now))
         × (count ≤ length (lenient_report bytes.now).rows)
@@ -62,7 +62,7 @@ fn read_whole_rows(alloc: Global, bytes: &[u8]) -> Result<SavedReport, AllocErro
     Ok(rows_up_to_failure(said, count))
 }
 
-// How many rows of a report the bytes begin with.
+// Returns how many rows of a report the bytes begin with.
 fn whole_row_count(alloc: Global, report: &SavedReport, bytes: &[u8]) -> Result<usize, AllocError>
     requires { IsListed report.now }
     ensures within { IfOk result (λ count. count ≤ length report.now.rows) }
@@ -84,7 +84,7 @@ fn whole_row_count(alloc: Global, report: &SavedReport, bytes: &[u8]) -> Result<
     Ok(rows.len())
 }
 
-// The first so many rows of a report, as those of a choice.
+// Returns the first `count` rows of a report, as a report of selected jobs.
 fn rows_up_to_failure(report: SavedReport, count: usize) -> SavedReport
     ensures { result ≡ rows_up_to_failure count report }
 {

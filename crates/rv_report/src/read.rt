@@ -1,4 +1,4 @@
-//! Reading: a text is taken for what it says, that is written, and both are compared.
+//! Reading: the content of a text is written as a report, and the two texts are compared.
 
 ghost use Rattle.std.specs.Prelude.{◌≡◌, ◌==◌, ◌≤◌, ◌^◌, ◌<◌, IfOk, IfErr, string_bytes, length, not};
 ghost use Rattle.rv_report.specs.declared.saved.SavedReport.{SavedReport as Saved};
@@ -17,17 +17,17 @@ use crate::saved_report_text::saved_text;
 use std::alloc::{AllocError, Global};
 use thiserror::Error;
 
-/// Why a text was not read.
+/// Why a text could not be read.
 #[derive(Clone, Copy, Debug, Error)]
 pub enum ReadError {
-    /// A growth was refused.
+    /// An allocation failed.
     #[error("out of memory")]
     OutOfMemory,
-    /// The first line, from 1, that no report has there.
+    /// The first line, counted from 1, that no report has there.
     #[error("invalid line {0}")]
     Line(usize),
-    /// The text ends before its report does: its whole lines are those of some report, and the first word of a line
-    /// behind them can be, as far as it goes.
+    /// The text ends before its report does: its complete lines are those of some report, and the incomplete line after them may begin a
+    /// line of a report, judging by its first word.
     #[error("the report is truncated")]
     CutOff,
 }
@@ -40,22 +40,22 @@ impl From<AllocError> for ReadError {
     }
 }
 
-/// The report whose text this is, whole, of a choice or of a shard. Takes memory for its rows, and once more for its
-/// text; of a text that is no report, for at most 4,096 rows and one signature of 65,536 words more.
+/// Returns the report with this text, whether of a whole list, of selected jobs or of a shard. Takes memory for its rows, and again for its
+/// text; if the text is not a report, for at most 4,096 rows and one more signature of 65,536 words.
 pub fn read_report(alloc: Global, bytes: &[u8]) -> Result<SavedReport, ReadError>
-    // What is read has this text, and is a report that can be.
+    // The result has this text, and is a valid report.
     ensures found { IfOk result (λ report. IsSaved report × (saved_text report ≡ bytes.now)) }
-    // What has this text is read.
+    // Every valid report with this text is read.
     ensures only { (report : Saved) → IsSaved report → saved_text report ≡ bytes.now
         → AnswersUnlessMemory report result }
-    // Up to the place that the error names, the text begins as that of some report.
+    // Up to the location in the error, the text agrees with the beginning of some report.
     ensures err { IfErr result (λ error. (report : Saved) × IsSaved report
         × BeginsAlike error (saved_text report) bytes.now) }
-    // Some report begins with the lines before the one that the error names, and none with those and it.
+    // Some report begins with the lines before the one in the error, and none with these lines and it.
     ensures least { IfErr result (λ error. IsLeast error bytes.now) }
-    // A beginning of a report is cut off.
+    // If a prefix of a report's text is rejected, the error is `CutOff`.
     ensures cut { BeginsReport bytes.now → IfErr result (λ error. IsSameReadError error CutOff) }
-    // The place is that of the first difference from the report of what the lines say.
+    // The location is that of the first difference from the report of the text's content.
     ensures place { IfErr result (λ error. IsSameReadError error
         (read_error_from 1 word.Ahead (saved_text (lenient_report bytes.now)) bytes.now)) }
 {
@@ -69,7 +69,7 @@ pub fn read_report(alloc: Global, bytes: &[u8]) -> Result<SavedReport, ReadError
     }
 }
 
-// Where the bytes differ first from the text.
+// Returns the first difference of the bytes from the text.
 fn first_read_error(text: &[u8], bytes: &[u8]) -> ReadError
     ensures { result ≡ read_error_from 1 word.Ahead text.now bytes.now }
 {
@@ -90,7 +90,7 @@ fn first_read_error(text: &[u8], bytes: &[u8]) -> ReadError
     ReadError::CutOff
 }
 
-// What is told where the rest of the bytes differs from a text in its first byte.
+// Returns the error if the remaining bytes differ from a text in their first byte.
 fn read_error_at(line: usize, met: FirstWord, other: u8, rest: &[u8]) -> ReadError
     ensures { result ≡ read_error_at line met other rest.now }
 {
@@ -112,7 +112,7 @@ fn has_line_feed(text: &[u8]) -> bool
     false
 }
 
-/// How far the first word of a line was met: not at all, its first letters, or all of it.
+/// How much of the first word of a line has been read: nothing, its first letters, or all of it.
 #[derive(Clone, Copy)]
 pub(crate) enum FirstWord {
     Ahead,
@@ -121,7 +121,7 @@ pub(crate) enum FirstWord {
 }
 
 impl FirstWord {
-    // The same, one byte further.
+    // Returns the state after one more byte.
     fn word_after_byte(self, b: u8) -> FirstWord
         ensures { result ≡ word_after_byte self b }
     {
@@ -132,6 +132,7 @@ impl FirstWord {
         }
     }
 
+    // Returns the state after one more letter of the line.
     fn word_after_letter(self) -> FirstWord
         ensures { result ≡ word_after_letter self }
     {
@@ -141,7 +142,7 @@ impl FirstWord {
         }
     }
 
-    // Whether the first word of a line can be a report's though the line goes on otherwise than a text's.
+    // Whether the first word of a line may begin a line of a report, although the line differs from the expected text.
     fn can_begin_report_line(self, other: u8, rest: &[u8]) -> bool
         ensures { result ≡ can_begin_report_line self other rest.now }
     {
@@ -153,14 +154,14 @@ impl FirstWord {
     }
 }
 
-// Whether the last line of a report begins so.
+// Whether the last line of a report begins with this byte.
 fn begins_last_line(b: u8) -> bool
     ensures { result ≡ begins_last_line b }
 {
     b == b'd' || b == b'p'
 }
 
-// Whether a row begins so, as far as the text goes.
+// Whether a row begins with this text, as far as the text goes.
 fn begins_row(text: &[u8]) -> bool
     ensures { result ≡ begins_row text.now }
 {

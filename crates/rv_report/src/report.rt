@@ -1,4 +1,4 @@
-//! Reports, and their text, sent in few large puts.
+//! Reports and their text, sent in few large writes.
 
 ghost use Rattle.std.specs.Prelude.{◌≡◌, ◌++◌, ◌+◌, ◌<◌, ◌^◌, ◌-◌, [], OnOk, OnErr, IfErr, map, option_map};
 ghost use Rattle.std.specs.Prelude.{string_bytes};
@@ -6,7 +6,7 @@ ghost use Rattle.std.specs.Io.KnownBytes.{Appends};
 ghost use Rattle.rv_report.specs.Report.{end_line, dash_if_empty, console_line};
 ghost use Rattle.rv_report.specs.Report.{signature_lines, row_text, rows_text, done_line, report_text};
 ghost use Rattle.rv_base.specs.Sinks.{AppendsBeginning, IsPartlySent};
-ghost use Rattle.rv_base.specs.Counts.{HasRisen};
+ghost use Rattle.rv_base.specs.Counts.{HasIncreased};
 ghost use Rattle.rv_base.specs.Counts.{one_more};
 ghost use Rattle.rv_report.specs.declared.report.WriteError.TheVariants.{Failed, OutOfMemory};
 
@@ -16,22 +16,22 @@ use rv_base::{Sequence, Sink, SinkFailed, put_all};
 use std::alloc::{AllocError, Global};
 use thiserror::Error;
 
-/// Rows in list order, of which contracts see their list.
+/// Rows in list order, seen by contracts as a list.
 pub type Rows = Sequence<Row>;
 
-/// The answer of a fleet: one row a job.
+/// The result of a fleet: one row per job.
 #[derive(Debug, Drop)]
 pub struct Report {
     pub rows: Rows,
 }
 
-/// Why a report didn't go out, or not all of it.
+/// Why a report could not be written, or not completely.
 #[derive(Clone, Copy, Debug, Error, PartialEq, Eq)]
 pub enum WriteError {
-    /// A growth was refused.
+    /// An allocation failed.
     #[error("out of memory")]
     OutOfMemory,
-    /// A put of the sink failed.
+    /// A write to the sink failed.
     #[error("write failed")]
     Failed,
 }
@@ -52,10 +52,10 @@ impl From<SinkFailed> for WriteError {
     }
 }
 
-// Gathered text is put once it has this many bytes.
+// Buffered text is written once it has this many bytes.
 const ENOUGH: usize = 32_768;
 
-/// Appends the report's text to the sink, or a beginning of it.
+/// Appends the report's text to the sink; on failure, a prefix of it.
 pub fn write_report<W: Sink>(alloc: Global, report: &Report, out: &mut W) -> Result<(), WriteError>
     ensures appended { OnOk result
         (Appends (W.taken out.old) (W.taken out.new) (report_text report.now.rows)) }
@@ -63,17 +63,17 @@ pub fn write_report<W: Sink>(alloc: Global, report: &Report, out: &mut W) -> Res
     ensures part { OnErr result
         (AppendsBeginning (W.taken out.old) (W.taken out.new) (report_text report.now.rows)) }
     ensures failed { IfErr result (λ error. error ≡ WriteError.Failed
-        → HasRisen (W.failed out.old) (W.failed out.new)) }
+        → HasIncreased (W.failed out.old) (W.failed out.new)) }
 {
     let rows = report.rows.as_slice();
     let mut text = String::new(alloc);
     put_rows(alloc, rows, &mut text, out)?;
     push_done_line(&mut text, rows.len())?;
-    put_text(&mut text, out)?;
+    flush_text(&mut text, out)?;
     Ok(())
 }
 
-// The rows' text: the first part of it goes out, the rest stands in `text`.
+// Writes the rows' text: the first part is sent, the rest remains buffered in `text`.
 fn put_rows<W: Sink>(
     alloc: Global,
     rows: &[Row],
@@ -97,7 +97,7 @@ fn put_rows<W: Sink>(
     Ok(())
 }
 
-/// Sends the gathered text where it is enough for a large put.
+/// Writes the buffered text if there is enough for a large write.
 pub(crate) fn put_text_if_enough<W: Sink>(text: &mut String, out: &mut W) -> Result<(), WriteError>
     ensures under_way { OnOk result
         (IsPartlySent (W.taken out.old) (W.taken out.new)
@@ -111,11 +111,11 @@ pub(crate) fn put_text_if_enough<W: Sink>(text: &mut String, out: &mut W) -> Res
     if text.len() < ENOUGH {
         return Ok(());
     }
-    put_text(text, out)
+    flush_text(text, out)
 }
 
-/// Puts the gathered text, and begins anew.
-pub(crate) fn put_text<W: Sink>(text: &mut String, out: &mut W) -> Result<(), WriteError>
+/// Writes the buffered text and clears the buffer.
+pub(crate) fn flush_text<W: Sink>(text: &mut String, out: &mut W) -> Result<(), WriteError>
     ensures appended { OnOk result
         (Appends (W.taken out.old) (W.taken out.new) (string_bytes text.old)) }
     ensures anew { OnOk result (string_bytes text.new ≡ []) }
@@ -130,7 +130,7 @@ pub(crate) fn put_text<W: Sink>(text: &mut String, out: &mut W) -> Result<(), Wr
     Ok(())
 }
 
-/// Appends the last line of a report of so many rows.
+/// Appends the last line of a report with this many rows.
 #[tactic(auto, unfolding(crate::specs::Report::done_line))]
 pub(crate) fn push_done_line(text: &mut String, count: usize) -> Result<(), AllocError>
     ensures { OnOk result (string_bytes text.new ≡ string_bytes text.old ++ done_line count) }
@@ -138,7 +138,7 @@ pub(crate) fn push_done_line(text: &mut String, count: usize) -> Result<(), Allo
     write!(text, "done {count}\n")
 }
 
-/// Appends what a report says of the row at a place, counted from 0.
+/// Appends the report text of the row at an index, counted from 0.
 #[tactic(auto, unfolding(crate::specs::Report::row_text))]
 pub fn push_row(alloc: Global, text: &mut String, place: usize, row: &Row) -> Result<(), AllocError>
     requires { place < 2 ^ 64 - 1 }

@@ -1,4 +1,4 @@
-//! A row: what a report says of one job.
+//! A row: the report on one job.
 
 ghost use Rattle.std.specs.Prelude.{◌≡◌, option_map};
 ghost use Rattle.std.specs.List.{find};
@@ -9,27 +9,25 @@ use rv_base::{Bytes, Sequence, Text};
 use rv_elf::ImageError;
 use rv_machine::FaultKind;
 
-/// Words of 32 bits, of which contracts see their list.
+/// 32-bit words, seen by contracts as a list.
 pub type Words = Sequence<u32>;
 
-/// Why a job didn't run.
+/// Why a job did not run.
 #[derive(Clone, Copy, Debug, PartialEq, Eq)]
 pub enum Refusal {
-    /// The image's file wasn't read.
+    /// The image's file could not be read.
     ImageUnreadable,
-    /// A flat image has more bytes than its place in memory, or the image's file more than
-    /// 16,777,216.
+    /// A flat image is larger than its room in memory, or the image's file is larger than 16,777,216 bytes.
     ImageTooLong,
-    /// The file of the reference wasn't read.
+    /// The reference file could not be read.
     ReferenceUnreadable,
-    /// The file of the reference has more than 16,777,216 bytes.
+    /// The reference file is larger than 16,777,216 bytes.
     ReferenceTooLong,
-    /// The file is no image, the image doesn't fit the map, or there is no signature as it is asked for. No row has
-    /// OutOfMemory here.
+    /// The file is not an image, the image does not fit the map, or the requested signature does not exist. No row has OutOfMemory here.
     Image(ImageError),
 }
 
-// All that a row can have.
+// All refusals that a row can have.
 const REFUSALS: [Refusal; 27] = [
     Refusal::ImageUnreadable,
     Refusal::ImageTooLong,
@@ -61,7 +59,7 @@ const REFUSALS: [Refusal; 27] = [
 ];
 
 impl Refusal {
-    /// The refusal of a name, as [`name`](Refusal::name) gives it; its bytes need not be UTF-8.
+    /// Returns the refusal with this name, as given by [`name`](Refusal::name). The bytes need not be UTF-8.
     pub fn from_name(name: &[u8]) -> Option<Refusal>
         ensures { result ≡ refusal_named name.now }
     {
@@ -71,7 +69,7 @@ impl Refusal {
         }
     }
 
-    /// The word for it in a report.
+    /// Returns the refusal's name in a report.
     pub fn name(self) -> &'static str
         ensures { result.now ≡ refusal_name self }
     {
@@ -94,32 +92,32 @@ fn find_refusal<'a>(refusals: &'a [Refusal], name: &[u8]) -> Option<&'a Refusal>
         .find(|refusal| name == refusal.name().as_bytes())
 }
 
-/// How the run of a job ended.
+/// How a job ended.
 #[derive(Clone, Copy, Debug, PartialEq, Eq)]
 pub enum RowEnd {
     /// The exit call, with its code.
     Exit(u32),
     /// A fault, with the address of its instruction and its value.
     Fault(FaultKind, u32, u32),
-    /// The budget is used up.
+    /// The budget was exhausted.
     Budget,
-    /// The job didn't run.
+    /// The job did not run.
     Refused(Refusal),
 }
 
-/// Whether a job met what its list expects of it.
+/// Whether a job met the expectations of its list.
 #[derive(Clone, Copy, Debug, PartialEq, Eq)]
 pub enum Verdict {
     /// Nothing is expected.
     Unasked,
-    /// All that is expected holds.
+    /// All expectations are met.
     Pass,
-    /// Something that is expected doesn't hold.
+    /// Some expectation is not met.
     Fail,
 }
 
 impl Verdict {
-    /// The word for it in a report.
+    /// Returns the verdict's name in a report.
     pub fn name(self) -> &'static str
         ensures { result.now ≡ verdict_name self }
     {
@@ -136,11 +134,11 @@ impl Verdict {
 pub struct Row {
     pub name: Text,
     pub ending: RowEnd,
-    /// Completed instructions; the one that ended the run isn't counted.
+    /// The number of completed instructions. The one that ended the run is not counted.
     pub steps: u32,
-    /// What the run wrote to the console.
+    /// The console output of the run.
     pub console: Bytes,
-    /// The words between the two symbols of the signature, where one is asked for.
+    /// The words between the two symbols of the signature, if one is requested.
     pub signature: Option<Words>,
     pub verdict: Verdict,
 }

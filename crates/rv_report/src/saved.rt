@@ -1,4 +1,4 @@
-//! Reports as files hold them: rows under the numbers of their jobs, and which jobs of a list these are.
+//! Reports in files: rows under the numbers of their jobs, and which jobs of a list these are.
 
 ghost use Rattle.std.specs.Prelude.{◌≡◌, ◌≤◌, length};
 ghost use Rattle.rv_base.specs.Limits.{most_jobs};
@@ -8,44 +8,44 @@ use crate::report::Rows;
 use rv_base::limits::MOST_JOBS;
 use rv_base::{Sequence, Text, is_name};
 
-/// Numbers of jobs, of which contracts see their list.
+/// Job numbers, seen by contracts as a list.
 pub type Numbers = Sequence<u32>;
 
-/// Which jobs of its list a report has rows of.
+/// Which jobs of its list a report has rows for.
 #[derive(Drop)]
 pub enum Extent {
     /// All of them.
     Whole,
-    /// Some of them, where the list has so many, up to 4,096.
+    /// Some of them, from a list with this many jobs, up to 4,096.
     Choice(u32),
     /// Those of a shard.
     Shard(Shard),
 }
 
-/// One of several parts of a list that are run apart, in one run.
+/// One of several shards of a list, which are run separately but belong to one run.
 #[derive(Drop)]
 pub struct Shard {
-    /// How many jobs the list has, up to 4,096.
+    /// The number of jobs in the list, up to 4,096.
     pub jobs: u32,
-    /// Which shard, from 1: it has the job of this number, and from there on each `shards`-th.
+    /// The number of the shard, from 1: it has the job with this number and every `shards`-th after it.
     pub number: u32,
-    /// How many shards there are, 1 to 4,096.
+    /// The number of shards, 1 to 4,096.
     pub shards: u32,
     /// A name for the run: 1 to 64 letters, digits, `.`, `_` and `-`.
     pub stamp: Text,
 }
 
-/// A report, or a part of one, as a file holds it.
+/// A report, or a part of one, as stored in a file.
 #[derive(Drop)]
 pub struct SavedReport {
     pub extent: Extent,
-    /// The number of each row's job in its list, from 1: rising, and as many as there are rows.
+    /// The number of each row's job in its list, from 1: increasing, one per row.
     pub numbers: Numbers,
     pub rows: Rows,
 }
 
 impl Extent {
-    /// Whether the numbers of jobs, in list order, are those that it has.
+    /// Whether these job numbers, in list order, are the ones that it has.
     #[tactic(auto, unfolding(crate::specs::Saved::matches_job_numbers))]
     pub fn matches_job_numbers(&self, numbers: &[u32]) -> bool
         requires { length numbers.now ≤ most_jobs }
@@ -85,7 +85,7 @@ impl Shard {
     }
 }
 
-// Whether numbers of jobs rise from behind one up to the last.
+// Whether job numbers increase from above `before` up to `last`.
 fn are_rising(before: u32, last: u32, numbers: &[u32]) -> bool
     ensures { result ≡ are_rising before last numbers.now }
 {
@@ -99,7 +99,7 @@ fn are_rising(before: u32, last: u32, numbers: &[u32]) -> bool
     true
 }
 
-// Whether the numbers are this and each that is so much greater, up to the last.
+// Whether the numbers are `first` and each one `step` greater, up to `last`.
 fn are_evenly_spaced(first: usize, step: usize, last: usize, numbers: &[u32]) -> bool
     requires first { first ≤ most_jobs }
     requires step { step ≤ most_jobs }

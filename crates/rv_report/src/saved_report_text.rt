@@ -9,7 +9,7 @@ use crate::row::Row;
 use crate::saved::{Extent, SavedReport, Shard};
 use std::alloc::{AllocError, Global};
 
-/// The text of a report.
+/// Returns the text of a report.
 #[tactic(auto, unfolding(crate::specs::Saved::saved_text))]
 pub(crate) fn saved_text(alloc: Global, report: &SavedReport) -> Result<String, AllocError>
     requires { IsListed report.now }
@@ -39,7 +39,7 @@ fn push_numbered_rows(
     Ok(())
 }
 
-/// Appends the line below so many rows.
+/// Appends the last line after this many rows.
 #[tactic(auto, unfolding(crate::specs::Saved::extent_line))]
 pub fn push_extent_line(text: &mut String, extent: &Extent, count: usize) -> Result<(), AllocError>
     ensures { OnOk result (string_bytes text.new

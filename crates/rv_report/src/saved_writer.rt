@@ -1,22 +1,22 @@
-//! The text of a saved report, sent in few large puts.
+//! The text of a saved report, sent in few large writes.
 
 ghost use Rattle.std.specs.Prelude.{◌≡◌, ◌++◌, ◌≤◌, ◌<◌, ◌^◌, [], true, IfErr, OnErr, OnOk, string_bytes, length};
 ghost use Rattle.std.specs.Io.KnownBytes.{Appends};
 ghost use Rattle.rv_base.specs.Limits.{most_jobs};
 ghost use Rattle.rv_base.specs.Counts.{one_more};
 ghost use Rattle.rv_base.specs.Sinks.{AppendsBeginning, IsPartlySent};
-ghost use Rattle.rv_base.specs.Counts.{HasRisen};
+ghost use Rattle.rv_base.specs.Counts.{HasIncreased};
 ghost use Rattle.rv_report.specs.Saved.{are_rising, numbered_text, saved_text};
 
-use crate::report::{WriteError, push_row, put_text, put_text_if_enough};
+use crate::report::{WriteError, flush_text, push_row, put_text_if_enough};
 use crate::row::Row;
 use crate::saved::SavedReport;
 use crate::saved_report_text::push_extent_line;
 use rv_base::Sink;
 use std::alloc::Global;
 
-/// Appends the text of a report to the sink, or a beginning of it: the text that
-/// [`read_report`](crate::read_report) reads, of a whole report, of a choice's and of a shard's.
+/// Appends the text of a report to the sink, or on failure a prefix of it: the text that [`read_report`](crate::read_report) reads, whether
+/// of a whole list, of selected jobs or of a shard.
 pub fn write_saved_report<W: Sink>(
     alloc: Global,
     report: &SavedReport,
@@ -30,17 +30,17 @@ pub fn write_saved_report<W: Sink>(
     ensures part { OnErr result
         (AppendsBeginning (W.taken out.old) (W.taken out.new) (saved_text report.now)) }
     ensures failed { IfErr result (λ error. error ≡ WriteError.Failed
-        → HasRisen (W.failed out.old) (W.failed out.new)) }
+        → HasIncreased (W.failed out.old) (W.failed out.new)) }
 {
     let rows = report.rows.as_slice();
     let mut text = String::new(alloc);
     put_numbered_rows(alloc, report.numbers.as_slice(), rows, &mut text, out)?;
     push_extent_line(&mut text, &report.extent, rows.len())?;
-    put_text(&mut text, out)?;
+    flush_text(&mut text, out)?;
     Ok(())
 }
 
-// The rows' text: the first part of it goes out, the rest stands in `text`.
+// Writes the rows' text: the first part is sent, the rest remains buffered in `text`.
 fn put_numbered_rows<W: Sink>(
     alloc: Global,
     numbers: &[u32],

@@ -8,7 +8,7 @@ use Rattle.std.specs.FinMap as fin
 use Rattle.std.specs.Ordering.{nat_cmp}
 use Rattle.rv_memory.proofs.Public.{among, get-tabulate}
 use Rattle.rv_memory.specs.declared.access.Misaligned.TheVariants.{Fault}
-use Rattle.rv_memory.specs.Bus.{Contents, byte_at, bytes_put, new_bus}
+use Rattle.rv_memory.specs.Bus.{Contents, byte_at, with_bytes_written, new_bus}
 use Rattle.rv_memory.specs.Regions.{addresses, in_one}
 use Rattle.rv_rows.specs.Flat.{flat_byte, flat_contents, image_room}
 use Rattle.rv_jobs.specs.Jobs.{default_regions}
@@ -43,7 +43,7 @@ inserted memory at byte q =
 
 -- the byte at q once bytes stand from an address on
 put_byte_at : (memory : fin.FinMap nat_cmp ℕ) (from : ℕ) (bytes : List ℕ) (q : ℕ)
-    → byte_at (bytes_put memory from bytes) q ≡ cond (leb from q) (get_or bytes (q - from) (byte_at memory q))
+    → byte_at (with_bytes_written memory from bytes) q ≡ cond (leb from q) (get_or bytes (q - from) (byte_at memory q))
     (byte_at memory q)
 put_byte_at memory from [] q =
     elim (leb from q) as (λ reached. byte_at memory q ≡ cond reached (byte_at memory q) (byte_at memory q))

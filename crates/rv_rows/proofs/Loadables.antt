@@ -6,7 +6,7 @@ use Rattle.rv_isa.specs.declared.sets.Isa.{Isa}
 use Rattle.rv_isa.specs.Extensions.{RV32C, has}
 use Rattle.rv_elf.specs.declared.image.Image.{Image}
 use Rattle.rv_elf.specs.Image.{image_of}
-use Rattle.rv_elf.specs.Loading.{map_check, opening_memory}
+use Rattle.rv_elf.specs.Loading.{map_check, initial_memory}
 use Rattle.rv_elf.specs.Rows.{accepted}
 use Rattle.rv_elf.specs.Symbols.{signature_check, symbol_of}
 use Rattle.rv_jobs.specs.declared_job.Job.{Job}
@@ -111,7 +111,7 @@ new_bus_parts bus regions script misaligned is = rw is (refl, refl)
 pub loaded_is : (before after : Contents) (job : Job) (file : List ℕ) (image : Image) (script : List ℕ)
     → before ≡ new_bus job.regions script job.misaligned
     → script ≡ job.script → after ≡ record before
-    { memory = opening_memory before.regions image.segments file job.load }
+    { memory = initial_memory before.regions image.segments file job.load }
     → at_reset after image.entry job.isa ≡ loaded_state job file image
 unfolding new_bus
 loaded_is before after job file image script is same loaded = rw (loaded, is, same) refl

@@ -7,11 +7,11 @@ use Rattle.rv_jobs.specs.declared_job.Job.{Job}
 use Rattle.rv_jobs.specs.declared.kept.Kept.{Kept}
 use Rattle.rv_memory.specs.declared.map.Region.{Region}
 use Rattle.rv_machine.specs.declared.ending.Ending.{Ending}
-use Rattle.rv_machine.specs.Run.{Ran, go_on, one_step_more, run_of, step_of}
+use Rattle.rv_machine.specs.Run.{Ran, go_on, with_one_more_step, run_of, step_of}
 use Rattle.rv_machine.specs.State.{State}
 use Rattle.rv_machine.proofs.Public.{run_keeps}
 use Rattle.rv_rows.specs.declared.outcome.Loadable.{Loadable}
-use Rattle.rv_rows.specs.OnTheWay.{IsOnTheWay}
+use Rattle.rv_rows.specs.IntermediateState.{IsIntermediateState}
 use Rattle.rv_rows.specs.Outcome.{image_file_or_refusal, loadable_image, loaded_state, start_if_loadable, start_if_readable, start_of}
 use Rattle.rv_rows.proofs.Loadables.{range_there}
 
@@ -50,7 +50,7 @@ goes_on (suc k) n s e = by_step s (run_of (suc k + n) s ≡ behind (suc k) (run_
     let there : (run_of (suc k) s).state ≡ (run_of k t).state = ap (λ (r : Ran). r.state) first in
     let end = run_of n (run_of k t).state in
     let more : end.steps + k + 1 ≡ end.steps + suc k = omega arith in
-    ap (λ m. run_of m s) sum ∙ run_by (k + n) s (Ok t) is ∙ ap one_step_more (goes_on k n t rest)
+    ap (λ m. run_of m s) sum ∙ run_by (k + n) s (Ok t) is ∙ ap with_one_more_step (goes_on k n t rest)
     ∙ (λ i. record end { steps = more i }) ∙ sym (ap (λ u. behind (suc k) (run_of n u)) there))
     (λ x is. let count = ap (λ (r : Ran). r.steps) (run_by k s (Err x) is) in absurd (omega arith))
 
@@ -63,7 +63,7 @@ within_budget (suc n) s = by_step s ((run_of (suc n) s).steps ≤ suc n)
     (λ x is. let count = ap (λ (r : Ran). r.steps) (run_by n s (Err x) is) in omega arith)
 
 -- the whole run, from a state on its way
-pub rest_is : (budget steps : ℕ) (start state : State) → IsOnTheWay (Ok start) budget steps state
+pub rest_is : (budget steps : ℕ) (start state : State) → IsIntermediateState (Ok start) budget steps state
     → run_of budget start ≡ behind steps (run_of (budget - steps) state)
 rest_is budget steps start state way =
     let is : start ≡ way.first = let e = way.starts in cc in
@@ -83,7 +83,7 @@ starts_over_file job image reference console file e = ap (start_if_readable job)
 -- in a machine on the way of its run the range is checked against its own regions
 pub range_on_way : (job : Job) (file : List ℕ) (loadable : Loadable) (steps : ℕ) (state : State)
     → loadable_image job file ≡ Ok loadable
-    → IsOnTheWay (start_if_loadable job file (loadable_image job file)) job.budget steps state
+    → IsIntermediateState (start_if_loadable job file (loadable_image job file)) job.budget steps state
     → IfSome loadable.range (λ range. signature_check range.begin range.end state.bus.regions ≡ accepted)
 range_on_way job file loadable steps state found way =
     let first : way.first ≡ loaded_state job file loadable.image =

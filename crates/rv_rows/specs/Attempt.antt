@@ -1,5 +1,4 @@
--- What a job came to, of which nothing is copied yet: what its run wrote and its signature stand in
--- the bus.
+-- The result of a job before anything is copied: its console output and signature are still in the bus.
 use Rattle.std.specs.Prelude.{◌≡◌, ⊤, IfSome, option_map}
 use Rattle.rv_elf.specs.Rows.{accepted}
 use Rattle.rv_elf.specs.Symbols.{signature_check}
@@ -9,12 +8,12 @@ use Rattle.rv_rows.specs.declared.outcome.EndedRun.{EndedRun}
 use Rattle.rv_rows.specs.declared.outcome.Outcome.{Outcome}
 use Rattle.rv_rows.specs.Outcome.{refused_outcome, signature_words_between}
 
--- the signature's range, where one is asked for, was checked against the map
+-- the signature's range, if one is requested, has been checked against the map
 abbrev pub HasSignature : EndedRun → Type 0
 HasSignature run = IfSome run.range
     (λ range. signature_check range.begin range.end run.bus.regions ≡ accepted)
 
--- the outcome of a run, as it stands in the bus
+-- the outcome of a run, as held in the bus
 abbrev pub outcome_in_bus : EndedRun → Outcome
 outcome_in_bus run = record {
   ending = run.ending;

@@ -5,7 +5,7 @@ pub mod Rows
 pub mod ImageRefusals
 pub mod Recent
 pub mod Narrower
-pub mod OnTheWay
+pub mod IntermediateState
 pub mod Verdict
 pub mod Wholes
 pub use Rattle.rv_base.specs.Counts

@@ -1,10 +1,10 @@
--- The outcome of a job: the first refusal that applies, or what its run came to.
+-- The outcome of a job: the first refusal that applies, or the result of its run.
 use Rattle.std.specs.Prelude.{ℕ, List, [], Option, Some, None, Result, Ok, Err, option_map}
 use Rattle.rv_elf.specs.declared.error.ImageError.{ImageError}
 use Rattle.rv_elf.specs.declared.error.ImageError.TheVariants as image
 use Rattle.rv_elf.specs.declared.image.Image.{Image}
 use Rattle.rv_elf.specs.Image.{image_of}
-use Rattle.rv_elf.specs.Loading.{map_check, opening_memory}
+use Rattle.rv_elf.specs.Loading.{map_check, initial_memory}
 use Rattle.rv_elf.specs.Symbols.{signature_check, symbol_of}
 use Rattle.rv_jobs.specs.declared_job.Job.{Job}
 use Rattle.rv_jobs.specs.declared_job.Symbols.{Symbols}
@@ -28,20 +28,20 @@ use Rattle.rv_report.specs.declared.row.RowEnd.TheVariants as ending
 
 -- ---- the files of a job
 
--- the bytes that are kept of a path, or the refusal of a path that was unreadable or too long
+-- the bytes recorded for a path, or the refusal of an unreadable or too long file
 abbrev pub content_or_refusal : Kept → Refusal → Refusal → Result (List ℕ) Refusal
 content_or_refusal (kept.Content bytes) unreadable long = Ok bytes
 content_or_refusal kept.Unreadable unreadable long = Err unreadable
 content_or_refusal kept.TooLong unreadable long = Err long
 
--- a reference, where one is named: that of a signature, or that of a console
+-- a reference, if one is named: that of a signature, or that of a console
 abbrev pub reference_or_refusal : Option Kept → Result (Option (List ℕ)) Refusal
 reference_or_refusal None = Ok None
 reference_or_refusal (Some kept) = do
   bytes ← content_or_refusal kept refusal.ReferenceUnreadable refusal.ReferenceTooLong
   Ok (Some bytes)
 
--- the image's bytes, if the references of the signature and of the console are there too
+-- the image's bytes, if the references of the signature and of the console were read too
 unfoldable pub image_file_or_refusal : Kept → Option Kept → Option Kept → Result (List ℕ) Refusal
 image_file_or_refusal image reference console = do
   file ← content_or_refusal image refusal.ImageUnreadable refusal.ImageTooLong
@@ -51,7 +51,7 @@ image_file_or_refusal image reference console = do
 
 -- ---- the image and the signature's range
 
--- a second name that is missing is no end
+-- a missing second name is reported as a missing end
 abbrev pub end_symbol_error : ImageError → ImageError
 end_symbol_error image.NoBegin = image.NoEnd
 end_symbol_error why = why
@@ -61,7 +61,7 @@ abbrev pub end_of_signature : Result ℕ ImageError → Result ℕ ImageError
 end_of_signature (Ok address) = Ok address
 end_of_signature (Err why) = Err (end_symbol_error why)
 
--- the addresses of the two symbols, between which there may be a signature
+-- the addresses of the two symbols, which must enclose a valid signature
 unfoldable pub signature_range : List ℕ → List Region → Symbols → Result SignatureRange ImageError
 signature_range file regions names = do
   begin ← symbol_of file names.begin
@@ -69,7 +69,7 @@ signature_range file regions names = do
   unit ← signature_check begin end regions
   Ok (record { begin = begin; end = end })
 
--- the range, where a signature is asked for
+-- the range, if a signature is requested
 abbrev pub range_if_asked : List ℕ → List Region → Option Symbols
     → Result (Option SignatureRange) ImageError
 range_if_asked file regions None = Ok None
@@ -77,8 +77,7 @@ range_if_asked file regions (Some names) = do
   range ← signature_range file regions names
   Ok (Some range)
 
--- the image of a file, where the job's map takes it, and the range of the signature, where one is
--- asked for
+-- the image of a file, if the job's map accepts it, and the range of the signature, if one is requested
 unfoldable pub loadable_image : Job → List ℕ → Result Loadable ImageError
 loadable_image job file = do
   image ← image_of job.isa file
@@ -88,14 +87,14 @@ loadable_image job file = do
 
 -- ---- the run
 
--- the image in memory, nothing stored, and the script
+-- memory with the image loaded and no byte stored, and the script
 abbrev pub loaded_contents : Job → List ℕ → Image → Contents
 loaded_contents job file image =
     record (new_bus job.regions job.script job.misaligned) {
-      memory = opening_memory job.regions image.segments file job.load;
+      memory = initial_memory job.regions image.segments file job.load;
     }
 
--- the hart at reset, its pc at the image's entry
+-- the hart at reset, with its pc at the image's entry
 abbrev pub loaded_state : Job → List ℕ → Image → State
 loaded_state job file image = at_reset (loaded_contents job file image) image.entry job.isa
 
@@ -109,7 +108,7 @@ row_end machine.Budget = ending.Budget
 abbrev pub signature_words_between : Contents → SignatureRange → List ℕ
 signature_words_between bus range = words_of bus.memory range.begin range.end
 
--- what a run came to, with the signature of its last state
+-- the result of a run, with the signature in its final state
 abbrev pub outcome_of_run : Ran → Option SignatureRange → Outcome
 outcome_of_run ran range = record {
   ending = row_end ran.ending;
@@ -123,34 +122,33 @@ abbrev pub refused_outcome : Refusal → Outcome
 refused_outcome why =
     record { ending = ending.Refused why; steps = 0; console = []; signature = None }
 
--- the refusal that an ending is, if it is one
+-- the refusal, if the ending is one
 abbrev pub refusal_in : RowEnd → Option Refusal
 refusal_in (ending.Refused why) = Some why
 refusal_in _ = None
 
--- what comes of an image that is loaded, or of its refusal
+-- the outcome of a loadable image, or of its refusal
 abbrev pub outcome_if_loadable : Job → List ℕ → Result Loadable ImageError → Outcome
 outcome_if_loadable job file (Ok loadable) =
     outcome_of_run (run_of job.budget (loaded_state job file loadable.image)) loadable.range
 outcome_if_loadable job file (Err why) = refused_outcome (refusal.Image why)
 
--- the outcome over the image's bytes
+-- the outcome given the image's bytes
 unfoldable pub file_outcome_of : Job → List ℕ → Outcome
 file_outcome_of job file = outcome_if_loadable job file (loadable_image job file)
 
--- what comes of the image's bytes, or of the refusal of a file
+-- the outcome given the image's bytes, or of the refusal of a file
 abbrev pub outcome_if_readable : Job → Result (List ℕ) Refusal → Outcome
 outcome_if_readable job (Ok file) = file_outcome_of job file
 outcome_if_readable job (Err why) = refused_outcome why
 
--- the outcome of a job over what is kept of the paths of its image, of its reference and of the
--- file that its console is expected to hold
+-- the outcome of a job, given the results for the paths of its image, of its reference and of the file with its expected console text
 unfoldable pub outcome_of : Job → Kept → Option Kept → Option Kept → Outcome
 outcome_of job image reference console = outcome_if_readable job (image_file_or_refusal image reference console)
 
 -- ---- the state in which a run begins
 
--- that of an image that is loaded, or its refusal
+-- the initial state of a loadable image, or its refusal
 abbrev pub start_if_loadable : Job → List ℕ → Result Loadable ImageError → Result State Refusal
 start_if_loadable job file (Ok loadable) = Ok (loaded_state job file loadable.image)
 start_if_loadable job file (Err why) = Err (refusal.Image why)
@@ -159,6 +157,6 @@ abbrev pub start_if_readable : Job → Result (List ℕ) Refusal → Result Stat
 start_if_readable job (Ok file) = start_if_loadable job file (loadable_image job file)
 start_if_readable job (Err why) = Err why
 
--- that of a job over what is kept of the same paths, or why it does not run
+-- the initial state of a job, given the results for these paths, or why it does not run
 unfoldable pub start_of : Job → Kept → Option Kept → Option Kept → Result State Refusal
 start_of job image reference console = start_if_readable job (image_file_or_refusal image reference console)

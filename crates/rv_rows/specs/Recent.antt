@@ -1,15 +1,15 @@
--- The outcomes that a worker keeps of its last jobs.
+-- The outcomes of its last jobs that a worker caches.
 use Rattle.std.specs.Prelude.{◌≡◌, ℕ, List, Option, Some, All, option_map, slice_get}
 use Rattle.rv_jobs.specs.Plans.{Planned}
 use Rattle.rv_rows.specs.declared.outcome.Outcome.{Outcome}
 use Rattle.rv_rows.specs.declared.recent_outcomes.RecentOutcome.{RecentOutcome}
 use Rattle.rv_rows.specs.Rows.{outcome_in}
 
--- the outcome of the job at a place
+-- the outcome of the job at an index
 abbrev pub outcome_at : Planned → ℕ → Option Outcome
 outcome_at plan place = option_map (outcome_in plan.answers) (slice_get plan.jobs place)
 
--- each is that of the job at its place
+-- each is the outcome of the job at its index
 abbrev pub AreOutcomes : Planned → List RecentOutcome → Type 0
 AreOutcomes plan recent =
     All (λ (kept : RecentOutcome). outcome_at plan kept.place ≡ Some kept.outcome) recent

@@ -1,4 +1,4 @@
--- The rows of a plan: one a job, in list order.
+-- The rows of a plan: one per job, in list order.
 use Rattle.std.specs.Prelude.{ℕ, List, Option, Some, None, map, option_and_then, option_map, Result}
 use Rattle.std.specs.Prelude.{[], slice_get, slice_index_or}
 use Rattle.std.specs.Result.{result_ok}
@@ -19,13 +19,13 @@ use Rattle.rv_report.specs.declared.row.Verdict.{Verdict}
 use Rattle.rv_rows.specs.Outcome.{outcome_of, start_of}
 use Rattle.rv_rows.specs.Verdict.{verdict_of}
 
--- the outcome of a job over a plan's answers
+-- the outcome of a job, given a plan's results
 abbrev pub outcome_in : List Answer → Job → Outcome
 outcome_in answers job =
     outcome_of job (kept_for answers job.image) (option_map (kept_for answers) job.expect_signature)
     (option_map (kept_for answers) (console_path job.expect_console))
 
--- the state in which the run of a job begins, over a plan's answers, or why there is none
+-- the state in which the run of a job begins, given a plan's results, or why there is none
 abbrev pub start_in : List Answer → Job → Result State Refusal
 start_in answers job =
     start_of job (kept_for answers job.image) (option_map (kept_for answers) job.expect_signature)
@@ -36,7 +36,7 @@ abbrev pub content_if_read : Option Kept → Option (List ℕ)
 content_if_read (Some (kept.Content bytes)) = Some bytes
 content_if_read _ = None
 
--- the image that bytes are read as, where they were read and are one
+-- the image that the bytes represent, if they were read and are one
 abbrev pub image_if_read : Isa → Option (List ℕ) → Option Image
 image_if_read isa None = None
 image_if_read isa (Some file) = result_ok (image_of isa file)
@@ -45,7 +45,7 @@ image_if_read isa (Some file) = result_ok (image_of isa file)
 abbrev pub image_in : List Answer → Job → Option Image
 image_in answers job = image_if_read job.isa (content_if_read (Some (kept_for answers job.image)))
 
--- the bytes of a job's reference, where it has one and it was read
+-- the bytes of a job's reference, if it has one and it was read
 abbrev pub signature_reference_bytes : List Answer → Job → Option (List ℕ)
 signature_reference_bytes answers job = content_if_read (option_map (kept_for answers) job.expect_signature)
 
@@ -53,12 +53,12 @@ abbrev pub expected_console_bytes : List Answer → Job → Option (List ℕ)
 expected_console_bytes answers job =
     content_if_read (option_map (kept_for answers) (console_path job.expect_console))
 
--- the outcome (and not the verdict) of the job that a job names
+-- the outcome (not the verdict) of the job that a job names
 abbrev pub named_job_outcome : Planned → Job → Option Outcome
 named_job_outcome plan job =
     option_map (outcome_in plan.answers) (option_and_then (slice_get plan.jobs) job.same_as)
 
--- the row of a name, an outcome and a verdict
+-- a row from a name, an outcome and a verdict
 abbrev pub row_of_outcome : List ℕ → Outcome → Verdict → Row
 row_of_outcome name outcome verdict = record {
   name = name;
@@ -77,11 +77,11 @@ row_of plan job =
     (verdict_of job outcome (signature_reference_bytes plan.answers job) (expected_console_bytes plan.answers job)
     (named_job_outcome plan job))
 
--- one row a job, in list order
+-- one row per job, in list order
 unfoldable pub rows_of : Planned → List Row
 rows_of plan = map (row_of plan) plan.jobs
 
--- the rows of the jobs at some places, each of which is that of a job
+-- the rows of the jobs at several indices
 unfoldable pub rows_at : Planned → List ℕ → List Row
 rows_at plan places =
     map (λ i. row_of plan (slice_index_or plan.jobs i (single_job [] 0 []))) places

@@ -18,7 +18,7 @@ use Rattle.rv_report.specs.declared.row.Verdict.{Verdict}
 use Rattle.rv_report.specs.declared.row.Verdict.TheVariants as verdict
 use Rattle.rv_report.specs.Report.{word_line}
 
--- a job expects something of its row
+-- whether a job has any expectations
 abbrev pub expects_anything : Job → Bool
 expects_anything job =
     is_some job.expect_exit || (is_some job.expect_end || (is_some job.expect_console
@@ -26,49 +26,49 @@ expects_anything job =
 
 -- ---- kinds of faults
 
--- two faults are of one kind: `==` of the kinds
+-- two faults are of the same kind: `==` on kinds
 abbrev pub is_same_kind : FaultKind → FaultKind → Bool
 is_same_kind kind other = sameb the_type kind other
 
 -- ---- the exit code
 
--- the run ended by the exit call with the code
+-- the run ended by the exit call with this code
 abbrev pub exits_with : ℕ → RowEnd → Bool
 exits_with code (ending.Exit n) = n == code
 exits_with code (ending.Fault kind pc value) = false
 exits_with code ending.Budget = false
 exits_with code (ending.Refused why) = false
 
--- the run ended with the code that is expected, if one is
+-- the run ended with the expected code, if there is one
 abbrev pub has_expected_exit : Option ℕ → RowEnd → Bool
 has_expected_exit None end = true
 has_expected_exit (Some code) end = exits_with code end
 
 -- ---- the end
 
--- the run ended so: by its budget, or by a fault of the kind
+-- the run ended in this way: by its budget, or by a fault of this kind
 abbrev pub ends_by : ExpectedEnd → RowEnd → Bool
 ends_by expected.Budget ending.Budget = true
 ends_by (expected.Fault kind) (ending.Fault met pc value) = is_same_kind kind met
 ends_by _ _ = false
 
--- the run ended as is expected, if something is
+-- the run ended as expected, if there is an expectation
 abbrev pub has_expected_end : Option ExpectedEnd → RowEnd → Bool
 has_expected_end None end = true
 has_expected_end (Some how) end = ends_by how end
 
 -- ---- the console
 
--- every ending but a refusal is that of a run
+-- every ending other than a refusal is that of a run
 abbrev pub did_run : RowEnd → Bool
 did_run (ending.Refused why) = false
 did_run _ = true
 
--- the job ran, and its console has these bytes
+-- the job ran, and its console output equals these bytes
 abbrev pub ran_with_console : List ℕ → Outcome → Bool
 ran_with_console bytes outcome = did_run outcome.ending && bytes_eq bytes outcome.console
 
--- the bytes are those of the job itself, or of the file that it names, which was read
+-- the console output equals the job's own text, or the file that it names, which was read
 abbrev pub has_expected_console : Option ExpectedConsole → Option (List ℕ) → Outcome → Bool
 has_expected_console None bytes outcome = true
 has_expected_console (Some (Text text)) bytes outcome = ran_with_console text outcome
@@ -77,7 +77,7 @@ has_expected_console (Some (File path)) (Some bytes) outcome = ran_with_console 
 
 -- ---- the reference
 
--- each word of a signature as a line
+-- the words of a signature, one per line
 abbrev pub lines_of_signature : Option (List ℕ) → List ℕ
 lines_of_signature None = []
 lines_of_signature (Some words) = flat_map word_line words
@@ -91,7 +91,7 @@ has_expected_signature (Some path) (Some bytes) outcome = did_run outcome.ending
 
 -- ---- another job
 
--- two runs ended alike: by the same code, by the same kind of fault, or both by their budgets
+-- two runs ended alike: with the same code, with the same kind of fault, or both by their budgets
 abbrev pub are_alike_endings : RowEnd → RowEnd → Bool
 are_alike_endings (ending.Exit m) (ending.Exit n) = m == n
 are_alike_endings (ending.Fault kind pc value) (ending.Fault other at met) = is_same_kind kind other
@@ -104,14 +104,12 @@ are_same_signatures None None = true
 are_same_signatures (Some words) (Some others) = bytes_eq words others
 are_same_signatures _ _ = false
 
--- two outcomes are the same but for steps, addresses and values; a refused one is the same as no
--- other, nor as itself
+-- two outcomes are equal except for steps, addresses and values; a refused one equals no other, not even itself
 abbrev pub are_same_outcomes : Outcome → Outcome → Bool
 are_same_outcomes outcome other = are_alike_endings outcome.ending other.ending
     && (bytes_eq outcome.console other.console && are_same_signatures outcome.signature other.signature)
 
--- the outcome is the same as that of the job that it names, if it names one. The named job stands
--- earlier in the list, so that its outcome is there
+-- the outcome equals that of the job that its job names, if any. The named job is earlier in the list, so its outcome exists
 abbrev pub is_same_as_named : Option ℕ → Option Outcome → Outcome → Bool
 is_same_as_named None other outcome = true
 is_same_as_named (Some place) None outcome = false
@@ -119,8 +117,7 @@ is_same_as_named (Some place) (Some other) outcome = are_same_outcomes outcome o
 
 -- ---- all of them
 
--- each expectation holds or is not there, over the bytes of the references that were read, and the
--- outcome of the job that it names
+-- each expectation is met or absent, given the bytes of the references that were read, and the outcome of the job that it names
 abbrev pub meets_all_expectations : Job → Outcome → Option (List ℕ) → Option (List ℕ) → Option Outcome → Bool
 meets_all_expectations job outcome reference console other =
     has_expected_exit job.expect_exit outcome.ending
@@ -129,7 +126,7 @@ meets_all_expectations job outcome reference console other =
     && (has_expected_signature job.expect_signature reference outcome
     && is_same_as_named job.same_as other outcome)))
 
--- the verdict over the same
+-- the verdict, given the same inputs
 unfoldable pub verdict_of :
     Job → Outcome → Option (List ℕ) → Option (List ℕ) → Option Outcome → Verdict
 verdict_of job outcome reference console other =

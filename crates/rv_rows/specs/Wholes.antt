@@ -1,4 +1,4 @@
--- Plans of the same jobs, of which one may have read less.
+-- Plans of the same jobs, one of which may have read fewer files.
 use Rattle.std.specs.Prelude.{◌≡◌, List, option_map}
 use Rattle.rv_jobs.specs.declared.answers.Answer.{Answer}
 use Rattle.rv_jobs.specs.declared_job.Job.{Job}
@@ -8,8 +8,8 @@ use Rattle.rv_jobs.specs.Plans.{Planned, kept_for}
 abbrev pub plan_of_jobs : List Job → List Answer → Planned
 plan_of_jobs jobs answers = record { jobs = jobs; answers = answers }
 
--- the same is kept of each path of a job
-pub record KeepSame (some others : List Answer) (job : Job) : Type 0 where
+-- both have the same result for each path of a job
+pub record HaveSameResults (some others : List Answer) (job : Job) : Type 0 where
   pub image : kept_for some job.image ≡ kept_for others job.image
   pub reference :
       option_map (kept_for some) job.expect_signature

@@ -1,4 +1,4 @@
-//! The making of an outcome: the first refusal that applies, or the run of a job.
+//! Computing an outcome: the first refusal that applies, or the run of a job.
 
 ghost use Rattle.std.specs.Prelude.{◌≡◌, ◌≢◌, ◌<◌, ◌≤◌, IfOk, IfSome, MatchResult, Ok, Err, IsOk, length, option_map};
 ghost use Rattle.rv_elf.specs.declared.error.ImageError.TheVariants.{OutOfMemory};
@@ -22,8 +22,8 @@ use rv_memory::Map;
 use rv_report::{Refusal, RowEnd};
 use std::alloc::{AllocError, Global};
 
-/// The image's bytes, over what is kept of the paths of the image, of the reference, and of the file that the console is
-/// expected to hold, or the first refusal of them.
+/// Returns the image's bytes, given the results for the paths of the image, of the reference, and of the file with the expected console
+/// text, or the first refusal among them.
 #[tactic(auto, unfolding(crate::specs::Outcome::image_file_or_refusal))]
 pub(crate) fn image_file_or_refusal<'a>(
     image: &'a Kept,
@@ -44,7 +44,7 @@ pub(crate) fn image_file_or_refusal<'a>(
     Ok(file)
 }
 
-/// Why a job is refused over the same, if it is. Nothing is run.
+/// Returns why a job is refused, if it is, given the results for these paths. Runs nothing.
 #[tactic(auto, unfolding(crate::specs::Outcome::outcome_of))]
 pub(crate) fn refusal_of_job(
     alloc: Global,
@@ -65,6 +65,7 @@ pub(crate) fn refusal_of_job(
     }
 }
 
+// Returns why a job is refused because of its image's bytes, if it is.
 #[tactic(auto, unfolding(crate::specs::Outcome::file_outcome_of))]
 fn refusal_over_image(alloc: Global, job: &Job, file: &[u8]) -> Result<Option<Refusal>, AllocError>
     requires { IfSome job.now.signature (λ names. (0 < length names.begin)
@@ -79,8 +80,7 @@ fn refusal_over_image(alloc: Global, job: &Job, file: &[u8]) -> Result<Option<Re
     }
 }
 
-/// The machine in which a job runs, over its image's bytes and the image that they were read as, or why the job is
-/// refused. Nothing is run.
+/// Returns the machine in which a job runs, given its image's bytes and the image read from them, or why the job is refused. Runs nothing.
 pub(crate) fn machine_over_image(
     alloc: Global,
     job: &Job,
@@ -101,7 +101,7 @@ pub(crate) fn machine_over_image(
     }
 }
 
-// That a file was read, where one is named: the reference, or the one with which the console is compared.
+// Checks that a file was read, if one is named: the reference, or the file with the expected console text.
 fn check_file_was_read(file: Option<&Kept>) -> Result<(), Refusal>
     ensures { MatchResult result
         (λ _. IsOk (reference_or_refusal (option_map (λ kept. kept.now) file.entry)))
@@ -114,7 +114,7 @@ fn check_file_was_read(file: Option<&Kept>) -> Result<(), Refusal>
     }
 }
 
-/// What a job comes to over its image's bytes.
+/// Computes the result of a job from its image's bytes.
 #[tactic(auto, unfolding(crate::specs::Outcome::file_outcome_of))]
 pub(crate) fn attempt_over_image(
     alloc: Global,
@@ -140,7 +140,7 @@ pub(crate) fn attempt_over_image(
     }
 }
 
-/// The image and the signature's range, or the first refusal.
+/// Returns the image and the signature's range, or the first refusal.
 #[tactic(auto, unfolding(crate::specs::Outcome::loadable_image))]
 pub(crate) fn loadable_image(alloc: Global, job: &Job, file: &[u8]) -> Result<Loadable, ImageError>
     requires { IfSome job.now.signature (λ names. (0 < length names.begin)
@@ -153,7 +153,7 @@ pub(crate) fn loadable_image(alloc: Global, job: &Job, file: &[u8]) -> Result<Lo
     Ok(Loadable { image, range })
 }
 
-// The signature's range, over the image that a file was read as, or the first refusal.
+// Returns the signature's range, given the image that was read from a file, or the first refusal.
 #[tactic(auto, unfolding(crate::specs::Outcome::loadable_image))]
 fn range_if_loadable(
     job: &Job,
@@ -192,6 +192,7 @@ fn signature_range(
     Ok(SignatureRange { begin, end })
 }
 
+// Finds the symbol at the end of a signature; if it is missing, the error is `NoEnd`.
 fn find_end_symbol(image: &Image, file: &[u8], name: &[u8]) -> Result<u32, ImageError>
     requires image { IsImageOf file.now image.now }
     requires named { 0 < length name.now }
@@ -203,7 +204,7 @@ fn find_end_symbol(image: &Image, file: &[u8], name: &[u8]) -> Result<u32, Image
     }
 }
 
-// The machine at reset, with the image in its memory.
+// Returns the machine at reset, with the image loaded in its memory.
 fn loaded_machine(
     alloc: Global,
     job: &Job,

@@ -14,14 +14,14 @@ use rv_memory::{Bus, Map, Misaligned};
 use rv_report::{Refusal, Row, Verdict};
 use std::alloc::{AllocError, Global};
 
-/// The bytes of the default map's region, the most of a flat image.
+/// The size of the default map's region in bytes, the maximum size of a flat image.
 const IMAGE_ROOM: usize = 0x10_0000;
 
-/// Where a flat image stands, which is its entry.
+/// The address of a flat image, which is its entry.
 const ENTRY: u32 = 0x8000_0000;
 
-/// Runs a flat image under the default map with an empty script, at most `budget` steps: its first
-/// byte stands at 0x8000_0000, which is the entry. More than 1,048,576 bytes are refused.
+/// Runs a flat image under the default map with an empty script, for at most `budget` steps. Its first byte is at 0x8000_0000, which is the
+/// entry. More than 1,048,576 bytes are refused.
 #[tactic(auto, unfolding(crate::specs::Flat::flat_row_of))]
 pub fn flat_row(alloc: Global, bytes: &[u8], budget: u32) -> Result<Row, AllocError>
     ensures { IfOk result (λ row. row ≡ flat_row_of bytes.now budget) }

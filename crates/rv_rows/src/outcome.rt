@@ -1,4 +1,4 @@
-//! Outcomes: what jobs came to, apart from their rows or still in the bus of a run.
+//! Outcomes: the results of jobs, apart from their rows or still in the bus of a run.
 
 ghost use Rattle.std.specs.Prelude.{◌≡◌, IfOk, IfSome, option_map};
 ghost use Rattle.rv_elf.specs.Rows.{accepted};
@@ -12,34 +12,34 @@ use rv_memory::Bus;
 use rv_report::{Refusal, RowEnd, Words};
 use std::alloc::{AllocError, Global};
 
-/// What a job came to, but for its verdict.
+/// The result of a job, without its verdict.
 #[derive(Debug, Drop)]
 pub struct Outcome {
     pub ending: RowEnd,
-    /// Completed instructions; the one that ended the run isn't counted.
+    /// The number of completed instructions. The one that ended the run is not counted.
     pub steps: u32,
-    /// What the run wrote to the console.
+    /// The console output of the run.
     pub console: Bytes,
-    /// The words between the two symbols of the signature, where one is asked for.
+    /// The words between the two symbols of the signature, if one is requested.
     pub signature: Option<Words>,
 }
 
-/// The addresses between which a signature stands.
+/// The addresses that enclose a signature.
 #[derive(Clone, Copy, Debug, PartialEq, Eq)]
 pub struct SignatureRange {
     pub begin: u32,
-    /// The address behind the last word.
+    /// The address after the last word.
     pub end: u32,
 }
 
-/// An image that the job's map takes, and the range of its signature, where one is asked for.
+/// An image that the job's map accepts, and the range of its signature, if one is requested.
 #[derive(Debug, Drop)]
 pub struct Loadable {
     pub image: Image,
     pub range: Option<SignatureRange>,
 }
 
-/// A run that has ended. What it wrote to the console and the words of its signature stand in its bus.
+/// A completed run. Its console output and the words of its signature are still in its bus.
 #[derive(Drop)]
 pub(crate) struct EndedRun {
     pub ending: RowEnd,
@@ -48,7 +48,7 @@ pub(crate) struct EndedRun {
     pub range: Option<SignatureRange>,
 }
 
-/// What a job came to, of which nothing is copied yet.
+/// The result of a job before anything is copied.
 #[derive(Drop)]
 pub(crate) enum Attempt {
     Refused(Refusal),
@@ -56,7 +56,7 @@ pub(crate) enum Attempt {
 }
 
 impl Attempt {
-    /// A copy of the outcome.
+    /// Copies the outcome.
     pub(crate) fn outcome(&self, alloc: Global) -> Result<Outcome, AllocError>
         requires { IsReadable self.now }
         ensures { IfOk result (λ outcome. outcome ≡ outcome_of_attempt self.now) }
@@ -67,7 +67,7 @@ impl Attempt {
         }
     }
 
-    /// How many bytes the console and the signature of a copy have.
+    /// Returns the number of bytes of console and signature in a copy.
     pub(crate) fn size(&self) -> usize {
         match self {
             Attempt::Refused(_) => 0,
@@ -77,7 +77,7 @@ impl Attempt {
 }
 
 impl EndedRun {
-    /// A copy of the outcome.
+    /// Copies the outcome.
     pub(crate) fn outcome(&self, alloc: Global) -> Result<Outcome, AllocError>
         requires { HasSignature self.now }
         ensures { IfOk result (λ outcome. outcome ≡ outcome_in_bus self.now) }
@@ -102,7 +102,7 @@ impl EndedRun {
 }
 
 impl Outcome {
-    /// How many bytes the console and the signature have.
+    /// Returns the number of bytes of the console and the signature.
     pub fn size(&self) -> usize {
         let words = match &self.signature {
             Some(words) => words.as_slice().len().saturating_mul(4),
@@ -128,7 +128,7 @@ impl Outcome {
     }
 }
 
-/// The outcome of a job that didn't run.
+/// Returns the outcome of a job that did not run.
 pub(crate) fn refused_outcome(alloc: Global, why: Refusal) -> Outcome
     ensures { result ≡ refused_outcome why }
 {
@@ -140,7 +140,7 @@ pub(crate) fn refused_outcome(alloc: Global, why: Refusal) -> Outcome
     }
 }
 
-// The words of a signature in memory.
+// Returns the words of a signature in memory, if one is requested.
 fn signature_if_asked(
     alloc: Global,
     bus: &Bus,

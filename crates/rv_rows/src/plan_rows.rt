@@ -1,4 +1,4 @@
-//! The rows of a plan: one a job, in list order.
+//! The rows of a plan: one per job, in list order.
 
 ghost use Rattle.std.specs.Prelude.{◌≡◌, ◌<◌, ◌≤◌, IfOk, IfSome, MatchResult, OnOk, Some, Ok, Err, length, map};
 ghost use Rattle.std.specs.Prelude.{option_map, option_and_then, slice_index_or};
@@ -25,18 +25,18 @@ use rv_machine::Machine;
 use rv_report::{Refusal, Report, Row, Rows, Verdict};
 use std::alloc::{AllocError, Global};
 
-/// The row of the job at a place, counted from 0.
+/// Returns the row of the job at an index, counted from 0.
 pub fn row_at(alloc: Global, plan: &Plan, i: usize) -> Result<Row, AllocError>
     requires { i < length plan.now.jobs }
 
-    // `d` would be the job past the end of the list, where no place is.
+    // `d` would be the job past the end of the list, where there is no index.
     ensures { IfOk result (λ row. (d : AJob) → row
         ≡ row_of plan.now (slice_index_or plan.now.jobs i d)) }
 {
     row_at_with_recent(alloc, plan, i, &mut Spare::new(), &mut Recent::new(alloc))
 }
 
-/// The same, in the memory of the last run and with the outcomes that are kept of the last jobs.
+/// Returns the row of the job at an index, reusing the memory of the last run and the cached outcomes of the last jobs.
 #[tactic(auto, unfolding(crate::specs::Rows::row_of))]
 pub fn row_at_with_recent(
     alloc: Global,
@@ -59,8 +59,7 @@ pub fn row_at_with_recent(
     judged_row(alloc, plan, i, outcome, same)
 }
 
-/// The row of the job at a place, whose outcome this is, and of which it is known whether it is the same as that of the job
-/// that it names.
+/// Returns the row of the job at an index, given its outcome and whether that equals the outcome of the job that it names.
 #[tactic(auto, unfolding(crate::specs::Rows::row_of))]
 pub(crate) fn judged_row(
     alloc: Global,
@@ -87,7 +86,7 @@ pub(crate) fn judged_row(
     row_of_outcome(alloc, job.name.as_str(), outcome, verdict)
 }
 
-// What the job at a place comes to.
+// Returns the result of the job at an index.
 #[tactic(auto, unfolding(crate::specs::Outcome::outcome_of))]
 fn attempt_at(
     alloc: Global,
@@ -107,7 +106,7 @@ fn attempt_at(
     }
 }
 
-/// Why the job at a place is refused, if its row is that of a refusal. Nothing is run.
+/// Returns why the job at an index is refused, if its row is that of a refusal. Runs nothing.
 pub fn refusal_at(alloc: Global, plan: &Plan, i: usize) -> Result<Option<Refusal>, AllocError>
     requires { i < length plan.now.jobs }
     ensures { IfOk result (λ why. (d : AJob) → why
@@ -122,7 +121,7 @@ pub fn refusal_at(alloc: Global, plan: &Plan, i: usize) -> Result<Option<Refusal
     )
 }
 
-/// Why the image of the job at a place refuses the job, whatever its other files are. Nothing is run.
+/// Returns why the job at an index is refused because of its image, whatever its other files. Runs nothing.
 pub fn image_refusal_at(alloc: Global, plan: &Plan, i: usize) -> Result<Option<Refusal>, AllocError>
     requires { i < length plan.now.jobs }
     ensures { IfOk result (λ why. (d : AJob) → why
@@ -131,8 +130,8 @@ pub fn image_refusal_at(alloc: Global, plan: &Plan, i: usize) -> Result<Option<R
     refusal_of_job(alloc, plan.job(i), plan.image(i), None, None)
 }
 
-/// The machine in which the job at a place runs, as it stands before the first step, or why the job is refused. The image
-/// is the one that the job's file was read as. Nothing is run.
+/// Returns the machine in which the job at an index runs, in its state before the first step, or why the job is refused. `image` is the
+/// image that was read from the job's file. Runs nothing.
 #[tactic(auto, unfolding(crate::specs::Outcome::start_of))]
 pub fn machine_at(
     alloc: Global,
@@ -154,7 +153,7 @@ pub fn machine_at(
     }
 }
 
-/// Whether an outcome is the same as that of the job that a job names, if it names one.
+/// Whether an outcome equals that of the job that a job names, if any.
 pub(crate) fn is_same_as_named(
     plan: &Plan,
     job: &Job,
@@ -174,7 +173,7 @@ pub(crate) fn is_same_as_named(
     }
 }
 
-// Whether an outcome is the same as that of the job at a place, which is run again unless its outcome is kept.
+// Whether an outcome equals that of the job at an index, which is run again unless its outcome is cached.
 fn is_same_as_job_at(
     plan: &Plan,
     place: usize,
@@ -202,7 +201,7 @@ fn is_same_as_job_at(
     Ok(same)
 }
 
-// Keeps a copy of a row's outcome where it is small enough, and one of the next jobs names it.
+// Caches a copy of a row's outcome if it is small enough and one of the next jobs names it.
 fn keep_outcome_if_named(
     alloc: Global,
     plan: &Plan,
@@ -221,7 +220,7 @@ fn keep_outcome_if_named(
     Ok(())
 }
 
-// Whether one of the next jobs names the job at a place.
+// Whether one of the next jobs names the job at an index.
 fn is_named_by_next_jobs(plan: &Plan, i: usize) -> bool
     requires { i < length plan.now.jobs }
 {
@@ -234,7 +233,7 @@ fn is_named_by_next_jobs(plan: &Plan, i: usize) -> bool
     false
 }
 
-/// The bytes of the file with which the signature of the job at a place is compared, where it was read.
+/// Returns the bytes of the file with which the signature of the job at an index is compared, if it was read.
 pub fn signature_reference_bytes(plan: &Plan, i: usize) -> Option<&[u8]>
     requires { i < length plan.now.jobs }
     ensures { (d : AJob) → option_map (λ bytes. bytes.now) result
@@ -243,7 +242,7 @@ pub fn signature_reference_bytes(plan: &Plan, i: usize) -> Option<&[u8]>
     content_if_read(plan.reference(i))
 }
 
-/// The bytes of the file with which the console of the job at a place is compared, where it was read.
+/// Returns the bytes of the file with which the console of the job at an index is compared, if it was read.
 pub fn expected_console_bytes(plan: &Plan, i: usize) -> Option<&[u8]>
     requires { i < length plan.now.jobs }
     ensures { (d : AJob) → option_map (λ bytes. bytes.now) result
@@ -262,7 +261,7 @@ fn content_if_read(kept: Option<&Kept>) -> Option<&[u8]>
     }
 }
 
-/// A row of an outcome and a verdict.
+/// Returns the row with this name, outcome and verdict.
 pub(crate) fn row_of_outcome(
     alloc: Global,
     name: &str,
@@ -281,7 +280,7 @@ pub(crate) fn row_of_outcome(
     })
 }
 
-/// All rows, in list order.
+/// Computes all rows, in list order.
 #[tactic(auto, unfolding(crate::specs::Rows::rows_of))]
 pub fn run_one(alloc: Global, plan: &Plan) -> Result<Report, AllocError>
     ensures { IfOk result (λ report. report.rows ≡ rows_of plan.now) }

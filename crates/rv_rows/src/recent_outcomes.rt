@@ -1,4 +1,4 @@
-//! The outcomes of a worker's last jobs, for those that name them.
+//! The outcomes of a worker's last jobs, cached for the jobs that name them.
 
 ghost use Rattle.std.specs.Prelude.{◌≡◌, IfSome, OnOk, Some};
 ghost use Rattle.rv_jobs.specs.Plans.{Planned};
@@ -8,18 +8,17 @@ use crate::outcome::Outcome;
 use std::alloc::{AllocError, Global};
 use std::marker::Model;
 
-/// The outcome of the job at a place.
+/// The outcome of the job at an index.
 #[derive(Drop)]
 pub struct RecentOutcome {
     pub place: usize,
     pub outcome: Outcome,
 }
 
-/// At most so many outcomes are kept.
+/// The maximum number of cached outcomes.
 pub(crate) const MOST: usize = 8;
 
-/// The consoles and signatures of all that is kept have at most so many bytes: with what stands around them, less than
-/// 64 KiB.
+/// The maximum total size in bytes of all cached consoles and signatures: with their overhead, less than 64 KiB.
 const ROOM: usize = 64_000;
 
 /// A few outcomes, the oldest first.
@@ -38,7 +37,7 @@ impl Model for Recent {
 }
 
 impl Recent {
-    /// Takes no memory.
+    /// Creates an empty cache without allocating.
     pub fn new(alloc: Global) -> Recent
         ensures { (plan : Planned) → AreOutcomes plan result }
     {
@@ -47,12 +46,12 @@ impl Recent {
         }
     }
 
-    /// What it takes memory from.
+    /// Returns the allocator that it uses.
     pub(crate) fn alloc(&self) -> Global {
         *self.items.allocator()
     }
 
-    /// The outcome of the job at a place, if it is kept.
+    /// Returns the outcome of the job at an index, if it is cached.
     pub fn find(&self, place: usize) -> Option<&Outcome>
         ensures { (plan : Planned) → AreOutcomes plan self.now
             → IfSome result (λ found. outcome_at plan place ≡ Some found.now) }
@@ -65,8 +64,8 @@ impl Recent {
         None
     }
 
-    /// Whether an outcome whose console and signature have so many bytes is small enough to be kept. If so, there is
-    /// room for it then: the oldest are dropped.
+    /// Returns whether an outcome whose console and signature have `size` bytes is small enough to be cached. If so, makes room for it by
+    /// dropping the oldest ones.
     pub fn make_room(&mut self, size: usize) -> bool
         ensures { (plan : Planned) → AreOutcomes plan self.old → AreOutcomes plan self.new }
     {
@@ -79,7 +78,7 @@ impl Recent {
         true
     }
 
-    /// Keeps one more, for which room was made.
+    /// Caches one more outcome, for which room was made.
     pub fn keep(&mut self, place: usize, outcome: Outcome) -> Result<(), AllocError>
         ensures { (plan : Planned) → AreOutcomes plan self.old → outcome_at plan place
             ≡ Some outcome
@@ -89,7 +88,7 @@ impl Recent {
         Ok(())
     }
 
-    // Whether one more of this size is too much.
+    // Whether there is no room for one more outcome of this size.
     fn lacks_room_for(&self, size: usize) -> bool {
         let mut total = size;
         for kept in &self.items {

@@ -1,17 +1,17 @@
-//! What is told of a row.
+//! Reporting rows.
 
 use rv_report::Row;
 use std::alloc::{AllocError, Global};
 
-/// Tells of a job and its row.
+/// Produces the text for a job and its row.
 pub trait RowReporter {
     ghost use Rattle.std.specs.Prelude.{◌≡◌, ◌++◌, ℕ, List, OnOk};
     ghost use Rattle.rv_report.specs.declared.row.Row.{Row};
 
-    // What is told of the job at a place and its row.
+    // The text for the job at an index and its row.
     ghost line: { Self → ℕ → Row → List ℕ };
 
-    /// Appends what is told of the job at a place and its row. It may be nothing.
+    /// Appends the text for the job at an index and its row, which may be empty.
     fn push_row_text(
         &self,
         alloc: Global,

@@ -1,4 +1,4 @@
-//! The row of a job whose machine has come some way in its run.
+//! The row of a job whose machine has already run some steps.
 
 ghost use Rattle.std.specs.Prelude.{◌≡◌, ◌<◌, ◌≤◌, IfOk, IfSome, Ok, length, slice_index_or};
 ghost use Rattle.rv_elf.specs.Rows.{accepted};
@@ -8,7 +8,7 @@ ghost use Rattle.rv_machine.specs.Machine.{state_of};
 ghost use Rattle.rv_machine.specs.Run.{run_of};
 ghost use Rattle.rv_machine.specs.State.{State};
 ghost use Rattle.rv_rows.specs.Attempt.{HasSignature, IsReadable, outcome_in_bus, outcome_of_attempt};
-ghost use Rattle.rv_rows.specs.OnTheWay.{IsOnTheWay};
+ghost use Rattle.rv_rows.specs.IntermediateState.{IsIntermediateState};
 ghost use Rattle.rv_rows.specs.Outcome.{file_outcome_of, loadable_image, outcome_of_run, start_if_loadable};
 ghost use Rattle.rv_rows.specs.Rows.{outcome_in, row_of, start_in};
 
@@ -23,8 +23,8 @@ use rv_machine::Machine;
 use rv_report::{Refusal, Row};
 use std::alloc::{AllocError, Global};
 
-/// The row of the job at a place, counted from 0, whose machine stands behind so many steps of its run: the same as that of
-/// [`crate::row_at`], and only what is left of the run is run. A job that it names is run whole.
+/// Returns the row of the job at an index, counted from 0, whose machine has completed `steps` steps of its run. The row equals that of
+/// [`crate::row_at`], but only the rest of the run is run. A job that it names is run completely.
 pub fn row_from(
     alloc: Global,
     plan: &Plan,
@@ -34,11 +34,11 @@ pub fn row_from(
 ) -> Result<Row, AllocError>
     requires place { i < length plan.now.jobs }
     requires way { (d : AJob) → let job = slice_index_or plan.now.jobs i d in
-        IsOnTheWay (start_in plan.now.answers job) job.budget steps (state_of machine) }
+        IsIntermediateState (start_in plan.now.answers job) job.budget steps (state_of machine) }
     ensures { IfOk result (λ row. (d : AJob) → row
         ≡ row_of plan.now (slice_index_or plan.now.jobs i d)) }
 {
-    let attempt = attempt_on_way(alloc, plan, i, steps, machine)?;
+    let attempt = attempt_from_machine(alloc, plan, i, steps, machine)?;
     let outcome = attempt.outcome(alloc)?;
     let (mut spare, mut recent) = (Spare::new(), Recent::new(alloc));
     spare.keep(attempt);
@@ -46,9 +46,9 @@ pub fn row_from(
     judged_row(alloc, plan, i, outcome, same)
 }
 
-// What the job comes to.
+// Computes the result of the job.
 #[tactic(auto, unfolding(crate::specs::Outcome::outcome_of))]
-fn attempt_on_way(
+fn attempt_from_machine(
     alloc: Global,
     plan: &Plan,
     i: usize,
@@ -57,7 +57,7 @@ fn attempt_on_way(
 ) -> Result<Attempt, AllocError>
     requires place { i < length plan.now.jobs }
     requires way { (d : AJob) → let job = slice_index_or plan.now.jobs i d in
-        IsOnTheWay (start_in plan.now.answers job) job.budget steps (state_of machine) }
+        IsIntermediateState (start_in plan.now.answers job) job.budget steps (state_of machine) }
     ensures outcome { IfOk result (λ attempt. (d : AJob) → outcome_of_attempt attempt
         ≡ outcome_in plan.now.answers (slice_index_or plan.now.jobs i d)) }
     ensures readable { IfOk result IsReadable }
@@ -68,7 +68,7 @@ fn attempt_on_way(
     }
 }
 
-// The same over its image's bytes.
+// Computes the result of the job, given its image's bytes.
 #[tactic(auto, unfolding(crate::specs::Outcome::file_outcome_of))]
 fn attempt_over_file(
     alloc: Global,
@@ -79,7 +79,7 @@ fn attempt_over_file(
 ) -> Result<Attempt, AllocError>
     requires named { IfSome job.now.signature (λ names. (0 < length names.begin)
         × (0 < length names.end)) }
-    requires way { IsOnTheWay (start_if_loadable job.now file.now (loadable_image job.now file.now))
+    requires way { IsIntermediateState (start_if_loadable job.now file.now (loadable_image job.now file.now))
         job.now.budget steps (state_of machine) }
     ensures outcome { IfOk result (λ attempt. outcome_of_attempt attempt
         ≡ file_outcome_of job.now file.now) }
@@ -95,12 +95,12 @@ fn attempt_over_file(
     }
 }
 
-// What a run within a budget comes to, of which so many steps have been run.
+// Completes a run within a budget, of which `steps` steps have been run.
 fn rest_of_run(machine: Machine, steps: u32, budget: u32, range: Option<SignatureRange>) -> EndedRun
     requires within { steps ≤ budget }
     requires range { IfSome range
         (λ range. signature_check range.begin range.end (state_of machine).bus.regions ≡ accepted) }
-    ensures outcome { (start : State) → IsOnTheWay (Ok start) budget steps (state_of machine)
+    ensures outcome { (start : State) → IsIntermediateState (Ok start) budget steps (state_of machine)
         → outcome_in_bus result ≡ outcome_of_run (run_of budget start) range }
     ensures readable { HasSignature result }
 {

@@ -1,4 +1,4 @@
-//! The memory of a run, kept for the next.
+//! The memory of a run, reused for the next.
 
 ghost use Rattle.std.specs.Prelude.{◌≡◌, ◌≤◌, IfOk, vec_len};
 ghost use Rattle.rv_memory.specs.Bus.{new_bus};
@@ -7,19 +7,20 @@ use crate::outcome::Attempt;
 use rv_memory::{Bus, Map, Misaligned};
 use std::alloc::{AllocError, Global};
 
-/// The bus of the last run, if there was one. A worker makes the bus of its next run in the memory of the last where
-/// the maps have as many bytes: to take memory afresh for each run costs more than a small run does.
+/// The bus of the last run, if any. A worker creates the bus of its next run in the memory of the last one if the maps have the same size:
+/// allocating memory anew for each run costs more than a small run does.
 #[derive(Drop)]
 pub struct Spare {
     bus: Option<Bus>,
 }
 
 impl Spare {
+    /// Creates an empty `Spare`.
     pub fn new() -> Spare {
         Spare { bus: None }
     }
 
-    /// A new bus.
+    /// Creates a bus.
     pub(crate) fn new_bus(
         &mut self,
         alloc: Global,
@@ -31,12 +32,12 @@ impl Spare {
         ensures { IfOk result (λ bus. bus ≡ new_bus map script.items misaligned) }
     {
         match self.bus.take() {
-            Some(last) => last.renewed(alloc, map, script, misaligned),
+            Some(last) => last.new_reusing(alloc, map, script, misaligned),
             None => Bus::new(alloc, map, script, misaligned),
         }
     }
 
-    /// Keeps the bus of a run whose outcome is no longer asked.
+    /// Keeps the bus of a run whose outcome is no longer needed.
     pub(crate) fn keep(&mut self, attempt: Attempt) {
         if let Attempt::Ran(run) = attempt {
             self.bus = Some(run.bus);

@@ -11,8 +11,8 @@ use crate::outcome::{Attempt, EndedRun, Outcome};
 use rv_jobs::{ExpectedConsole, ExpectedEnd, Job, Text};
 use rv_report::{RowEnd, Verdict, Words, are_word_lines};
 
-/// Whether an outcome is what the job expects, over the bytes of its references, where they were read, and whether it
-/// is the same as the outcome of the job that it names, if it names one.
+/// Returns whether an outcome is what the job expects, given the bytes of its references, if they were read, and whether the outcome equals
+/// that of the job that it names, if any.
 #[tactic(auto, unfolding(crate::specs::Verdict::verdict_of))]
 pub(crate) fn verdict_of(
     job: &Job,
@@ -21,7 +21,7 @@ pub(crate) fn verdict_of(
     console: Option<&[u8]>,
     same: bool,
 ) -> Verdict
-    // Whatever the outcome of the named job is, where `same` says of it whether it is the same.
+    // For every outcome of the named job such that `same` correctly states whether the two are equal.
     ensures { (other : Option AnOutcome) → same ≡ is_same_as_named job.now.same_as other outcome.now
         → result ≡ verdict_of job.now outcome.now (option_map (λ bytes. bytes.now) reference.entry)
         (option_map (λ bytes. bytes.now) console.entry) other }
@@ -47,7 +47,7 @@ pub(crate) fn verdict_of(
     Verdict::Pass
 }
 
-/// Whether a job expects something of its row.
+/// Whether a job has any expectations.
 pub fn expects_anything(job: &Job) -> bool
     ensures { result ≡ expects_anything job.now }
 {
@@ -58,7 +58,7 @@ pub fn expects_anything(job: &Job) -> bool
         || job.same_as.is_some()
 }
 
-/// Whether a run ended with the code that is expected, if one is.
+/// Whether a run ended with the expected code, if there is one.
 pub fn has_expected_exit(expected: Option<u32>, ending: RowEnd) -> bool
     ensures { result ≡ has_expected_exit expected ending }
 {
@@ -79,7 +79,7 @@ fn exits_with(code: u32, ending: RowEnd) -> bool
     }
 }
 
-/// Whether a run ended as is expected, if something is.
+/// Whether a run ended as expected, if there is an expectation.
 pub fn has_expected_end(expected: Option<ExpectedEnd>, ending: RowEnd) -> bool
     ensures { result ≡ has_expected_end expected ending }
 {
@@ -89,7 +89,7 @@ pub fn has_expected_end(expected: Option<ExpectedEnd>, ending: RowEnd) -> bool
     }
 }
 
-// Whether a run ended by its budget, or by a fault of the kind.
+// Whether a run ended by its budget, or by a fault of the expected kind.
 fn ends_by(expected: ExpectedEnd, ending: RowEnd) -> bool
     ensures { result ≡ ends_by expected ending }
 {
@@ -100,7 +100,7 @@ fn ends_by(expected: ExpectedEnd, ending: RowEnd) -> bool
     }
 }
 
-// Whether the job ran, and its console is the one that is expected.
+// Whether the job ran, and its console output is the expected one.
 fn has_expected_console(
     expected: &Option<ExpectedConsole>,
     file: Option<&[u8]>,
@@ -123,7 +123,7 @@ fn ran_with_console(bytes: &[u8], outcome: &Outcome) -> bool
     did_run(outcome.ending) && bytes == outcome.console.as_slice()
 }
 
-// Whether the job ran, and the reference is its signature's lines.
+// Whether the job ran, and the reference equals its signature's lines.
 fn has_expected_signature(
     expected: &Option<Text>,
     reference: Option<&[u8]>,
@@ -142,7 +142,7 @@ fn has_expected_signature(
     did_run(outcome.ending) && are_signature_lines(bytes, &outcome.signature)
 }
 
-/// Whether an ending is that of a run: any but a refusal.
+/// Whether an ending is that of a run, that is, not a refusal.
 pub fn did_run(ending: RowEnd) -> bool
     ensures { result ≡ did_run ending }
 {
@@ -159,7 +159,7 @@ fn are_signature_lines(bytes: &[u8], signature: &Option<Words>) -> bool
     }
 }
 
-/// Whether two outcomes are the same, but for steps, addresses and values.
+/// Whether two outcomes are equal except for steps, addresses and values.
 pub fn are_same_outcomes(outcome: &Outcome, other: &Outcome) -> bool
     ensures { result ≡ are_same_outcomes outcome.now other.now }
 {
@@ -172,7 +172,7 @@ pub fn are_same_outcomes(outcome: &Outcome, other: &Outcome) -> bool
     are_same_signatures(&outcome.signature, &other.signature)
 }
 
-/// The same, where nothing of the other is copied.
+/// Whether an outcome equals a result that has not been copied, except for steps, addresses and values.
 pub(crate) fn is_same_as_attempt(outcome: &Outcome, other: &Attempt) -> bool
     requires { IsReadable other.now }
     ensures { result ≡ are_same_outcomes outcome.now (outcome_of_attempt other.now) }
@@ -196,7 +196,7 @@ fn has_same_outcome_as_run(outcome: &Outcome, run: &EndedRun) -> bool
     has_run_signature(run, &outcome.signature)
 }
 
-// Whether the words of a run's signature are these.
+// Whether a run's signature has these words.
 fn has_run_signature(run: &EndedRun, signature: &Option<Words>) -> bool
     requires { HasSignature run.now }
     ensures { result ≡ are_same_signatures signature.now (outcome_in_bus run.now).signature }
@@ -210,7 +210,7 @@ fn has_run_signature(run: &EndedRun, signature: &Option<Words>) -> bool
     }
 }
 
-/// Whether two runs ended alike: by the same code, by the same kind of fault, or both by their budgets.
+/// Whether two runs ended alike: with the same code, with the same kind of fault, or both by their budgets.
 pub fn are_alike_endings(ending: RowEnd, other: RowEnd) -> bool
     ensures { result ≡ are_alike_endings ending other }
 {
@@ -222,7 +222,7 @@ pub fn are_alike_endings(ending: RowEnd, other: RowEnd) -> bool
     }
 }
 
-/// Whether two signatures are the same, or both absent.
+/// Whether two signatures are equal, or both missing.
 pub fn are_same_signatures(signature: &Option<Words>, other: &Option<Words>) -> bool
     ensures { result ≡ are_same_signatures signature.now other.now }
 {

@@ -3,7 +3,7 @@ use Rattle.std.proofs.Common.{◌≡◌, ◌∙◌, ◌++◌, ◌∷◌, ◌+◌
 use Rattle.std.specs.Prelude.{Option, Result, Ok, Err, ◌==◌}
 use Rattle.std.proofs.lemmas.Bool.{and_parts, both_ways, eqb-true, ne_eqb}
 use Rattle.std.proofs.Math.Bridge.{le_prop}
-use Rattle.rv_history.specs.Moves.{IsBroken, IsUnbroken}
+use Rattle.rv_history.specs.Moves.{IsInterrupted, IsUninterrupted}
 use Rattle.rv_history.specs.declared.counts.Count.{Count}
 use Rattle.rv_history.specs.declared.counts.Count.TheVariants as count
 use Rattle.rv_history.specs.declared.found.Found.{Found}
@@ -31,7 +31,7 @@ use Rattle.rv_gdb_protocol.specs.declared.request.Stoppoint.{Stoppoint}
 use Rattle.rv_gdb_protocol.specs.declared.request.Stoppoint.TheVariants as trap
 use Rattle.rv_session.specs.Answers.{IsAnswered, IsSet, IsSought, IsSoughtAs, IsTrapAsked, IsWritten}
 use Rattle.rv_session.specs.Incoming.{HasNoInterrupt, IsByteFed, IsFed, IsJudged, IsRespondedTo, IsResponse, IsResponseUnless, IsTaken, IsWorked, acknowledgement, byte_first, is_interrupted, is_wrong, move_first, no_bytes, packets_of, with_sent}
-use Rattle.rv_session.specs.Moved.{IsGone, IsMoved, end_text_at, printed_on, shown_on, stop_of}
+use Rattle.rv_session.specs.Moved.{IsMoveResult, IsMoved, end_text_at, printed_on, shown_on, stop_of}
 use Rattle.rv_session.specs.Replies.{granted_if, stopping}
 use Rattle.rv_session.specs.Sessions.{at_place, state_at}
 use Rattle.rv_session.specs.Traps.{IsAdded, IsAddedUnless, IsTrapped, is_on, is_set, trap_refusal, watches_of, with_watches}
@@ -41,7 +41,7 @@ use Rattle.rv_session.specs.declared.session.Session.{Session}
 -- ---- moves
 
 gone_one : (asked : Move) (stops : Stops) (budget from p q : ℕ) (start : State) (one other : Found)
-    → IsGone asked stops budget start from p one → IsGone asked stops budget start from q other → IsUnbroken one → IsUnbroken other
+    → IsMoveResult asked stops budget start from p one → IsMoveResult asked stops budget start from q other → IsUninterrupted one → IsUninterrupted other
     → (p ≡ q) × (one ≡ other)
 gone_one move.Continue stops budget from p q start one other first second whole again =
     one_next_stop stops bounds.All budget from p q start one other first second whole again
@@ -54,7 +54,7 @@ gone_one move.ContinueBack stops budget from p q start one other first second wh
 gone_one move.StepBack stops budget from p q start one other first second whole again =
     one_step_before stops budget from p q start one other first second
 
-unbroken : (may_break : Bool) (found : Found) → may_break ≡ false → (IsBroken found → may_break ≡ true) → IsUnbroken found
+unbroken : (may_break : Bool) (found : Found) → may_break ≡ false → (IsInterrupted found → may_break ≡ true) → IsUninterrupted found
 unbroken may_break found never broken is = both_ways may_break never (broken is)
 
 moved_one : (end_text : List ℕ) (may_break : Bool) (session one other : Session) (asked : Move) (reply again : Reply) → may_break ≡ false

@@ -1,7 +1,7 @@
 -- Moves, and the stops that are told.
 use Rattle.std.proofs.Common.{◌≡◌, ◌∙◌, ◌<◌, ◌≤◌, ℕ, Bool, List, true, ap, arith, subst, sym}
 use Rattle.std.proofs.lemmas.Bool.{false≢true}
-use Rattle.rv_history.specs.Moves.{IsBroken, IsNextStep, MeetsAhead}
+use Rattle.rv_history.specs.Moves.{IsInterrupted, IsNextStep, MeetsAhead}
 use Rattle.rv_history.specs.Places.{IsReached, last_place}
 use Rattle.rv_history.specs.declared.bounds.Bounds.{Bounds}
 use Rattle.rv_history.specs.declared.bounds.Bounds.TheVariants as bounds
@@ -15,7 +15,7 @@ use Rattle.rv_gdb_protocol.specs.declared.request.Move.TheVariants as move
 use Rattle.rv_gdb_protocol.specs.declared.stop.Stop.{Stop}
 use Rattle.rv_trace.proofs.Public.{completes}
 use Rattle.rv_trace.specs.Trace.{state_after}
-use Rattle.rv_session.specs.Moved.{CanTell, IsGone, IsMoved, end_text_at, is_forward, printed_on, shown_on, stop_of}
+use Rattle.rv_session.specs.Moved.{CanTell, IsMoveResult, IsMoved, end_text_at, is_forward, printed_on, shown_on, stop_of}
 use Rattle.rv_session.specs.Replies.{stopping}
 use Rattle.rv_session.specs.Sessions.{at_place, here, state_at}
 use Rattle.rv_session.specs.declared.reply.Reply.{Reply}
@@ -46,7 +46,7 @@ step_changes_within stops budget from place start what meets is =
 
 -- a change that a move forward finds is by a step that completes
 gone_within : (asked : Move) (stops : Stops) (budget from place : ℕ) (start : State) (what : Found)
-    → IsGone asked stops budget start from place what → what ≡ found.Change → is_forward asked ≡ true
+    → IsMoveResult asked stops budget start from place what → what ≡ found.Change → is_forward asked ≡ true
     → place < last_place budget start
 gone_within move.Continue stops budget from place start what gone is forward =
     changes_within stops bounds.All budget from place start what gone.meets is
@@ -58,7 +58,7 @@ gone_within move.ContinueBack stops budget from place start what gone is forward
 gone_within move.StepBack stops budget from place start what gone is forward = absurd (false≢true forward)
 
 pub can_tell : (session between : Session) (asked : Move) (found : Found) → between ≡ at_place session between.history.place
-    → IsGone asked session.stops session.history.budget session.history.start session.history.place between.history.place found
+    → IsMoveResult asked session.stops session.history.budget session.history.start session.history.place between.history.place found
     → CanTell between asked found
 can_tell session between asked found same gone is forward =
     let within = gone_within asked session.stops session.history.budget session.history.place between.history.place
@@ -69,8 +69,8 @@ can_tell session between asked found same gone is forward =
     (subst (λ (b : ℕ). between.history.place < last_place b session.history.start) (sym budget) within)
 
 moved_at : (end_text : List ℕ) (may_break : Bool) (session next : Session) (asked : Move) (reply : Reply) (place : ℕ) (found : Found) (told : Stop)
-    → IsGone asked session.stops session.history.budget session.history.start session.history.place place found
-    → (IsBroken found → may_break ≡ true) → told ≡ stop_of (at_place session place) asked place found
+    → IsMoveResult asked session.stops session.history.budget session.history.start session.history.place place found
+    → (IsInterrupted found → may_break ≡ true) → told ≡ stop_of (at_place session place) asked place found
     → reply ≡ stopping (printed_on session asked (state_at session place)) (end_text_at end_text found) (stop_text told)
     → next ≡ record (at_place session place) { shown = shown_on session asked (state_at session place); last = told }
     → IsMoved end_text may_break session asked reply next
@@ -89,8 +89,8 @@ moved_at end_text may_break session next asked reply place found told gone broke
 
 pub moved : (end_text : List ℕ) (may_break : Bool) (session between next : Session) (asked : Move) (reply : Reply) (found : Found) (told : Stop)
     → between ≡ at_place session between.history.place
-    → IsGone asked session.stops session.history.budget session.history.start session.history.place between.history.place found
-    → (IsBroken found → may_break ≡ true) → told ≡ stop_of between asked between.history.place found
+    → IsMoveResult asked session.stops session.history.budget session.history.start session.history.place between.history.place found
+    → (IsInterrupted found → may_break ≡ true) → told ≡ stop_of between asked between.history.place found
     → reply ≡ stopping (printed_on between asked (here between)) (end_text_at end_text found) (stop_text told)
     → next ≡ record between { shown = shown_on between asked (here between); last = told } → IsMoved end_text may_break session asked reply next
 moved end_text may_break session between next asked reply found told same gone broken =

@@ -14,7 +14,7 @@ use Rattle.rv_gdb_protocol.specs.declared.request.Move.{Move}
 use Rattle.rv_gdb_protocol.specs.declared.request.Move.TheVariants as move
 use Rattle.rv_session.specs.Console.{HasShown, printed_by}
 use Rattle.rv_session.specs.Incoming.{IsByteFed}
-use Rattle.rv_session.specs.Moved.{IsGone, IsMoved, is_forward, printed_on, shown_on}
+use Rattle.rv_session.specs.Moved.{IsMoveResult, IsMoved, is_forward, printed_on, shown_on}
 use Rattle.rv_session.specs.Sessions.{state_at}
 use Rattle.rv_trace.specs.Trace.{state_after}
 use Rattle.rv_session.proofs.Same.{byte_same, byte_shows_none}
@@ -55,7 +55,7 @@ stepped_within stops budget from place start found.Begin step = absurd step
 stepped_within stops budget from place start found.Interrupted step = absurd step
 
 went_within : (asked : Move) (stops : Stops) (budget from place : ℕ) (start : State) (found : Found)
-    → is_forward asked ≡ true → IsGone asked stops budget start from place found → place ≤ last_place budget start
+    → is_forward asked ≡ true → IsMoveResult asked stops budget start from place found → place ≤ last_place budget start
 went_within move.Continue stops budget from place start found forward gone = gone.within
 went_within move.Step stops budget from place start found forward gone =
     stepped_within stops budget from place start found gone
@@ -82,7 +82,7 @@ shows_forward session s end rest shown is first within =
 
 shows_on : (session : Session) (asked : Move) (place : ℕ) (found : Found) (shown : List ℕ) (forward : Bool)
     → is_forward asked ≡ forward
-    → IsGone asked session.stops session.history.budget session.history.start session.history.place place found
+    → IsMoveResult asked session.stops session.history.budget session.history.start session.history.place place found
     → HasShown session shown
     → Shows session (state_at session (last_place session.history.budget session.history.start))
     (printed_on session asked (state_at session place)) (shown_on session asked (state_at session place)) shown

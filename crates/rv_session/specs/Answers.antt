@@ -1,4 +1,4 @@
--- What a session answers to each request, and how it stands behind it.
+-- A session's reply to each request, and its state after the reply.
 use Rattle.std.specs.Prelude.{ℕ, List, [], ◌∷◌, ◌++◌, ◌≡◌, ◌-◌, ◌==◌, ◌||◌, Bool, true, false, Some, None, Result, Ok, Err, codes, if◌then◌else◌, drop, length, min, nat_le, nat_lt, take, unwrap_or}
 use Rattle.std.specs.Fmt.{decimal}
 use Rattle.std.specs.Int.{w32, to_be_bytes}
@@ -25,7 +25,7 @@ use Rattle.rv_gdb_protocol.specs.declared.request.Stoppoint.{Stoppoint}
 use Rattle.rv_gdb_protocol.specs.declared.stop.Stop.TheVariants as stop
 use Rattle.rv_gdb_protocol.specs.declared.target.TheConstants.{TARGET}
 use Rattle.rv_session.specs.Memory.{bytes_from, stand_at}
-use Rattle.rv_session.specs.Replies.{granted, granted_if, printing, refused, saying, silent}
+use Rattle.rv_session.specs.Replies.{granted, granted_if, printing, refused, with_body, silent}
 use Rattle.rv_session.specs.Sessions.{at_place, here}
 use Rattle.rv_session.specs.Traps.{IsTrapped, without_trap}
 use Rattle.rv_session.specs.declared.monitor.TheConstants.{HELP}
@@ -34,19 +34,19 @@ use Rattle.rv_session.specs.declared.session.Session.{Session}
 
 -- ---- what is shown of the state
 
--- a count as four bytes show it
+-- a count as a value of four bytes
 abbrev pub shown_count : ℕ → ℕ
 shown_count count = min count 4294967295
 
--- how many bytes of the script are taken
+-- the number of bytes consumed from the input script
 abbrev pub taken_here : Session → ℕ
 taken_here session = session.script - length (here session).bus.script
 
--- x0 to x31, and the pc behind them
+-- x0 to x31, then the pc
 abbrev pub hart_value : Session → ℕ → ℕ
 hart_value session number = if nat_lt number 32 then register (here session) number else (here session).pc
 
--- the value of a register of the target's description
+-- the value of a register in the target's description
 abbrev pub value_of : Session → Register → ℕ
 value_of session (reg.Hart number) = hart_value session number
 value_of session reg.Steps = session.history.place
@@ -56,9 +56,9 @@ value_of session reg.Taken = shown_count (taken_here session)
 abbrev pub registers_here : Session → List ℕ
 registers_here session = registers_text (here session).registers (here session).pc
 
--- `E01` where not one byte is there
+-- `E01` if no byte can be read
 abbrev pub memory_reply : List ℕ → Reply
-memory_reply bytes = if length bytes == 0 then refused refusal.Failed else saying (encode_lower bytes)
+memory_reply bytes = if length bytes == 0 then refused refusal.Failed else with_body (encode_lower bytes)
 
 -- `F`, a count of eight digits and `;`
 abbrev pub counted : ℕ → List ℕ
@@ -71,29 +71,29 @@ abbrev pub file_part : List ℕ → Part → List ℕ
 file_part image part = take (min most_file_part part.count) (drop part.offset image)
 
 abbrev pub file_reply : List ℕ → Reply
-file_reply bytes = saying (counted (length bytes) ++ bytes)
+file_reply bytes = with_body (counted (length bytes) ++ bytes)
 
--- the words of gdb's `struct stat`: the mode is the third, a file that may be read, and the size the ninth
+-- the words of gdb's `struct stat`: the third is the mode, that of a readable file, and the ninth the size
 abbrev pub stat_words : ℕ → List ℕ
 stat_words size = 0 ∷ 0 ∷ 0x8124 ∷ 0 ∷ 0 ∷ 0 ∷ 0 ∷ 0 ∷ size ∷ 0 ∷ 0 ∷ 0 ∷ 0 ∷ 0 ∷ 0 ∷ 0 ∷ []
 
 abbrev pub size_reply : ℕ → Reply
-size_reply size = saying (counted 64 ++ flat_map (to_be_bytes w32) (stat_words (shown_count size)))
+size_reply size = with_body (counted 64 ++ flat_map (to_be_bytes w32) (stat_words (shown_count size)))
 
--- what every session says; what is not known is the empty reply
+-- the reply that is equal in every session; the empty reply to an unknown request
 abbrev pub fixed_answer : Request → Reply
-fixed_answer request = saying (unwrap_or (fixed_reply request) [])
+fixed_answer request = with_body (unwrap_or (fixed_reply request) [])
 
--- the reply to a request that changes nothing of the session
+-- the reply to a request that does not change the session
 abbrev pub shown_reply : Session → Request → Reply
-shown_reply session ask.LastStop = saying (stop_text session.last)
-shown_reply session ask.Registers = saying (registers_here session)
-shown_reply session (ask.Register register) = saying (register_text (value_of session register))
+shown_reply session ask.LastStop = with_body (stop_text session.last)
+shown_reply session ask.Registers = with_body (registers_here session)
+shown_reply session (ask.Register register) = with_body (register_text (value_of session register))
 shown_reply session (ask.ReadMemory range) = memory_reply (bytes_from (here session).bus range)
-shown_reply session (ask.Description part) = saying (part_text TARGET.now part)
-shown_reply session (ask.ImagePath part) = saying (part_text session.program.path part)
+shown_reply session (ask.Description part) = with_body (part_text TARGET.now part)
+shown_reply session (ask.ImagePath part) = with_body (part_text session.program.path part)
 shown_reply session (ask.OpenFile path) =
-    if bytes_eq session.program.path path then saying (codes "F5") else refused refusal.OtherFile
+    if bytes_eq session.program.path path then with_body (codes "F5") else refused refusal.OtherFile
 shown_reply session ask.FileSize = size_reply (length session.program.image)
 shown_reply session (ask.ReadFile part) = file_reply (file_part session.program.image part)
 shown_reply session (ask.WriteRegisters bytes) =
@@ -104,11 +104,11 @@ shown_reply session request = fixed_answer request
 
 -- ---- commands
 
--- the commands that go to the start of the run
+-- the commands that move to the start of the run
 abbrev pub is_reset : List ℕ → Bool
 is_reset text = bytes_eq text (codes "reset") || bytes_eq text (codes "reset halt")
 
--- what the other commands print
+-- the output of the other commands
 abbrev pub command_text : Session → List ℕ → List ℕ
 command_text session text =
     if bytes_eq text (codes "when") then decimal session.history.place ++ codes " steps executed\n"
@@ -119,27 +119,27 @@ command_text session text =
 
 -- ---- what changes the session
 
--- the first place with a count, or no place has it
+-- the session is at the first step with this value of a count; or no step has it
 abbrev pub IsSoughtAs : Bool → Session → Count → ℕ → Session → Type 0
 IsSoughtAs true session count value next =
     IsFirstWith count value session.history.budget session.history.start next.history.place
 IsSoughtAs false session count value next =
     IsFound count value session.history.budget session.history.start None × (next ≡ session)
 
--- a seek of a count: granted where the run comes to it
+-- a seek by a count is accepted if the run reaches the value
 pub record IsSought (session : Session) (count : Count) (value : ℕ) (reply : Reply) (next : Session) : Type 0 where
   pub is_granted : Bool
   pub reply_is : reply ≡ granted_if is_granted refusal.NotReached
   pub sought : IsSoughtAs is_granted session count value next
   pub run : next ≡ at_place session next.history.place
 
--- the places that the run comes to are granted
+-- a seek to a step is accepted if the run reaches it
 abbrev pub IsPlaceSought : Session → ℕ → Reply → Session → Type 0
 IsPlaceSought session place reply next =
     (reply ≡ granted_if (nat_le place (last_place session.history.budget session.history.start)) refusal.NotReached)
     × (next ≡ (if nat_le place (last_place session.history.budget session.history.start) then at_place session place else session))
 
--- a register of the hart is granted its own value alone; a count of the run is a seek
+-- a write to a register of the hart is accepted only if it does not change the value; a write to a count of the run is a seek
 abbrev pub IsWritten : Session → Register → ℕ → Reply → Session → Type 0
 IsWritten session (reg.Hart number) value reply next =
     (reply ≡ granted_if (value_of session (reg.Hart number) == value) refusal.WouldChange) × (next ≡ session)
@@ -147,18 +147,18 @@ IsWritten session reg.Steps value reply next = IsPlaceSought session value reply
 IsWritten session reg.Printed value reply next = IsSought session count.Printed value reply next
 IsWritten session reg.Taken value reply next = IsSought session count.Taken value reply next
 
--- set, which it may be already, or refused
+-- the stoppoint is set, or was set already, or is refused
 abbrev pub IsSet : Session → Result Stops Refusal → Reply → Session → Type 0
 IsSet session (Ok stops) reply next = (reply ≡ granted) × (next ≡ record session { stops = stops })
 IsSet session (Err refusal) reply next = (reply ≡ refused refusal) × (next ≡ session)
 
--- what trapping gives, and the session behind it
+-- the result of setting a stoppoint, and the session after it
 pub record IsTrapAsked (session : Session) (place : Stoppoint) (reply : Reply) (next : Session) : Type 0 where
   pub outcome : Result Stops Refusal
   pub trapped : IsTrapped session.stops (here session).bus place outcome
   pub set : IsSet session outcome reply next
 
--- a command of `monitor`: what it prints, and `OK`
+-- a `monitor` command: its output, then `OK`
 abbrev pub command_reply : Session → List ℕ → Reply
 command_reply session text = if is_reset text then granted else printing (command_text session text) (codes "OK")
 
@@ -166,7 +166,7 @@ abbrev pub IsCommanded : Session → List ℕ → Reply → Session → Type 0
 IsCommanded session text reply next =
     (reply ≡ command_reply session text) × (next ≡ (if is_reset text then at_place session 0 else session))
 
--- What a session answers, and how it stands behind the answer. A move is asked for, and answered once it is made.
+-- The reply to a request, and the session after it. A move is only recorded as requested; its reply follows once it is made.
 abbrev pub IsAnswered : Session → Request → Reply → Session → Type 0
 IsAnswered session (ask.Move asked) reply next = (reply ≡ silent) × (next ≡ record session { asked = Some asked })
 IsAnswered session (ask.WriteRegister register value) reply next = IsWritten session register value reply next
@@ -175,7 +175,7 @@ IsAnswered session (ask.Clear place) reply next =
     (reply ≡ granted) × (next ≡ record session { stops = without_trap session.stops place })
 IsAnswered session (ask.Command text) reply next = IsCommanded session text reply next
 IsAnswered session ask.Restart reply next =
-    (reply ≡ saying (stop_text stop.Here)) × (next ≡ record (at_place session 0) { last = stop.Here })
+    (reply ≡ with_body (stop_text stop.Here)) × (next ≡ record (at_place session 0) { last = stop.Here })
 IsAnswered session ask.NoAcknowledgements reply next = (reply ≡ granted) × (next ≡ record session { acknowledges = false })
 IsAnswered session ask.Detach reply next = (reply ≡ granted) × (next ≡ record session { is_over = true })
 IsAnswered session ask.Kill reply next =

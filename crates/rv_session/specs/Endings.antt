@@ -1,4 +1,4 @@
--- What gdb is told of the run's end.
+-- What gdb is told about the end of the run.
 use Rattle.std.specs.Prelude.{ℕ, List, []}
 use Rattle.rv_history.specs.declared.found.Found.{Found}
 use Rattle.rv_history.specs.declared.found.Found.TheVariants as found
@@ -11,7 +11,7 @@ told_by_ending (ending.Exit code) = Exited
 told_by_ending (ending.Fault kind pc value) = told_by_fault kind
 told_by_ending ending.Budget = UsedUp
 
--- what a move finds tells an ending where it is one
+-- a move's result reports an end if it is one
 abbrev pub told_by_found : Found → Told
 told_by_found (found.End ending) = told_by_ending ending
 told_by_found found.Done = NoEnding
@@ -20,7 +20,7 @@ told_by_found found.Change = NoEnding
 told_by_found found.Begin = NoEnding
 told_by_found found.Interrupted = NoEnding
 
--- a text that goes with what tells an ending alone
+-- a text that accompanies only a stop at the end of the run
 abbrev pub text_with : Told → List ℕ → List ℕ
 text_with NoEnding text = []
 text_with Exited text = text

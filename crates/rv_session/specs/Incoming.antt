@@ -1,4 +1,4 @@
--- What goes out for the bytes that come.
+-- What is sent for the received bytes.
 use Rattle.std.specs.Prelude.{ℕ, List, ⊤, [], ◌∷◌, ◌++◌, ◌≡◌, ◌≢◌, ◌&&◌, ◌+◌, ◌*◌, ◌-◌, ◌/◌, ◌==◌, Bool, true, false, Option, Some, None, drop, if◌then◌else◌, length, take}
 use Rattle.std.specs.List.{flat_map, range_with_len}
 use Rattle.hex.specs.Hex.{encode_lower}
@@ -19,7 +19,7 @@ use Rattle.rv_session.specs.declared.session.Session.{Session}
 
 -- ---- what is sent
 
--- printed bytes go out in packets of so many, two digits each
+-- the maximum number of output bytes in a packet, two digits each
 abbrev pub most_printed : ℕ
 most_printed = 8184
 
@@ -41,7 +41,7 @@ body_packet None = []
 abbrev pub packets_of : Reply → List ℕ
 packets_of reply = printed_packets reply.printed ++ (printed_packets reply.end_text ++ body_packet reply.body)
 
--- the last packet is kept, to be sent again
+-- the last packet is kept so that it can be sent again
 abbrev pub sent_behind : List ℕ → Option (List ℕ) → List ℕ
 sent_behind sent (Some body) = framed body
 sent_behind sent None = sent
@@ -49,15 +49,15 @@ sent_behind sent None = sent
 abbrev pub with_sent : Session → Reply → Session
 with_sent session reply = record session { sent = sent_behind session.sent reply.body }
 
--- `+` in front of a reply, while packets are acknowledged
+-- `+` before a reply, while packets are acknowledged
 abbrev pub acknowledgement : Session → List ℕ
 acknowledgement session = if session.acknowledges then 43 ∷ [] else []
 
--- the last packet goes out again, while packets are acknowledged
+-- the last packet is sent again, while packets are acknowledged
 abbrev pub sent_again : Session → List ℕ
 sent_again session = if session.acknowledges then session.sent else []
 
--- what is appended to bytes is such
+-- what is appended to the bytes has the property `IsSuch`
 pub record IsAppended (old new : List ℕ) (IsSuch : List ℕ → Type 0) : Type 0 where
   pub out : List ℕ
   pub new_is : new ≡ old ++ out
@@ -65,7 +65,7 @@ pub record IsAppended (old new : List ℕ) (IsSuch : List ℕ → Type 0) : Type
 
 -- ---- what is heard
 
--- a whole packet is acknowledged, read and answered
+-- a complete packet is acknowledged, parsed and answered
 pub record IsTaken (session : Session) (body out : List ℕ) (next : Session) : Type 0 where
   pub reply : Reply
   pub behind : Session
@@ -73,7 +73,7 @@ pub record IsTaken (session : Session) (body out : List ℕ) (next : Session) : 
   pub out_is : out ≡ acknowledgement session ++ packets_of reply
   pub next_is : next ≡ with_sent behind reply
 
--- a packet whose sum is wrong is asked for again, while packets are acknowledged
+-- a packet with a wrong checksum is requested again, while packets are acknowledged
 abbrev pub IsJudged : Session → Bool → List ℕ → List ℕ → Session → Type 0
 IsJudged session true body out next = (out ≡ 45 ∷ []) × (next ≡ session)
 IsJudged session false body out next = IsTaken session body out next
@@ -82,7 +82,7 @@ abbrev pub is_wrong : Sum → Bool
 is_wrong verdict.Wrong = true
 is_wrong verdict.Right = false
 
--- 0x03 breaks nothing off where no move is under way
+-- 0x03 has no effect while no move is in progress
 abbrev pub IsResponse : Session → Incoming → List ℕ → Session → Type 0
 IsResponse session heard.Interrupt out next = (out ≡ []) × (next ≡ session)
 IsResponse session heard.Arrived out next = (out ≡ []) × (next ≡ session)
@@ -92,7 +92,7 @@ IsResponse session heard.TooLong out next =
 IsResponse session (heard.Packet body sum) out next =
     IsJudged session (session.acknowledges && is_wrong sum) body out next
 
--- what is heard once the session is over is not answered
+-- nothing is answered once the session is over
 abbrev pub IsResponseUnless : Bool → Session → Incoming → List ℕ → Session → Type 0
 IsResponseUnless true session heard out next = (out ≡ []) × (next ≡ session)
 IsResponseUnless false session heard out next = IsResponse session heard out next
@@ -101,12 +101,12 @@ abbrev pub IsRespondedTo : Session → Option Incoming → List ℕ → Session 
 IsRespondedTo session None out next = (out ≡ []) × (next ≡ session)
 IsRespondedTo session (Some heard) out next = IsResponseUnless session.is_over session heard out next
 
--- a byte is heard
+-- a byte is received
 abbrev pub IsByteFed : Session → ℕ → List ℕ → Session → Type 0
 IsByteFed session byte out next = IsRespondedTo (record session { reader = frame_after session.reader byte })
     (incoming_at session.reader byte) out next
 
--- the move that is asked for is made, and what goes out for it
+-- the requested move is made, and what is sent for it
 pub record IsWorked (end_text : List ℕ) (may_break : Bool) (session : Session) (out : List ℕ) (next : Session) : Type 0 where
   pub asked : Move
   pub asked_is : session.asked ≡ Some asked
@@ -116,7 +116,7 @@ pub record IsWorked (end_text : List ℕ) (may_break : Bool) (session : Session)
   pub out_is : out ≡ packets_of reply
   pub next_is : next ≡ with_sent behind reply
 
--- 0x03, which gdb sends for Ctrl-C, comes next, so that a move under way may be broken off; behind the last byte it is as is said
+-- the next byte is 0x03, which gdb sends for Ctrl-C, so that a move in progress can be interrupted; after the last byte it is as given
 abbrev pub is_interrupted : List ℕ → Bool → Bool
 is_interrupted [] behind = behind
 is_interrupted (byte ∷ rest) behind = byte == 3
@@ -126,8 +126,8 @@ abbrev pub HasNoInterrupt : List ℕ → Type 0
 HasNoInterrupt [] = ⊤
 HasNoInterrupt (byte ∷ rest) = (byte ≢ 3) × HasNoInterrupt rest
 
--- Bytes are heard one behind the other. A move that is asked for is made before the next byte is heard. Whether one that is asked for
--- by the last byte may be broken off hangs on what comes behind them.
+-- Bytes are received one after another. A requested move is made before the next byte is received. Whether the move requested by the last
+-- byte can be interrupted depends on what follows these bytes.
 pub data IsFed (end_text : List ℕ) (behind : Bool) : Session → List ℕ → List ℕ → Session → Type 0 where
   no_bytes : (session : Session) → IsFed end_text behind session [] [] session
   byte_first : (session between next : Session) (byte : ℕ) (rest out more : List ℕ) → session.asked ≡ None

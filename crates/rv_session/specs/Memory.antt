@@ -1,17 +1,17 @@
--- Bytes of memory that gdb sees.
+-- The memory that gdb sees.
 use Rattle.std.specs.Prelude.{ℕ, List, [], ◌∷◌, ◌==◌, ◌&&◌, ◌+◌, ◌-◌, Bool, true, false, Option, Some, None, map, min, nat_lt}
 use Rattle.std.specs.FinMap as fin
 use Rattle.std.specs.List.{range_with_len}
 use Rattle.rv_memory.specs.Bus.{Contents}
 use Rattle.rv_gdb_protocol.specs.declared.request.Range.{Range}
 
--- what stands in front of the first that is not there
+-- the values before the first missing one
 unfoldable pub leading : List (Option ℕ) → List ℕ
 leading [] = []
 leading (None ∷ rest) = []
 leading (Some byte ∷ rest) = byte ∷ leading rest
 
--- the most bytes of a reply: two digits each fit a packet
+-- the maximum number of bytes in a reply, two digits each
 abbrev pub most_bytes : ℕ
 most_bytes = 8184
 
@@ -19,11 +19,11 @@ most_bytes = 8184
 abbrev pub end_of_addresses : ℕ
 end_of_addresses = 4294967296
 
--- how many bytes of a range are looked at: as many as fit, and none past the last address
+-- how many bytes of a range are read: as many as fit a reply, and none past the last address
 abbrev pub bytes_asked : Range → ℕ
 bytes_asked range = min (min range.count most_bytes) (end_of_addresses - range.address)
 
--- the bytes of a range up to the first that stands in no region
+-- the bytes of a range up to the first that is in no region
 unfoldable pub bytes_from : Contents → Range → List ℕ
 bytes_from bus range = leading (map (fin.get bus.memory) (range_with_len range.address (bytes_asked range)))
 
@@ -31,7 +31,7 @@ abbrev pub is_byte : Option ℕ → ℕ → Bool
 is_byte (Some other) byte = other == byte
 is_byte None byte = false
 
--- these bytes stand at an address and behind it, none of them past the last address
+-- memory has these bytes from an address on, none of them past the last address
 unfoldable pub stand_at : Contents → ℕ → List ℕ → Bool
 stand_at bus address [] = true
 stand_at bus address (byte ∷ rest) =

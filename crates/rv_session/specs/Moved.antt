@@ -1,8 +1,8 @@
--- Moves in the run, and the stops that are told of them.
+-- Moves in the run, and the stops that are reported for them.
 use Rattle.std.specs.Prelude.{ℕ, List, [], ◌≡◌, ◌+◌, ◌-◌, ◌<◌, Bool, true, false, Option, Some, None, drop, if◌then◌else◌, length, max}
-use Rattle.rv_history.specs.Moves.{IsBroken, IsNextStep, IsNextStop, IsStepBefore, IsStopBefore}
+use Rattle.rv_history.specs.Moves.{IsInterrupted, IsNextStep, IsNextStop, IsStepBefore, IsStopBefore}
 use Rattle.rv_history.specs.Places.{last_place}
-use Rattle.rv_history.specs.Stops.{first_set_off}
+use Rattle.rv_history.specs.Stops.{first_triggered}
 use Rattle.rv_history.specs.declared.bounds.Bounds.TheVariants as bounds
 use Rattle.rv_history.specs.declared.found.Found.{Found}
 use Rattle.rv_history.specs.declared.found.Found.TheVariants as found
@@ -30,43 +30,43 @@ is_forward (move.StepWithin low high) = true
 is_forward move.ContinueBack = false
 is_forward move.StepBack = false
 
--- where a move comes to, and what it finds there
-abbrev pub IsGone : Move → Stops → ℕ → State → ℕ → ℕ → Found → Type 0
-IsGone move.Continue stops budget start from place found = IsNextStop stops bounds.All budget start from place found
-IsGone move.Step stops budget start from place found = IsNextStep stops budget start from place found
-IsGone (move.StepWithin low high) stops budget start from place found =
+-- where a move ends, and what it finds there
+abbrev pub IsMoveResult : Move → Stops → ℕ → State → ℕ → ℕ → Found → Type 0
+IsMoveResult move.Continue stops budget start from place found = IsNextStop stops bounds.All budget start from place found
+IsMoveResult move.Step stops budget start from place found = IsNextStep stops budget start from place found
+IsMoveResult (move.StepWithin low high) stops budget start from place found =
     IsNextStop stops (bounds.Within low high) budget start from place found
-IsGone move.ContinueBack stops budget start from place found = IsStopBefore stops budget start from place found
-IsGone move.StepBack stops budget start from place found = IsStepBefore stops budget start from place found
+IsMoveResult move.ContinueBack stops budget start from place found = IsStopBefore stops budget start from place found
+IsMoveResult move.StepBack stops budget start from place found = IsStepBefore stops budget start from place found
 
--- how an ending is told
+-- how an end is reported
 abbrev pub end_stop : Ending → Stop
 end_stop (ending.Exit code) = stop.Exit
 end_stop (ending.Fault kind pc value) = stop.Fault kind
 end_stop ending.Budget = stop.Budget
 
--- the watch that is told
+-- the watchpoint that is reported
 abbrev pub watch_told : Option WatchHit → Stop
 watch_told (Some (set_off.Change address)) = stop.Watch watch.Writes address
 watch_told (Some (set_off.Read address)) = stop.Watch watch.Reads address
 watch_told (Some (set_off.Access address)) = stop.Watch watch.Accesses address
 watch_told None = stop.Here
 
--- the first watch that the step from a place to another sets off
+-- the first watchpoint that the step from one step of the run to another triggers
 abbrev pub watch_between : Session → ℕ → ℕ → Option WatchHit
-watch_between session one other = first_set_off session.stops (state_at session one) (state_at session other)
+watch_between session one other = first_triggered session.stops (state_at session one) (state_at session other)
 
--- the first watch that a step sets off: the step in front, or on the way back the step behind
+-- the first watchpoint triggered by the next step, or, moving backwards, by the preceding step
 abbrev pub watch_stop : Session → Move → ℕ → Stop
 watch_stop session asked place = watch_told
     (if is_forward asked then watch_between session place (place + 1) else watch_between session (place - 1) place)
 
--- a change in front of a place is by a step that completes
+-- a watchpoint found by a forward move is triggered by a step that completes
 abbrev pub CanTell : Session → Move → Found → Type 0
 CanTell session asked what = what ≡ found.Change → is_forward asked ≡ true
     → session.history.place < last_place session.history.budget session.history.start
 
--- how what is found is told
+-- how the result of a move is reported
 abbrev pub stop_of : Session → Move → ℕ → Found → Stop
 stop_of session asked place found.Done = stop.Here
 stop_of session asked place found.Break = stop.Here
@@ -75,14 +75,14 @@ stop_of session asked place (found.End ending) = end_stop ending
 stop_of session asked place found.Begin = stop.Beginning
 stop_of session asked place found.Interrupted = stop.Interrupt
 
--- the printed bytes that go out in front of the stop: on a move forward those that did not go out before
+-- the output sent before the stop: for a forward move, what was not sent yet
 abbrev pub printed_on : Session → Move → State → List ℕ
 printed_on session asked s = if is_forward asked then drop session.shown s.bus.output else []
 
 abbrev pub shown_on : Session → Move → State → ℕ
 shown_on session asked s = if is_forward asked then max session.shown (length s.bus.output) else session.shown
 
--- the text of the run's end goes out in front of the stop there, and of no other
+-- the text about the run's end is sent before the stop at the end, and before no other
 abbrev pub end_text_at : List ℕ → Found → List ℕ
 end_text_at end_text (found.End ending) = end_text
 end_text_at end_text found.Done = []
@@ -91,13 +91,13 @@ end_text_at end_text found.Change = []
 end_text_at end_text found.Begin = []
 end_text_at end_text found.Interrupted = []
 
--- A session over a run of whose end this is the text moved, and what it says. The move was broken off only where it may be.
+-- The session moved in a run with this text about its end, and its reply. The move was interrupted only if it could be.
 pub record IsMoved (end_text : List ℕ) (may_break : Bool) (session : Session) (asked : Move) (reply : Reply) (next : Session)
     : Type 0 where
   pub place : ℕ
   pub found : Found
-  pub gone : IsGone asked session.stops session.history.budget session.history.start session.history.place place found
-  pub broken_off : IsBroken found → may_break ≡ true
+  pub gone : IsMoveResult asked session.stops session.history.budget session.history.start session.history.place place found
+  pub broken_off : IsInterrupted found → may_break ≡ true
   pub reply_is : reply ≡ stopping (printed_on session asked (state_at session place)) (end_text_at end_text found)
       (stop_text (stop_of session asked place found))
   pub next_is : next ≡ record session {

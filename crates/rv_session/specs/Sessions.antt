@@ -9,7 +9,7 @@ use Rattle.rv_trace.specs.Trace.{state_after}
 use Rattle.rv_session.specs.declared.program.Program.{Program}
 use Rattle.rv_session.specs.declared.session.Session.{Session}
 
--- at the start of a run, before gdb says anything
+-- at the start of a run, before gdb has sent anything
 abbrev pub at_first : Start → ℕ → Program → Session
 at_first start budget program = record {
   reader = between;
@@ -25,23 +25,23 @@ at_first start budget program = record {
   is_over = false;
 }
 
--- the state at a place of the session's run
+-- the state of the session's run after a number of steps
 abbrev pub state_at : Session → ℕ → State
 state_at session place = state_after place session.history.start
 
--- the state at its own place
+-- the state at the session's current step
 abbrev pub here : Session → State
 here session = state_at session session.history.place
 
--- it stands at another place of its run
+-- the session at another step of its run
 abbrev pub at_place : Session → ℕ → Session
 at_place session place = record session { history = record session.history { place = place } }
 
--- a session is not over that a move is asked for in
+-- a session in which a move is requested is not over
 abbrev pub MayAsk : Session → Type 0
 MayAsk session = (session.asked ≡ None) ⊎ (session.is_over ≡ false)
 
--- One session comes of another by whatever is fed: the run is the same.
+-- Whatever a session receives, its run stays the same.
 pub record IsSameRun (session next : Session) : Type 0 where
   pub start_is : next.history.start ≡ session.history.start
   pub budget_is : next.history.budget ≡ session.history.budget

@@ -1,4 +1,4 @@
--- Where a run is to stop, as gdb sets and clears it: breakpoints are a set by address, watches a set by address and length.
+-- Breakpoints and watchpoints as gdb sets and clears them: breakpoints are identified by address, watchpoints by address and length.
 use Rattle.std.specs.Prelude.{ℕ, List, [], ◌∷◌, ◌++◌, ◌≡◌, ◌+◌, ◌==◌, ◌&&◌, Bool, true, false, Option, Some, None, Result, Ok, Err, if◌then◌else◌, is_some, length, nat_le, not}
 use Rattle.std.specs.FinMap as fin
 use Rattle.std.specs.List.{filter, list_any, range_with_len}
@@ -13,14 +13,14 @@ use Rattle.rv_gdb_protocol.specs.declared.request.Stoppoint.TheVariants as trap
 use Rattle.rv_gdb_protocol.specs.declared.request.Watched.{Watched}
 use Rattle.rv_gdb_protocol.specs.declared.request.Watched.TheVariants as watch
 
--- the most breakpoints and watches, together
+-- the maximum number of breakpoints and watchpoints together
 abbrev pub most_traps : ℕ
 most_traps = 1024
 
 abbrev pub is_on : Range → Watch → Bool
 is_on range watch = watch.address == range.address && watch.count == range.count
 
--- what is watched so
+-- the watchpoints of a kind
 abbrev pub watches_of : Stops → Watched → List Watch
 watches_of stops watch.Writes = stops.watches
 watches_of stops watch.Reads = stops.reads
@@ -31,16 +31,16 @@ with_watches stops watch.Writes watches = record stops { watches = watches }
 with_watches stops watch.Reads watches = record stops { reads = watches }
 with_watches stops watch.Accesses watches = record stops { accesses = watches }
 
--- the trap is set already
+-- the stoppoint is set already
 abbrev pub is_set : Stops → Stoppoint → Bool
 is_set stops (trap.Break address) = list_any (λ other. other == address) stops.breaks
 is_set stops (trap.Watch kind range) = list_any (is_on range) (watches_of stops kind)
 
--- one of the bytes stands in a region
+-- one of the bytes is in a region
 abbrev pub has_byte : Contents → Range → Bool
 has_byte bus range = list_any (λ address. is_some (fin.get bus.memory address)) (range_with_len range.address range.count)
 
--- it can be watched
+-- whether the stoppoint is valid: a watchpoint is within the address space and has a byte in a region
 abbrev pub can_be_set : Contents → Stoppoint → Bool
 can_be_set bus (trap.Break address) = true
 can_be_set bus (trap.Watch kind range) = nat_le (range.address + range.count) 4294967296 && has_byte bus range
@@ -48,7 +48,7 @@ can_be_set bus (trap.Watch kind range) = nat_le (range.address + range.count) 42
 abbrev pub is_full : Stops → Bool
 is_full stops = nat_le most_traps ((length stops.breaks + length stops.watches) + (length stops.reads + length stops.accesses))
 
--- why it is not set, if it is not
+-- why the stoppoint is not set, if it is refused
 abbrev pub trap_refusal : Stops → Contents → Stoppoint → Option Refusal
 trap_refusal stops bus place =
     if not (can_be_set bus place) then Some refusal.Malformed
@@ -61,29 +61,29 @@ without_trap stops (trap.Break address) =
 without_trap stops (trap.Watch kind range) =
     with_watches stops kind (filter (λ watch. not (is_on range watch)) (watches_of stops kind))
 
--- one more watch, at the end
+-- one more watchpoint, at the end
 pub record IsWatchAdded (watches : List Watch) (range : Range) (next : List Watch) : Type 0 where
   pub watch : Watch
   pub next_is : next ≡ watches ++ watch ∷ []
   pub on : is_on range watch ≡ true
 
--- among those that are watched so
+-- one more watchpoint, among those of its kind
 pub record IsKindAdded (stops : Stops) (kind : Watched) (range : Range) (next : Stops) : Type 0 where
   pub watches : List Watch
   pub added : IsWatchAdded (watches_of stops kind) range watches
   pub next_is : next ≡ with_watches stops kind watches
 
--- one more trap, at the end of its kind
+-- one more stoppoint, at the end of those of its kind
 abbrev pub IsAdded : Stops → Stoppoint → Stops → Type 0
 IsAdded stops (trap.Break address) next = next ≡ record stops { breaks = stops.breaks ++ address ∷ [] }
 IsAdded stops (trap.Watch kind range) next = IsKindAdded stops kind range next
 
--- a trap that is set already adds nothing
+-- a stoppoint that is set already adds nothing
 abbrev pub IsAddedUnless : Bool → Stops → Stoppoint → Stops → Type 0
 IsAddedUnless true stops place next = next ≡ stops
 IsAddedUnless false stops place next = IsAdded stops place next
 
--- the stops with a trap, or why it is not set
+-- the stops with the stoppoint, or why it is not set
 abbrev pub IsTrapped : Stops → Contents → Stoppoint → Result Stops Refusal → Type 0
 IsTrapped stops bus place (Ok next) = (trap_refusal stops bus place ≡ None)
     × IsAddedUnless (is_set stops place) stops place next

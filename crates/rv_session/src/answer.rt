@@ -1,11 +1,11 @@
-//! What a session answers to each request.
+//! A session's replies to requests.
 
 ghost use Rattle.std.specs.Prelude.{◌≡◌, IfOk, Some, false, true};
 ghost use Rattle.rv_gdb_protocol.specs.Replies.{part_text};
 ghost use Rattle.rv_gdb_protocol.specs.Stops.{stop_text};
 ghost use Rattle.rv_gdb_protocol.specs.declared.stop.Stop.TheVariants as stop;
 ghost use Rattle.rv_session.specs.Answers.{IsAnswered, IsTrapAsked, fixed_answer, shown_reply};
-ghost use Rattle.rv_session.specs.Replies.{granted, saying, silent};
+ghost use Rattle.rv_session.specs.Replies.{granted, with_body, silent};
 ghost use Rattle.rv_session.specs.Sessions.{at_place};
 ghost use Rattle.rv_session.specs.Traps.{without_trap};
 
@@ -18,7 +18,7 @@ use rv_gdb_protocol::{
 use std::alloc::{AllocError, Global};
 
 impl Session {
-    /// Answers a request, but for a move, which is answered once it is made.
+    /// Answers a request. A move is only recorded; its reply follows once it is made.
     pub(crate) fn answer(&mut self, alloc: Global, request: &Request) -> Result<Reply, AllocError>
         ensures { IfOk result (λ reply. IsAnswered self.old request.now reply self.new) }
     {
@@ -38,7 +38,7 @@ impl Session {
         }
     }
 
-    // The answer to what changes nothing of the session.
+    // Answers a request that does not change the session.
     fn look(&self, alloc: Global, request: &Request) -> Result<Reply, AllocError>
         ensures { IfOk result (λ reply. reply ≡ shown_reply self.now request.now) }
     {
@@ -60,16 +60,16 @@ impl Session {
         }
     }
 
-    // `?`
+    // Handles `?`.
     fn last_stop(&self, alloc: Global) -> Result<Reply, AllocError>
-        ensures { IfOk result (λ reply. reply ≡ saying (stop_text self.now.last)) }
+        ensures { IfOk result (λ reply. reply ≡ with_body (stop_text self.now.last)) }
     {
         let mut body = Vec::new(alloc);
         push_stop(&mut body, self.last)?;
-        Ok(Reply::saying(alloc, body))
+        Ok(Reply::with_body(alloc, body))
     }
 
-    // `Z`
+    // Handles `Z`.
     fn set(&mut self, alloc: Global, trap: Stoppoint) -> Result<Reply, AllocError>
         ensures { IfOk result (λ reply. IsTrapAsked self.old trap reply self.new) }
     {
@@ -83,7 +83,7 @@ impl Session {
         }
     }
 
-    // `z`
+    // Handles `z`.
     fn clear(&mut self, alloc: Global, trap: Stoppoint) -> Result<Reply, AllocError>
         ensures { IfOk result (λ reply. (reply ≡ granted)
             × (self.new ≡ record self.old { stops = without_trap self.old.stops trap })) }
@@ -93,9 +93,9 @@ impl Session {
         Ok(reply)
     }
 
-    // `vRun`: from the start of the run again.
+    // Handles `vRun`: moves to the start of the run.
     fn restart(&mut self, alloc: Global) -> Result<Reply, AllocError>
-        ensures { IfOk result (λ reply. (reply ≡ saying (stop_text stop.Here))
+        ensures { IfOk result (λ reply. (reply ≡ with_body (stop_text stop.Here))
             × (self.new ≡ record (at_place self.old 0) { last = stop.Here })) }
     {
         self.go_to_start(alloc)?;
@@ -103,7 +103,7 @@ impl Session {
         self.last_stop(alloc)
     }
 
-    // `QStartNoAckMode`: its own packet was acknowledged.
+    // Handles `QStartNoAckMode`. Its own packet was acknowledged.
     fn end_acknowledgements(&mut self, alloc: Global) -> Result<Reply, AllocError>
         ensures { IfOk result (λ reply. (reply ≡ granted) × (self.new ≡ record self.old { acknowledges = false })) }
     {
@@ -112,7 +112,7 @@ impl Session {
         Ok(reply)
     }
 
-    // `D`
+    // Handles `D`.
     fn detach(&mut self, alloc: Global) -> Result<Reply, AllocError>
         ensures { IfOk result (λ reply. (reply ≡ granted) × (self.new ≡ record self.old { is_over = true })) }
     {
@@ -121,7 +121,7 @@ impl Session {
         Ok(reply)
     }
 
-    // `vCont;`, `c`, `s`, `bc`, `bs`: the move is made before another byte is heard.
+    // Handles `vCont;`, `c`, `s`, `bc` and `bs`: records the move, which is made before another byte is received.
     fn ask(&mut self, alloc: Global, asked: Move) -> Reply
         ensures reply { result ≡ silent }
         ensures next { self.new ≡ record self.old { asked = Some asked } }
@@ -130,7 +130,7 @@ impl Session {
         Reply::silent(alloc)
     }
 
-    // `k`
+    // Handles `k`.
     fn end(&mut self, alloc: Global) -> Reply
         ensures reply { result ≡ silent }
         ensures next { self.new ≡ record self.old { is_over = true } }
@@ -140,17 +140,17 @@ impl Session {
     }
 }
 
-// The reply that is the same in every session.
+// Returns a reply that is equal in every session.
 fn fixed(alloc: Global, request: &Request) -> Result<Reply, AllocError>
     ensures { IfOk result (λ reply. reply ≡ fixed_answer request.now) }
 {
-    Reply::reporter(alloc, fixed_reply(request).unwrap_or(""))
+    Reply::with_text(alloc, fixed_reply(request).unwrap_or(""))
 }
 
 fn part_of(alloc: Global, text: &[u8], part: Part) -> Result<Reply, AllocError>
-    ensures { IfOk result (λ reply. reply ≡ saying (part_text text.now part)) }
+    ensures { IfOk result (λ reply. reply ≡ with_body (part_text text.now part)) }
 {
     let mut body = Vec::new(alloc);
     push_part(&mut body, text, part)?;
-    Ok(Reply::saying(alloc, body))
+    Ok(Reply::with_body(alloc, body))
 }

@@ -1,22 +1,22 @@
-//! What is said of a run at its end.
+//! The text about a run's end.
 
 use rv_machine::Machine;
 use std::alloc::{AllocError, Global};
 
-/// Says what a run came to.
+/// Describes how a run ended.
 pub trait EndText {
     ghost use Rattle.std.specs.Prelude.{◌≡◌, ◌++◌, ℕ, List, OnOk};
     ghost use Rattle.rv_history.specs.Places.{IsReached};
     ghost use Rattle.rv_machine.specs.Machine.{state_of};
     ghost use Rattle.rv_machine.specs.State.{State};
 
-    // Where the run starts of which it tells.
+    // The start of the run that it describes.
     ghost start: { Self → State };
 
-    // What is said of its end.
+    // The text about the run's end.
     ghost end_text: { Self → List ℕ };
 
-    /// Appends what is said, given a machine that stands at a place of the run: the nearer to its end, the sooner.
+    /// Appends the text, given a machine at a step of the run. The nearer that is to the end, the less time it takes.
     fn push_end_text(
         &self,
         alloc: Global,

@@ -1,4 +1,4 @@
-//! The image, as gdb asks for it: a file of one path, which is open as 5.
+//! The image as gdb requests it: a single file, which is open as descriptor 5.
 
 ghost use Rattle.std.specs.Prelude.{◌≡◌, ◌≤◌, ◌++◌, IfOk, OnOk, codes, if◌then◌else◌, length};
 ghost use Rattle.std.specs.Int.{w32, to_be_bytes};
@@ -6,7 +6,7 @@ ghost use Rattle.std.specs.List.{flat_map};
 ghost use Rattle.std.specs.Str.{bytes_eq};
 ghost use Rattle.rv_gdb_protocol.specs.declared.request.Refusal.TheVariants as refusal;
 ghost use Rattle.rv_session.specs.Answers.{counted, file_part, file_reply, size_reply, stat_words};
-ghost use Rattle.rv_session.specs.Replies.{refused, saying};
+ghost use Rattle.rv_session.specs.Replies.{refused, with_body};
 
 use crate::reading::{are_same, shown_count};
 use crate::reply::Reply;
@@ -14,29 +14,29 @@ use crate::session::Session;
 use rv_gdb_protocol::{Part, Refusal};
 use std::alloc::{AllocError, Global};
 
-/// The most bytes of a part, each of which may have to be escaped.
+/// The maximum number of bytes in a part, each of which may have to be escaped.
 const MOST_PART: usize = 8180;
 
-/// The bytes of gdb's `struct stat`.
+/// The size of gdb's `struct stat` in bytes.
 const STAT_BYTES: u32 = 64;
 
-/// A file that may be read, in its `st_mode`.
+/// The `st_mode` of a readable file.
 const READABLE_FILE: u32 = 0x8124;
 
 impl Session {
-    // `vFile:open:`
+    // Handles `vFile:open:`.
     pub(crate) fn open_file(&self, alloc: Global, path: &[u8]) -> Result<Reply, AllocError>
         ensures { IfOk result (λ reply. reply
-            ≡ (if bytes_eq self.now.program.path path.now then saying (codes "F5") else refused refusal.OtherFile)) }
+            ≡ (if bytes_eq self.now.program.path path.now then with_body (codes "F5") else refused refusal.OtherFile)) }
     {
         if are_same(self.program.path.as_slice(), path) {
-            Reply::reporter(alloc, "F5")
+            Reply::with_text(alloc, "F5")
         } else {
             Reply::refusing(alloc, Refusal::OtherFile)
         }
     }
 
-    // `vFile:fstat:5`: words of four bytes, the high one first; all but the mode and the size is 0.
+    // Handles `vFile:fstat:5`: big-endian words of four bytes, all 0 except the mode and the size.
     pub(crate) fn file_size(&self, alloc: Global) -> Result<Reply, AllocError>
         ensures { IfOk result (λ reply. reply ≡ size_reply (length self.now.program.image)) }
     {
@@ -44,10 +44,10 @@ impl Session {
         let mut body = Vec::new(alloc);
         push_count(&mut body, STAT_BYTES)?;
         push_words(&mut body, &stat_words(size))?;
-        Ok(Reply::saying(alloc, body))
+        Ok(Reply::with_body(alloc, body))
     }
 
-    // `vFile:pread:5,`
+    // Handles `vFile:pread:5,`.
     pub(crate) fn read_file(&self, alloc: Global, part: Part) -> Result<Reply, AllocError>
         ensures { IfOk result (λ reply. reply ≡ file_reply (file_part self.now.program.image part)) }
     {
@@ -55,7 +55,7 @@ impl Session {
         let mut body = Vec::new(alloc);
         push_count(&mut body, bytes.len() as u32)?;
         body.extend_from_slice(bytes)?;
-        Ok(Reply::saying(alloc, body))
+        Ok(Reply::with_body(alloc, body))
     }
 }
 
@@ -68,7 +68,7 @@ fn file_part(image: &[u8], part: Part) -> &[u8]
     &rest[..rest.len().min(count)]
 }
 
-// The words of gdb's `struct stat`: the mode is the third, and the size the ninth.
+// Returns the words of gdb's `struct stat`: the third is the mode, the ninth the size.
 fn stat_words(size: u32) -> [u32; 16]
     ensures { result ≡ stat_words size }
 {
@@ -101,7 +101,7 @@ fn push_words(body: &mut Vec<u8>, words: &[u32]) -> Result<(), AllocError>
     Ok(())
 }
 
-// `F`, a count and `;`
+// Appends `F`, a count and `;`.
 fn push_count(body: &mut Vec<u8>, count: u32) -> Result<(), AllocError>
     ensures { OnOk result (body.new.items ≡ body.old.items ++ counted count) }
 {

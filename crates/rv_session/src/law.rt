@@ -1,4 +1,4 @@
-//! Laws of sessions, with nothing to run.
+//! Laws about sessions; none of them is executed.
 
 ghost use Rattle.std.specs.Prelude.{◌≡◌, ◌++◌, ℕ, Bool, List, None, false};
 ghost use Rattle.rv_gdb_protocol.specs.Stops.{told_by};
@@ -10,36 +10,36 @@ ghost use Rattle.rv_session.specs.Moved.{IsMoved};
 ghost use Rattle.rv_session.specs.declared.reply.Reply.{Reply};
 ghost use Rattle.rv_session.specs.declared.session.Session.{Session};
 
-/// What goes out for bytes that come in two reads goes out for the same bytes in one.
-pub fn cuts_are_not_seen()
+/// What is sent does not depend on whether bytes arrive in one read or in two.
+pub fn reads_can_be_split()
     ensures { (end_text : List ℕ) (behind : Bool) (session between next : Session) (front rest out more : List ℕ)
         → IsFed end_text (is_interrupted rest behind) session front out between → IsFed end_text behind between rest more next
         → IsFed end_text behind session (front ++ rest) (out ++ more) next }
 {}
 
-/// Where no 0x03 comes, what goes out, and the session behind it, are determined by the session and by the bytes that come, once all
-/// moves that are asked for are made.
+/// Without 0x03, what is sent and the resulting session are determined by the session and by the received bytes, once all requested moves
+/// are made.
 pub fn answers_are_determined()
     ensures { (end_text : List ℕ) (session one other : Session) (bytes out more : List ℕ)
         → HasNoInterrupt bytes → IsFed end_text false session bytes out one → one.asked ≡ None
         → IsFed end_text false session bytes more other → other.asked ≡ None → (out ≡ more) × (one ≡ other) }
 {}
 
-/// The printed bytes that go out in front of stops are the first ones that the run prints, in their order and each once.
+/// The output sent before stops is a prefix of what the run prints, in order and each byte once.
 pub fn printed_bytes_go_out_once()
     ensures { (end_text : List ℕ) (may_break : Bool) (session next : Session) (asked : Move) (reply : Reply) (shown : List ℕ)
         → HasShown session shown → IsMoved end_text may_break session asked reply next
         → HasShown next (shown ++ reply.printed) }
 {}
 
-/// What is heard puts out no byte of the run in front of a stop: only moves do.
+/// Received bytes never cause the run's output to be sent before a stop; only moves do.
 pub fn only_moves_show_printed_bytes()
     ensures { (session next : Session) (byte : ℕ) (out shown : List ℕ)
         → HasShown session shown → IsByteFed session byte out next → HasShown next shown }
 {}
 
-/// The stop that a move tells is the run's ending where the move comes to it, and no ending elsewhere. What is said of the run at its
-/// end goes out with it, and with no other stop.
+/// The stop that a move reports is the run's end if the move reaches it, and no end otherwise. The text about the run's end is sent with
+/// that stop, and with no other.
 pub fn ends_are_told()
     ensures { (end_text : List ℕ) (may_break : Bool) (session next : Session) (asked : Move) (reply : Reply)
         (moved : IsMoved end_text may_break session asked reply next)

@@ -1,19 +1,19 @@
-//! A session with gdb over a run: bytes that come and bytes that go.
+//! A gdb session over a run, as bytes received and bytes to send.
 //!
-//! A [`Session`] stands at a place of a run, forwards and backwards of which gdb moves it. It shows registers and memory as they stand
-//! there, and refuses every write that would change something. It hears byte after byte; a move that is asked for is made apart, and an
-//! interrupt may break it off. What is said of the run at its end is an [`EndText`].
+//! A [`Session`] is at a step of a run, and gdb moves it forwards and backwards. It shows registers and memory as they are at that step,
+//! and refuses every write that would change them. It receives one byte at a time. A requested move is made separately, and can be
+//! interrupted. The text about the run's end comes from an [`EndText`].
 #![tactic(auto)]
 
 mod answer;
 mod end_text;
 mod files;
-mod hearing;
 mod law;
 mod monitor;
 mod moving;
 mod program;
 mod reading;
+mod receiving;
 mod reply;
 mod seeking;
 mod session;
@@ -22,7 +22,7 @@ mod writing;
 
 pub use end_text::EndText;
 pub use law::{
-    answers_are_determined, cuts_are_not_seen, ends_are_told, printed_bytes_go_out_once,
+    answers_are_determined, ends_are_told, printed_bytes_go_out_once, reads_can_be_split,
 };
 pub use program::Program;
 pub use reply::Reply;

@@ -1,4 +1,4 @@
-//! The commands behind `monitor`: their texts go out as printed bytes in front of an `OK`.
+//! The `monitor` commands. Their output is sent before an `OK`.
 
 ghost use Rattle.std.specs.Prelude.{◌≡◌, ◌++◌, IfOk, codes};
 ghost use Rattle.std.specs.Fmt.{decimal};
@@ -9,12 +9,12 @@ use crate::reply::Reply;
 use crate::session::Session;
 use std::alloc::{AllocError, Global};
 
-/// What `monitor help`, and every command that is not known, prints.
+/// The output of `monitor help` and of every unknown command.
 const HELP: &str =
     "when: how many steps were executed\nconsole: the output up to here\ninput: how much of the script was read\nreset, reset halt: go back to the start of the run\n";
 
 impl Session {
-    // `qRcmd,`
+    // Handles `qRcmd,`.
     pub(crate) fn command(&mut self, alloc: Global, text: &[u8]) -> Result<Reply, AllocError>
         ensures { IfOk result (λ reply. IsCommanded self.old text.now reply self.new) }
     {
@@ -26,7 +26,7 @@ impl Session {
         Reply::printing(alloc, printed)
     }
 
-    // What a command prints that is no reset.
+    // Returns the output of a command other than a reset.
     fn command_text(&self, alloc: Global, text: &[u8]) -> Result<Vec<u8>, AllocError>
         ensures { IfOk result (λ printed. printed.items ≡ command_text self.now text.now) }
     {

@@ -1,10 +1,10 @@
-//! Moves in the run, and the stops that are told of them.
+//! Moves in the run, and the stops that are reported for them.
 
 ghost use Rattle.std.specs.Prelude.{◌≡◌, IfOk, None, OnOk, is_some, true};
-ghost use Rattle.rv_history.specs.Moves.{IsBroken};
+ghost use Rattle.rv_history.specs.Moves.{IsInterrupted};
 ghost use Rattle.rv_history.specs.declared.found.Found.TheVariants as found;
 ghost use Rattle.rv_gdb_protocol.specs.Stops.{stop_text};
-ghost use Rattle.rv_session.specs.Moved.{CanTell, IsGone, IsMoved, end_stop, end_text_at, is_forward, printed_on, shown_on, stop_of, watch_stop, watch_told};
+ghost use Rattle.rv_session.specs.Moved.{CanTell, IsMoveResult, IsMoved, end_stop, end_text_at, is_forward, printed_on, shown_on, stop_of, watch_stop, watch_told};
 ghost use Rattle.rv_session.specs.Incoming.{IsWorked};
 ghost use Rattle.rv_session.specs.Replies.{stopping};
 ghost use Rattle.rv_session.specs.Sessions.{IsSameRun, at_place, here};
@@ -19,8 +19,8 @@ use rv_machine::Ending;
 use std::alloc::{AllocError, Global};
 
 impl Session {
-    /// Makes the move that is asked for, and gives the bytes that go out for it. Where the interrupt is raised the move stops on its
-    /// way, and says so. After an error the session is to be given up.
+    /// Makes the requested move and returns the bytes to send for it. If the interrupt is raised, the move stops early and reports that.
+    /// After an error the session must be abandoned.
     pub fn work<E: EndText, I: Interrupt>(
         &mut self,
         alloc: Global,
@@ -43,7 +43,7 @@ impl Session {
         Ok(out)
     }
 
-    // `vCont;`, `c`, `s`, `bc`, `bs`: moves, and tells the stop.
+    // Handles `vCont;`, `c`, `s`, `bc` and `bs`: moves, and reports the stop.
     fn move_as<E: EndText, I: Interrupt>(
         &mut self,
         alloc: Global,
@@ -67,9 +67,9 @@ impl Session {
         asked: Move,
         interrupt: &mut I,
     ) -> Result<Found, AllocError>
-        ensures gone { IfOk result (IsGone asked self.old.stops self.old.history.budget self.old.history.start
+        ensures gone { IfOk result (IsMoveResult asked self.old.stops self.old.history.budget self.old.history.start
             self.old.history.place self.new.history.place) }
-        ensures broken_off { IfOk result (λ found. IsBroken found → I.was_raised interrupt.new ≡ true) }
+        ensures broken_off { IfOk result (λ found. IsInterrupted found → I.was_raised interrupt.new ≡ true) }
         ensures same { self.new ≡ at_place self.old self.new.history.place }
     {
         match asked {
@@ -100,7 +100,7 @@ impl Session {
         }
     }
 
-    // The first watch that is set off: by the step in front, or on the way back by the step behind.
+    // Returns the first watchpoint triggered by the next step, or, moving backwards, by the preceding step.
     fn watch_stop(&self, alloc: Global, asked: Move) -> Result<Stop, AllocError>
         requires { CanTell self.now asked found.Change }
         ensures { IfOk result (λ stop. stop ≡ watch_stop self.now asked self.now.history.place) }
@@ -114,7 +114,7 @@ impl Session {
         }
     }
 
-    // What is said of the run where a move comes to its end, and nothing elsewhere.
+    // Returns the text about the run's end if a move reached it, else nothing.
     fn end_text_at<E: EndText>(
         &self,
         alloc: Global,
@@ -135,7 +135,7 @@ impl Session {
         Ok(text)
     }
 
-    // Says a stop, what is printed up to it, and what is said of the run there.
+    // Reports a stop, the output up to it, and the text about the run's end.
     fn tell(
         &mut self,
         alloc: Global,
@@ -158,7 +158,7 @@ impl Session {
         })
     }
 
-    // The printed bytes that did not go out yet, once a move forward comes to them.
+    // Returns the output that was not sent yet, once a forward move has reached it.
     fn show(&mut self, alloc: Global, asked: Move) -> Result<Vec<u8>, AllocError>
         ensures printed { IfOk result (λ printed. printed.items ≡ printed_on self.old asked (here self.old)) }
         ensures shown { IfOk result (λ printed. self.new ≡ record self.old { shown = shown_on self.old asked (here self.old) }) }

@@ -1,11 +1,11 @@
-//! The program whose run is shown.
+//! The program that is debugged.
 
 use rv_base::Bytes;
 
-/// The image of the job's program, which gdb may ask for.
+/// The image of the job's program, which gdb can request.
 #[derive(Drop)]
 pub struct Program {
-    /// Its path, as gdb is to show it.
+    /// Its path, as gdb shows it.
     pub path: Bytes,
     pub image: Bytes,
 }

@@ -1,11 +1,11 @@
-//! Registers and memory as they stand at the session's place.
+//! Registers and memory at the session's current step.
 
 ghost use Rattle.std.specs.Prelude.{◌≡◌, IfOk};
 ghost use Rattle.std.specs.Str.{bytes_eq};
 ghost use Rattle.rv_gdb_protocol.specs.Shown.{register_text};
 ghost use Rattle.rv_session.specs.Answers.{hart_value, memory_reply, registers_here, shown_count, taken_here, value_of};
 ghost use Rattle.rv_session.specs.Memory.{bytes_asked, bytes_from};
-ghost use Rattle.rv_session.specs.Replies.{saying};
+ghost use Rattle.rv_session.specs.Replies.{with_body};
 ghost use Rattle.rv_session.specs.Sessions.{here};
 
 use crate::reply::Reply;
@@ -14,30 +14,30 @@ use rv_gdb_protocol::{Range, Refusal, Register, push_memory, push_register, push
 use rv_memory::Bus;
 use std::alloc::{AllocError, Global};
 
-/// The most bytes of memory in a reply, two digits each.
+/// The maximum number of memory bytes in a reply, two digits each.
 const MOST_BYTES: u32 = 8184;
 
 impl Session {
-    // `g`
+    // Handles `g`.
     pub(crate) fn registers(&self, alloc: Global) -> Result<Reply, AllocError>
-        ensures { IfOk result (λ reply. reply ≡ saying (registers_here self.now)) }
+        ensures { IfOk result (λ reply. reply ≡ with_body (registers_here self.now)) }
     {
         let machine = self.history.machine();
         let mut body = Vec::new(alloc);
         push_registers(&mut body, &machine.registers(), machine.pc())?;
-        Ok(Reply::saying(alloc, body))
+        Ok(Reply::with_body(alloc, body))
     }
 
-    // `p`
+    // Handles `p`.
     pub(crate) fn register(&self, alloc: Global, register: Register) -> Result<Reply, AllocError>
-        ensures { IfOk result (λ reply. reply ≡ saying (register_text (value_of self.now register))) }
+        ensures { IfOk result (λ reply. reply ≡ with_body (register_text (value_of self.now register))) }
     {
         let mut body = Vec::new(alloc);
         push_register(&mut body, self.value(register))?;
-        Ok(Reply::saying(alloc, body))
+        Ok(Reply::with_body(alloc, body))
     }
 
-    // The value of a register. What is no register of the hart is shown as the pc.
+    // Returns the value of a register. A number that is not a register of the hart has the value of the pc.
     pub(crate) fn value(&self, register: Register) -> u32
         ensures { result ≡ value_of self.now register }
     {
@@ -60,15 +60,15 @@ impl Session {
         }
     }
 
-    /// How many bytes of the script are taken.
+    /// Returns the number of bytes consumed from the input script.
     pub(crate) fn taken(&self) -> usize
         ensures { result ≡ taken_here self.now }
     {
-        let left = self.history.machine().bus().script_left();
+        let left = self.history.machine().bus().script_remaining();
         self.script.saturating_sub(left)
     }
 
-    // `m`: as many bytes as stand in regions, one behind the other.
+    // Handles `m`: as many consecutive bytes as are in regions.
     pub(crate) fn memory(&self, alloc: Global, range: Range) -> Result<Reply, AllocError>
         ensures { IfOk result (λ reply. reply ≡ memory_reply (bytes_from (here self.now).bus range)) }
     {
@@ -78,25 +78,25 @@ impl Session {
         }
         let mut body = Vec::new(alloc);
         push_memory(alloc, &mut body, bytes.as_slice())?;
-        Ok(Reply::saying(alloc, body))
+        Ok(Reply::with_body(alloc, body))
     }
 }
 
-/// Whether two texts are the same.
+/// Whether two texts are equal.
 pub(crate) fn are_same(one: &[u8], other: &[u8]) -> bool
     ensures { result ≡ bytes_eq one.now other.now }
 {
     one == other
 }
 
-/// A count as four bytes show it.
+/// Returns a count as a value of four bytes.
 pub(crate) fn shown_count(count: usize) -> u32
     ensures { result ≡ shown_count count }
 {
     count.min(u32::MAX as usize) as u32
 }
 
-// How many bytes of a range are looked at: as many as fit a reply, and none past the last address.
+// Returns how many bytes of a range are read: as many as fit a reply, and none past the last address.
 fn bytes_asked(range: Range) -> u32
     ensures { result ≡ bytes_asked range }
 {
@@ -105,7 +105,7 @@ fn bytes_asked(range: Range) -> u32
     u64::from(count).min(room) as u32
 }
 
-// The bytes from an address on, up to the first that stands in no region.
+// Returns the bytes from an address on, up to the first that is in no region.
 fn bytes_from(alloc: Global, bus: &Bus, range: Range) -> Result<Vec<u8>, AllocError>
     ensures { IfOk result (λ bytes. bytes.items ≡ bytes_from bus.now range) }
 {

@@ -1,4 +1,4 @@
-//! What is sent for a request, before it is framed.
+//! The reply to a request, before it is framed.
 
 ghost use Rattle.std.specs.Prelude.{◌≡◌, IfOk, codes};
 
@@ -6,23 +6,23 @@ use rv_base::Bytes;
 use rv_gdb_protocol::{Refusal, refusal_text};
 use std::alloc::{AllocError, Global};
 
-/// What is sent for a request.
+/// The reply to a request.
 #[derive(Drop)]
 pub struct Reply {
-    /// Bytes that gdb shows, in packets of their own in front of the body.
+    /// Output that gdb shows, in packets of its own before the body.
     pub printed: Bytes,
-    /// What is said of the run at its end, which gdb shows behind them.
+    /// The text about the run's end, which gdb shows after the output.
     pub end_text: Bytes,
-    /// The body, if anything is said.
+    /// The body, if there is one.
     pub body: Option<Bytes>,
 }
 
 impl Reply {
-    ghost use Rattle.rv_session.specs.Replies.{granted, granted_if, printing, refused, saying, silent};
+    ghost use Rattle.rv_session.specs.Replies.{granted, granted_if, printing, refused, with_body, silent};
 
-    /// A body alone.
-    pub(crate) fn saying(alloc: Global, body: Vec<u8>) -> Reply
-        ensures { result ≡ saying body.items }
+    /// Creates a reply with only a body.
+    pub(crate) fn with_body(alloc: Global, body: Vec<u8>) -> Reply
+        ensures { result ≡ with_body body.items }
     {
         Reply {
             printed: Bytes::new(Vec::new(alloc)),
@@ -31,7 +31,7 @@ impl Reply {
         }
     }
 
-    /// Nothing.
+    /// Creates an empty reply.
     pub(crate) fn silent(alloc: Global) -> Reply
         ensures { result ≡ silent }
     {
@@ -42,7 +42,7 @@ impl Reply {
         }
     }
 
-    /// A text to be shown, and `OK` behind it.
+    /// Creates a reply with a text to show, followed by `OK`.
     pub(crate) fn printing(alloc: Global, text: Vec<u8>) -> Result<Reply, AllocError>
         ensures { IfOk result (λ reply. reply ≡ printing text.items (codes "OK")) }
     {
@@ -54,27 +54,27 @@ impl Reply {
         })
     }
 
-    /// A text alone.
-    pub(crate) fn reporter(alloc: Global, text: &str) -> Result<Reply, AllocError>
-        ensures { IfOk result (λ reply. reply ≡ saying text.now) }
+    /// Creates a reply with only this text.
+    pub(crate) fn with_text(alloc: Global, text: &str) -> Result<Reply, AllocError>
+        ensures { IfOk result (λ reply. reply ≡ with_body text.now) }
     {
-        Ok(Reply::saying(alloc, Vec::from_slice(alloc, text.as_bytes())?))
+        Ok(Reply::with_body(alloc, Vec::from_slice(alloc, text.as_bytes())?))
     }
 
-    /// `OK`
+    /// Creates the reply `OK`.
     pub(crate) fn granted(alloc: Global) -> Result<Reply, AllocError>
         ensures { IfOk result (λ reply. reply ≡ granted) }
     {
-        Reply::reporter(alloc, "OK")
+        Reply::with_text(alloc, "OK")
     }
 
     pub(crate) fn refusing(alloc: Global, refusal: Refusal) -> Result<Reply, AllocError>
         ensures { IfOk result (λ reply. reply ≡ refused refusal) }
     {
-        Reply::reporter(alloc, refusal_text(refusal))
+        Reply::with_text(alloc, refusal_text(refusal))
     }
 
-    /// `OK` or a refusal.
+    /// Creates the reply `OK` or a refusal.
     pub(crate) fn granted_if(
         alloc: Global,
         is_granted: bool,

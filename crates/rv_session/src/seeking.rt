@@ -1,4 +1,4 @@
-//! Seeks: gdb writes one of the run's counts, and the session goes to the first place with it.
+//! Seeks: gdb writes one of the run's counts, and the session moves to the first step with that value.
 
 ghost use Rattle.std.specs.Prelude.{◌≡◌, IfOk, OnOk};
 ghost use Rattle.rv_session.specs.Answers.{IsPlaceSought, IsSought};
@@ -11,7 +11,7 @@ use rv_history::Count;
 use std::alloc::{AllocError, Global};
 
 impl Session {
-    /// To the start of the run.
+    /// Moves to the start of the run.
     pub(crate) fn go_to_start(&mut self, alloc: Global) -> Result<(), AllocError>
         ensures { OnOk result (self.new ≡ at_place self.old 0) }
     {
@@ -19,7 +19,7 @@ impl Session {
         Ok(())
     }
 
-    /// `P21=`: to a place.
+    /// Handles `P21=`: moves to a step.
     pub(crate) fn seek_place(&mut self, alloc: Global, place: u32) -> Result<Reply, AllocError>
         ensures { IfOk result (λ reply. IsPlaceSought self.old place reply self.new) }
     {
@@ -27,7 +27,7 @@ impl Session {
         Reply::granted_if(alloc, granted, Refusal::NotReached)
     }
 
-    /// `P22=` and `P23=`: to the first place with a count.
+    /// Handles `P22=` and `P23=`: moves to the first step with this value of a count.
     pub(crate) fn seek_count(
         &mut self,
         alloc: Global,

@@ -1,4 +1,4 @@
-//! A session with gdb.
+//! A gdb session.
 
 ghost use Rattle.std.specs.Prelude.{◌≡◌, ◌≤◌, IfOk, is_some};
 ghost use Rattle.rv_history.specs.Places.{last_place};
@@ -10,30 +10,30 @@ use rv_gdb_protocol::{Move, Reader, Stop};
 use rv_history::{History, Start, Stops};
 use std::alloc::{AllocError, Global};
 
-/// A session with gdb over the run from a start within a budget.
+/// A gdb session over the run from a start within a budget.
 #[derive(Drop)]
 pub struct Session {
     pub(crate) reader: Reader,
     pub(crate) history: History,
     pub(crate) program: Program,
-    /// How many bytes the script has.
+    /// The length of the input script in bytes.
     pub(crate) script: usize,
     pub(crate) stops: Stops,
     /// Whether each packet is acknowledged.
     pub(crate) acknowledges: bool,
-    /// How many of the printed bytes went out.
+    /// The number of output bytes sent so far.
     pub(crate) shown: usize,
     /// The last stop.
     pub(crate) last: Stop,
-    /// The last packet that went out.
+    /// The last packet sent.
     pub(crate) sent: Bytes,
-    /// The move that is asked for and not made yet.
+    /// The move that is requested and not made yet.
     pub(crate) asked: Option<Move>,
     pub(crate) is_over: bool,
 }
 
 impl Session {
-    /// A session at the start of a run, before gdb says anything.
+    /// Creates a session at the start of a run, before gdb has sent anything.
     pub fn new(
         alloc: Global,
         start: Start,
@@ -42,7 +42,7 @@ impl Session {
     ) -> Result<Session, AllocError>
         ensures { IfOk result (λ session. session ≡ at_first start budget program) }
     {
-        let script = start.bus.script_left();
+        let script = start.bus.script_remaining();
         let history = History::new(alloc, start, budget)?;
         Ok(Session {
             reader: Reader::new(alloc),
@@ -64,14 +64,14 @@ impl Session {
         })
     }
 
-    /// From now on it takes so many megabytes at most, from 64 to 4,096, and 256 if it is told nothing. No answer depends on it.
+    /// Limits its memory to `megabytes`, from 64 to 4,096. The default is 256. No reply depends on it.
     pub fn set_memory(&mut self, alloc: Global, megabytes: u32)
         ensures { self.new ≡ self.old }
     {
         self.history.set_memory(alloc, megabytes);
     }
 
-    /// How many steps of the run are done.
+    /// Returns the number of completed steps of the run.
     pub fn place(&self) -> u32
         ensures value { result ≡ self.now.history.place }
         ensures within { result ≤ last_place self.now.history.budget self.now.history.start }
@@ -79,7 +79,7 @@ impl Session {
         self.history.place()
     }
 
-    /// Whether a move is asked for that is not made yet.
+    /// Whether a move is requested and not made yet.
     pub fn is_asked(&self) -> bool
         ensures { result ≡ is_some self.now.asked }
     {

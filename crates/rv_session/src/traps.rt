@@ -1,4 +1,4 @@
-//! Where a run is to stop, as gdb sets and clears it.
+//! Breakpoints and watchpoints as gdb sets and clears them.
 
 ghost use Rattle.std.specs.Prelude.{◌≡◌, ◌≤◌, ◌+◌, ◌^◌, IfOk};
 ghost use Rattle.rv_session.specs.Traps.{IsTrapped, has_byte, is_full, is_on, is_set, watches_of, with_watches, without_trap};
@@ -11,10 +11,10 @@ use rv_history::{Stops, Watch};
 use rv_memory::Bus;
 use std::alloc::{AllocError, Global};
 
-/// The most breakpoints and watches, together.
+/// The maximum number of breakpoints and watchpoints together.
 const MOST_TRAPS: usize = 1024;
 
-/// The stops with one more, which may stand there already, or why it is not set.
+/// Returns the stops with one more, which can be set already, or why it is not set.
 pub(crate) fn with_trap(
     alloc: Global,
     stops: &Stops,
@@ -29,7 +29,7 @@ pub(crate) fn with_trap(
     }
 }
 
-/// The stops without one, which need not stand there.
+/// Returns the stops without one, which need not be set.
 pub(crate) fn without_trap(
     alloc: Global,
     stops: &Stops,
@@ -138,7 +138,7 @@ fn without_watch(
     Ok(with_watches(next, kind, watches))
 }
 
-// What is watched so.
+// Returns the watchpoints of a kind.
 fn watches_of(stops: &Stops, kind: Watched) -> &[Watch]
     ensures { result.now ≡ watches_of stops.now kind }
 {
@@ -149,7 +149,7 @@ fn watches_of(stops: &Stops, kind: Watched) -> &[Watch]
     }
 }
 
-// The stops with others in place of what is watched so.
+// Returns the stops with other watchpoints of a kind.
 fn with_watches(mut stops: Stops, kind: Watched, watches: Vec<Watch>) -> Stops
     ensures { result ≡ with_watches stops kind watches.items }
 {
@@ -190,14 +190,14 @@ fn copied(alloc: Global, stops: &Stops) -> Result<Stops, AllocError>
     })
 }
 
-// Whether a watch is that of a range.
+// Whether a watchpoint is that of a range.
 fn is_on(watch: &Watch, range: Range) -> bool
     ensures { result ≡ is_on range watch.now }
 {
     watch.address == range.address && watch.count == range.count
 }
 
-// Whether one of the bytes stands in a region.
+// Whether one of the bytes is in a region.
 fn has_byte(bus: &Bus, range: Range) -> bool
     requires { range.address + range.count ≤ 2 ^ 32 }
     ensures { result ≡ has_byte bus.now range }

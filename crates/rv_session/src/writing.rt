@@ -1,4 +1,4 @@
-//! Writes, which are granted where they change nothing.
+//! Writes, which are accepted if they change nothing.
 
 ghost use Rattle.std.specs.Prelude.{◌≡◌, ◌&&◌, IfOk, nat_lt};
 ghost use Rattle.std.specs.FinMap as fin;
@@ -22,7 +22,7 @@ use std::alloc::{AllocError, Global};
 const END_OF_ADDRESSES: u64 = 0x1_0000_0000;
 
 impl Session {
-    // `G`
+    // Handles `G`.
     pub(crate) fn write_registers(&self, alloc: Global, bytes: &[u8]) -> Result<Reply, AllocError>
         ensures { IfOk result (λ reply. reply
             ≡ granted_if (bytes_eq (registers_here self.now) (encode_lower bytes.now)) refusal.WouldChange) }
@@ -36,7 +36,7 @@ impl Session {
         Reply::granted_if(alloc, same, Refusal::WouldChange)
     }
 
-    // `P`: a register of the hart, or a seek by one of the run's counts.
+    // Handles `P`: a register of the hart, or a seek by one of the run's counts.
     pub(crate) fn write_register(
         &mut self,
         alloc: Global,
@@ -56,7 +56,7 @@ impl Session {
         }
     }
 
-    // `M` and `X`
+    // Handles `M` and `X`.
     pub(crate) fn write_memory(
         &self,
         alloc: Global,
@@ -71,7 +71,7 @@ impl Session {
     }
 }
 
-// Whether these bytes stand at an address and behind it, none of them past the last address.
+// Whether memory has these bytes from an address on, none of them past the last address.
 fn stand_at(bus: &Bus, address: u32, bytes: &[u8]) -> bool
     ensures { result ≡ stand_at bus.now address bytes.now }
 {
@@ -83,7 +83,7 @@ fn stand_at(bus: &Bus, address: u32, bytes: &[u8]) -> bool
     true
 }
 
-// Whether a byte stands at an address, which may be past the last.
+// Whether memory has a byte at an address, which can be past the last one.
 fn stands_at(bus: &Bus, address: u64, byte: u8) -> bool
     ensures { result ≡ (nat_lt address end_of_addresses && is_byte (fin.get bus.now.memory address) byte) }
 {

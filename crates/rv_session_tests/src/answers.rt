@@ -1,4 +1,4 @@
-//! Requests and answers, by the lines of a table.
+//! Requests and responses, by the lines of a table.
 
 ghost use Rattle.std.specs.Prelude.{◌≡◌, OnOk, false, is_some};
 ghost use Rattle.std.specs.Coded.{Coded-set};
@@ -17,12 +17,12 @@ use samples::{agree, cell_of, has_lines, numbers};
 use std::alloc::{AllocError, Global};
 use std::test::Fail;
 
-// x5 is 80000100, and x6 counts from 3 down: the store at 8000000c is the steps 3, 6 and 9, with 3, 2 and 1. The exit call is the
+// x5 is 80000100, and x6 counts down from 3: the store at 8000000c is in steps 3, 6 and 9, with the values 3, 2 and 1. The exit call is
 // step 13, which does not complete.
 const LOOP: &str = "00000297 10028293 00300313 0062a023 fff30313 fe031ce3 X";
 
-// The bodies of requests and of their answers, in a session without acknowledgements that is at the start. The script is `hi`.
-// label | code | budget | dialogue
+// The bodies of requests and their responses, in a session without acknowledgements that is at the start. The console input is `hi`. label
+// | code | budget | dialogue
 const ANSWERS: &str = "\
 what the stub can do | LOOP | 100 | qSupported:xmlRegisters=i386 > PacketSize=4000;QStartNoAckMode+;ReverseStep+;ReverseContinue+;qXfer:features:read+;qXfer:exec-file:read+
 threads | LOOP | 100 | qC > QC1 / qfThreadInfo > m1 / qsThreadInfo > l / Hg1 > OK / qAttached > 0
@@ -66,7 +66,7 @@ a store into nothing | 00602023 | 100 | c > O656e640a & T0b
 a call that there is not | 00000073 | 100 | c > O656e640a & T0c
 ";
 
-// What LLDB 19 sends first, and what it was answered, as they were recorded.
+// The first packets of LLDB 19, and the responses to them, as recorded.
 const LLDB: &str = "\
 + > nothing
 $QStartNoAckMode#b0 > +$OK#9a
@@ -90,7 +90,7 @@ $qStructuredDataPlugins#02 > $#00
 $qSymbol::#5b > $#00
 ";
 
-// Of each run `end` and a line feed are said at its end.
+// Reports `end` and a line feed at the end of each run.
 #[derive(Drop)]
 struct End {
     start: Start,
@@ -115,7 +115,7 @@ impl EndText for End {
     }
 }
 
-// Nothing breaks a move off.
+// Never interrupts a move.
 #[derive(Drop)]
 struct Never;
 
@@ -129,7 +129,7 @@ impl Interrupt for Never {
     }
 }
 
-// A session, and what is said at the end of its run.
+// A session, and what is reported at the end of its run.
 #[derive(Drop)]
 struct Talk {
     session: Session,
@@ -138,7 +138,7 @@ struct Talk {
     ghost unasked: { is_some session.asked ≡ false },
 }
 
-// Appends what goes out for a byte, and for the move that it asks for.
+// Appends the output for a byte, and for the move that it requests.
 fn answer_byte(
     alloc: Global,
     session: &mut Session,
@@ -159,7 +159,7 @@ fn answer_byte(
     Ok(())
 }
 
-// What goes out for the bytes of gdb.
+// Returns the output for the bytes from gdb.
 fn answered(alloc: Global, session: &mut Session, end: &End, heard: &[u8]) -> Result<String, Fail>
     requires { IsReady (start_of end.now.start) session.old }
     ensures { OnOk result (IsReady (start_of end.now.start) session.new) }
@@ -210,7 +210,7 @@ fn session_of(alloc: Global, code: &str, budget: u32) -> Result<Talk, Fail> {
     })
 }
 
-// Bodies in their frames: `empty` is a body of no bytes, and `nothing` is no body.
+// Returns bodies in their frames: `empty` is a body of no bytes, and `nothing` is no body.
 fn framed(alloc: Global, bodies: &str) -> Result<Vec<u8>, Fail> {
     let mut out = Vec::new(alloc);
     for body in bodies.split(" & ") {
@@ -223,7 +223,7 @@ fn framed(alloc: Global, bodies: &str) -> Result<Vec<u8>, Fail> {
     Ok(out)
 }
 
-// A session of a line of the table, without acknowledgements.
+// Returns the session of a line of the table, without acknowledgements.
 fn session_of_line(alloc: Global, line: &str) -> Result<Talk, Fail> {
     let talk = session_of(alloc, cell_of(line, 1), cell_of(line, 2).parse()?)?;
     let Talk { mut session, end } = talk;
@@ -232,7 +232,7 @@ fn session_of_line(alloc: Global, line: &str) -> Result<Talk, Fail> {
     Ok(Talk { session, end })
 }
 
-// What goes out for the packet of a body.
+// Returns the output for the packet with a body.
 fn answered_body(
     alloc: Global,
     session: &mut Session,

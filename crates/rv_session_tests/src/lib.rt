@@ -1,4 +1,4 @@
-//! Tests of `rv_session`: packets over a run that was written out by hand, and the answers.
+//! Tests of `rv_session`: packets about a hand-written run, and the responses.
 #![tactic(auto)]
 
 #[cfg(test)]

@@ -5,7 +5,7 @@ use Rattle.std.proofs.lemmas.List.{take_all}
 use Rattle.std.specs.List.{list_all}
 use Rattle.std.specs.Str.{bytes_eq}
 use Rattle.rv_call_tree.specs.declared.spot.Spot.{Spot}
-use Rattle.rv_call_tree.specs.Trees.{arrivals_of, counted_behind, counted_in_all, last_path, path_behind, steps_if, steps_of, HasArrivals, IsTree, StandsBehind}
+use Rattle.rv_call_tree.specs.Trees.{arrivals_of, counted_after, counted_in_all, last_path, path_after, steps_if, steps_of, HasArrivals, IsTree, FollowsInPreorder}
 use Rattle.rv_call_tree.specs.Trees as spots
 use Rattle.rv_call_tree.proofs.Public.{last_parts, stand_of_parts}
 use Rattle.rv_stacks.specs.declared.flat.Flat.{Flat}
@@ -19,11 +19,11 @@ use Rattle.std.proofs.Common.{length-set}
 -- ---- a spot more
 
 counted_more : (count : Spot → ℕ) (path front : List ℕ) (ss : List Spot) (s : Spot)
-    → counted_behind count path front (ss ++ s ∷ [])
-    ≡ counted_behind count path front ss + cond (bytes_eq (path_behind (last_path front ss) s) path) (count s) 0
+    → counted_after count path front (ss ++ s ∷ [])
+    ≡ counted_after count path front ss + cond (bytes_eq (path_after (last_path front ss) s) path) (count s) 0
 counted_more count path front [] s = omega arith
 counted_more count path front (x ∷ xs) s =
-    let rest = counted_more count path (path_behind front x) xs s in omega (arith, rest)
+    let rest = counted_more count path (path_after front x) xs s in omega (arith, rest)
 
 sum_more : (count : Spot → ℕ) (ss : List Spot) (s : Spot) → counted_in_all count (ss ++ s ∷ []) ≡ counted_in_all count ss + count s
 sum_more count [] s = omega arith
@@ -80,19 +80,19 @@ module _ (nodes : List Node) (old new : Flat) (number : ℕ) (node : Node) (dept
       ∙ ap (λ (p : List ℕ). p ++ (get_or nodes (number - 1) node).function ∷ []) of_parent
       ∙ ap (λ (x : Node). old.path.items ++ x.function ∷ []) (sym is)
 
-  of_spot : path_behind front spot ≡ old.path.items ++ node.function ∷ []
+  of_spot : path_after front spot ≡ old.path.items ++ node.function ∷ []
   of_spot =
       ap (λ (k : ℕ). take k front ++ node.function ∷ []) deep
       ∙ ap (λ (p : List ℕ). p ++ node.function ∷ []) (sym h.front)
 
-  of_both : path_behind front spot ≡ path_of number nodes
+  of_both : path_after front spot ≡ path_of number nodes
   of_both = of_spot ∙ sym of_number
 
   of_last : last_path [] new.spots.items ≡ new.path.items
   of_last =
       ap (last_path []) spot_is ∙ last_parts [] old.spots.items (spot ∷ []) ∙ of_spot ∙ sym path
 
-  stands : StandsBehind front spot
+  stands : FollowsInPreorder front spot
   stands =
       let within = h.within in record {
         within = omega (arith, deep, within);
@@ -144,13 +144,13 @@ module _ (nodes : List Node) (old new : Flat) (number : ℕ) (node : Node) (dept
     arrivals = λ at.
         let grown = ap (spots.arrivals_at at) spot_is ∙ counted_more arrivals_of at [] old.spots.items spot in
         let kept = moved_weight (λ p n. cond (bytes_eq p at) n.arrivals 0) (spots.arrivals_at at old.spots.items)
-        (cond (bytes_eq (path_behind front spot) at) spot.arrivals 0)
+        (cond (bytes_eq (path_after front spot) at) spot.arrivals 0)
         (ap (λ (p : List ℕ). cond (bytes_eq p at) node.arrivals 0) of_both) (no_weight (bytes_eq (path_of number nodes) at)) in
         omega (arith, grown, kept);
     steps = λ at.
         let grown = ap (spots.steps_at at) spot_is ∙ counted_more steps_of at [] old.spots.items spot in
         let kept = moved_weight (λ p n. cond (bytes_eq p at) n.steps 0) (spots.steps_at at old.spots.items)
-        (cond (bytes_eq (path_behind front spot) at) spot.steps 0)
+        (cond (bytes_eq (path_after front spot) at) spot.steps 0)
         (ap (λ (p : List ℕ). cond (bytes_eq p at) node.steps 0) of_both) (no_weight (bytes_eq (path_of number nodes) at)) in
         omega (arith, grown, kept);
     own = λ f.

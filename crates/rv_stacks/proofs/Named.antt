@@ -10,7 +10,7 @@ use Rattle.rv_count_tables.specs.declared.table.ImageCounts.{ImageCounts}
 use Rattle.rv_count_tables.specs.Table.{arrivals_in, has_name, least_path_of, name_at, name_in, IsImage, IsSpot}
 use Rattle.rv_call_tree.specs.declared.spot.Spot.{Spot}
 use Rattle.rv_call_tree.specs.Profiles.{is_last_of_some}
-use Rattle.rv_call_tree.specs.Trees.{arrivals_at, arrivals_of, counted_behind, ends_with, path_behind}
+use Rattle.rv_call_tree.specs.Trees.{arrivals_at, arrivals_of, counted_after, ends_with, path_after}
 use Rattle.rv_stacks.proofs.Steps.{last_of}
 
 here_counts : (b : Bool) (n m : ℕ) → b ≡ true → 0 < n → 0 < cond b n 0 + m
@@ -25,27 +25,27 @@ further_counts b n m h = omega (arith, h)
 record IsLastOf (f : ℕ) (front : List ℕ) (ss : List Spot) : Type 0 where
   pub path : List ℕ
   pub ends : ends_with f path ≡ true
-  pub some : 0 < counted_behind arrivals_of path front ss
+  pub some : 0 < counted_after arrivals_of path front ss
 
 last_of_list : (f : ℕ) (front : List ℕ) (ss : List Spot) → AllByRecursion IsSpot ss → is_last_of_some f ss ≡ true
     → IsLastOf f front ss
 last_of_list f front [] h some = absurd (false≢true some)
 last_of_list f front (s ∷ ss) h some = elim (cases_Bool (s.function == f)) [
   | inl t ↦
-      let path = path_behind front s in
+      let path = path_after front s in
       record {
         path = path;
         ends = last_of f (take s.depth front) s.function ∙ t;
-        some = here_counts (bytes_eq path path) s.arrivals (counted_behind arrivals_of path path ss)
+        some = here_counts (bytes_eq path path) s.arrivals (counted_after arrivals_of path path ss)
             ((bytes_decides path path).1 refl) h.0.some;
       }
   | inr t ↦
-      let k = last_of_list f (path_behind front s) ss h.1 (sym (ap (λ (b : Bool). b || is_last_of_some f ss) t) ∙ some) in
+      let k = last_of_list f (path_after front s) ss h.1 (sym (ap (λ (b : Bool). b || is_last_of_some f ss) t) ∙ some) in
       record {
         path = k.path;
         ends = k.ends;
-        some = further_counts (bytes_eq (path_behind front s) k.path) s.arrivals
-            (counted_behind arrivals_of k.path (path_behind front s) ss) k.some;
+        some = further_counts (bytes_eq (path_after front s) k.path) s.arrivals
+            (counted_after arrivals_of k.path (path_after front s) ss) k.some;
       }
 ]
 

@@ -14,7 +14,7 @@ use Rattle.rv_counting.proofs.Public.{no_names}
 use Rattle.rv_call_tree.specs.declared.spot.Spot.{Spot}
 use Rattle.rv_call_tree.specs.Profiles.{is_last_of_some}
 use Rattle.rv_call_tree.specs.Sums.{FitsSpot}
-use Rattle.rv_call_tree.specs.Trees.{arrivals_of, counted_behind, ends_with, path_behind, HasArrivals}
+use Rattle.rv_call_tree.specs.Trees.{arrivals_of, counted_after, ends_with, path_after, HasArrivals}
 use Rattle.rv_stacks.specs.StackTables.{AreNamesBy}
 use Rattle.rv_stacks.proofs.Steps.{last_of}
 
@@ -103,15 +103,15 @@ added : (b : Bool) (n m : ℕ) → b ≡ false → 0 < cond b n 0 + m → 0 < m
 added b n m h some = let e = ap (λ (t : Bool). cond t n 0) h in omega (arith, e, some)
 
 pub last_if_come : (f : ℕ) (path front : List ℕ) (ss : List Spot) → ends_with f path ≡ true
-    → 0 < counted_behind arrivals_of path front ss → is_last_of_some f ss ≡ true
+    → 0 < counted_after arrivals_of path front ss → is_last_of_some f ss ≡ true
 last_if_come f path front [] ends some = absurd (omega (arith, some))
-last_if_come f path front (s ∷ ss) ends some = elim (cases_Bool (bytes_eq (path_behind front s) path)) [
+last_if_come f path front (s ∷ ss) ends some = elim (cases_Bool (bytes_eq (path_after front s) path)) [
   | inl t ↦
-      let same = (bytes_decides (path_behind front s) path).0 t in
+      let same = (bytes_decides (path_after front s) path).0 t in
       let here : (s.function == f) ≡ true = sym (last_of f (take s.depth front) s.function) ∙ ap (ends_with f) same ∙ ends in
       ap (λ (b : Bool). b || is_last_of_some f ss) here
   | inr t ↦
       or_with (s.function == f) (is_last_of_some f ss)
-      (last_if_come f path (path_behind front s) ss ends
-      (added (bytes_eq (path_behind front s) path) s.arrivals (counted_behind arrivals_of path (path_behind front s) ss) t some))
+      (last_if_come f path (path_after front s) ss ends
+      (added (bytes_eq (path_after front s) path) s.arrivals (counted_after arrivals_of path (path_after front s) ss) t some))
 ]

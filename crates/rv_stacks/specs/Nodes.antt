@@ -1,4 +1,4 @@
--- Nodes: lists of functions of which each called the next, each by the number of the node that has all but its last function.
+-- Nodes: paths of functions, each of which called the next. A node stores the number of its parent and its own function.
 use Rattle.std.specs.Prelude.{◌≡◌, ◌==◌, ◌+◌, ◌<◌, ◌≤◌, ◌&&◌, ℕ, Bool, if◌then◌else◌, List, [], ◌∷◌, ◌++◌, length, slice_index_or}
 use Rattle.std.specs.Str.{bytes_eq}
 use Rattle.rv_call_tree.specs.Trees.{ends_with, once_if, steps_if}
@@ -6,7 +6,7 @@ use Rattle.rv_stacks.specs.declared.node.Node.{Node}
 
 -- ---- of which functions a node is
 
--- those of the node above it, and its own
+-- the path of the parent, and the node's own function
 abbrev pub path_below : List (List ℕ) → Node → List ℕ
 path_below paths n = slice_index_or paths n.parent [] ++ n.function ∷ []
 
@@ -14,7 +14,7 @@ abbrev pub paths_behind : List (List ℕ) → List Node → List (List ℕ)
 paths_behind paths [] = paths
 paths_behind paths (n ∷ ns) = paths_behind (paths ++ path_below paths n ∷ []) ns
 
--- those of each node by its number, from 1 on; 0 is that of no function
+-- the path of each node by number, from 1 on; 0 is the empty path
 abbrev pub paths_of : List Node → List (List ℕ)
 paths_of nodes = paths_behind ([] ∷ []) nodes
 
@@ -32,14 +32,14 @@ weighed_behind weight paths (n ∷ ns) =
 abbrev pub weighed : (List ℕ → Node → ℕ) → List Node → ℕ
 weighed weight nodes = weighed_behind weight ([] ∷ []) nodes
 
--- how often a run came to a list of functions, and how many instructions began in it
+-- how often a run entered a path, and how many instructions it executed there
 abbrev pub arrivals_at : List ℕ → List Node → ℕ
 arrivals_at path nodes = weighed (λ p n. if bytes_eq p path then n.arrivals else 0) nodes
 
 abbrev pub steps_at : List ℕ → List Node → ℕ
 steps_at path nodes = weighed (λ p n. if bytes_eq p path then n.steps else 0) nodes
 
--- how many began in a function itself: in the nodes of which it is the last
+-- the instructions executed in a function itself: those of the nodes that end in it
 abbrev pub own_in : ℕ → List Node → ℕ
 own_in function nodes = weighed (λ p n. steps_if (n.function == function) n.steps) nodes
 
@@ -49,20 +49,20 @@ all_arrivals nodes = weighed (λ p n. n.arrivals) nodes
 abbrev pub all_steps : List Node → ℕ
 all_steps nodes = weighed (λ p n. n.steps) nodes
 
--- nothing is counted in it
+-- the node has no counts
 abbrev pub is_empty : Node → Bool
 is_empty n = (n.arrivals == 0) && (n.steps == 0)
 
 -- ---- a node below another
 
--- the node of a number is the one by a function below another, which is in front of it
+-- the node with this number is the parent's child for a function; the parent comes before it
 pub record IsChild (parent function number : ℕ) (nodes : List Node) : Type 0 where
   pub behind : parent < number
   pub within : number < length nodes + 1
   pub above : (k : ℕ) (d : Node) → k + 1 ≡ number → (slice_index_or nodes k d).parent ≡ parent
   pub own : (k : ℕ) (d : Node) → k + 1 ≡ number → (slice_index_or nodes k d).function ≡ function
 
--- it is among the new ones; nothing else is another
+-- the child is among the new nodes; nothing else changed
 pub record HasChild (parent function : ℕ) (old : List Node) (number : ℕ) (new : List Node) : Type 0 where
   pub some : 0 < number
   pub within : number < length new + 1
@@ -89,11 +89,11 @@ pub record ArrivesOnce (number : ℕ) (old new : List Node) : Type 0 where
   pub all_arrivals : all_arrivals new ≡ all_arrivals old + 1
   pub all_steps : all_steps new ≡ all_steps old
 
--- a number if a test holds, or 0
+-- a number if a test holds, else 0
 abbrev pub times_if : ℕ → Bool → ℕ
 times_if n test = if test then n else 0
 
--- so many steps more
+-- `n` more steps in a node
 pub record StepsMore (n number : ℕ) (old new : List Node) : Type 0 where
   pub kept : KeepsPaths old new
   pub arrivals : (path : List ℕ) → arrivals_at path new ≡ arrivals_at path old

@@ -1,5 +1,5 @@
--- The table of the jobs of a plan with their stacks: beside the counts of their instructions, how often their runs came to each
--- list of functions of their images, and how many instructions began there. The table of the stacks alone has no counts and no runs.
+-- The table of a plan's jobs with their call trees: in addition to the counts of instructions, how often their runs entered each call path
+-- of their images, and how many instructions they executed there. The table of call trees alone has no counts and no runs.
 use Rattle.std.specs.Prelude.{◌≡◌, ◌==◌, ◌+◌, ◌%◌, ◌^◌, ◌<◌, ◌⊎◌, ℕ, true, List, [], ◌∷◌, Option, Some, None, codes, if◌then◌else◌}
 use Rattle.std.specs.Prelude.{length, map, slice_index_or, take, Ok}
 use Rattle.std.specs.List.{AllByRecursion, filter, sum_by}
@@ -31,32 +31,32 @@ use Rattle.rv_trace.specs.Trace.{image_bytes}
 
 -- ---- names
 
--- `?` where there is no symbol
+-- the symbol's name, or `?` if there is no symbol
 abbrev pub symbol_name : Option (List ℕ × ℕ) → List ℕ
 symbol_name None = codes "?"
 symbol_name (Some symbol) = symbol.0
 
--- no symbol is looked for at the last address
+-- the last address is not looked up
 abbrev pub name_in_file : Image → List ℕ → ℕ → List ℕ
 name_in_file image file f = if f == run.last_address then codes "?" else symbol_name (symbol_at image file f)
 
--- the name of a function: that of the symbol where it stands, as it is shown
+-- the name of a function: that of the symbol at its address, as it is shown
 unfoldable pub name_of_function : Image → List ℕ → ℕ → List ℕ
 name_of_function image file f = printable_text (name_in_file image file f)
 
--- each function that is the last of a spot has its name, and no other one
+-- exactly the functions in which nodes end have names, each its own
 pub record AreNamesBy (name : ℕ → List ℕ) (spots : List Spot) (names : List FunctionName) : Type 0 where
   pub sound : AreNames names
   pub of_spots : AreNamesOf spots names
   pub each : (f : ℕ) → has_name (name_of f names) ≡ true → name_of f names ≡ Some (name f)
 
--- they are named, of which none has a name from the next function on, and the last has its name
+-- the functions of the nodes have names; all of them are below `next`, and the one just below it, if any, is among them
 pub record AreNamedUpTo (name : ℕ → List ℕ) (spots : List Spot) (next : ℕ) (names : List FunctionName) : Type 0 where
   pub named : AreNamesBy name spots names
   pub below : AllByRecursion (λ n. n.function < next) names
   pub last : (f : ℕ) → f + 1 ≡ next → is_last_of_some f spots ≡ true
 
--- the counts and the spots of one run, over the image of a path with these bytes
+-- the counts and the nodes of one run, for the image with this path and these bytes
 abbrev pub table_of_run : List ℕ → List ℕ → List AddressCounts → List FunctionName → List Spot → CountTable
 table_of_run path file addresses functions spots = record {
   images = record {
@@ -69,7 +69,7 @@ table_of_run path file addresses functions spots = record {
   runs = 1;
 }
 
--- the table of them, whose functions have these names
+-- the table of a run's counts and nodes, whose functions have these names
 pub record IsTableOfRun (name : ℕ → List ℕ) (path file : List ℕ) (addresses : List AddressCounts) (spots : List Spot) (t : CountTable)
     : Type 0 where
   pub functions : List FunctionName
@@ -79,7 +79,7 @@ pub record IsTableOfRun (name : ℕ → List ℕ) (path file : List ℕ) (addres
 
 -- ---- one job
 
--- the functions of the image that the bytes of a job's image are read as; of no image this says nothing
+-- the function of an address in the image parsed from a job's file; of no meaning without an image
 abbrev pub function_in : Option Image → Option (List ℕ) → ℕ → ℕ
 function_in (Some image) (Some file) address = run.function_at image file address
 function_in _ _ address = 0
@@ -94,7 +94,7 @@ function_of_job answers job = function_in (image_in answers job) (image_bytes an
 abbrev pub name_of_job : List Answer → Job → ℕ → List ℕ
 name_of_job answers job = name_in_image (image_in answers job) (image_bytes answers job)
 
--- of an optional run within a budget of n steps
+-- the count in an optional run within a budget of n steps
 abbrev pub arrivals_from : (ℕ → ℕ) → List ℕ → ℕ → Option State → ℕ
 arrivals_from function path n None = 0
 arrivals_from function path n (Some s) =
@@ -104,17 +104,17 @@ abbrev pub steps_from : (ℕ → ℕ) → List ℕ → ℕ → Option State → 
 steps_from function path n None = 0
 steps_from function path n (Some s) = run.steps_in function path n [] s
 
--- how often the run of a job came to a list of functions of the image of a digest
+-- how often a job's run entered a path, if its image has the digest
 abbrev pub arrivals_by_job : List Answer → List ℕ → List ℕ → Job → ℕ
 arrivals_by_job answers digest path job =
     arrivals_from (function_of_job answers job) path job.budget (start_over answers digest job)
 
--- how many instructions began in it
+-- how many instructions a job's run executed on a path, if its image has the digest
 abbrev pub steps_by_job : List Answer → List ℕ → List ℕ → Job → ℕ
 steps_by_job answers digest path job =
     steps_from (function_of_job answers job) path job.budget (start_over answers digest job)
 
--- a function of the image of a digest has the name that the job's image gives it, where the job's run came to it
+-- a function of the image with the digest has the name that the job's image gives it, if the job's run entered it
 abbrev pub IsNamedBy : List Answer → CountTable → List ℕ → ℕ → Job → Type 0
 IsNamedBy answers t digest f job = (path : List ℕ) → ends_with f path ≡ true
     → 0 < arrivals_by_job answers digest path job → name_in digest f t.images ≡ Some (name_of_job answers job f)
@@ -125,7 +125,7 @@ RunsWithinABudget answers job = (s : State) → start_in answers job ≡ Ok s �
 
 -- ---- some jobs
 
--- the table of stacks of jobs: each of its numbers is the sum over the jobs
+-- the table of jobs' call trees: each of its numbers is the sum over the jobs
 pub record AreStacksOfJobs (answers : List Answer) (jobs : List Job) (t : CountTable) : Type 0 where
   pub table : IsTable t
   pub begun : (digest : List ℕ) (address : ℕ) → begun_in digest address t.images ≡ 0
@@ -139,13 +139,13 @@ pub record AreStacksOfJobs (answers : List Answer) (jobs : List Job) (t : CountT
   pub runs : t.runs ≡ 0
   pub budgets : AllByRecursion (RunsWithinABudget answers) jobs
 
--- the table of the stacks of the jobs at some places
+-- the table of the call trees of the jobs at some indices
 abbrev pub AreStacksOfPlaces : Planned → List ℕ → CountTable → Type 0
 AreStacksOfPlaces plan places t = AreStacksOfJobs plan.answers (jobs_at plan places) t
 
 -- ---- counts and stacks
 
--- the table of the counts of the jobs at some places, and of their stacks
+-- the table of the counts and the call trees of the jobs at some indices
 pub record IsTableWithStacks (plan : Planned) (places : List ℕ) (t : CountTable) : Type 0 where
   pub counts : CountTable
   pub stacks : CountTable
@@ -153,7 +153,7 @@ pub record IsTableWithStacks (plan : Planned) (places : List ℕ) (t : CountTabl
   pub stacked : AreStacksOfPlaces plan places stacks
   pub sum : IsSum counts stacks t
 
--- the table of the first so many places has no sum with that of the next one
+-- the table of the first `count` indices has no sum with that of the next one
 pub record HasNextNoSum (plan : Planned) (places : List ℕ) (error : SumError) : Type 0 where
   pub count : ℕ
   pub within : count < length places
@@ -163,23 +163,23 @@ pub record HasNextNoSum (plan : Planned) (places : List ℕ) (error : SumError) 
   pub of_next : IsTableWithStacks plan (slice_index_or places count 0 ∷ []) next
   pub refused : HaveNoSum error first next
 
--- memory was wanting, or some of the tables have no sum
+-- memory ran out, or some of the tables have no sum
 abbrev pub HaveNoTableWithStacks : Planned → List ℕ → SumError → Type 0
 HaveNoTableWithStacks plan places error = (error ≡ OutOfMemory) ⊎ HasNextNoSum plan places error
 
--- memory was wanting, or a function has two names
+-- memory ran out, or a function has two names
 abbrev pub IsOfNamesOrMemory : SumError → Type 0
 IsOfNamesOrMemory error = (error ≡ OutOfMemory) ⊎ ((function : ℕ) × (error ≡ Names function))
 
 -- ---- parts and shards
 
--- a table with stacks for each part of the places
+-- a table with call trees for each part of the indices
 abbrev pub AreTablesWithStacksOfParts : Planned → List (List ℕ) → List CountTable → Type 0
 AreTablesWithStacksOfParts plan [] [] = Unit {0}
 AreTablesWithStacksOfParts plan (p ∷ ps) (t ∷ ts) = IsTableWithStacks plan p t × AreTablesWithStacksOfParts plan ps ts
 AreTablesWithStacksOfParts plan _ _ = ⊥
 
--- of some places the shard of a number has every so-many-th
+-- the indices of the shard with a number: those with this remainder modulo the number of shards
 abbrev pub places_of_shard : ℕ → List ℕ → ℕ → List ℕ
 places_of_shard shards places number = filter (λ place. place % shards == number) places
 
@@ -194,6 +194,6 @@ image_without_stacks i = record {
   spots = [];
 }
 
--- a table without its spots and names
+-- a table without its nodes and names
 abbrev pub without_stacks : CountTable → CountTable
 without_stacks t = record { images = map image_without_stacks t.images; runs = t.runs }

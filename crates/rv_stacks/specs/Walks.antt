@@ -1,4 +1,4 @@
--- A walk from node to node, as calls, jumps and returns lead it, and its nodes as spots.
+-- A walk from node to node that follows calls, jumps and returns, and its nodes in preorder.
 use Rattle.std.specs.Prelude.{◌≡◌, ◌+◌, ◌<◌, ◌≤◌, ℕ, List, [], length, take, slice_index_or}
 use Rattle.std.specs.Str.{bytes_eq}
 use Rattle.rv_call_tree.specs.declared.spot.Spot.{Spot}
@@ -9,7 +9,7 @@ use Rattle.rv_stacks.specs.declared.node.Node.{Node}
 use Rattle.rv_stacks.specs.declared.walk.Walk.{Walk}
 use Rattle.rv_stacks.specs.Nodes.{all_arrivals, all_steps, arrivals_at, own_in, path_of, steps_at, times_if}
 
--- each number is that of a node, whose functions are the first of the path
+-- each number is that of the node whose path is a prefix of the path
 pub record IsTrail (nodes : List Node) (path trail : List ℕ) : Type 0 where
   pub long : length trail ≡ length path + 1
   pub within : (k d : ℕ) → k < length trail → slice_index_or trail k d < length nodes + 1
@@ -18,7 +18,7 @@ pub record IsTrail (nodes : List Node) (path trail : List ℕ) : Type 0 where
 pub record IsWalk (w : Walk) : Type 0 where
   pub trail : IsTrail w.nodes.items w.path.items w.trail.items
 
--- it came to the node of these functions by a call or a jump
+-- the walk entered the node with this path by a call or a jump
 pub record Arrives (there : List ℕ) (old new : Walk) : Type 0 where
   pub walk : IsWalk new
   pub path : new.path.items ≡ there
@@ -29,13 +29,13 @@ pub record Arrives (there : List ℕ) (old new : Walk) : Type 0 where
   pub all_arrivals : all_arrivals new.nodes.items ≡ all_arrivals old.nodes.items + 1
   pub all_steps : all_steps new.nodes.items ≡ all_steps old.nodes.items
 
--- it is back at the node of the first of its functions
+-- the walk returned to the node with the first `depth` functions of its path
 pub record Returns (depth : ℕ) (old new : Walk) : Type 0 where
   pub walk : IsWalk new
   pub path : new.path.items ≡ take depth old.path.items
   pub nodes : new.nodes.items ≡ old.nodes.items
 
--- so many instructions began in the node where a walk is
+-- `n` instructions were executed in the walk's current node
 pub record Steps (n : ℕ) (old new : Walk) : Type 0 where
   pub walk : IsWalk new
   pub path : new.path.items ≡ old.path.items
@@ -48,7 +48,7 @@ pub record Steps (n : ℕ) (old new : Walk) : Type 0 where
 
 -- ---- nodes as spots
 
--- spots have the counts of nodes
+-- the preorder nodes have the counts of the walk's nodes
 pub record AreSpotsOf (nodes : List Node) (ss : List Spot) : Type 0 where
   pub tree : IsTree ss
   pub some : HasArrivals ss
@@ -57,7 +57,7 @@ pub record AreSpotsOf (nodes : List Node) (ss : List Spot) : Type 0 where
   pub own : (f : ℕ) → spots.own_in f ss ≡ own_in f nodes
   pub all_steps : spots.all_steps ss ≡ all_steps nodes
 
--- the next node below another, from a function on, that a run came to
+-- the parent's next child, from a function on, that a run entered
 pub record IsNext (parent from number : ℕ) (nodes : List Node) : Type 0 where
   pub behind : parent < number
   pub within : number < length nodes + 1
@@ -65,8 +65,8 @@ pub record IsNext (parent from number : ℕ) (nodes : List Node) : Type 0 where
   pub rising : (k : ℕ) (d : Node) → k + 1 ≡ number → from ≤ (slice_index_or nodes k d).function
   pub some : (k : ℕ) (d : Node) → k + 1 ≡ number → 0 < (slice_index_or nodes k d).arrivals
 
--- spots in preorder, and the node up to which they are there: where its functions are not all of those of the last spot, the next
--- function there is below those that may follow
+-- nodes in preorder, and the node up to which they are complete: if its path is shorter than that of the last preorder node, that path's
+-- next function is below those that can follow
 pub record IsFlat (nodes : List Node) (flat : Flat) : Type 0 where
   pub tree : IsTree flat.spots.items
   pub some : HasArrivals flat.spots.items
@@ -76,7 +76,7 @@ pub record IsFlat (nodes : List Node) (flat : Flat) : Type 0 where
   pub rising : (d : ℕ) → length flat.path.items < length (last_path [] flat.spots.items)
       → slice_index_or (last_path [] flat.spots.items) (length flat.path.items) d < flat.from
 
--- what moved from nodes is in the spots
+-- the counts moved from the nodes are in the preorder nodes
 pub record Moves (before : List Node) (old : Flat) (after : List Node) (new : Flat) : Type 0 where
   pub flat : IsFlat after new
   pub arrivals : (path : List ℕ) → spots.arrivals_at path new.spots.items + arrivals_at path after

@@ -1,4 +1,4 @@
-//! Where the nodes below a node are found.
+//! Lookup of a node's children.
 
 ghost use Rattle.std.specs.Prelude.{◌≡◌, ◌*◌, ◌+◌, ◌%◌, ◌^◌, IfSome, true};
 ghost use Rattle.rv_stacks.specs.Nodes.{IsChild};
@@ -8,28 +8,28 @@ use crate::node::Node;
 use std::alloc::{AllocError, Global};
 use std::collections::BTreeMap;
 
-/// How many nodes are in a chain at most: a look-up goes along it.
+/// The maximum number of nodes in a chain, which a lookup walks through.
 const MOST_IN_CHAIN: u32 = 8;
 
-/// The nodes below each node: a chain of the first of them, and an index of the others.
+/// The children of each node: a chain of the first ones, and an index of the others.
 ///
-/// Nothing is promised of it, since the node of each number that is found here is looked at.
+/// It has no contract, because each node number found here is checked against the nodes.
 #[derive(Drop)]
 pub struct Children {
-    /// By the number of a node, from 0 on.
+    /// The links of each node, by number from 0 on.
     links: Vec<Links>,
-    /// The numbers of nodes in no chain, each by the node above it and its function.
+    /// The numbers of nodes outside the chains, by parent and function.
     others: BTreeMap<u64, usize>,
 }
 
-/// How a node is linked with others, whose numbers these are, or 0 for none.
+/// The numbers of the nodes that a node is linked with, or 0 for none.
 #[derive(Clone, Copy)]
 struct Links {
-    /// The first of the chain of those below it.
+    /// The first child in the node's chain.
     first: usize,
-    /// The next in the chain of which it is.
+    /// The next node in the chain that the node belongs to.
     next: usize,
-    /// How many are in the chain below it.
+    /// The number of children in the node's chain.
     many: u32,
 }
 
@@ -40,7 +40,7 @@ const UNLINKED: Links = Links {
 };
 
 impl Children {
-    /// There is no node.
+    /// Creates an empty lookup structure.
     pub(crate) fn new(alloc: Global) -> Result<Children, AllocError> {
         let mut links = Vec::new(alloc);
         links.push(UNLINKED)?;
@@ -50,7 +50,7 @@ impl Children {
         })
     }
 
-    /// Puts the node of a number, which is the next one, below another.
+    /// Adds the next node, which has this number, as a child.
     pub(crate) fn add(
         &mut self,
         parent: usize,
@@ -79,7 +79,7 @@ impl Children {
         Ok(())
     }
 
-    /// The node by a function below another.
+    /// Returns the number of a parent's child for a function.
     pub(crate) fn find(&self, nodes: &[Node], parent: usize, function: u32) -> Option<usize>
         ensures { IfSome result (λ number. IsChild parent function number nodes.now) }
     {
@@ -99,7 +99,7 @@ impl Children {
         }
     }
 
-    /// The next node below another, from a function on, that a run came to.
+    /// Returns a parent's next child, from a function on, that a run entered.
     pub(crate) fn next(&self, nodes: &[Node], parent: usize, from: u64) -> Option<usize>
         ensures { IfSome result (λ number. IsNext parent from number nodes.now) }
     {
@@ -115,7 +115,7 @@ impl Children {
         next
     }
 
-    // The next one of those in no chain.
+    // Returns the next child outside the chains.
     fn next_of_others(&self, nodes: &[Node], parent: usize, from: u64) -> Option<usize>
         ensures { IfSome result (λ number. IsNext parent from number nodes.now) }
     {
@@ -127,13 +127,13 @@ impl Children {
         }
     }
 
-    // The links of the node of a number.
+    // Returns the links of the node with this number.
     fn links_of(&self, number: usize) -> Links {
         self.links.get(number).copied().unwrap_or(UNLINKED)
     }
 }
 
-// Whether the node of a number is the one by a function below another, which is in front of it.
+// Whether the node with this number is the parent's child for the function, and the parent comes before it.
 fn is_child(nodes: &[Node], parent: usize, function: u32, number: usize) -> bool
     ensures { result ≡ true → IsChild parent function number nodes.now }
 {
@@ -154,7 +154,7 @@ fn is_next(nodes: &[Node], parent: usize, from: u64, number: usize) -> bool
     node.parent == parent && from <= u64::from(node.function) && node.arrivals != 0
 }
 
-// Whether the node of a number has a lower function than another one, or there is no other one.
+// Whether a node has a lower function than the other one, or there is no other one.
 fn is_lower(nodes: &[Node], number: usize, than: Option<usize>) -> bool {
     match than {
         Some(other) => function_of(nodes, number) < function_of(nodes, other),
@@ -162,12 +162,12 @@ fn is_lower(nodes: &[Node], number: usize, than: Option<usize>) -> bool {
     }
 }
 
-// The function of the node of a number.
+// Returns the function of the node with this number.
 fn function_of(nodes: &[Node], number: usize) -> Option<u32> {
     Some(nodes.get(number.checked_sub(1)?)?.function)
 }
 
-// By what a node in no chain is found: keys rise by the node above, and then by the function.
+// Returns the key of a node outside the chains. Keys are ordered by parent, then by function.
 fn key_of(parent: usize, function: u64) -> u64
     ensures { result ≡ ((parent * 2 ^ 32) % 2 ^ 64 + function) % 2 ^ 64 }
 {

@@ -1,4 +1,4 @@
-//! Nodes as spots in preorder.
+//! Conversion of nodes to preorder.
 
 ghost use Rattle.std.specs.Prelude.{◌≡◌, [], ℕ, List, IfOk, OnOk, length, slice_index_or};
 ghost use Rattle.std.specs.List.{list_all};
@@ -11,19 +11,19 @@ use crate::node::Node;
 use rv_call_tree::{Spot, Spots};
 use std::alloc::{AllocError, Global};
 
-/// Spots to which nodes' counts are moved, and the node up to which that is done.
+/// The preorder nodes built so far, and the node up to which counts have been moved.
 #[derive(Drop)]
 pub struct Flat {
-    /// The functions of that node.
+    /// The path of that node.
     pub path: Vec<u32>,
-    /// 0, and the numbers of the nodes of the first of them.
+    /// 0, followed by the number of the node for each prefix of the path.
     pub trail: Vec<usize>,
     pub spots: Vec<Spot>,
-    /// Up to which function that of a child may not be.
+    /// The lowest function that the next child can have.
     pub from: u64,
 }
 
-/// The nodes as spots. Takes memory for the spots alone.
+/// Converts nodes to preorder. Allocates only the result.
 pub(crate) fn spots_of_nodes(
     alloc: Global,
     nodes: Vec<Node>,
@@ -33,7 +33,7 @@ pub(crate) fn spots_of_nodes(
 {
     let mut left = nodes;
     let mut flat = Flat::new(alloc)?;
-    // Each node is come to once, and left once.
+    // Each node is entered once and left once.
     'turns: for _ in 0..left.len().saturating_mul(2) {
         flat.turn(&mut left, children)?;
     }
@@ -70,7 +70,7 @@ impl Flat {
         })
     }
 
-    // Comes to the next node below the one where it is, or goes back to the one above that.
+    // Moves to the next child of the current node, or back to its parent.
     fn turn(&mut self, left: &mut Vec<Node>, children: &Children) -> Result<(), AllocError>
         requires { IsFlat left.old.items self.old }
         ensures { OnOk result (Moves left.old.items self.old left.new.items self.new) }
@@ -85,7 +85,7 @@ impl Flat {
         }
     }
 
-    // Moves the counts of a node below the one where it is, and comes to it.
+    // Moves the counts of a child of the current node, and makes it the current one.
     fn move_in(&mut self, left: &mut Vec<Node>, number: usize) -> Result<(), AllocError>
         requires flat { IsFlat left.old.items self.old }
         requires next { (d : ℕ) → IsNext (slice_index_or self.old.trail.items (length self.old.path.items) d) self.old.from number
@@ -111,7 +111,7 @@ impl Flat {
         Ok(())
     }
 
-    // Leaves the node where it is for the one above.
+    // Moves from the current node back to its parent.
     fn go_back(&mut self)
         ensures { (nodes : List ANode) → IsFlat nodes self.old → GoesBack nodes self.old self.new }
     {

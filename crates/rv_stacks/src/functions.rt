@@ -1,4 +1,4 @@
-//! Functions by the addresses of their instructions.
+//! The functions of instruction addresses.
 
 ghost use Rattle.std.specs.Prelude.{◌≡◌, ◌+◌, ◌<◌, ◌≤◌, ℕ, IfOk, length};
 ghost use Rattle.rv_counting.specs.Blocks.{address_at};
@@ -11,20 +11,20 @@ use rv_counting::Block;
 use rv_elf::CodeSymbols;
 use std::alloc::{AllocError, Global};
 
-/// How many functions are kept: each of the addresses that share a place drives the other out.
+/// The number of cached functions. Addresses that share a slot evict each other.
 const PLACES: usize = 4096;
 
-/// At this address no instruction begins, so that no function of code stands there.
+/// No instruction can begin at this address, so no function of code can be there.
 pub(crate) const LAST_ADDRESS: u32 = u32::MAX;
 
-/// The function of an address.
+/// A cache entry: the function of an address.
 #[derive(Clone, Copy)]
 pub struct Known {
     pub address: u32,
     pub function: u32,
 }
 
-/// Functions that are known, of which each look-up may put in another.
+/// Creates the cache of functions. Each lookup can replace an entry.
 pub(crate) fn known_functions(
     alloc: Global,
     symbols: &CodeSymbols<'_>,
@@ -38,7 +38,7 @@ pub(crate) fn known_functions(
     Ok(known)
 }
 
-/// The function of an address of code. A known one takes no search.
+/// Returns the function of a code address. A cached one takes no search.
 pub(crate) fn look_up(known: &mut Vec<Known>, symbols: &CodeSymbols<'_>, address: u32) -> u32
     requires { AreKnown (function_at symbols.now.image.now symbols.now.bytes.now) known.old.items }
     ensures value { result ≡ function_at symbols.now.image.now symbols.now.bytes.now address }
@@ -54,7 +54,8 @@ pub(crate) fn look_up(known: &mut Vec<Known>, symbols: &CodeSymbols<'_>, address
     function
 }
 
-/// How many of the instructions of a block, but for its last, are of the function of the first, as those behind them are.
+/// Returns how many of a block's instructions, except its last, belong to the function of the first, and are followed by an instruction of
+/// that function.
 pub(crate) fn steps_in_function(
     known: &mut Vec<Known>,
     symbols: &CodeSymbols<'_>,
@@ -82,8 +83,8 @@ pub(crate) fn steps_in_function(
     block.steps - 1
 }
 
-/// Where the symbol of an address stands, or what stands for none: 0, or the last address where a function can stand at 0. Takes the time
-/// of one search of the symbols, or of two.
+/// Returns the start of the symbol at an address, or the value that represents none: 0, or the last address if there can be a function at
+/// 0. Takes one or two searches of the symbols.
 #[tactic(auto, unfolding(crate::specs::Stacks::function_at))]
 pub fn function_of(symbols: &CodeSymbols<'_>, address: u32) -> u32
     ensures { result ≡ function_at symbols.now.image.now symbols.now.bytes.now address }
@@ -94,7 +95,7 @@ pub fn function_of(symbols: &CodeSymbols<'_>, address: u32) -> u32
     }
 }
 
-// The function that code without a symbol is told as.
+// Returns the function that represents code without a symbol.
 fn no_function(symbols: &CodeSymbols<'_>) -> u32
     ensures { result ≡ no_function (symbol_at symbols.now.image.now symbols.now.bytes.now 0) }
 {

@@ -1,4 +1,4 @@
-//! The counts and the stacks of a job.
+//! The counts and the call tree of a job.
 
 ghost use Rattle.std.specs.Prelude.{IfOk, IfSome};
 ghost use Rattle.rv_count_tables.specs.Table.{AreCounts};
@@ -16,8 +16,8 @@ use rv_rows::machine_at;
 use rv_trace::JobImage;
 use std::alloc::{AllocError, Global};
 
-/// The counts of the run of a job within its budget, and its stacks by the functions of a file; nothing where the job is refused. The job
-/// is run once more, and its counts can stand in a table.
+/// Returns the counts of a job's run within its budget, and its call tree by the functions of a file; `None` if the job is refused. The job
+/// is run once more. A table can hold the counts.
 pub fn count_job_with_stacks(
     alloc: Global,
     job: &JobImage<'_>,

@@ -1,9 +1,10 @@
-//! The stacks of a run: in which list of functions each instruction began, from the root to the function of the pc, and how
-//! often a run came to each list.
+//! The call tree of a run: on which path of functions, from the root to the function of the pc, each instruction was executed, and how
+//! often a run entered each path.
 //!
-//! [`count_with_stacks`] runs a machine within a budget, and answers its counts and its spots. [`count_job_with_stacks`] does so of
-//! a job of a plan, and [`count_batch_with_stacks`] answers the table of counts of the jobs of a batch, with their stacks. The
-//! calls that have not returned are those of `rv_calls`: a spot is the functions in which they were made, and that of the pc.
+//! [`count_with_stacks`] runs a machine within a budget and returns its counts and its call-tree nodes. [`count_job_with_stacks`] does so
+//! for a job of a plan, and [`count_batch_with_stacks`] returns the table of counts of a batch's jobs, with their call trees. The calls
+//! that have not returned are those of `rv_calls`: a node's path consists of the functions in which they were made and the function of the
+//! pc.
 #![tactic(auto)]
 
 mod children;

@@ -1,4 +1,4 @@
-//! The names of the functions of spots.
+//! The names of the nodes' functions.
 
 ghost use Rattle.std.specs.Prelude.{◌≡◌, ◌∷◌, ◌++◌, ◌+◌, ◌≤◌, [], IfOk, IsPermutation, List, OnOk, true};
 ghost use Rattle.std.specs.List.{AllByRecursion};
@@ -18,8 +18,8 @@ use rv_counting::shown_text;
 use rv_elf::CodeSymbols;
 use std::alloc::{AllocError, Global};
 
-/// The names of the functions of spots, each once. Takes the time of a look-up of a symbol for each function and of a sort of the
-/// spots, and memory for a copy of these.
+/// Returns the names of the nodes' functions, each once. Takes the time of a symbol lookup for each function and of a sort of the nodes,
+/// and memory for a copy of these.
 pub(crate) fn names_of_spots(
     alloc: Global,
     symbols: &CodeSymbols<'_>,
@@ -32,7 +32,7 @@ pub(crate) fn names_of_spots(
     names_in_order(alloc, symbols, sorted.as_slice())
 }
 
-// Spots by their functions.
+// Returns the nodes, sorted by function.
 fn by_function(alloc: Global, spots: &[Spot]) -> Result<Vec<Spot>, AllocError>
     ensures same { IfOk result (λ sorted. IsPermutation spots.now sorted.items) }
     ensures rising { IfOk result (λ sorted. IsNonDecreasingBy (λ s. s.function) sorted.items) }
@@ -45,7 +45,7 @@ fn by_function(alloc: Global, spots: &[Spot]) -> Result<Vec<Spot>, AllocError>
     Ok(sorted)
 }
 
-// The names of the functions of spots that rise by their functions.
+// Returns the names of the functions of nodes that are sorted by function.
 fn names_in_order(
     alloc: Global,
     symbols: &CodeSymbols<'_>,
@@ -64,7 +64,7 @@ fn names_in_order(
     Ok(FunctionNames::new(names))
 }
 
-// Adds the name of a spot's function behind those of lower ones, where it has none. Functions below the next one have theirs.
+// Appends the name of a node's function, unless it is there already. Functions below `next` have their names.
 fn name_spot(
     alloc: Global,
     symbols: &CodeSymbols<'_>,
@@ -91,7 +91,7 @@ fn name_spot(
     Ok(())
 }
 
-// The name of a function as a table has it.
+// Returns the name of a function in the form that a table holds.
 #[tactic(auto, unfolding(crate::specs::StackTables::name_of_function))]
 fn shown_name(alloc: Global, symbols: &CodeSymbols<'_>, function: u32) -> Result<Text, AllocError>
     ensures value { IfOk result (λ text. text ≡ name_of_function symbols.now.image.now symbols.now.bytes.now function) }

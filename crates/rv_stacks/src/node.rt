@@ -6,20 +6,20 @@ ghost use Rattle.rv_stacks.specs.Nodes.{all_arrivals, all_steps, ArrivesOnce, Ha
 use crate::children::Children;
 use std::alloc::AllocError;
 
-/// A list of functions of which each called the next: those of another node, and a function behind them.
+/// A path of functions, each of which called the next: the path of the parent, then the node's own function.
 #[derive(Clone, Copy)]
 pub struct Node {
-    /// The number of the other one, or 0 where there are no functions in front.
+    /// The parent's number, or 0 for a node of the first level.
     pub parent: usize,
-    /// The address of its function.
+    /// The address of the node's own function.
     pub function: u32,
-    /// How often a run came to it by a call or a jump.
+    /// How often a run entered the node by a call or a jump.
     pub arrivals: u64,
-    /// How many instructions began in it.
+    /// The number of instructions executed in the node.
     pub steps: u64,
 }
 
-/// The number of the node by a function below another, which is made if there is none.
+/// Returns the number of a parent's child for a function. Creates the child if there is none.
 pub(crate) fn number_of_child(
     nodes: &mut Vec<Node>,
     children: &mut Children,
@@ -43,7 +43,7 @@ pub(crate) fn number_of_child(
     Ok(number)
 }
 
-/// Counts an arrival at the node of a number.
+/// Counts an entry into a node.
 pub(crate) fn count_arrival(nodes: &mut Vec<Node>, number: usize)
     requires some { 0 < number }
     requires within { number < length nodes.old.items + 1 }
@@ -59,7 +59,7 @@ pub(crate) fn count_arrival(nodes: &mut Vec<Node>, number: usize)
     };
 }
 
-/// Counts instructions in the node of a number.
+/// Counts instructions in a node.
 pub(crate) fn count_steps(nodes: &mut Vec<Node>, number: usize, steps: u32)
     requires some { 0 < number }
     requires within { number < length nodes.old.items + 1 }

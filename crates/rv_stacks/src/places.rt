@@ -1,4 +1,4 @@
-//! The table of the jobs at some places of a plan, with their stacks.
+//! The table of the jobs at some indices of a plan, with their call trees.
 
 ghost use Rattle.std.specs.Prelude.{IfErr, IfOk};
 ghost use Rattle.rv_stacks.specs.StackTables.{HaveNoTableWithStacks, IsOfNamesOrMemory, IsTableWithStacks};
@@ -12,9 +12,9 @@ use std::marker::Brand;
 use std::sync::Wait;
 use std::thread::Threads;
 
-/// The table of the counts of the jobs of a batch, and of their stacks, the same for every crew. There is none where two files of
-/// one digest name a function in two ways; no number of so few jobs reaches 2^64. Each job is run once more, by the threads of the
-/// crew; it takes memory for the tables that wait to be added, and for two sums.
+/// Returns the table of a batch's jobs with their counts and call trees, identical for every crew. There is none if two files with equal
+/// digests give a function different names; with so few jobs no number reaches 2^64. Each job is run once more, by the threads of the crew.
+/// Takes memory for the tables that wait to be added, and for two sums.
 pub fn count_batch_with_stacks<R: Threads + Wait + Sync>(
     crew: &Crew<'_, R>,
     batch: &Batch<'_>,

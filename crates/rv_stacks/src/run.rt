@@ -1,4 +1,4 @@
-//! The counts and the stacks of a run.
+//! The counts and the call tree of a run.
 
 ghost use Rattle.std.specs.Prelude.{◌≡◌, IfOk};
 ghost use Rattle.rv_counting.specs.Counters.{HasCounted};
@@ -15,8 +15,8 @@ use rv_elf::CodeSymbols;
 use rv_machine::Machine;
 use std::alloc::{AllocError, Global};
 
-/// The counts of a machine's run of at most so many steps, and its stacks by the functions of a file. It takes the time of that run
-/// and more, and memory for each address and each list of functions that the run comes to.
+/// Counts a machine's run within a budget of steps, and its call tree by the functions of a file. Takes longer than the run alone, and
+/// memory for each address and each path that the run reaches.
 pub fn count_with_stacks(
     alloc: Global,
     machine: Machine,
@@ -32,7 +32,8 @@ pub fn count_with_stacks(
     Ok((counter.into_addresses(), spots))
 }
 
-// What was counted of a run, which is done: straight code of a function at once, and every other instruction by itself.
+// Runs the machine and returns what was counted. Straight-line code in one function is executed as a unit, every other instruction by
+// itself.
 fn follow_run(
     alloc: Global,
     machine: Machine,

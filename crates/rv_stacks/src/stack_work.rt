@@ -1,4 +1,4 @@
-//! The table of each job of a batch, with its stacks.
+//! The table of each job of a batch, with its call tree.
 
 use crate::table::count_place_with_stacks;
 use rv_counting::JobTable;
@@ -6,7 +6,7 @@ use rv_engine::{Work, WorkerState};
 use rv_fleet::Batch;
 use std::alloc::{AllocError, Global};
 
-/// Counts the jobs of a batch, with their stacks.
+/// Counts the jobs of a batch, with their call trees.
 #[derive(Drop)]
 pub(crate) struct StackWork<'a> {
     pub(crate) batch: &'a Batch<'a>,

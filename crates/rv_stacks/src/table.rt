@@ -1,4 +1,4 @@
-//! The table of one job of a plan, with its stacks.
+//! The table of one job of a plan, with its call tree.
 
 ghost use Rattle.std.specs.Prelude.{◌<◌, ◌∷◌, [], IfOk, length};
 ghost use Rattle.rv_count_tables.specs.Table.{AreCounts};
@@ -15,7 +15,7 @@ use rv_jobs::Plan;
 use rv_trace::{JobImage, image_bytes, image_of_bytes};
 use std::alloc::{AllocError, Global};
 
-/// The table of the job at a place, which has the counts and the stacks of its run, or that of no run where the job is refused. The
+/// Returns the table of the job at an index: the counts and the call tree of its run, or the table of no runs if the job is refused. The
 /// job is run once more.
 pub(crate) fn count_place_with_stacks(
     alloc: Global,
@@ -46,7 +46,7 @@ pub(crate) fn count_place_with_stacks(
     }
 }
 
-// The table of the counts and the spots of one run over the image of a path.
+// Returns the table of the counts and the nodes of one run of the image with this path.
 fn table_of_run(
     alloc: Global,
     path: &str,

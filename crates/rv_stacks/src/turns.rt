@@ -1,4 +1,4 @@
-//! How a walk goes with control from function to function.
+//! How a walk follows control from function to function.
 
 ghost use Rattle.std.specs.Prelude.{◌≡◌, ◌^◌, ◌<◌, OnOk, length};
 ghost use Rattle.rv_calls.specs.Stack.{after_transfer};
@@ -13,7 +13,7 @@ use rv_calls::{Frame, Transfer, frames_left, pass_control};
 use rv_elf::CodeSymbols;
 use std::alloc::AllocError;
 
-/// Goes with control, and does to frames what the transfer does.
+/// Follows a transfer of control, and applies it to the frames.
 pub(crate) fn follow(
     symbols: &CodeSymbols<'_>,
     known: &mut Vec<Known>,
@@ -42,7 +42,8 @@ pub(crate) fn follow(
     }
 }
 
-// Goes on in a function in place of the last one behind the first functions, which is no arrival where it is the same.
+// Continues in a function that replaces the one after the first `depth` functions. It counts as an entry only if it is a different
+// function.
 fn go_on(walk: &mut Walk, depth: usize, function: u32) -> Result<(), AllocError>
     requires walk { IsWalk walk.old }
     requires depth { depth < length walk.old.path.items }

@@ -10,20 +10,20 @@ use crate::node::{Node, count_arrival, count_steps, number_of_child};
 use rv_call_tree::Spots;
 use std::alloc::{AllocError, Global};
 
-/// Nodes that grow, and the one where a run is.
+/// The nodes so far, and the run's current one.
 #[derive(Drop)]
 pub struct Walk {
-    /// The functions of the node where the run is.
+    /// The path of the current node.
     pub path: Vec<u32>,
-    /// 0, and the numbers of the nodes of the first of them.
+    /// 0, followed by the number of the node for each prefix of the path.
     pub trail: Vec<usize>,
     pub nodes: Vec<Node>,
-    /// Where the nodes below each are found.
+    /// Finds the children of a node.
     pub children: Children,
 }
 
 impl Walk {
-    /// A walk that has come to no node.
+    /// Creates a walk that has entered no node.
     pub fn new(alloc: Global) -> Result<Walk, AllocError>
         ensures walk { IfOk result IsWalk }
         ensures path { IfOk result (λ walk. walk.path.items ≡ []) }
@@ -39,7 +39,7 @@ impl Walk {
         })
     }
 
-    /// Comes by a call or a jump to the node of a function behind the first functions. Takes memory where it is a new one.
+    /// Enters, by a call or a jump, the node of a function after the first `depth` functions of the path. Allocates if the node is new.
     pub fn arrive(&mut self, depth: usize, function: u32) -> Result<(), AllocError>
         requires walk { IsWalk self.old }
         requires depth { depth ≤ length self.old.path.items }
@@ -55,7 +55,7 @@ impl Walk {
         Ok(())
     }
 
-    /// Is back at the node of the first functions.
+    /// Returns to the node with the first `depth` functions of the path.
     pub fn return_to(&mut self, depth: usize)
         requires walk { IsWalk self.old }
         requires depth { depth ≤ length self.old.path.items }
@@ -65,7 +65,7 @@ impl Walk {
         self.trail.truncate(depth + 1);
     }
 
-    /// Counts instructions in the node where it is.
+    /// Counts instructions in the current node.
     pub fn count_steps(&mut self, steps: u32)
         requires walk { IsWalk self.old }
         requires some { 0 < length self.old.path.items }
@@ -76,14 +76,14 @@ impl Walk {
         count_steps(&mut self.nodes, number, steps);
     }
 
-    /// The nodes that it came to, as spots.
+    /// Returns the entered nodes in preorder.
     pub fn into_spots(self, alloc: Global) -> Result<Spots, AllocError>
         ensures { IfOk result (AreSpotsOf self.nodes.items) }
     {
         spots_of_nodes(alloc, self.nodes, &self.children)
     }
 
-    // The number of the node where it is, or 0.
+    // Returns the number of the current node, or 0.
     fn last_number(&self) -> usize
         requires { IsWalk self.now }
         ensures within { result < length self.now.nodes.items + 1 }

@@ -1,4 +1,4 @@
-//! Tests of the stacks of a run, by what `rv_stacks` shows its callers: small programs whose spots a person found.
+//! Tests of the stacks of a run, using what `rv_stacks` exports: small programs whose call-tree nodes were found by hand.
 #![tactic(auto)]
 
 #[cfg(test)]

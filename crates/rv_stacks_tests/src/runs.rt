@@ -1,4 +1,4 @@
-//! Spots of runs, by the lines of a table: a program, the places of its functions, its budget and its spots.
+//! Call-tree nodes of runs, by the lines of a table: a program, the addresses of its functions, its budget and its nodes.
 use rv_elf::{CodeSymbols, read_image};
 use rv_isa::Isa;
 use rv_machine::Machine;
@@ -10,7 +10,7 @@ use std::test::Fail;
 
 const BASE: u32 = 0x8000_0000;
 
-// A file of one segment, 64 bytes from 80000000 on, with four symbols of functions.
+// A file of one segment, 64 bytes starting at 80000000, with four function symbols.
 const FILE: &str = "\
 7f454c46 01010100 00000000 00000000 0200f300 01000000 00000080 34000000 ed000000 00000000 34002000 01002800 \
 03000000 01000000 54000000 00000080 00000080 40000000 40000000 07000000 04000000 13000000 13000000 13000000 \
@@ -21,11 +21,11 @@ const FILE: &str = "\
 00000000 00940000 00500000 00020000 00000000 00040000 00100000 00000000 00030000 00000000 00000000 00e40000 \
 00090000 00000000 00000000 00010000 00000000 00";
 
-// Where the values of its symbols stand.
+// The offsets of the values of its symbols.
 const VALUES: [usize; 4] = [168, 184, 200, 216];
 
-// Each program stands from 80000000 on, x2 is 0 at first, and `X` is the exit call, two instructions. Spots were found by hand:
-// depth, function, arrivals, steps. A function without a symbol is 0. label | budget | functions | program | spots.
+// Each program starts at 80000000, x2 is 0 at first, and `X` is the exit call, two instructions. Nodes were found by hand: depth, function,
+// calls, steps. A function without a symbol is 0. label | set | budget | functions | program | nodes.
 const RUNS: &str = "\
 no instruction | 0 | 80000000 | X | 0 80000000 1 0
 one function | 9 | 80000000 | X | 0 80000000 1 2
@@ -63,7 +63,7 @@ fn machine_of(alloc: Global, program: &str) -> Result<Machine, Fail> {
     Ok(Machine::new(alloc, bus, BASE, Isa::Imc)?)
 }
 
-// The file with functions at these places, and others at 0, where no code is.
+// Returns the file with functions at these addresses, and its other symbols at 0, where there is no code.
 fn file_of(alloc: Global, functions: &str) -> Result<Vec<u8>, Fail> {
     let mut bytes = file_bytes(alloc, FILE)?;
     let mut places = functions.split(' ');
@@ -82,7 +82,7 @@ fn file_of(alloc: Global, functions: &str) -> Result<Vec<u8>, Fail> {
     Ok(bytes)
 }
 
-// The spots of a run, as a row tells them.
+// Returns the call-tree nodes of a run, in the form of a row.
 fn told(alloc: Global, row: &str) -> Result<String, Fail> {
     let bytes = file_of(alloc, cell_of(row, 2))?;
     let image = read_image(alloc, bytes.as_slice(), Isa::Imc)?;

@@ -3,20 +3,20 @@ use Rattle.std.proofs.Common.{◌≡◌, ◌∙◌, ◌-◌, ℕ, zero, suc, Boo
 use Rattle.std.specs.Prelude.{if◌then◌else◌, option_map}
 use Rattle.rv_expect.specs.Judgement.{Judging, fails}
 use Rattle.rv_rows.specs.declared_row.Row.{Row}
-use Rattle.rv_stream.specs.Limits.{failures_behind, rows_until, rows_up_to}
+use Rattle.rv_stream.specs.Limits.{failures_left_after, rows_until, rows_up_to}
 use Rattle.rv_stream.specs.Told.{AreRowsUpToFailure}
 
 module _ (fails : Row → Bool) where
   -- of rows in two pieces
   abbrev IsInPieces : ℕ → List Row → List Row → Type 0
   IsInPieces most rows more = rows_until fails most (rows ++ more)
-      ≡ rows_until fails most rows ++ rows_until fails (failures_behind fails most rows) more
+      ≡ rows_until fails most rows ++ rows_until fails (failures_left_after fails most rows) more
 
   in-pieces-behind : (row : Row) (rows more : List Row) (left : ℕ) (failed : Bool)
       → IsInPieces left rows more → IsInPieces (suc left) rows more
       → row ∷ rows_until fails (if failed then left else suc left) (rows ++ more)
       ≡ (row ∷ rows_until fails (if failed then left else suc left) rows)
-      ++ rows_until fails (failures_behind fails (if failed then left else suc left) rows) more
+      ++ rows_until fails (failures_left_after fails (if failed then left else suc left) rows) more
   in-pieces-behind row rows more left true fewer same = ap (λ l. row ∷ l) fewer
   in-pieces-behind row rows more left false fewer same = ap (λ l. row ∷ l) same
 
@@ -29,12 +29,12 @@ module _ (fails : Row → Bool) where
 
   -- the failures that are left
   abbrev LeavesInPieces : ℕ → List Row → List Row → Type 0
-  LeavesInPieces most rows more = failures_behind fails most (rows ++ more)
-      ≡ failures_behind fails (failures_behind fails most rows) more
+  LeavesInPieces most rows more = failures_left_after fails most (rows ++ more)
+      ≡ failures_left_after fails (failures_left_after fails most rows) more
 
   leaves-behind : (rows more : List Row) (left : ℕ) (failed : Bool) → LeavesInPieces left rows more → LeavesInPieces (suc left) rows more
-      → failures_behind fails (if failed then left else suc left) (rows ++ more)
-      ≡ failures_behind fails (failures_behind fails (if failed then left else suc left) rows) more
+      → failures_left_after fails (if failed then left else suc left) (rows ++ more)
+      ≡ failures_left_after fails (failures_left_after fails (if failed then left else suc left) rows) more
   leaves-behind rows more left true fewer same = fewer
   leaves-behind rows more left false fewer same = same
 
@@ -49,7 +49,7 @@ module _ (fails : Row → Bool) where
   none_until zero = refl
   none_until (suc more) = refl
 
-  none_left : (most : ℕ) → failures_behind fails most [] ≡ most
+  none_left : (most : ℕ) → failures_left_after fails most [] ≡ most
   none_left zero = refl
   none_left (suc more) = refl
 
@@ -62,13 +62,13 @@ module _ (fails : Row → Bool) where
   less_by true left = omega arith
   less_by false left = refl
 
-  one_left : (left : ℕ) (row : Row) → (left ≡ 0 → ⊥) → failures_behind fails left (row ∷ []) ≡ (if fails row then left - 1 else left)
+  one_left : (left : ℕ) (row : Row) → (left ≡ 0 → ⊥) → failures_left_after fails left (row ∷ []) ≡ (if fails row then left - 1 else left)
   one_left zero row some = absurd (some refl)
   one_left (suc left) row some = none_left (if fails row then left else suc left) ∙ less_by (fails row) left
 
   -- ---- where a failure may end the run
 
-  first_left : (failures : Option ℕ) → failures ≡ option_map (λ most. failures_behind fails most []) failures
+  first_left : (failures : Option ℕ) → failures ≡ option_map (λ most. failures_left_after fails most []) failures
   first_left None = refl
   first_left (Some most) = ap (λ (n : ℕ). Some n) (sym (none_left most))
 
@@ -86,22 +86,22 @@ module _ (fails : Row → Bool) where
   none_less false = refl
 
   more_left : (failures left : Option ℕ) (rows : List Row) (row : Row)
-      → left ≡ option_map (λ most. failures_behind fails most rows) failures → (left ≡ Some 0 → ⊥)
+      → left ≡ option_map (λ most. failures_left_after fails most rows) failures → (left ≡ Some 0 → ⊥)
       → (if fails row then option_map (λ (m : ℕ). m - 1) left else left)
-      ≡ option_map (λ most. failures_behind fails most (rows ++ row ∷ [])) failures
+      ≡ option_map (λ most. failures_left_after fails most (rows ++ row ∷ [])) failures
   more_left None left rows row is goes =
       ap (λ (o : Option ℕ). if fails row then option_map (λ (m : ℕ). m - 1) o else o) is ∙ none_less (fails row)
   more_left (Some most) left rows row is goes =
-      let n = failures_behind fails most rows in
+      let n = failures_left_after fails most rows in
       ap (λ (o : Option ℕ). if fails row then option_map (λ (m : ℕ). m - 1) o else o) is ∙ some_less (fails row) n
       ∙ ap (λ (m : ℕ). Some m) (sym (left-append most rows (row ∷ []) ∙ one_left n row (λ zero_is. goes (is ∙ ap (λ (m : ℕ). Some m) zero_is))))
 
   more_within : (failures left : Option ℕ) (rows : List Row) (row : Row)
-      → left ≡ option_map (λ most. failures_behind fails most rows) failures → (left ≡ Some 0 → ⊥)
+      → left ≡ option_map (λ most. failures_left_after fails most rows) failures → (left ≡ Some 0 → ⊥)
       → rows_up_to failures fails rows ≡ rows → rows_up_to failures fails (rows ++ row ∷ []) ≡ rows ++ row ∷ []
   more_within None left rows row is goes within = refl
   more_within (Some most) left rows row is goes within =
-      let n = failures_behind fails most rows in
+      let n = failures_left_after fails most rows in
       until-append most rows (row ∷ [])
       ∙ (λ i. within i ++ one_until n row (λ zero_is. goes (is ∙ ap (λ (m : ℕ). Some m) zero_is)) i)
 
@@ -110,8 +110,8 @@ module _ (fails : Row → Bool) where
       → (rest : List Row) × (rows_up_to failures fails (rows ++ more) ≡ rows ++ rest)
   first_of None rows more within = (more, refl)
   first_of (Some most) rows more within = (
-    rows_until fails (failures_behind fails most rows) more,
-    until-append most rows more ∙ ap (λ (l : List Row). l ++ rows_until fails (failures_behind fails most rows) more) within,
+    rows_until fails (failures_left_after fails most rows) more,
+    until-append most rows more ∙ ap (λ (l : List Row). l ++ rows_until fails (failures_left_after fails most rows) more) within,
   )
 
   same_number : (n m : ℕ) → Some n ≡ Some m → n ≡ m
@@ -119,11 +119,11 @@ module _ (fails : Row → Bool) where
 
   -- and all of them where no failure is left
   pub ended_there : (failures : Option ℕ) (rows more : List Row) → rows_up_to failures fails rows ≡ rows
-      → option_map (λ most. failures_behind fails most rows) failures ≡ Some 0 → rows_up_to failures fails (rows ++ more) ≡ rows
+      → option_map (λ most. failures_left_after fails most rows) failures ≡ Some 0 → rows_up_to failures fails (rows ++ more) ≡ rows
   ended_there None rows more within none = cc
   ended_there (Some most) rows more within none =
       until-append most rows more
-      ∙ (λ i. within i ++ rows_until fails (same_number (failures_behind fails most rows) 0 none i) more)
+      ∙ (λ i. within i ++ rows_until fails (same_number (failures_left_after fails most rows) 0 none i) more)
       ∙ append-nil rows
 
 -- nothing is heard yet

@@ -21,7 +21,7 @@ use Rattle.rv_stream.specs.declared.reported_row.ReportedRow.{ReportedRow}
 use Rattle.rv_stream.specs.Limits.{rows_up_to}
 use Rattle.rv_stream.specs.Streams.{joined_row_texts, row_text_list}
 use Rattle.rv_stream.specs.Seen.{text_by_index, HasSeenRows, HasSeenSomeRows, IsReportOf}
-use Rattle.rv_stream.specs.Told.{rows_of_reported, texts_of_reported, AreRowsUpToFailure, IsToldRow}
+use Rattle.rv_stream.specs.Told.{rows_of_reported, texts_of_reported, AreRowsUpToFailure, IsReportedRow}
 use Rattle.rv_stream.proofs.Limits.{ended_there, first_of}
 use Rattle.rv_stream.proofs.Tellings.{told_append}
 
@@ -74,7 +74,7 @@ module _ (has_seen : List ReportedRow → Type 0) (line : ℕ → Row → List �
       ∙ ap (joined_row_texts other places) seen.rows_are
 
 module _ (line : ℕ → Row → List ℕ) (batch : Batch) (told : List ReportedRow) (few : length told ≤ length batch.places.now)
-    (each : (k : ℕ) (any : ReportedRow) → k < length told → IsToldRow line batch k (get_or told k any)) where
+    (each : (k : ℕ) (any : ReportedRow) → k < length told → IsReportedRow line batch k (get_or told k any)) where
   rows_are : rows_of_reported told ≡ take (length told) (batch_rows batch)
   unfolding rows_at
   rows_are =
@@ -128,7 +128,7 @@ seen_none has_seen line places none = record {
 module _ (line : ℕ → Row → List ℕ) (batch : Batch) (most : Option ℕ) (judging : Judging) (left : Option ℕ) (refused : Bool) (kept : List Row)
     (received : List ReportedRow → Type 0) (stops : Type 0)
     (first : (told : List ReportedRow) → received told → AreRowsUpToFailure most judging left refused kept (rows_of_reported told)) where
-  begins : (n : ℕ) → HasReceived (IsToldRow line batch) (length batch.places.now) received n
+  begins : (n : ℕ) → HasReceived (IsReportedRow line batch) (length batch.places.now) received n
       → HasSeenSomeRows received line batch.places.now (rows_up_to most (fails judging) (batch_rows batch))
   begins n hears =
       let told = hears.results in
@@ -147,7 +147,7 @@ module _ (line : ℕ → Row → List ℕ) (batch : Batch) (most : Option ℕ) (
       }
 
   -- however a run ended, the first rows were received
-  pub has_begun : (ran : Result Flow RunError) → IsRunDelivered (IsToldRow line batch) (length batch.places.now) received stops ran
+  pub has_begun : (ran : Result Flow RunError) → IsRunDelivered (IsReportedRow line batch) (length batch.places.now) received stops ran
       → HasSeenSomeRows received line batch.places.now (rows_up_to most (fails judging) (batch_rows batch))
   has_begun (Ok GoOn) run = begins (length batch.places.now) run.0
   has_begun (Ok Stop) run = begins run.0.count run.0.hears
@@ -158,7 +158,7 @@ module _ (line : ℕ → Row → List ℕ) (batch : Batch) (most : Option ℕ) (
     pub seen : HasSeenRows received line batch.places.now (rows_up_to most (fails judging) (batch_rows batch))
     pub kept_all : kept ≡ rows_up_to most (fails judging) (batch_rows batch)
 
-  pub has_ended : (flow : Flow) → IsRunDelivered (IsToldRow line batch) (length batch.places.now) received stops (Ok flow)
+  pub has_ended : (flow : Flow) → IsRunDelivered (IsReportedRow line batch) (length batch.places.now) received stops (Ok flow)
       → refused ≡ false → (flow ≡ Stop → left ≡ Some 0) → HasEnded
   has_ended GoOn run there ends =
       let hears = run.0 in
@@ -192,7 +192,7 @@ module _ (line : ℕ → Row → List ℕ) (batch : Batch) (most : Option ℕ) (
       }
 
   -- a run that ended well
-  pub has_ended_well : (ran : Result Flow RunError) → IsRunDelivered (IsToldRow line batch) (length batch.places.now) received stops ran
+  pub has_ended_well : (ran : Result Flow RunError) → IsRunDelivered (IsReportedRow line batch) (length batch.places.now) received stops ran
       → is_ok ran ≡ true → refused ≡ false → (ran ≡ Ok Stop → left ≡ Some 0) → HasEnded
   has_ended_well (Ok flow) run ok there ends = has_ended flow run there (λ is. ends (ap Ok is))
   has_ended_well (Err error) run ok there ends = absurd (false≢true ok)

@@ -6,7 +6,7 @@ use Rattle.rv_rows.specs.declared_report.WriteError.TheVariants as write
 use Rattle.rv_stream.specs.declared.error.StreamError.{StreamError}
 use Rattle.rv_stream.specs.declared.error.StreamError.TheVariants as stream
 
--- a text that did not go out ends its run
+-- a failed write ends the run with this error
 abbrev pub stream_error_of_write : WriteError → StreamError
 stream_error_of_write write.OutOfMemory = stream.OutOfMemory
 stream_error_of_write write.Failed = stream.Failed

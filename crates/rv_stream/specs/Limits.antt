@@ -1,26 +1,26 @@
--- The rows of a run that ends behind a failure.
+-- The rows of a run that ends after a failure.
 use Rattle.std.specs.Prelude.{ℕ, zero, suc, Bool, List, [], ◌∷◌, Option, Some, None, if◌then◌else◌}
 use Rattle.rv_expect.specs.Judgement.{fails, judging_of}
 use Rattle.rv_stream.specs.declared.failure_limit.FailureLimit.{FailureLimit}
 use Rattle.rv_rows.specs.declared_row.Row.{Row}
 
--- the first rows, up to the one that is the failure of a number; all where there are fewer failures
+-- the rows up to and including the nth failure; all rows if there are fewer failures
 abbrev pub rows_until : (Row → Bool) → ℕ → List Row → List Row
 rows_until fails zero rows = []
 rows_until fails (suc more) [] = []
 rows_until fails (suc more) (row ∷ rows) = row ∷ rows_until fails (if fails row then more else suc more) rows
 
--- how many failures are wanted behind these rows
-abbrev pub failures_behind : (Row → Bool) → ℕ → List Row → ℕ
-failures_behind fails zero rows = zero
-failures_behind fails (suc more) [] = suc more
-failures_behind fails (suc more) (row ∷ rows) = failures_behind fails (if fails row then more else suc more) rows
+-- how many failures are left, after these rows, before the run ends
+abbrev pub failures_left_after : (Row → Bool) → ℕ → List Row → ℕ
+failures_left_after fails zero rows = zero
+failures_left_after fails (suc more) [] = suc more
+failures_left_after fails (suc more) (row ∷ rows) = failures_left_after fails (if fails row then more else suc more) rows
 
--- the first rows where a failure ends the run, and else all
+-- the rows up to the failure that ends the run, or all rows without such a limit
 abbrev pub rows_up_to : Option ℕ → (Row → Bool) → List Row → List Row
 rows_up_to None fails rows = rows
 rows_up_to (Some most) fails rows = rows_until fails most rows
 
--- the rows that a run with a limit has, of all that it would have
+-- the rows of a run under a limit, out of all rows that it would have without
 abbrev pub rows_within : FailureLimit → List Row → List Row
 rows_within limit rows = rows_up_to limit.failures (fails (judging_of limit.judge)) rows

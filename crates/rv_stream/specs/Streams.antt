@@ -1,14 +1,14 @@
--- What is told of rows, one after another.
+-- The texts reported for rows, one after another.
 use Rattle.std.specs.Prelude.{ℕ, List, [], ◌∷◌}
 use Rattle.std.specs.List.{concat}
 use Rattle.rv_rows.specs.declared_row.Row.{Row}
 
--- a text for each row, told of the job at its place
+-- the text of each row, reported with the index of its job
 abbrev pub row_text_list : (ℕ → Row → List ℕ) → List ℕ → List Row → List (List ℕ)
 row_text_list line [] rows = []
 row_text_list line (place ∷ places) [] = []
 row_text_list line (place ∷ places) (row ∷ rows) = line place row ∷ row_text_list line places rows
 
--- the texts of rows, one after the other
+-- the texts of rows, concatenated
 abbrev pub joined_row_texts : (ℕ → Row → List ℕ) → List ℕ → List Row → List ℕ
 joined_row_texts line places rows = concat (row_text_list line places rows)

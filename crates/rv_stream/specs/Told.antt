@@ -1,15 +1,15 @@
--- Rows of a batch with what is told of them, and the first of these.
+-- Rows of a batch with their reported texts, and the first of them.
 use Rattle.std.specs.Prelude.{◌≡◌, ℕ, Bool, false, List, Option, map, option_map}
 use Rattle.rv_fleet.specs.declared.batch.Batch.{Batch}
-use Rattle.rv_fleet.specs.Batches.{place_of_number, row_of_number}
+use Rattle.rv_fleet.specs.Batches.{index_of_number, row_of_number}
 use Rattle.rv_rows.specs.declared_row.Row.{Row}
 use Rattle.rv_stream.specs.declared.reported_row.ReportedRow.{ReportedRow}
-use Rattle.rv_stream.specs.Limits.{failures_behind, rows_up_to}
+use Rattle.rv_stream.specs.Limits.{failures_left_after, rows_up_to}
 use Rattle.rv_expect.specs.Judgement.{Judging, fails}
 
 -- the row of a batch's job, with the job's index and its text
-pub record IsToldRow (line : ℕ → Row → List ℕ) (batch : Batch) (number : ℕ) (told : ReportedRow) : Type 0 where
-  pub index : told.index ≡ place_of_number batch number
+pub record IsReportedRow (line : ℕ → Row → List ℕ) (batch : Batch) (number : ℕ) (told : ReportedRow) : Type 0 where
+  pub index : told.index ≡ index_of_number batch number
   pub row : told.row ≡ row_of_number batch number
   pub text : told.text.items ≡ line told.index told.row
 
@@ -19,11 +19,11 @@ rows_of_reported told = map (λ (t : ReportedRow). t.row) told
 abbrev pub texts_of_reported : List ReportedRow → List (List ℕ)
 texts_of_reported told = map (λ (t : ReportedRow). t.text.items) told
 
--- how many failures are left before a run ends, where failures end it
+-- how many failures are left before they end the run, if failures end it
 abbrev pub failures_left : Option ℕ → Judging → List Row → Option ℕ
-failures_left most judging rows = option_map (λ number. failures_behind (fails judging) number rows) most
+failures_left most judging rows = option_map (λ number. failures_left_after (fails judging) number rows) most
 
--- rows up to a failure that ends a run; they are kept, unless a growth was refused
+-- the rows up to the failure that ends a run; they are kept unless an allocation failed
 pub record AreRowsUpToFailure (most : Option ℕ) (judging : Judging) (left : Option ℕ) (refused : Bool) (kept rows : List Row) : Type 0 where
   pub kept_all : refused ≡ false → kept ≡ rows
   pub left_is : left ≡ failures_left most judging rows

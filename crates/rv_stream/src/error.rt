@@ -1,4 +1,4 @@
-//! Why not all texts went out.
+//! Why not all texts were written.
 
 ghost use Rattle.std.specs.Prelude.{◌≡◌};
 ghost use Rattle.rv_stream.specs.Errors.{stream_error_of_run, stream_error_of_write};
@@ -9,16 +9,16 @@ use rv_rows::WriteError;
 use std::alloc::AllocError;
 use thiserror::Error;
 
-/// Why not all texts of the rows went out.
+/// Why not all texts of the rows were written.
 #[derive(Clone, Copy, Debug, Error)]
 pub enum StreamError {
-    /// A growth was refused.
+    /// An allocation failed.
     #[error("out of memory")]
     OutOfMemory,
-    /// A put of the sink failed.
+    /// A write to the sink failed.
     #[error("write failed")]
     Failed,
-    /// The start of a thread was refused.
+    /// A thread could not be started.
     #[error("no worker")]
     NoWorker,
     /// The observer said stop before the last row.

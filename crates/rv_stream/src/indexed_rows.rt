@@ -1,10 +1,10 @@
-//! Rows with the places of their jobs.
+//! Rows with the indices of their jobs.
 
 ghost use Rattle.std.specs.Prelude.{◌≤◌, length};
 
 use rv_fleet::Row;
 
-/// Rows, each of the job at its place: the first row at the first place, and so on. There may be more places than rows.
+/// Rows with the indices of their jobs, in the same order. There may be more indices than rows.
 #[derive(Clone, Copy)]
 pub struct IndexedRows<'a> {
     pub places: &'a [usize],

@@ -1,4 +1,4 @@
-//! A sink, and the text that waits to go out to it.
+//! A sink, and the text that is buffered for it.
 
 ghost use Rattle.std.specs.Prelude.{◌≡◌, [], ℕ, List, None, OnErr, OnOk, is_some, true};
 ghost use Rattle.std.specs.Io.KnownBytes.{Appends};
@@ -13,19 +13,19 @@ use rv_rows::WriteError;
 use std::alloc::Global;
 use std::marker::PhantomData;
 
-/// A sink, and the text that waits to go out to it.
+/// A sink, and the text that is buffered for it.
 #[derive(Drop)]
 pub(crate) struct Outbox<J: StreamSpec, W: Sink + Drop> {
     pub(crate) out: W,
-    /// What waits.
+    /// The buffered text.
     pub(crate) unsent: Vec<u8>,
-    /// Why no more goes out.
+    /// The error after which nothing more is written.
     pub(crate) failed: Option<WriteError>,
     of: PhantomData<J>,
 }
 
 impl<J: StreamSpec, W: Sink + Drop> Outbox<J, W> {
-    /// Nothing waits.
+    /// Creates an outbox with an empty buffer.
     pub(crate) fn new(alloc: Global, out: W) -> Outbox<J, W>
         requires before { J.before ≡ W.taken out }
         requires failures { J.failures ≡ W.failed out }
@@ -40,7 +40,7 @@ impl<J: StreamSpec, W: Sink + Drop> Outbox<J, W> {
         }
     }
 
-    /// Sends what waits, and answers whether to go on.
+    /// Writes the buffered text, and returns whether to continue.
     pub(crate) fn send(&mut self) -> Flow
         requires { self.old.failed ≡ None }
         ensures sent { (text : List ℕ)
@@ -61,7 +61,7 @@ impl<J: StreamSpec, W: Sink + Drop> Outbox<J, W> {
         }
     }
 
-    /// Sends what waits, and gives the sink back: it took all of the text, or a beginning.
+    /// Writes the buffered text and returns the sink: it has received the whole text, or after an error a prefix.
     pub(crate) fn finish(self) -> (W, Result<(), WriteError>)
         ensures all { (text : List ℕ) → IsSent J.before (W.taken self.out) J.failures (W.failed self.out) self.failed self.unsent.items text
             → OnOk result.1 (Appends J.before (W.taken result.0) text

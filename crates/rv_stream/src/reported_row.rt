@@ -1,4 +1,4 @@
-//! The rows of a batch, with what is told of them.
+//! The rows of a batch, with their reported texts.
 
 ghost use Rattle.std.specs.Prelude.{◌≡◌};
 
@@ -16,7 +16,7 @@ pub struct ReportedRow {
     pub text: Vec<u8>,
 }
 
-/// Makes the rows of a batch, and tells of them.
+/// Makes the rows of a batch and their reported texts.
 #[derive(Drop)]
 pub(crate) struct ReportedRowWork<'b, 't, T: RowReporter> {
     pub(crate) batch: &'b Batch<'b>,
@@ -26,11 +26,11 @@ pub(crate) struct ReportedRowWork<'b, 't, T: RowReporter> {
 impl<T: RowReporter> Work<ReportedRow> for ReportedRowWork<'_, '_, T> {
     ghost use Rattle.std.specs.Prelude.{length};
     ghost use Rattle.rv_rows.specs.Recent.{AreOutcomes};
-    ghost use Rattle.rv_stream.specs.Told.{IsToldRow};
+    ghost use Rattle.rv_stream.specs.Told.{IsReportedRow};
 
     ghost jobs = { λ s. length s.batch.now.places.now };
 
-    ghost is_made = { λ s number told. IsToldRow (T.line s.reporter.now) s.batch.now number told };
+    ghost is_made = { λ s number told. IsReportedRow (T.line s.reporter.now) s.batch.now number told };
 
     ghost is_worker_state = { λ s worker_state. AreOutcomes s.batch.now.plan.now worker_state.recent };
 

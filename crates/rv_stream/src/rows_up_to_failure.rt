@@ -13,21 +13,21 @@ use rv_rows::Row;
 use std::alloc::Global;
 use std::marker::PhantomData;
 
-/// Keeps the rows that it hears, and says stop at the failure that ends the run.
+/// Keeps the rows that it receives, and returns `Stop` at the failure that ends the run.
 #[derive(Drop)]
 pub(crate) struct RowsUpToFailure<'k, J: StreamSpec> {
     // What counts as a failure.
     judge: Judge<'k>,
-    /// How many failures are left before the run ends.
+    /// The number of failures left before the run ends.
     pub(crate) left: Option<u32>,
     pub(crate) rows: Vec<Row>,
-    /// Whether a growth was refused.
+    /// Whether an allocation failed.
     pub(crate) refused: bool,
     of: PhantomData<J>,
 }
 
 impl<'k, J: StreamSpec> RowsUpToFailure<'k, J> {
-    /// It has heard nothing yet.
+    /// Creates a listener that has received no rows.
     pub(crate) fn new(alloc: Global, limit: &FailureLimit<'k>) -> RowsUpToFailure<'k, J>
         requires most { J.most ≡ limit.now.failures }
         requires judging { J.judging ≡ judging_of limit.now.judge }
@@ -72,15 +72,15 @@ impl<J: StreamSpec> Listener<ReportedRow> for RowsUpToFailure<'_, J> {
     }
 }
 
-// Keeps a row, and answers whether a growth was refused.
+// Keeps a row, and returns whether an allocation failed.
 fn keep_row(rows: &mut Vec<Row>, row: Row) -> bool
     ensures { result ≡ false → rows.new.items ≡ rows.old.items ++ row ∷ [] }
 {
-    // `push` fails by want of memory alone.
+    // `push` fails only if an allocation does.
     rows.push(row).is_err()
 }
 
-// How many failures are left after a row, where they are counted.
+// Returns the number of failures left after a row, if they are counted.
 fn failures_left(left: Option<u32>, failed: bool) -> Option<u32>
     ensures { result ≡ (if failed then option_map (λ n. n - 1) left else left) }
 {

@@ -1,18 +1,18 @@
-//! What a stream is about.
+//! The specification of a stream.
 
 use std::marker::Brand;
 
-/// What a stream is about, which is known before it begins: ghost members alone, picked by each stream.
+/// Specifies a stream before it begins. All members are ghosts, and each stream chooses its own.
 pub trait StreamSpec {
     ghost use Rattle.std.specs.Prelude.{ℕ, List, Option};
     ghost use Rattle.rv_expect.specs.Judgement.{Judging};
 
-    // What the sink took before, and how often it failed.
+    // What the sink received before, and how many writes failed.
     ghost before: { Option (List ℕ) };
 
     ghost failures: { ℕ };
 
-    // Which failure ends the run, and what counts as one.
+    // The number of the failure that ends the run, and what counts as a failure.
     ghost most: { Option ℕ };
 
     ghost judging: { Judging };

@@ -1,4 +1,4 @@
-//! An observer that sends what was told of rows.
+//! An observer that writes the reported texts of rows.
 
 ghost use Rattle.std.specs.Prelude.{◌≡◌, [], None};
 ghost use Rattle.rv_stream.specs.Texts.{IsSent};
@@ -11,14 +11,14 @@ use rv_fleet::Sink;
 use rv_rows::WriteError;
 use std::alloc::Global;
 
-/// Sends what the workers told of each row: what comes together in one put.
+/// Writes the texts that the workers made for each row. Rows that arrive together are written at once.
 #[derive(Drop)]
 pub(crate) struct TextSender<J: StreamSpec, W: Sink + Drop> {
     pub(crate) outbox: Outbox<J, W>,
 }
 
 impl<J: StreamSpec, W: Sink + Drop> TextSender<J, W> {
-    /// It has seen nothing yet.
+    /// Creates a sender that has seen no rows.
     pub(crate) fn new(alloc: Global, out: W) -> TextSender<J, W>
         requires before { J.before ≡ W.taken out }
         requires failures { J.failures ≡ W.failed out }

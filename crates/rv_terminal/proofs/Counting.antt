@@ -5,8 +5,8 @@ use Rattle.rv_base.specs.Counts.{one_more}
 use Rattle.rv_terminal.specs.ColorSinks.{IsCounted, IsPutBy, failures_below, first_course}
 use Rattle.rv_terminal.specs.declared.colors.Colors.{Colors}
 use Rattle.rv_terminal.specs.declared.colors.Colors.TheVariants as colors
-use Rattle.rv_terminal.specs.declared.course.Course.{Course}
-use Rattle.rv_terminal.specs.declared.course.Course.TheVariants as course
+use Rattle.rv_terminal.specs.declared.course.OutputState.{OutputState}
+use Rattle.rv_terminal.specs.declared.course.OutputState.TheVariants as course
 
 pub some_put : (count : ℕ) → 1 ≤ count → (count == 0) ≡ false
 some_put count some = ne_eqb count 0 (λ is. omega arith)
@@ -15,7 +15,7 @@ risen : (n : ℕ) → 1 ≤ one_more n
 risen n = omega arith
 
 -- a put of some bytes is no failure
-pub counted_some : (here next : Course) (more : List ℕ) (old new : Option (List ℕ)) (count failures below : ℕ) → 1 ≤ count
+pub counted_some : (here next : OutputState) (more : List ℕ) (old new : Option (List ℕ)) (count failures below : ℕ) → 1 ≤ count
     → IsPutBy here next more old new → IsCounted here failures below
     → IsCounted next failures (failures_below here next count below)
 counted_some course.Plain next more old new count failures below some put is = rw (put.0, some_put count some) is
@@ -26,7 +26,7 @@ counted_some (course.Colored here) course.CutOff more old new count failures bel
 counted_some course.CutOff next more old new count failures below some put is = rw put.0 is
 
 -- a put of none is one
-pub counted_none : (here next : Course) (more : List ℕ) (old new : Option (List ℕ)) (failures below : ℕ)
+pub counted_none : (here next : OutputState) (more : List ℕ) (old new : Option (List ℕ)) (failures below : ℕ)
     → IsPutBy here next more old new → IsCounted here failures below
     → IsCounted next (one_more failures) (failures_below here next 0 below)
 counted_none course.Plain next more old new failures below put is = rw put.0 (ap one_more is)

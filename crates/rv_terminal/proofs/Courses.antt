@@ -10,8 +10,8 @@ use Rattle.rv_terminal.specs.ColorSinks.{IsMarkBegun, IsOnCourse, IsOut, IsOutIn
 use Rattle.rv_terminal.specs.ColorSinks.{IsShownUpTo, first_course, is_cut_off, results_of}
 use Rattle.rv_terminal.specs.declared.colors.Colors.{Colors}
 use Rattle.rv_terminal.specs.declared.colors.Colors.TheVariants as colors
-use Rattle.rv_terminal.specs.declared.course.Course.{Course}
-use Rattle.rv_terminal.specs.declared.course.Course.TheVariants as course
+use Rattle.rv_terminal.specs.declared.course.OutputState.{OutputState}
+use Rattle.rv_terminal.specs.declared.course.OutputState.TheVariants as course
 use Rattle.rv_terminal.specs.declared.place.Mark.TheVariants as mark
 use Rattle.rv_terminal.specs.declared.place.Place.{Place}
 use Rattle.rv_terminal.proofs.Sequences.{colored_append, part_out, text_out}
@@ -98,7 +98,7 @@ module _ (here : Place) (before old new more part : List ℕ) (shown : IsShownUp
       ∙ ap (λ xs. before ++ uncolored InText (drop (length before) xs)) (sym shown.shown))))
 
 -- a put keeps a sink on its course
-pub course_kept : (colors : Colors) (before old new : Option (List ℕ)) (here next : Course) (more : List ℕ)
+pub course_kept : (colors : Colors) (before old new : Option (List ℕ)) (here next : OutputState) (more : List ℕ)
     → IsOnCourse colors before old here → IsPutBy here next more old new → IsOnCourse colors before new next
 course_kept colors.Without before old new course.Plain next more is put = rw put.0 tt
 course_kept colors.Without before old new (course.Colored here) next more is put = absurd is
@@ -116,7 +116,7 @@ course_kept colors.With (Some before) (Some old) (Some new) (course.Colored here
 course_kept colors.With (Some before) (Some old) new course.CutOff next more is put = rw (put.0, put.1.1) is
 
 -- what was put are results
-pub results_taken : (colors : Colors) (before old new : Option (List ℕ)) (here next : Course) (more : List ℕ)
+pub results_taken : (colors : Colors) (before old new : Option (List ℕ)) (here next : OutputState) (more : List ℕ)
     → IsOnCourse colors before old here → IsPutBy here next more old new
     → Appends (results_of colors before old) (results_of colors before new) more
 results_taken colors.Without before old new course.Plain next more is put = put.1
@@ -143,7 +143,7 @@ nothing_taken (Some old) (Some new) put = put ∙ append-nil old
 
 -- ---- the end
 
-pub out_whole : (colors : Colors) (before out : Option (List ℕ)) (here : Course) → IsOnCourse colors before out here
+pub out_whole : (colors : Colors) (before out : Option (List ℕ)) (here : OutputState) → IsOnCourse colors before out here
     → is_cut_off here ≡ false → IsOut colors before (results_of colors before out) out
 out_whole colors.Without before out here is whole = refl
 out_whole colors.With None out here is whole = tt
@@ -156,7 +156,7 @@ out_whole colors.With (Some before) (Some out) (course.Colored here) is whole = 
 }
 out_whole colors.With (Some before) (Some out) course.CutOff is whole = absurd (true≢false whole)
 
-pub out_in_part : (colors : Colors) (before out : Option (List ℕ)) (here : Course) → IsOnCourse colors before out here
+pub out_in_part : (colors : Colors) (before out : Option (List ℕ)) (here : OutputState) → IsOnCourse colors before out here
     → IsOutInPart colors before (results_of colors before out) out
 out_in_part colors.Without before out here is = refl
 out_in_part colors.With None out here is = tt

@@ -1,4 +1,4 @@
--- What goes out of results that have colours, and how a sink for them goes on.
+-- The output of coloured results, and the state of a sink for them.
 use Rattle.std.specs.Prelude.{◌≡◌, ◌==◌, ◌≤◌, ◌||◌, ◌++◌, ℕ, Bool, true, false, List, [], Option, Some, None, ⊤, drop, fold, length}
 use Rattle.std.specs.Prelude.{if◌then◌else◌}
 use Rattle.std.specs.Option.{option_map}
@@ -7,26 +7,26 @@ use Rattle.rv_base.specs.Counts.{one_more}
 use Rattle.rv_terminal.specs.Colors.{InText, beginning, colored, mark_text, place_behind, uncolored}
 use Rattle.rv_terminal.specs.declared.colors.Colors.{Colors}
 use Rattle.rv_terminal.specs.declared.colors.Colors.TheVariants as colors
-use Rattle.rv_terminal.specs.declared.course.Course.{Course}
-use Rattle.rv_terminal.specs.declared.course.Course.TheVariants as course
+use Rattle.rv_terminal.specs.declared.course.OutputState.{OutputState}
+use Rattle.rv_terminal.specs.declared.course.OutputState.TheVariants as course
 use Rattle.rv_terminal.specs.declared.place.Mark.{Mark}
 use Rattle.rv_terminal.specs.declared.place.Place.{Place}
 
 -- ---- what goes out
 
--- plain bytes are those before and a text, and the bytes that went out are those before and the text in its colours
+-- the plain bytes are the earlier ones and a text, and the bytes that were written are the earlier ones and the text in its colours
 pub record IsColored (before plain out : List ℕ) : Type 0 where
   pub text : List ℕ
   pub put : plain ≡ before ++ text
   pub shown : out ≡ before ++ colored beginning text
 
--- the first bytes of a mark, or all of them
+-- the first bytes of an escape sequence, or all of them
 pub record IsMarkBegun (part : List ℕ) : Type 0 where
   pub mark : Mark
   pub rest : List ℕ
   pub whole : mark_text mark ≡ part ++ rest
 
--- the same as `IsColored`, but the first bytes of a mark may have gone out behind the text
+-- like `IsColored`, but the first bytes of an escape sequence may have been written after the text
 pub record IsColoredInPart (before plain out : List ℕ) : Type 0 where
   pub text : List ℕ
   pub part : List ℕ
@@ -34,19 +34,19 @@ pub record IsColoredInPart (before plain out : List ℕ) : Type 0 where
   pub put : plain ≡ before ++ text
   pub shown : out ≡ before ++ (colored beginning text ++ part)
 
--- both are told, and are so
+-- both are known, and the relation holds for them
 abbrev pub AreTold : (List ℕ → List ℕ → Type 0) → Option (List ℕ) → Option (List ℕ) → Type 0
 AreTold are None out = ⊥
 AreTold are (Some plain) None = ⊥
 AreTold are (Some plain) (Some out) = are plain out
 
--- results went out as they are, or in their colours behind the bytes before, where these are told
+-- results were written as they are, or in their colours after the earlier bytes, if these are known
 abbrev pub IsOut : Colors → Option (List ℕ) → Option (List ℕ) → Option (List ℕ) → Type 0
 IsOut colors.Without before plain out = out ≡ plain
 IsOut colors.With None plain out = ⊤
 IsOut colors.With (Some before) plain out = AreTold (IsColored before) plain out
 
--- the same where a put may have failed
+-- as `IsOut`, but a write may have failed
 abbrev pub IsOutInPart : Colors → Option (List ℕ) → Option (List ℕ) → Option (List ℕ) → Type 0
 IsOutInPart colors.Without before plain out = out ≡ plain
 IsOutInPart colors.With None plain out = ⊤
@@ -54,74 +54,74 @@ IsOutInPart colors.With (Some before) plain out = AreTold (IsColoredInPart befor
 
 -- ---- a sink
 
--- what contracts see of a sink in colours: the sink below it, how often a put failed, and how it goes on
+-- what contracts see of a colouring sink: the sink below it, its number of failed writes, and how its output continues
 pub record InColors (S : Type 0) : Type 0 where
   pub sink : S
   pub failures : ℕ
-  pub course : Course
+  pub course : OutputState
 
--- the results that were put, of what the sink below took
+-- the results that were written, given what the sink below received
 abbrev pub results_of : Colors → Option (List ℕ) → Option (List ℕ) → Option (List ℕ)
 results_of colors.Without before out = out
 results_of colors.With None out = None
 results_of colors.With (Some before) out =
     option_map (λ bytes. before ++ uncolored InText (drop (length before) bytes)) out
 
--- how a sink begins
-abbrev pub first_course : Colors → Course
+-- how the output of a sink begins
+abbrev pub first_course : Colors → OutputState
 first_course colors.Without = course.Plain
 first_course colors.With = course.Colored beginning
 
-abbrev pub is_cut_off : Course → Bool
+abbrev pub is_cut_off : OutputState → Bool
 is_cut_off course.Plain = false
 is_cut_off (course.Colored here) = false
 is_cut_off course.CutOff = true
 
--- a text went out in its colours from a place on: up to the place behind it, or up to a put that failed
-abbrev pub IsPutFrom : Place → Course → List ℕ → Option (List ℕ) → Option (List ℕ) → Type 0
+-- the text was written in its colours from a position in a line on: up to the position after it, or up to a failed write
+abbrev pub IsPutFrom : Place → OutputState → List ℕ → Option (List ℕ) → Option (List ℕ) → Type 0
 IsPutFrom here course.Plain text old new = ⊥
 IsPutFrom here (course.Colored there) text old new = (there ≡ fold place_behind here text) × Appends old new (colored here text)
 IsPutFrom here course.CutOff text old new =
     (part : List ℕ) × (IsMarkBegun part × Appends old new (colored here text ++ part))
 
--- a text went out by a course, and the course behind it; where no text did, a put failed
-abbrev pub IsPutBy : Course → Course → List ℕ → Option (List ℕ) → Option (List ℕ) → Type 0
+-- the text was written as the state says, which led to the next state; if no text was written, a write failed
+abbrev pub IsPutBy : OutputState → OutputState → List ℕ → Option (List ℕ) → Option (List ℕ) → Type 0
 IsPutBy course.Plain next text old new = (next ≡ course.Plain) × Appends old new text
 IsPutBy (course.Colored here) next text old new = IsPutFrom here next text old new
 IsPutBy course.CutOff next text old new = (next ≡ course.CutOff) × ((text ≡ []) × (new ≡ old))
 
--- how often the sink below failed, behind a put of so many bytes: once more where the put put none of them, or cut results off; where
--- they were cut off before, nothing was put there
-abbrev pub failures_below : Course → Course → ℕ → ℕ → ℕ
+-- the failures of the sink below after a write of a number of bytes: one more if that wrote none of them or cut the results off; if they
+-- were cut off before, nothing was written to it
+abbrev pub failures_below : OutputState → OutputState → ℕ → ℕ → ℕ
 failures_below here next count before = if is_cut_off here then before
     else if is_cut_off next || count == 0 then one_more before else before
 
--- a sink failed as often as the sink below, up to a put of that one which failed and cut results off
-abbrev pub IsCounted : Course → ℕ → ℕ → Type 0
+-- the sink failed as often as the sink below, up to the failed write to that one that cut the results off
+abbrev pub IsCounted : OutputState → ℕ → ℕ → Type 0
 IsCounted course.CutOff failures below = 1 ≤ below
 IsCounted _ failures below = failures ≡ below
 
--- the results went out up to a place of a line
+-- the results were written up to a position in a line
 pub record IsShownUpTo (here : Place) (before out : List ℕ) : Type 0 where
   pub text : List ℕ
   pub shown : out ≡ before ++ colored beginning text
   pub place : here ≡ fold place_behind beginning text
 
--- the results went out, and the first bytes of a mark
+-- the results were written, and the first bytes of an escape sequence
 pub record IsShownInPart (before out : List ℕ) : Type 0 where
   pub text : List ℕ
   pub part : List ℕ
   pub begun : IsMarkBegun part
   pub shown : out ≡ before ++ (colored beginning text ++ part)
 
--- how a sink goes on by what went out behind the bytes before
-abbrev pub IsCourseBehind : List ℕ → List ℕ → Course → Type 0
+-- how the output of a sink continues, given what was written after the earlier bytes
+abbrev pub IsCourseBehind : List ℕ → List ℕ → OutputState → Type 0
 IsCourseBehind before out course.Plain = ⊥
 IsCourseBehind before out (course.Colored here) = IsShownUpTo here before out
 IsCourseBehind before out course.CutOff = IsShownInPart before out
 
--- the same where these are told
-abbrev pub IsOnCourse : Colors → Option (List ℕ) → Option (List ℕ) → Course → Type 0
+-- how the output of a sink continues, if what was written is known
+abbrev pub IsOnCourse : Colors → Option (List ℕ) → Option (List ℕ) → OutputState → Type 0
 IsOnCourse colors.Without before out course.Plain = ⊤
 IsOnCourse colors.Without before out (course.Colored here) = ⊥
 IsOnCourse colors.Without before out course.CutOff = ⊥

@@ -1,4 +1,4 @@
--- Which parts of results have colours on a terminal: PASS and what was met are green, FAIL and what was expected are red.
+-- Which parts of results are coloured on a terminal: PASS and actual results are green, FAIL and expected results are red.
 use Rattle.std.specs.Prelude.{◌==◌, ◌||◌, ◌+◌, ℕ, Bool, true, false, List, [], ◌∷◌, ◌++◌, codes, if◌then◌else◌, nat_lt}
 use Rattle.rv_terminal.specs.declared.place.Mark.{Mark}
 use Rattle.rv_terminal.specs.declared.place.Mark.TheVariants as mark
@@ -7,14 +7,14 @@ use Rattle.rv_terminal.specs.declared.place.Place.TheVariants as place
 
 -- ---- marks
 
--- the byte that a terminal's sequences begin with, and the one that ends those for colours
+-- the byte that begins a terminal's escape sequences, and the one that ends those for colours
 abbrev pub escape : ℕ
 escape = 27
 
 abbrev pub end_of_mark : ℕ
 end_of_mark = 109
 
--- a terminal's sequence for a mark: red, green, and as before
+-- the terminal's escape sequence for a mark: red, green, and reset
 abbrev pub mark_text : Mark → List ℕ
 mark_text mark.Nothing = []
 mark_text mark.Red = escape ∷ codes "[31m"
@@ -43,14 +43,14 @@ is_fail byte = byte == 70
 abbrev pub is_pass : ℕ → Bool
 is_pass byte = byte == 80
 
--- the signs of what is expected, or gone, and of what was met, or new
+-- the signs of what is expected or removed, and of what is actual or new
 abbrev pub is_minus : ℕ → Bool
 is_minus byte = byte == 45
 
 abbrev pub is_plus : ℕ → Bool
 is_plus byte = byte == 43
 
--- how many spaces stand before what was expected and what was met
+-- the number of spaces before expected and actual results
 abbrev pub margin : ℕ
 margin = 5
 
@@ -60,7 +60,7 @@ sign_mark byte = if is_minus byte then mark.Red else if is_plus byte then mark.G
 abbrev pub word_mark : ℕ → Mark
 word_mark byte = if is_fail byte then mark.Red else if is_pass byte then mark.Green else sign_mark byte
 
--- the mark before the first byte of a line behind its spaces: a word or a sign stands behind none, and a sign behind the margin
+-- the mark before the first byte of a line after its spaces: a word or a sign if there are none, and a sign after the margin
 abbrev pub begin_mark : ℕ → ℕ → Mark
 begin_mark spaces byte =
     if spaces == 0 then word_mark byte else if spaces == margin then sign_mark byte else mark.Nothing
@@ -72,53 +72,53 @@ line_mark place.Word byte = if is_space byte || is_feed byte then mark.End else 
 line_mark place.Line byte = if is_feed byte then mark.End else mark.Nothing
 line_mark place.Rest byte = mark.Nothing
 
--- the mark before a byte; a sequence of the text's own has one as well, so that it is told from those of marks
+-- the mark before a byte; an escape sequence in the text itself has one as well, to distinguish it from those of marks
 abbrev pub mark_before : Place → ℕ → Mark
 mark_before here byte = if is_escape byte then mark.End else line_mark here byte
 
--- the place behind the first byte of a line that is no space
+-- the position after the first byte of a line that is not a space
 abbrev pub begun_place : ℕ → ℕ → Place
 begun_place spaces byte = if is_nothing (begin_mark spaces byte) then place.Rest
     else if is_minus byte || is_plus byte then place.Line else place.Word
 
--- the same in a line that goes on
+-- the position after a further byte of a line
 abbrev pub place_in_line : Place → ℕ → Place
 place_in_line (place.Margin spaces) byte = if is_space byte
     then (if nat_lt spaces margin then place.Margin (spaces + 1) else place.Rest) else begun_place spaces byte
 place_in_line place.Word byte = if is_space byte then place.Rest else place.Word
 place_in_line here byte = here
 
--- the place behind a byte: the rest of a line is without colours once it has a sequence of its own
+-- the position after a byte: the rest of a line is not coloured once it has an escape sequence of its own
 abbrev pub place_behind : Place → ℕ → Place
 place_behind here byte = if is_feed byte then place.Margin 0
     else if is_escape byte then place.Rest else place_in_line here byte
 
 -- ---- the whole
 
--- a text from a place of a line on, with its marks
+-- a text from a position in a line on, with its marks
 unfoldable pub colored : Place → List ℕ → List ℕ
 colored here [] = []
 colored here (byte ∷ rest) = mark_text (mark_before here byte) ++ byte ∷ colored (place_behind here byte) rest
 
--- where a text begins: a line does
+-- the position at which a text begins: the start of a line
 abbrev pub beginning : Place
 beginning = place.Margin 0
 
 -- ---- without colours
 
--- where a byte of a coloured text stands: in the text, in a mark, or right behind one
+-- the position of a byte in a coloured text: in the text, in a mark, or right after one
 pub data Seat : Type 0 where
   InText : Seat
   InMark : Seat
   BehindMark : Seat
 
--- the seat behind a byte; the byte right behind a mark is the text's, whichever it is
+-- the position after a byte; the byte right after a mark belongs to the text, whichever it is
 abbrev pub seat_behind : Seat → ℕ → Seat
 seat_behind InText byte = if is_escape byte then InMark else InText
 seat_behind InMark byte = if byte == end_of_mark then BehindMark else InMark
 seat_behind BehindMark byte = InText
 
--- what a byte gives to the text
+-- what a byte contributes to the text
 abbrev pub text_of_byte : Seat → ℕ → List ℕ
 text_of_byte InText byte = if is_escape byte then [] else byte ∷ []
 text_of_byte InMark byte = []

@@ -1,16 +1,15 @@
--- The line that says how many jobs are done, and how many of those failed.
+-- The line that shows how many jobs are done, and how many of those failed.
 use Rattle.std.specs.Prelude.{ℕ, Bool, List, [], ◌∷◌, Option, Some, None, ◌++◌, ◌-◌, ◌==◌, codes, if◌then◌else◌, length, not, slice_get}
 use Rattle.std.specs.Fmt.{decimal}
 
--- behind the jobs that are done
+-- the text after the number of jobs that are done
 abbrev pub jobs_and_failed_text : ℕ → ℕ → List ℕ
 jobs_and_failed_text jobs failed = decimal jobs ++ codes " jobs done, " ++ decimal failed ++ codes " failed"
 
 abbrev pub progress_text : ℕ → ℕ → ℕ → List ℕ
 progress_text done jobs failed = decimal done ++ codes " of " ++ jobs_and_failed_text jobs failed
 
--- whether other text stands up to the middle of a line, by the last byte of a text, if it has one,
--- and by what was there before
+-- whether other output ends in the middle of a line, given the last byte of a text, if it has one, and whether it did before
 abbrev pub is_mid_line : Bool → Option ℕ → Bool
 is_mid_line held None = held
 is_mid_line held (Some last) = not (last == 10)
@@ -20,19 +19,18 @@ last_byte text = slice_get text (length text - 1)
 
 -- ---- what the line's terminal is given
 
--- back to the beginning of the line, and the counts in the place of what stands there
+-- a return to the start of the line, and the counts, which overwrite it
 abbrev pub counts_text : ℕ → ℕ → ℕ → List ℕ
 counts_text done jobs failed = 13 ∷ progress_text done jobs failed
 
--- what takes the line away, where it is shown: back to its beginning, and what stands behind it erased
+-- what removes the line if it is shown: a return to its start, and an erase to its end
 abbrev pub erasing_text : Bool → List ℕ
 erasing_text is_shown = if is_shown then 13 ∷ 27 ∷ codes "[K" else []
 
--- nothing in the middle of a line of other text
+-- nothing in the middle of a line of other output
 abbrev pub text_unless_held : Bool → List ℕ → List ℕ
 text_unless_held is_held text = if is_held then [] else text
 
--- around a put of other text: the line is taken away where it is shown, and then shown again, unless what was put ends in the middle
--- of a line
+-- around a write of other output: the line is removed if it is shown, and then shown again, unless the output ends in the middle of a line
 abbrev pub text_around_put : Bool → Bool → List ℕ → List ℕ
 text_around_put was_shown is_held counts = if was_shown then erasing_text was_shown ++ text_unless_held is_held counts else []

@@ -1,14 +1,14 @@
-//! A sink that gives results their colours.
+//! A sink that colours results.
 
 ghost use Rattle.std.specs.Prelude.{◌≡◌, ◌≤◌, IfErr, OnOk, is_err};
 ghost use Rattle.rv_terminal.specs.ColorSinks.{IsOut, IsOutInPart, first_course, is_cut_off, results_of};
 
 use crate::colors::Colors;
-use crate::course::{Course, put_by_course};
+use crate::course::{OutputState, put_by_course};
 use rv_base::{Sink, SinkFailed};
 use std::marker::{Brand, Model, PhantomData};
 
-/// Whether results have colours, and what the sink took before them. Each command picks its own.
+/// Whether results are coloured, and what the sink had received before them. Each command has its own implementation.
 pub trait Results {
     ghost use Rattle.std.specs.Prelude.{ℕ, List, Option};
     ghost use Rattle.rv_terminal.specs.declared.colors.Colors.{Colors};
@@ -27,12 +27,12 @@ impl Results for Brand {
     ghost before = { None };
 }
 
-/// A sink that takes results, and gives them to another with their colours, or as they are. To contracts it took the results
-/// themselves. Once a put failed with colours, each further one fails: a part of a mark may be out.
+/// A sink that passes results on to another sink, coloured or as they are. Contracts describe the uncoloured output. After a failed write
+/// with colours, each further write fails, because part of an escape sequence may have been written.
 #[derive(Drop)]
 pub struct ColorSink<J: Results, S: Sink + Drop> {
     sink: S,
-    course: Course,
+    course: OutputState,
     failures: u64,
     of: PhantomData<J>,
 }
@@ -49,7 +49,7 @@ impl<J: Results, S: Sink + Drop> Model for ColorSink<J, S> {
 }
 
 impl<J: Results, S: Sink + Drop> ColorSink<J, S> {
-    /// Over another sink; a line begins.
+    /// Creates a sink over another sink, at the start of a line.
     pub fn new(sink: S, colors: Colors) -> ColorSink<J, S>
         requires colors { colors ≡ J.colors }
         requires before { S.taken sink ≡ J.before }
@@ -60,13 +60,13 @@ impl<J: Results, S: Sink + Drop> ColorSink<J, S> {
         let failures = sink.failures();
         ColorSink {
             sink,
-            course: Course::first(colors),
+            course: OutputState::first(colors),
             failures,
             of: PhantomData,
         }
     }
 
-    /// The other sink, and whether it took the results whole: an error where a put of it failed with colours.
+    /// Returns the other sink, and whether it received the results completely: an error if a write to it failed with colours.
     pub fn finish(self) -> (S, Result<(), SinkFailed>)
         ensures sink { result.0 ≡ self.sink }
         ensures told { is_err result.1 ≡ is_cut_off self.course }

@@ -1,6 +1,6 @@
-//! Whether results have colours.
+//! Whether results are coloured.
 
-/// Whether results have colours.
+/// Whether results are coloured.
 #[derive(Clone, Copy, Debug, PartialEq, Eq)]
 pub enum Colors {
     Without,

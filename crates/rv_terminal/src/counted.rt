@@ -2,11 +2,11 @@
 
 ghost use Rattle.std.specs.Prelude.{◌≤◌};
 
-/// A count of rows, and of those among them that count as failures.
+/// The number of rows, and of those that count as failures.
 #[derive(Clone, Copy)]
 pub(crate) struct Tally {
     pub(crate) done: u64,
     pub(crate) failed: u64,
-    // It holds whenever the lock of a progress is taken.
+    // It holds whenever the lock of a progress is acquired.
     ghost within: { failed ≤ done },
 }

@@ -1,4 +1,4 @@
-//! How results go on, put by put.
+//! The state of a coloured output between writes.
 
 ghost use Rattle.std.specs.Prelude.{◌≡◌, ◌≤◌, ◌<◌, ◌++◌, ℕ, IfErr, IfOk, length, slice_index, take};
 ghost use Rattle.std.specs.Io.KnownBytes.{Appends};
@@ -6,61 +6,64 @@ ghost use Rattle.rv_base.specs.Counts.{one_more};
 ghost use Rattle.rv_base.specs.Sinks.{AppendsBeginning};
 ghost use Rattle.rv_terminal.specs.Colors.{colored, mark_before, mark_text};
 ghost use Rattle.rv_terminal.specs.ColorSinks.{IsPutBy, IsPutFrom, failures_below, first_course, is_cut_off};
-ghost use Rattle.rv_terminal.specs.declared.course.Course.TheVariants as course;
+ghost use Rattle.rv_terminal.specs.declared.course.OutputState.TheVariants as course;
 
 use crate::colors::Colors;
 use crate::place::Place;
 use rv_base::{Sink, SinkFailed, put_all};
 
-/// How results go on.
+/// How the output continues.
 #[derive(Clone, Copy)]
-pub(crate) enum Course {
-    /// As they are.
+pub(crate) enum OutputState {
+    /// Without colours.
     Plain,
-    /// With colours, from this place of a line on.
+    /// With colours, from this position in a line on.
     Colored(Place),
-    /// Not at all: a put failed, and a part of a mark may be out.
+    /// Not at all: a write failed, and part of an escape sequence may have been written.
     CutOff,
 }
 
-impl Course {
-    /// How results begin, at the beginning of a line.
-    pub(crate) fn first(colors: Colors) -> Course
+impl OutputState {
+    /// Returns how the output begins, at the start of a line.
+    pub(crate) fn first(colors: Colors) -> OutputState
         ensures { result ≡ first_course colors }
     {
         match colors {
-            Colors::Without => Course::Plain,
-            Colors::With => Course::Colored(Place::Margin(0)),
+            Colors::Without => OutputState::Plain,
+            Colors::With => OutputState::Colored(Place::Margin(0)),
         }
     }
 
     pub(crate) fn is_cut_off(self) -> bool
         ensures { result ≡ is_cut_off self }
     {
-        matches!(self, Course::CutOff)
+        matches!(self, OutputState::CutOff)
     }
 }
 
-/// Puts bytes from the front, with the marks that they have: how many, and how results go on behind them. Where none went out, a
-/// put failed.
-pub(crate) fn put_by_course<S: Sink>(sink: &mut S, course: Course, bytes: &[u8]) -> (usize, Course)
+/// Writes leading bytes, with their marks, and returns how many, and how the output continues. If none were written, a write failed.
+pub(crate) fn put_by_course<S: Sink>(
+    sink: &mut S,
+    course: OutputState,
+    bytes: &[u8],
+) -> (usize, OutputState)
     requires { 0 < length bytes.now }
     ensures within { result.0 ≤ length bytes.now }
     ensures put { IsPutBy course result.1 (take result.0 bytes.now) (S.taken sink.old) (S.taken sink.new) }
     ensures counted { S.failed sink.new ≡ failures_below course result.1 result.0 (S.failed sink.old) }
 {
     match course {
-        Course::Plain => match sink.put(bytes) {
-            Ok(count) => (count, Course::Plain),
-            Err(_) => (0, Course::Plain),
+        OutputState::Plain => match sink.put(bytes) {
+            Ok(count) => (count, OutputState::Plain),
+            Err(_) => (0, OutputState::Plain),
         },
-        Course::Colored(place) => put_colored(sink, place, bytes),
-        Course::CutOff => (0, Course::CutOff),
+        OutputState::Colored(place) => put_colored(sink, place, bytes),
+        OutputState::CutOff => (0, OutputState::CutOff),
     }
 }
 
-// Puts all of the bytes, piece by piece, up to a put that fails.
-fn put_colored<S: Sink>(sink: &mut S, place: Place, bytes: &[u8]) -> (usize, Course)
+// Writes all of the bytes, piece by piece, up to a failed write.
+fn put_colored<S: Sink>(sink: &mut S, place: Place, bytes: &[u8]) -> (usize, OutputState)
     requires { 0 < length bytes.now }
     ensures within { result.0 ≤ length bytes.now }
     ensures put { IsPutFrom place result.1 (take result.0 bytes.now) (S.taken sink.old) (S.taken sink.new) }
@@ -75,13 +78,13 @@ fn put_colored<S: Sink>(sink: &mut S, place: Place, bytes: &[u8]) -> (usize, Cou
                 here = here.behind_all(&rest[..count]);
                 at += count;
             }
-            Err(_) => return (at, Course::CutOff),
+            Err(_) => return (at, OutputState::CutOff),
         }
     }
-    (at, Course::Colored(here))
+    (at, OutputState::Colored(here))
 }
 
-// Puts the first bytes, with what stands before the first of them.
+// Writes the first bytes, with the mark before the first of them.
 fn put_piece<S: Sink>(sink: &mut S, place: Place, bytes: &[u8]) -> Result<usize, SinkFailed>
     requires { 0 < length bytes.now }
     ensures within { IfOk result (λ count. (1 ≤ count) × (count ≤ length bytes.now)) }
@@ -96,7 +99,7 @@ fn put_piece<S: Sink>(sink: &mut S, place: Place, bytes: &[u8]) -> Result<usize,
     sink.put(&bytes[..marked_len(place, bytes)])
 }
 
-// How many bytes from the front have no mark before them but the first.
+// Returns the number of leading bytes without a mark, except before the first.
 fn marked_len(place: Place, bytes: &[u8]) -> usize
     requires { 0 < length bytes.now }
     ensures within { (1 ≤ result) × (result ≤ length bytes.now) }

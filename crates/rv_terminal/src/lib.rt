@@ -1,11 +1,10 @@
-//! What a terminal is shown beside the text itself: colours of results, and the line that says how many jobs are done.
+//! What a terminal shows besides the text itself: colours of results, and the line that shows how many jobs are done.
 //!
-//! A [`ColorSink`] takes results and gives another sink the same with a terminal's sequences, or as they are ([`Colors`]). To contracts
-//! it took the results themselves, however they went out. Taking the marks out of a coloured text gives the text again
-//! ([`colors_can_be_taken_out`]).
+//! A [`ColorSink`] passes results on to another sink, with a terminal's escape sequences or as they are ([`Colors`]). Contracts describe
+//! the uncoloured output in both cases. Removing the marks from a coloured text gives the text again ([`colors_can_be_taken_out`]).
 //!
-//! A [`Progress`] counts rows and shows the counts in one line, rewritten in place. A [`ProgressReporter`] counts each row that
-//! it tells. A [`TerminalSink`] takes the line away before other text goes to the same terminal, and shows it again behind it.
+//! A [`Progress`] counts rows and shows the counts in one line, which is redrawn in place. A [`ProgressReporter`] counts each row that it
+//! reports. A [`TerminalSink`] removes the line before other output goes to the same terminal, and shows it again afterwards.
 #![tactic(auto)]
 
 mod color_sink;

@@ -4,37 +4,37 @@ ghost use Rattle.std.specs.Prelude.{◌≡◌, fold};
 ghost use Rattle.rv_terminal.specs.Colors.{begin_mark, begun_place, is_nothing, line_mark, mark_before, mark_text, place_behind};
 ghost use Rattle.rv_terminal.specs.Colors.{place_in_line, sign_mark, word_mark};
 
-/// What a terminal is told before a byte.
+/// What is sent to a terminal before a byte.
 #[derive(Clone, Copy)]
 pub(crate) enum Mark {
     Nothing,
     Red,
     Green,
-    /// Colours as they were before.
+    /// Resets the colours.
     End,
 }
 
-/// Where a byte of results stands in its line.
+/// The position of a byte of results in its line.
 #[derive(Clone, Copy)]
 pub(crate) enum Place {
-    /// Behind so many spaces, with which the line begins: five at most.
+    /// After this many spaces at the start of the line: at most five.
     Margin(u8),
-    /// In the first word, which has a colour.
+    /// In the first word, which is coloured.
     Word,
-    /// In a line that has a colour up to its end.
+    /// In a line that is coloured up to its end.
     Line,
-    /// In the rest of a line, without a colour.
+    /// In the rest of a line, which is not coloured.
     Rest,
 }
 
-// How many spaces stand before what was expected and what was met.
+// The number of spaces before expected and actual results.
 const MARGIN: u8 = 5;
 
-// What a terminal's sequences begin with.
+// The first byte of a terminal's escape sequences.
 const ESCAPE: u8 = 0x1b;
 
 impl Mark {
-    /// The terminal's sequence.
+    /// Returns the terminal's escape sequence.
     pub(crate) fn text(self) -> &'static str
         ensures { result.now ≡ mark_text self }
     {
@@ -54,7 +54,7 @@ impl Mark {
 }
 
 impl Place {
-    /// What stands before a byte.
+    /// Returns the mark before a byte.
     pub(crate) fn mark_before(self, byte: u8) -> Mark
         ensures { result ≡ mark_before self byte }
     {
@@ -76,7 +76,7 @@ impl Place {
         }
     }
 
-    /// The place behind a byte.
+    /// Returns the position after a byte.
     pub(crate) fn behind(self, byte: u8) -> Place
         ensures { result ≡ place_behind self byte }
     {
@@ -104,7 +104,7 @@ impl Place {
         }
     }
 
-    /// The place behind bytes.
+    /// Returns the position after bytes.
     pub(crate) fn behind_all(self, bytes: &[u8]) -> Place
         ensures { result ≡ fold place_behind self bytes.now }
     {
@@ -116,7 +116,7 @@ impl Place {
     }
 }
 
-// The mark before the first byte of a line behind its spaces.
+// Returns the mark before the first byte of a line after its spaces.
 fn begin_mark(spaces: u8, byte: u8) -> Mark
     ensures { result ≡ begin_mark spaces byte }
 {
@@ -149,7 +149,7 @@ fn sign_mark(byte: u8) -> Mark
     }
 }
 
-// The place behind the first byte of a line that is no space.
+// Returns the position after the first byte of a line that is not a space.
 fn begun_place(spaces: u8, byte: u8) -> Place
     ensures { result ≡ begun_place spaces byte }
 {

@@ -1,4 +1,4 @@
-//! How many jobs are done and failed, and the line that says so.
+//! How many jobs are done and failed, and the line that shows it.
 
 ghost use Rattle.std.specs.Prelude.{◌≡◌, ◌++◌, ◌+◌, ◌-◌, ◌∷◌, ◌^◌, ◌<◌, ◌≤◌, [], List, length};
 ghost use Rattle.rv_terminal.specs.Tallies.{IsTallyOf};
@@ -21,18 +21,18 @@ pub struct Progress<'k, W: Drop> {
     jobs: u64,
     judge: Judge<'k>,
     is_terminal: bool,
-    // A lock of its own: to count waits for no terminal.
+    // It has a lock of its own so that counting does not wait for the terminal.
     tally: Mutex<Tally>,
-    // The tenth of a second, by the clock, in which the run began.
+    // The time at which the run began, in tenths of a second of the clock.
     start: u64,
-    // In how many tenths after that the line was shown last.
+    // The time at which the line was last shown, in tenths of a second after that.
     shown: AtomicU64,
     line: Mutex<Line<W>>,
 }
 
 impl<'k, W: Write + Drop> Progress<'k, W> {
-    /// Of a run of so many jobs, whose rows a judge counts. The line is shown on `out`, where that is a terminal, and from
-    /// the next tenth of a second of the clock on: a run that is done before has none.
+    /// Creates the progress of a run of `jobs` jobs, whose rows a judge counts. The line is shown on `out` if that is a terminal, but not
+    /// before the clock's next tenth of a second: a run that is done by then shows none.
     pub fn new<C: Clock>(
         clock: &C,
         jobs: usize,
@@ -48,7 +48,7 @@ impl<'k, W: Write + Drop> Progress<'k, W> {
         Progress::from_start(start, jobs, judge, out, is_terminal)
     }
 
-    // Of a run that begins in a tenth of a second of the clock.
+    // Creates the progress of a run that begins at a time in tenths of a second of the clock.
     fn from_start(
         start: u64,
         jobs: usize,
@@ -72,7 +72,7 @@ impl<'k, W: Write + Drop> Progress<'k, W> {
         }
     }
 
-    /// Takes the line away, and gives the terminal back.
+    /// Removes the line, and returns the terminal.
     pub fn finish(self) -> W {
         let Progress {
             jobs: _,
@@ -87,8 +87,8 @@ impl<'k, W: Write + Drop> Progress<'k, W> {
         out
     }
 
-    /// Counts a row. Where a tenth of a second has passed since the line was shown last, and no other thread writes to
-    /// the terminal, it is shown again.
+    /// Counts a row. If a tenth of a second has passed since the line was last shown and no other thread writes to the terminal, it is
+    /// shown again.
     pub(crate) fn count_row<R: Clock + Wait>(&self, rt: &R, alloc: Global, row: &Row) {
         if !self.is_terminal {
             return;
@@ -100,7 +100,7 @@ impl<'k, W: Write + Drop> Progress<'k, W> {
             return;
         }
         if let Some(mut line) = self.line.try_lock() {
-            // What the terminal does not take is passed over.
+            // A failure of the terminal is ignored.
             let _shown = line.show_counts(alloc, self.counts_of(self.tally_so_far(rt)));
         }
     }
@@ -113,7 +113,7 @@ impl<'k, W: Write + Drop> Progress<'k, W> {
         tally.count_row(&self.judge, row);
     }
 
-    // Whether no line was shown in this tenth of a second. Of the threads that ask in one, one is answered so.
+    // Whether no line was shown in this tenth of a second. If several threads ask in the same one, only one gets `true`.
     fn claim_line_turn<C: Clock>(&self, clock: &C) -> bool {
         match clock_tenths(clock) {
             Some(now) => {
@@ -124,21 +124,21 @@ impl<'k, W: Write + Drop> Progress<'k, W> {
         }
     }
 
-    // How many tenths of a second lie between the start of the run and a time of the clock: none within the first.
+    // Returns the number of tenths of a second between the start of the run and a time of the clock: 0 within the first.
     fn tenths_since_start(&self, now: u64) -> u64
         ensures { result ≡ now - self.now.start }
     {
         now.saturating_sub(self.start)
     }
 
-    /// The count of the rows so far. What a lock holds is in no contract, but that no more failed than are done.
+    /// Returns the tally of the rows so far. No contract says more about a lock's contents than that at most as many failed as are done.
     pub(crate) fn tally_so_far<R: Wait>(&self, rt: &R) -> Tally
         ensures { result.failed ≤ result.done }
     {
         *self.tally.lock(rt)
     }
 
-    /// The counts of rows, and of the jobs of the run.
+    /// Returns the counts of rows, and of the jobs of the run.
     pub(crate) fn counts_of(&self, tally: Tally) -> Counts
         ensures tally { result.tally ≡ tally }
         ensures jobs { result.jobs ≡ self.now.jobs }
@@ -149,7 +149,7 @@ impl<'k, W: Write + Drop> Progress<'k, W> {
         }
     }
 
-    /// The line, for one thread at a time.
+    /// Locks the line for one thread at a time.
     pub(crate) fn lock_line<R: Wait>(&self, rt: &R) -> MutexGuard<'_, Line<W>> {
         self.line.lock(rt)
     }
@@ -162,7 +162,7 @@ impl<'k, W: Write + Drop> Progress<'k, W> {
     }
 }
 
-// The clock's time in tenths of a second.
+// Returns the clock's time in tenths of a second.
 fn clock_tenths<C: Clock>(clock: &C) -> Option<u64> {
     match clock.monotonic() {
         Ok(time) => {

@@ -9,7 +9,7 @@ use std::io::Write;
 use std::sync::Wait;
 use std::time::Clock;
 
-/// Tells what another reporter tells, and counts each row that is told.
+/// Reports what another reporter reports, and counts each row that is reported.
 #[derive(Drop)]
 pub struct ProgressReporter<'r, 't, 'p, 'k, R: Clock + Wait, T: RowReporter, W: Drop> {
     rt: &'r R,

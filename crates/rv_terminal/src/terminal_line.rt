@@ -17,15 +17,15 @@ pub(crate) struct Counts {
     pub(crate) jobs: u64,
 }
 
-// Back to the line's beginning, and what stands behind it erased.
+// A return to the start of the line, and an erase to its end.
 const CLEAR: &[u8] = b"\r\x1b[K";
 
-/// A line on a terminal that is rewritten in place. Each call tells whether the terminal took all of it.
+/// A line on a terminal that is redrawn in place. Each call returns whether the terminal accepted all of it.
 #[derive(Drop)]
 pub(crate) struct Line<W: Drop> {
     out: W,
     is_shown: bool,
-    // Other text stands on the terminal up to the middle of a line.
+    // Other output on the terminal ends in the middle of a line.
     is_held: bool,
 }
 
@@ -42,7 +42,7 @@ impl<W: Write + Drop> Line<W> {
         }
     }
 
-    /// Takes the line away, and gives the terminal back.
+    /// Removes the line, and returns the terminal.
     pub(crate) fn finish(self) -> (W, Result<(), WriteError>)
         ensures { OnOk result.1
             (Appends (W.contents self.out) (W.contents result.0) (erasing_text self.is_shown)) }
@@ -52,9 +52,9 @@ impl<W: Write + Drop> Line<W> {
         (line.out, erased)
     }
 
-    /// Writes the counts over those that stand there. They never have fewer digits.
+    /// Writes the counts over the previous ones. They never have fewer digits.
     pub(crate) fn show_counts(&mut self, alloc: Global, counts: Counts) -> Result<(), WriteError>
-        // In the middle of a line of other text nothing is written.
+        // In the middle of a line of other output, nothing is written.
         ensures unchanged { IsTrue self.old.is_held → self.new ≡ self.old }
         ensures held { self.new.is_held ≡ self.old.is_held }
         ensures shown { OnOk result (self.new.is_shown ≡ (self.old.is_shown || not self.old.is_held)) }
@@ -76,7 +76,7 @@ impl<W: Write + Drop> Line<W> {
         self.is_shown
     }
 
-    /// Takes the line away, where it stands there.
+    /// Removes the line, if it is shown.
     pub(crate) fn take_away(&mut self) -> Result<(), WriteError>
         ensures away { self.new.is_shown ≡ false }
         ensures held { self.new.is_held ≡ self.old.is_held }
@@ -90,7 +90,7 @@ impl<W: Write + Drop> Line<W> {
         self.write_and_flush(CLEAR)
     }
 
-    /// Other text went to the terminal. Until it ends with a line feed nothing is shown.
+    /// Notes that other output went to the terminal. Until it ends with a line feed, nothing is shown.
     pub(crate) fn note_other_text(&mut self, text: &[u8])
         ensures held { self.new.is_held ≡ is_mid_line self.old.is_held (last_byte text.now) }
         ensures shown { self.new.is_shown ≡ self.old.is_shown }
@@ -116,7 +116,7 @@ impl<W: Write + Drop> Line<W> {
     }
 }
 
-// Appends the counts, in the place of what stands on the line.
+// Appends the counts, which overwrite what the line shows.
 fn push_progress_text(text: &mut Vec<u8>, counts: Counts) -> Result<(), AllocError>
     ensures { OnOk result (text.new.items
         ≡ text.old.items ++ counts_text counts.tally.done counts.jobs counts.tally.failed) }

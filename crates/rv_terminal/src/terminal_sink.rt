@@ -1,4 +1,4 @@
-//! A sink to the terminal on which the line stands.
+//! A sink to the terminal that shows the progress line.
 
 ghost use Rattle.std.specs.Prelude.{◌≡◌, ◌↔◌, ◌≤◌, ◌<◌, ◌&&◌, IfErr, IfOk, IfSome, IsSome, IsTrue, MatchResult, OnOk, false, length, not, take};
 ghost use Rattle.std.specs.Io.KnownBytes.{Appends, Keeps};
@@ -13,19 +13,19 @@ use std::alloc::Global;
 use std::io::Write;
 use std::sync::Wait;
 
-/// A sink whose puts go to the terminal on which the line of a [`Progress`] stands: the line is taken away before each,
-/// and shown again behind what ends with a line feed.
+/// A sink that writes to the terminal that shows the line of a [`Progress`]: the line is removed before each write, and shown again after
+/// output that ends with a line feed.
 #[derive(Drop)]
 pub struct TerminalSink<'a, 'k, R: Wait, S: Sink + Drop, W: Drop> {
     rt: &'a R,
     alloc: Global,
     sink: S,
-    // None where nothing has to be taken away.
+    // `None` if there is no line to remove.
     progress: Option<&'a Progress<'k, W>>,
 }
 
 impl<'a, 'k, R: Wait, S: Sink + Drop, W: Write + Drop> TerminalSink<'a, 'k, R, S, W> {
-    /// A sink that goes to a terminal, or doesn't: then the line stays.
+    /// Creates a sink that writes to a terminal or not; if not, the line stays.
     pub fn new(
         rt: &'a R,
         alloc: Global,
@@ -64,7 +64,7 @@ impl<'a, 'k, R: Wait, S: Sink + Drop, W: Write + Drop> Sink for TerminalSink<'a,
         };
         let mut line = progress.lock_line(self.rt);
         let tally = progress.tally_so_far(self.rt);
-        // What the terminal does not take of the line is passed over.
+        // A failure of the terminal to accept the line is ignored.
         self.put_beside_counts(progress, &mut line, bytes, tally)
             .put
     }
@@ -75,7 +75,7 @@ impl<'a, 'k, R: Wait, S: Sink + Drop, W: Write + Drop> Sink for TerminalSink<'a,
 }
 
 impl<'a, 'k, R: Wait, S: Sink + Drop, W: Write + Drop> TerminalSink<'a, 'k, R, S, W> {
-    // Puts bytes to the sink: the line of a progress is taken away first, and shown again with a count of its jobs.
+    // Writes bytes to the sink: first the line of a progress is removed, and afterwards it is shown again with the counts of its jobs.
     fn put_beside_counts(
         &mut self,
         progress: &Progress<'k, W>,
@@ -103,14 +103,14 @@ impl<'a, 'k, R: Wait, S: Sink + Drop, W: Write + Drop> TerminalSink<'a, 'k, R, S
     }
 }
 
-// A put to a sink on the terminal of the line, and whether that terminal took the line.
+// The result of a write to a sink on the line's terminal, and whether that terminal accepted the line.
 #[derive(Drop)]
 struct PutBesideLine {
     put: Result<usize, SinkFailed>,
     line: Result<(), WriteError>,
 }
 
-// Puts bytes to a sink on the terminal of the line: the line is taken away first, and shown again behind what ends with a line feed.
+// Writes bytes to a sink on the line's terminal: first the line is removed, and it is shown again after output that ends with a line feed.
 fn put_beside_line<S: Sink, W: Write + Drop>(
     line: &mut Line<W>,
     sink: &mut S,
@@ -148,7 +148,7 @@ fn put_beside_line<S: Sink, W: Write + Drop>(
     }
 }
 
-// Puts bytes to a sink on the terminal from which the line is taken away, and notes whether what went out ends in the middle of a line.
+// Writes bytes to a sink on the terminal from which the line is removed, and notes whether the output ends in the middle of a line.
 fn put_and_note<S: Sink, W: Write + Drop>(
     line: &mut Line<W>,
     sink: &mut S,

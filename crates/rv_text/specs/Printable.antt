@@ -1,6 +1,5 @@
--- Text that comes from files, as it is shown to a person: characters as they are; control and format characters,
--- and bytes that are of no character, each byte as a backslash, an x and two lower-case hexadecimal
--- digits.
+-- Text from files, as it is shown to a person: characters as they are; control and format characters, and bytes that are not part of a
+-- character, byte by byte as a backslash, an x and two lower-case hexadecimal digits.
 use Rattle.std.specs.Prelude.{◌≡◌, ◌==◌, ◌&&◌, ◌||◌, ◌+◌, ◌-◌, ℕ, zero, suc, Bool, false, List, [], ◌∷◌, ◌++◌}
 use Rattle.std.specs.Prelude.{Option, Some, None, if◌then◌else◌, nat_lt, not, codes, drop, length, take, slice_get, slice_index}
 use Rattle.std.specs.Char.{is_control}
@@ -9,18 +8,18 @@ use Rattle.std.specs.List.{All}
 use Rattle.std.specs.Str.{IsUtf8, chars, continuation_len, is_utf8}
 use Rattle.hex.specs.Hex.{encode_lower}
 
--- whether a control character stands in front: below U+0020, U+007F, or U+0080 to U+009F, of which
--- each has the bytes 0xC2 and its number
+-- whether the text begins with a control character: below U+0020, U+007F, or U+0080 to U+009F, which are encoded as 0xC2 followed by the
+-- character's number
 abbrev pub begins_with_control : List ℕ → Bool
 begins_with_control text = let first = slice_index text 0 in
     nat_lt first 0x20 || first == 0x7F || (first == 0xC2 && nat_lt (slice_index text 1) 0xA0)
 
--- as many bytes as the character has which the first of them begins, or all where there are fewer
+-- the bytes of the character that the first byte begins, or all bytes if there are fewer
 abbrev pub front_character_bytes : List ℕ → List ℕ
 front_character_bytes text = take (continuation_len (slice_index text 0) + 1) text
 
--- whether a reader does not see a character, or it turns the text around it: Unicode's general categories Cf (format), Zl and Zp
--- (separators of lines and of paragraphs), and the codes of the same blocks that have no character yet
+-- whether a character is invisible or changes the direction of the text around it: Unicode's general categories Cf (format), Zl and Zp
+-- (line and paragraph separators), and the unassigned code points of their blocks
 abbrev pub is_format : ℕ → Bool
 is_format c = c == 0xAD || (is_in_range 0x600 0x605 c || (c == 0x61C || (c == 0x6DD || (c == 0x70F ||
     (is_in_range 0x890 0x891 c || (c == 0x8E2 || (c == 0x180E || (is_in_range 0x200B 0x200F c || (is_in_range
@@ -32,42 +31,41 @@ abbrev pub is_format_if_any : Option ℕ → Bool
 is_format_if_any None = false
 is_format_if_any (Some c) = is_format c
 
--- whether such a character stands in front
+-- whether the text begins with such a character
 unfoldable pub begins_with_format : List ℕ → Bool
 begins_with_format text = let front = front_character_bytes text in
     if is_utf8 front then is_format_if_any (slice_get (chars front) 0) else false
 
--- how many bytes in front are shown as they are: those of one character, if it is no control character and no format character
+-- the number of leading bytes that are shown as they are: those of one character, if it is not a control or format character
 unfoldable pub plain_front_len : List ℕ → ℕ
 plain_front_len text =
     if is_utf8 (front_character_bytes text) && not (begins_with_control text || begins_with_format text)
     then length (front_character_bytes text) else 0
 
--- a byte as it is shown where it is not shown as it is
+-- the escape of a byte
 abbrev pub escape : ℕ → List ℕ
 escape byte = codes "\\x" ++ encode_lower (byte ∷ [])
 
--- what the first byte of a text is shown as
+-- how the first byte of a text is shown
 abbrev pub printable_first : List ℕ → ℕ → List ℕ
 printable_first text byte = if plain_front_len text == 0 then escape byte else byte ∷ []
 
--- the text of which so many bytes are still those of a character that is shown as it is
+-- how a text is shown whose first n bytes still belong to a character that is shown as it is
 unfoldable pub printable_from : ℕ → List ℕ → List ℕ
 printable_from left [] = []
 printable_from zero (byte ∷ rest) = printable_first (byte ∷ rest) byte
     ++ printable_from (plain_front_len (byte ∷ rest) - 1) rest
 printable_from (suc left) (byte ∷ rest) = byte ∷ printable_from left rest
 
--- a text as it is shown
+-- how a text is shown
 abbrev pub printable_text : List ℕ → List ℕ
 printable_text text = printable_from 0 text
 
--- how many characters the first byte of a text takes where it is shown: one for its character, or the
--- four of an escape
+-- the number of characters that the first byte of a text is shown as: one for its character, or the four of an escape
 abbrev pub front_width : List ℕ → ℕ
 front_width text = if plain_front_len text == 0 then 4 else 1
 
--- the same text as far as whole characters, and escapes of whole bytes, fit into so many characters
+-- the text cut off after the last whole character or escape that fits into a number of characters
 unfoldable pub printable_within : ℕ → ℕ → List ℕ → List ℕ
 printable_within room left [] = []
 printable_within room zero (byte ∷ rest) =
@@ -76,19 +74,19 @@ printable_within room zero (byte ∷ rest) =
     ++ printable_within (room - front_width (byte ∷ rest)) (plain_front_len (byte ∷ rest) - 1) rest
 printable_within room (suc left) (byte ∷ rest) = byte ∷ printable_within room left rest
 
--- how many characters of a value are shown at most
+-- the maximum number of characters shown of a value
 abbrev pub most_shown_characters : ℕ
 most_shown_characters = 80
 
--- a value that was met or is expected, as it is shown
+-- how an actual or expected value is shown
 abbrev pub printable_value : List ℕ → List ℕ
 printable_value text = printable_within most_shown_characters 0 text
 
--- how many characters of a symbol's name are shown at most
+-- the maximum number of characters shown of a symbol's name
 abbrev pub most_characters_of_name : ℕ
 most_characters_of_name = 256
 
--- the name of a symbol, as it is shown
+-- how the name of a symbol is shown
 abbrev pub printable_name : List ℕ → List ℕ
 printable_name text = printable_within most_characters_of_name 0 text
 
@@ -103,7 +101,7 @@ behind_printable_front text = if plain_front_len text == 0 then drop 1 text else
 
 -- ---- what a terminal takes as text
 
--- UTF-8 of which no character is a control character or a format character
+-- UTF-8 without control or format characters
 pub record IsUtf8WithoutControls (text : List ℕ) : Type 0 where
   pub utf8 : IsUtf8 text
   pub without_controls : All (λ character. (is_control character || is_format character) ≡ false) (chars text)

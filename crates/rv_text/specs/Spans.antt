@@ -1,4 +1,4 @@
--- Lines that are put together from spans.
+-- Lines built from spans.
 use Rattle.std.specs.Prelude.{ℕ, List}
 use Rattle.std.specs.Fmt.{decimal}
 use Rattle.rv_text.specs.Words.{word_digits}

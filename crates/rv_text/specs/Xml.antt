@@ -1,5 +1,5 @@
--- Text as XML 1.0 takes it: its characters as they are, but for those that have a reference; bytes
--- that are of no character of XML each as a backslash, an x and two lower-case hexadecimal digits.
+-- Text as it is written in XML 1.0: its characters as they are, except those written as references; bytes that are not part of an XML
+-- character, each as a backslash, an x and two lower-case hexadecimal digits.
 use Rattle.std.specs.Prelude.{◌≡◌, ◌==◌, ◌||◌, ◌+◌, ◌-◌, ℕ, zero, suc, Bool, true, List, [], ◌∷◌, ◌++◌}
 use Rattle.std.specs.Prelude.{if◌then◌else◌, codes, drop, take, Option, Some, None, slice_get}
 use Rattle.std.specs.Prelude.{slice_index}
@@ -13,25 +13,25 @@ use Rattle.rv_text.specs.declared.xml.Within.TheVariants.{Attribute, Element}
 
 -- ---- characters
 
--- the characters of XML 1.0: production Char
+-- whether a code point is a character of XML 1.0: production Char
 abbrev pub is_xml_character : ℕ → Bool
 is_xml_character c = c == 0x9 || (c == 0xA || (c == 0xD || (is_in_range 0x20 0xD7FF c
     || (is_in_range 0xE000 0xFFFD c || is_in_range 0x1_0000 0x10_FFFF c))))
 
--- in an attribute a reader takes a tab and a line feed for a space, unless they stand as references
+-- in an attribute an XML parser replaces tabs and line feeds by spaces unless they are written as references
 abbrev pub space_reference : Within → ℕ → Option (List ℕ)
 space_reference Attribute c =
     if c == 0x9 then Some (codes "&#9;") else if c == 0xA then Some (codes "&#10;") else None
 space_reference Element c = None
 
--- what stands for a character that is markup, or that a reader changes
+-- the reference of a character that is markup, or that an XML parser would change
 abbrev pub character_reference : Within → ℕ → Option (List ℕ)
 character_reference within c =
     if c == 60 then Some (codes "&lt;") else if c == 62 then Some (codes "&gt;")
     else if c == 38 then Some (codes "&amp;") else if c == 34 then Some (codes "&quot;")
     else if c == 0xD then Some (codes "&#13;") else space_reference within c
 
--- a character by its reference, or as it is
+-- a character as its reference, or as it is
 abbrev pub reference_or_character : Option (List ℕ) → ℕ → List ℕ
 reference_or_character (Some text) c = text
 reference_or_character None c = encode_utf8 c
@@ -41,7 +41,7 @@ character_text within c = reference_or_character (character_reference within c) 
 
 -- ---- the character in front
 
--- as many bytes as the character has which the first of them begins, or all where there are fewer
+-- the bytes of the character that the first byte begins, or all bytes if there are fewer
 abbrev pub xml_front_bytes : List ℕ → List ℕ
 xml_front_bytes [] = []
 xml_front_bytes (byte ∷ rest) = take (continuation_len byte + 1) (byte ∷ rest)
@@ -50,12 +50,12 @@ abbrev pub filter_xml_character : Option ℕ → Option ℕ
 filter_xml_character None = None
 filter_xml_character (Some c) = if is_xml_character c then Some c else None
 
--- the character of XML that bytes begin with, if they begin with one
+-- the XML character that the bytes begin with, if any
 unfoldable pub front_xml_character : List ℕ → Option ℕ
 front_xml_character bytes = let front = xml_front_bytes bytes in
     if is_utf8 front then filter_xml_character (slice_get (chars front) 0) else None
 
--- a byte that is of none
+-- the escape of a byte that is not part of a character
 abbrev pub escape : ℕ → List ℕ
 escape byte = codes "\\x" ++ encode_lower (byte ∷ [])
 
@@ -63,21 +63,21 @@ abbrev pub character_or_escape : Within → ℕ → Option ℕ → List ℕ
 character_or_escape within byte (Some c) = character_text within c
 character_or_escape within byte None = escape byte
 
--- how many more bytes are of it
+-- the number of its bytes after the first
 abbrev pub more_front_bytes : Option ℕ → ℕ
 more_front_bytes (Some c) = len_utf8 c - 1
 more_front_bytes None = 0
 
 -- ---- the text
 
--- the bytes of which so many are still of the character before them
+-- the text of bytes of which the first n belong to the character before them
 unfoldable pub xml_text_from : Within → ℕ → List ℕ → List ℕ
 xml_text_from within left [] = []
 xml_text_from within zero (byte ∷ rest) = let front = front_xml_character (byte ∷ rest) in
     character_or_escape within byte front ++ xml_text_from within (more_front_bytes front) rest
 xml_text_from within (suc left) (byte ∷ rest) = xml_text_from within left rest
 
--- bytes as XML takes them
+-- bytes as text in XML
 abbrev pub xml_text : Within → List ℕ → List ℕ
 xml_text within bytes = xml_text_from within 0 bytes
 
@@ -91,13 +91,13 @@ behind_xml_front bytes = drop (more_front_bytes (front_xml_character bytes) + 1)
 
 -- ---- what can stand in a document
 
--- characters of XML, each by its reference or as it is
+-- XML characters, each as its reference or as it is
 pub record IsXmlText (within : Within) (text : List ℕ) : Type 0 where
   pub characters : List ℕ
   pub taken : list_all is_xml_character characters ≡ true
   pub written : text ≡ flat_map (character_text within) characters
 
--- the UTF-8 of characters of XML
+-- the UTF-8 encoding of XML characters
 pub record IsXmlCharacters (text : List ℕ) : Type 0 where
   pub characters : List ℕ
   pub taken : list_all is_xml_character characters ≡ true

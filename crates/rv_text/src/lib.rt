@@ -1,9 +1,9 @@
 //! Bytes as people and tools read them.
 //!
-//! [`push_spans`] appends what a line is put together from: text, numbers, words, and text from files. [`push_printable_text`] shows such
-//! text so that a terminal takes it as text: control characters and bytes of no character as `\xNN`. What is shown is UTF-8 without a
-//! control character, whatever the bytes are ([`printable_text_is_utf8_without_controls`]). [`push_xml_text`] appends bytes as XML 1.0
-//! takes them, so that none of them is markup, and only characters of XML stand there ([`escaped_bytes_are_xml`]).
+//! [`push_spans`] builds a line from text, numbers, words, and text from files. [`push_printable_text`] shows the latter so that a terminal
+//! treats it as text: control characters and bytes that are not part of a character are written as `\xNN`. Whatever the bytes, the result
+//! is UTF-8 without control characters ([`printable_text_is_utf8_without_controls`]). [`push_xml_text`] appends bytes as text in XML 1.0:
+//! none of them is markup, and only XML characters are written ([`escaped_bytes_are_xml`]).
 #![tactic(auto)]
 
 mod law;

@@ -1,4 +1,4 @@
-//! Text that comes from files, as it is shown to a person.
+//! Text from files, as it is shown to a person.
 
 ghost use Rattle.std.specs.Prelude.{◌≡◌, ◌<◌, ◌≤◌, ◌++◌, IfOk, OnOk, length};
 ghost use Rattle.std.specs.Str.{is_utf8};
@@ -9,8 +9,8 @@ ghost use Rattle.rv_text.specs.Printable.{printable_within};
 use crate::slices::{byte_at, char_len, tail_from};
 use std::alloc::AllocError;
 
-/// Appends a text as it is shown: characters as they are, and each byte of a control character, of a format character and of
-/// what is no character as `\xNN`.
+/// Appends a text as it is shown: characters as they are, and each byte of a control character, of a format character or of invalid UTF-8
+/// as `\xNN`.
 pub fn push_printable_text(bytes: &mut Vec<u8>, text: &[u8]) -> Result<(), AllocError>
     ensures { OnOk result (bytes.new.items ≡ bytes.old.items ++ printable_text text.now) }
 {
@@ -21,28 +21,28 @@ pub fn push_printable_text(bytes: &mut Vec<u8>, text: &[u8]) -> Result<(), Alloc
     Ok(())
 }
 
-/// How many characters of a value are shown at most.
+/// The maximum number of characters shown of a value.
 pub const VALUE_ROOM: usize = 80;
 
-/// How many characters of the name of a symbol are shown at most.
+/// The maximum number of characters shown of a symbol's name.
 pub const NAME_ROOM: usize = 256;
 
-/// Appends a value that was met or is expected as it is shown: as [`push_printable_text`] does, but only as far as whole
-/// characters, and `\xNN` of whole bytes, fit into [`VALUE_ROOM`] characters.
+/// Appends an actual or expected value as [`push_printable_text`] does, cut off after the last whole character or `\xNN` that fits into
+/// [`VALUE_ROOM`] characters.
 pub fn push_printable_value(bytes: &mut Vec<u8>, value: &[u8]) -> Result<(), AllocError>
     ensures { OnOk result (bytes.new.items ≡ bytes.old.items ++ printable_value value.now) }
 {
     push_printable_within(bytes, VALUE_ROOM, value)
 }
 
-/// Appends the name of a symbol as it is shown: as [`push_printable_value`] does, but within [`NAME_ROOM`] characters.
+/// Appends the name of a symbol as [`push_printable_value`] does, but within [`NAME_ROOM`] characters.
 pub fn push_printable_name(bytes: &mut Vec<u8>, name: &[u8]) -> Result<(), AllocError>
     ensures { OnOk result (bytes.new.items ≡ bytes.old.items ++ printable_name name.now) }
 {
     push_printable_within(bytes, NAME_ROOM, name)
 }
 
-// Appends a text as far as whole characters, and `\xNN` of whole bytes, fit into so many characters.
+// Appends a text, cut off after the last whole character or `\xNN` that fits into `characters` characters.
 fn push_printable_within(
     bytes: &mut Vec<u8>,
     characters: usize,
@@ -63,14 +63,14 @@ fn push_printable_within(
     Ok(())
 }
 
-// How many characters are shown of the piece in front.
+// Returns the number of characters that the first character or byte is shown as.
 fn front_width(text: &[u8]) -> usize
     ensures { result ≡ front_width text.now }
 {
     if plain_front_len(text) == 0 { 4 } else { 1 }
 }
 
-// Appends what is shown of the piece in front, which is a character or one byte; answers the text behind it.
+// Appends the first character or byte as it is shown, and returns the rest of the text.
 fn push_printable_front<'a>(bytes: &mut Vec<u8>, text: &'a [u8]) -> Result<&'a [u8], AllocError>
     requires { 0 < length text.now }
     ensures shown { OnOk result (bytes.new.items ≡ bytes.old.items ++ printable_front text.now) }
@@ -86,7 +86,7 @@ fn push_printable_front<'a>(bytes: &mut Vec<u8>, text: &'a [u8]) -> Result<&'a [
     Ok(tail_from(text, plain))
 }
 
-// How many bytes in front are shown as they are: those of one character, if it is no control character and no format character.
+// Returns the number of leading bytes that are shown as they are: those of one character, if it is not a control or format character.
 #[tactic(auto, unfolding(crate::specs::Printable::plain_front_len))]
 fn plain_front_len(text: &[u8]) -> usize
     ensures value { result ≡ plain_front_len text.now }
@@ -100,7 +100,7 @@ fn plain_front_len(text: &[u8]) -> usize
     }
 }
 
-// As many bytes as the character has which the first of them begins, or all where there are fewer.
+// Returns the bytes of the character that the first byte begins, or all bytes if there are fewer.
 fn front_character_bytes(text: &[u8]) -> &[u8]
     ensures front { result.now ≡ front_character_bytes text.now }
     ensures within { length result.now ≤ length text.now }
@@ -113,7 +113,7 @@ fn front_character_bytes(text: &[u8]) -> &[u8]
     }
 }
 
-/// Whether bytes are UTF-8.
+/// Whether the bytes are valid UTF-8.
 pub fn is_utf8(text: &[u8]) -> bool
     ensures { result ≡ is_utf8 text.now }
 {
@@ -148,7 +148,7 @@ fn is_format_if_any(character: Option<char>) -> bool
     }
 }
 
-// Whether a reader does not see a character, or it turns the text around it.
+// Whether a character is invisible or changes the direction of the text around it.
 fn is_format(character: char) -> bool
     ensures { result ≡ is_format character }
 {

@@ -1,16 +1,16 @@
-//! Parts of texts.
+//! Slices of texts.
 
 ghost use Rattle.std.specs.Prelude.{◌≡◌, ◌+◌, drop, slice_index};
 ghost use Rattle.std.specs.Str.{continuation_len};
 
-/// The byte at a place, or 0 behind the end.
+/// Returns the byte at an index, or 0 past the end.
 pub fn byte_at(text: &[u8], place: usize) -> u8
     ensures { result ≡ slice_index text.now place }
 {
     if place < text.len() { text[place] } else { 0 }
 }
 
-/// What stands behind the first bytes: nothing where there are no more.
+/// Returns the bytes after the first `count`, or none if there are no more.
 pub fn tail_from(text: &[u8], count: usize) -> &[u8]
     ensures { result.now ≡ drop count text.now }
 {
@@ -21,7 +21,7 @@ pub fn tail_from(text: &[u8], count: usize) -> &[u8]
     }
 }
 
-/// How many bytes the character has which a byte begins.
+/// Returns the length of the character that a byte begins.
 pub(crate) fn char_len(first: u8) -> usize
     ensures { result ≡ continuation_len first + 1 }
 {
@@ -36,7 +36,7 @@ pub(crate) fn char_len(first: u8) -> usize
     }
 }
 
-/// What was met and what is expected, from a place on.
+/// Returns the rest of the actual and of the expected bytes from an index on.
 pub fn actual_and_expected_from<'a>(
     place: usize,
     met: &'a [u8],

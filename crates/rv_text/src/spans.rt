@@ -1,4 +1,4 @@
-//! Lines that are put together from spans.
+//! Lines built from spans.
 
 ghost use Rattle.std.specs.Prelude.{◌≡◌, ◌++◌, IfOk, OnOk};
 ghost use Rattle.std.specs.List.{flat_map};
@@ -11,11 +11,11 @@ use std::alloc::{AllocError, Global};
 /// A span of a line.
 #[derive(Clone, Copy)]
 pub enum Span<'a> {
-    /// Text as it stands.
+    /// Text, verbatim.
     Text(&'a str),
-    /// A number's decimal digits.
+    /// A number in decimal.
     Number(u64),
-    /// A word's eight lower-case hexadecimal digits.
+    /// A word as eight lower-case hexadecimal digits.
     Word(u32),
     /// Text from a file, as [`push_printable_text`] shows it.
     Shown(&'a [u8]),
@@ -25,7 +25,7 @@ pub enum Span<'a> {
     Name(&'a [u8]),
 }
 
-/// Appends spans, one behind the other.
+/// Appends spans one after another.
 pub fn push_spans(bytes: &mut Vec<u8>, spans: &[Span<'_>]) -> Result<(), AllocError>
     ensures { OnOk result (bytes.new.items ≡ bytes.old.items ++ flat_map span_text spans.now) }
 {
@@ -35,7 +35,7 @@ pub fn push_spans(bytes: &mut Vec<u8>, spans: &[Span<'_>]) -> Result<(), AllocEr
     Ok(())
 }
 
-/// A text of spans.
+/// Returns the text of spans.
 pub fn text_of_spans(alloc: Global, spans: &[Span<'_>]) -> Result<Vec<u8>, AllocError>
     ensures { IfOk result (λ text. text.items ≡ flat_map span_text spans.now) }
 {

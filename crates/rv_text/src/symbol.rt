@@ -1,4 +1,4 @@
-//! A place by a symbol.
+//! A location relative to a symbol.
 
 ghost use Rattle.std.specs.Prelude.{◌≡◌, ◌++◌, OnOk, option_map};
 ghost use Rattle.rv_text.specs.Symbol.{symbol_in_brackets, symbol_text};
@@ -7,7 +7,7 @@ use crate::spans::{Span, push_spans};
 use rv_elf::SymbolAt;
 use std::alloc::{AllocError, Global};
 
-/// Appends a place in brackets behind a space, where there is a symbol.
+/// Appends a space and a location in brackets, if it has a symbol.
 pub fn push_symbol_in_brackets(
     alloc: Global,
     bytes: &mut Vec<u8>,
@@ -22,7 +22,8 @@ pub fn push_symbol_in_brackets(
     }
 }
 
-/// Appends a place by the name of a symbol, shown as [`push_printable_name`](crate::printable::push_printable_name) does, and the bytes past it: `main+0x1c`.
+/// Appends a location as the name of a symbol, shown as by [`push_printable_name`](crate::printable::push_printable_name), and the offset
+/// from it: `main+0x1c`.
 pub fn push_symbol(
     alloc: Global,
     bytes: &mut Vec<u8>,
@@ -34,6 +35,7 @@ pub fn push_symbol(
     push_symbol_between(alloc, bytes, "", symbol, "")
 }
 
+// Appends a location relative to a symbol between two texts.
 #[tactic(auto, unfolding(crate::specs::Symbol::symbol_text))]
 fn push_symbol_between<'a>(
     alloc: Global,

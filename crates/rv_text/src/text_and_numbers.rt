@@ -6,14 +6,14 @@ ghost use Rattle.rv_text.specs.Words.{word_digits};
 
 use std::alloc::AllocError;
 
-/// Appends a text as it stands.
+/// Appends a text verbatim.
 pub fn push_text(bytes: &mut Vec<u8>, text: &str) -> Result<(), AllocError>
     ensures { OnOk result (bytes.new.items ≡ bytes.old.items ++ text.now) }
 {
     bytes.extend_from_slice(text.as_bytes())
 }
 
-/// Appends a number's decimal digits.
+/// Appends a number in decimal.
 pub fn push_number(bytes: &mut Vec<u8>, number: u64) -> Result<(), AllocError>
     ensures { OnOk result (bytes.new.items ≡ bytes.old.items ++ decimal number) }
 {
@@ -21,7 +21,7 @@ pub fn push_number(bytes: &mut Vec<u8>, number: u64) -> Result<(), AllocError>
     push_text(bytes, digits.as_str())
 }
 
-/// Appends a word's eight lower-case hexadecimal digits.
+/// Appends a word as eight lower-case hexadecimal digits.
 #[tactic(auto, unfolding(crate::specs::Words::word_digits))]
 pub fn push_word_digits(bytes: &mut Vec<u8>, word: u32) -> Result<(), AllocError>
     ensures { OnOk result (bytes.new.items ≡ bytes.old.items ++ word_digits word) }

@@ -1,4 +1,4 @@
-//! Text as XML 1.0 takes it.
+//! Text in XML 1.0.
 
 ghost use Rattle.std.specs.Prelude.{◌≡◌, ◌<◌, ◌≤◌, ◌++◌, IfOk, OnOk, length, option_map, string_bytes};
 ghost use Rattle.rv_text.specs.Xml.{behind_xml_front, character_text, escape, xml_text, front_xml_character, xml_front_bytes};
@@ -7,17 +7,16 @@ ghost use Rattle.rv_text.specs.Xml.{xml_front_text, is_xml_character, character_
 use crate::slices::{char_len, tail_from};
 use std::alloc::{AllocError, Global};
 
-/// Where in a document a text stands.
+/// Where a text is written in a document.
 #[derive(Clone, Copy)]
 pub enum Within {
-    /// Between the quotes of an attribute, where a reader takes a tab and a line feed for a space.
+    /// Between the quotes of an attribute, where an XML parser replaces tabs and line feeds by spaces.
     Attribute,
     /// Between the tags of an element.
     Element,
 }
 
-/// Appends a text as XML takes it: characters as they are or by their reference, and each byte that is of no character
-/// of XML as `\xNN`.
+/// Appends a text for XML: characters as they are or as references, and each byte that is not part of an XML character as `\xNN`.
 pub fn push_xml_text(
     alloc: Global,
     text: &mut String,
@@ -34,7 +33,7 @@ pub fn push_xml_text(
     Ok(())
 }
 
-// Appends what stands for the character or the byte in front; answers the bytes behind it.
+// Appends the first character or byte as XML, and returns the remaining bytes.
 fn push_xml_front<'a>(
     alloc: Global,
     text: &mut String,
@@ -59,7 +58,7 @@ fn push_xml_front<'a>(
     }
 }
 
-// The character of XML that stands in front, if one does.
+// Returns the XML character that the bytes begin with, if any.
 fn front_xml_character(bytes: &[u8]) -> Option<char>
     ensures { result ≡ front_xml_character bytes.now }
 {
@@ -78,7 +77,7 @@ fn filter_xml_character(character: Option<char>) -> Option<char>
     }
 }
 
-// As many bytes as the character has which the first of them begins, or all where there are fewer.
+// Returns the bytes of the character that the first byte begins, or all bytes if there are fewer.
 fn xml_front_bytes(bytes: &[u8]) -> &[u8]
     ensures { result.now ≡ xml_front_bytes bytes.now }
 {
@@ -93,8 +92,7 @@ fn xml_front_bytes(bytes: &[u8]) -> &[u8]
     }
 }
 
-// Whether XML 1.0 has a character: no control character but three, no half of a pair of UTF-16, and neither of the two
-// behind U+FFFD.
+// Whether XML 1.0 allows a character: control characters except three, surrogates, and the two code points after U+FFFD are not allowed.
 fn is_xml_character(character: char) -> bool
     ensures { result ≡ is_xml_character character }
 {
@@ -104,6 +102,7 @@ fn is_xml_character(character: char) -> bool
     )
 }
 
+// Appends a character as its reference, or as it is.
 fn push_character(text: &mut String, within: Within, character: char) -> Result<(), AllocError>
     ensures { OnOk result (string_bytes text.new
         ≡ string_bytes text.old ++ character_text within character) }
@@ -114,7 +113,7 @@ fn push_character(text: &mut String, within: Within, character: char) -> Result<
     }
 }
 
-// What stands for a character that does not stand for itself.
+// Returns the reference of a character that is not written as it is.
 fn character_reference(within: Within, character: char) -> Option<&'static str>
     ensures { option_map (λ text. text.now) result ≡ character_reference within character }
 {

@@ -10,7 +10,7 @@ use Rattle.rv_isa.specs.declared.instruction.Op.{Op}
 use Rattle.rv_isa.specs.declared.instruction.Op.TheVariants as op
 use Rattle.rv_memory.specs.Bus.{Contents, byte_at, console_store, put, refuses, size_of, store_to, touches_console}
 use Rattle.rv_memory.specs.Bus.{value_at}
-use Rattle.rv_memory.specs.Regions.{in_writable}
+use Rattle.rv_memory.specs.Regions.{is_in_writable_region}
 use Rattle.rv_memory.specs.declared.access.Width.{Width}
 use Rattle.rv_memory.specs.declared.access.Width.TheVariants.{Byte, Half, Word}
 use Rattle.rv_memory.specs.declared.faults.BusFault.{BusFault}
@@ -21,8 +21,8 @@ use Rattle.rv_machine.specs.Run.{after_fetch, step_of}
 use Rattle.rv_machine.specs.State.{State, at_pc, with_bus}
 use Rattle.rv_trace.specs.declared.write_targets.Access.{Access}
 use Rattle.rv_trace.specs.declared.write_targets.Access.TheVariants as access
-use Rattle.rv_trace.specs.declared.write_targets.Aim.TheVariants as aim
-use Rattle.rv_trace.specs.declared.step.Wrote.TheVariants as wrote
+use Rattle.rv_trace.specs.declared.write_targets.WriteTarget.TheVariants as aim
+use Rattle.rv_trace.specs.declared.step.WriteEffect.TheVariants as wrote
 use Rattle.rv_trace.specs.Steps.{access_of, instruction_write_target, write_target, traced_step, completed_write}
 use Rattle.rv_trace.proofs.Fetched.{code_is_fetched}
 
@@ -83,7 +83,7 @@ by_tests false false false other stored d h e = cc
 store_leaves : (c d : Contents) (a : ℕ) (w : Width) (v : ℕ) → touches_console a (size_of w) ≡ false
     → store_to c a w v ≡ Ok d → d ≡ put c a w v
 store_leaves c d a w v outside e = by_tests (refuses c.misaligned a w) (touches_console a (size_of w))
-    (in_writable c.regions a (size_of w)) (console_store c a w v) (put c a w v) d outside e
+    (is_in_writable_region c.regions a (size_of w)) (console_store c a w v) (put c a w v) d outside e
 
 -- an instruction that aims at memory is a store
 stores_as : (o : Op) (w : Width) (i : Instr) (next : ℕ) (s : State) → access_of o ≡ access.Store w

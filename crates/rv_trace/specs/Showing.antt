@@ -11,9 +11,8 @@ use Rattle.rv_trace.specs.Code.{code_at, size_of_code}
 use Rattle.rv_trace.specs.Steps.{instr_at, traced_step}
 use Rattle.rv_trace.specs.Trace.{state_after}
 
--- a trace shows a run from a state on, and of its instructions the last ones, so many or all: where it
--- ended, with the registers there, and each of these instructions, which completed, by the states in front
--- of it and behind it
+-- a trace shows a run that begins in a state, up to its end: where it ended, the registers there, and its last `last` instructions, or all
+-- if there are fewer; each of these completed, and is shown with the states before and after it
 pub record ShowsTheEnd (trace : Trace) (last : ℕ) (ran : Ran) (s : State) : Type 0 where
   pub pc : trace.pc ≡ ran.state.pc
   pub code : trace.code ≡ code_at ran.state.bus ran.state.pc
@@ -23,13 +22,12 @@ pub record ShowsTheEnd (trace : Trace) (last : ℕ) (ran : Ran) (s : State) : Ty
       → let place = ran.steps - min ran.steps last + k in
       slice_index_or trace.steps k d ≡ traced_step (state_after place s) (state_after (place + 1) s)
 
--- the instructions in front of the end of a run are those that completed, and the one at its end did
--- not, unless the budget was used up in front of it
+-- the instructions before the end of a run completed, and the one at the end did not, unless the budget was used up before it
 pub record EndsThere (ran : Ran) (s : State) : Type 0 where
   pub completed : (k : ℕ) → k < ran.steps → step_of (state_after k s) ≡ Ok (state_after (k + 1) s)
   pub ended : (ran.ending ≡ Budget) ⊎ (step_of ran.state ≡ Err ran.ending)
 
--- the code at a state is that of the instruction which a fetch gives there, with its length
+-- the encoding is that of the instruction, with its length, that a fetch returns in this state
 pub record IsCodeOf (s : State) (i : Instr) (size : ℕ) (code : Code) : Type 0 where
   pub there : code_at s.bus s.pc ≡ Some code
   pub same : instr_at s ≡ Some i

@@ -1,4 +1,4 @@
--- The text of a trace: where the run ended, the registers there, and a line an instruction.
+-- The text of a trace: where the run ended, the registers there, and one line per instruction.
 use Rattle.std.specs.Prelude.{◌==◌, ◌+◌, ◌-◌, ℕ, Bool, true, false, List, [], ◌∷◌, ◌++◌, codes, drop}
 use Rattle.std.specs.Prelude.{if◌then◌else◌, length, replicate, Option, Some, None}
 use Rattle.std.specs.Fmt.{decimal}
@@ -21,31 +21,31 @@ use Rattle.rv_text.specs.Words.{word_digits}
 use Rattle.rv_trace.specs.declared.code.Code.{Code}
 use Rattle.rv_trace.specs.declared.code.Code.TheVariants.{Half, Word}
 use Rattle.rv_trace.specs.declared.step.TracedStep.{TracedStep}
-use Rattle.rv_trace.specs.declared.step.Wrote.{Wrote}
-use Rattle.rv_trace.specs.declared.step.Wrote.TheVariants as wrote
+use Rattle.rv_trace.specs.declared.step.WriteEffect.{WriteEffect}
+use Rattle.rv_trace.specs.declared.step.WriteEffect.TheVariants as wrote
 use Rattle.rv_trace.specs.declared.trace.Trace.{Trace}
 
 -- ---- columns
 
--- a text with spaces behind it, up to a width
+-- a text padded with trailing spaces to a width
 unfoldable pub padded_text : ℕ → List ℕ → List ℕ
 padded_text width text = text ++ replicate (width - length text) 32
 
 abbrev pub gap : List ℕ
 gap = codes "  "
 
--- what each line begins with
+-- the indentation of each line
 abbrev pub margin : List ℕ
 margin = codes "     "
 
--- a place by its symbol, nothing where there is none
+-- an address as a symbol and offset; empty if there is no symbol
 abbrev pub symbol_or_none : Option (List ℕ × ℕ) → List ℕ
 symbol_or_none None = []
 symbol_or_none (Some place) = symbol_text place
 
 -- ---- an instruction
 
--- four digits of a halfword, eight of a word
+-- four hexadecimal digits for a halfword, eight for a word
 unfoldable pub code_text : Code → List ℕ
 code_text (Half half) = drop 4 (word_digits half)
 code_text (Word word) = word_digits word
@@ -54,7 +54,7 @@ unfoldable pub assembly : ℕ → Code → List ℕ
 assembly pc (Half half) = assembly16 half pc
 assembly pc (Word word) = assembly32 word pc
 
--- two digits a byte
+-- two digits per byte
 unfoldable pub stored_value_text : Width → ℕ → List ℕ
 stored_value_text width.Byte value = drop 6 (word_digits value)
 stored_value_text width.Half value = drop 4 (word_digits value)
@@ -63,22 +63,22 @@ stored_value_text width.Word value = word_digits value
 abbrev pub register_text : ℕ → ℕ → List ℕ
 register_text number value = register_name number ++ codes " <- " ++ word_digits value
 
--- of a load into x0 the address alone
+-- the text of a loaded value; only the address for a load into x0
 abbrev pub loaded_text : ℕ → ℕ → List ℕ
 loaded_text number value = if number == 0 then [] else register_text number value ++ codes " "
 
--- a symbol, and a space behind it
+-- a symbol followed by a space
 abbrev pub symbol_and_space : Option (List ℕ × ℕ) → List ℕ
 symbol_and_space None = []
 symbol_and_space (Some place) = symbol_text place ++ codes " "
 
--- an address that was loaded from or stored to, behind the symbol that it is of
+-- a load's or store's address, after its symbol
 abbrev pub address_text : Image → List ℕ → ℕ → List ℕ
 address_text image file address =
     symbol_and_space (symbol_of_value image file address) ++ word_digits address
 
 -- what an instruction wrote
-unfoldable pub wrote_text : Image → List ℕ → Wrote → List ℕ
+unfoldable pub wrote_text : Image → List ℕ → WriteEffect → List ℕ
 wrote_text image file wrote.Nothing = []
 wrote_text image file (wrote.Register number value) = register_text number value
 wrote_text image file (wrote.Loaded number value address) =
@@ -86,11 +86,11 @@ wrote_text image file (wrote.Loaded number value address) =
 wrote_text image file (wrote.Stored address width value) =
     address_text image file address ++ codes " <- " ++ stored_value_text width value
 
--- a text, and behind it what is told, where that is anything
+-- a text, followed by the effect if there is any
 abbrev pub text_columns : List ℕ → List ℕ → List ℕ
 text_columns text told = if length told == 0 then text else padded_text 24 text ++ gap ++ told
 
--- the code, the text of it, and what became of it, where there is something to say
+-- the encoding, its assembly text, and the effect if there is one
 unfoldable pub code_columns : Option Code → List ℕ → List ℕ → List ℕ
 code_columns None text told = told
 code_columns (Some code) text told = padded_text 8 (code_text code) ++ gap ++ text_columns text told
@@ -106,7 +106,7 @@ abbrev pub assembly_or_none : ℕ → Option Code → List ℕ
 assembly_or_none pc None = []
 assembly_or_none pc (Some code) = assembly pc code
 
--- that of one which completed
+-- the line of a completed instruction
 unfoldable pub step_line : Image → List ℕ → TracedStep → List ℕ
 step_line image file step =
     instruction_line (symbol_at image file step.pc) step.pc step.code
@@ -114,7 +114,7 @@ step_line image file step =
 
 -- ---- the end
 
--- what a fault met: of most an address
+-- the value that a fault reports: for most kinds an address
 unfoldable pub fault_value_text : FaultKind → ℕ → List ℕ
 fault_value_text fault.Illegal value = []
 fault_value_text fault.Breakpoint value = []
@@ -122,14 +122,14 @@ fault_value_text fault.UnknownCall value = codes ", value " ++ word_digits value
 fault_value_text fault.ConsoleFull value = codes ", value " ++ word_digits value
 fault_value_text _ value = codes " at " ++ word_digits value
 
--- what became of the instruction at the end
+-- how the instruction at the end ended the run
 unfoldable pub end_reason : RowEnd → List ℕ
 end_reason (ending.Exit code) = codes "exit " ++ decimal code
 end_reason (ending.Fault kind pc value) = fault_name kind ++ fault_value_text kind value
 end_reason ending.Budget = codes "not run: the budget is used up"
 end_reason (ending.Refused why) = refusal_name why
 
--- the job's set has no instruction for the code there
+-- the job's instruction set has no instruction for the encoding at the end
 abbrev pub ends_by_illegal : RowEnd → Bool
 ends_by_illegal (ending.Fault fault.Illegal pc value) = true
 ends_by_illegal _ = false
@@ -138,7 +138,7 @@ unfoldable pub illegal_text : Code → List ℕ
 illegal_text (Half half) = illegal_text16 half
 illegal_text (Word word) = illegal_text32 word
 
--- the text of the code there
+-- the assembly text of the encoding at the end
 abbrev pub end_assembly : RowEnd → ℕ → Option Code → List ℕ
 end_assembly end pc None = []
 end_assembly end pc (Some code) = if ends_by_illegal end then illegal_text code else assembly pc code
@@ -153,7 +153,7 @@ ended_at_line image file pc =
 
 -- ---- the registers
 
--- what a value points to, behind it
+-- the symbol that a value points to, appended to the value
 abbrev pub symbol_behind_value : Option (List ℕ × ℕ) → List ℕ
 symbol_behind_value None = []
 symbol_behind_value (Some place) = gap ++ symbol_text place
@@ -163,7 +163,7 @@ register_line image file number value =
     line (margin ++ padded_text 4 (register_name number) ++ gap ++ word_digits value
     ++ symbol_behind_value (symbol_of_value image file value))
 
--- those of registers from a number on
+-- the lines of the registers from a number on
 unfoldable pub register_lines : Image → List ℕ → ℕ → List ℕ → List ℕ
 register_lines image file number [] = []
 register_lines image file number (value ∷ values) =

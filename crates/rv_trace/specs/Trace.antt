@@ -13,11 +13,11 @@ use Rattle.rv_trace.specs.declared.trace.Trace.{Trace}
 use Rattle.rv_trace.specs.Code.{code_at}
 use Rattle.rv_trace.specs.Steps.{steps_from}
 
--- the job at a place of a plan, or another where there is none
+-- the job at an index of a plan, or the given one if there is none
 abbrev pub job_at : Planned → ℕ → Job → Job
 job_at plan place other = slice_index_or plan.jobs place other
 
--- the bytes of a job's image, where they were read
+-- the bytes of a job's image, if they were read
 abbrev pub image_bytes : List Answer → Job → Option (List ℕ)
 image_bytes answers job = content_if_read (Some (kept_for answers job.image))
 
@@ -28,7 +28,7 @@ state_after n s = (run_of n s).state
 unfoldable pub registers_of : State → List ℕ
 registers_of s = map (register s) (range_with_len 0 32)
 
--- some steps, and the state behind them
+-- some steps, and the state after them
 abbrev pub trace_up_to : List TracedStep → State → Trace
 trace_up_to steps s = record {
   steps = steps;
@@ -37,15 +37,14 @@ trace_up_to steps s = record {
   registers = registers_of s;
 }
 
--- of a run that completes so many steps from a state on, the last ones, or all where there are fewer:
--- what is shown of them, and the state behind the last
+-- for a run that completes a number of steps from a state on: the last of these, or all if there are fewer, and the state after the last
 unfoldable pub trace_of : ℕ → ℕ → State → Trace
 trace_of steps last s =
     let shown = min steps last in
     let t = state_after (steps - shown) s in
     trace_up_to (steps_from shown t) (state_after shown t)
 
--- that of the run of a job of a plan, where it is not refused
+-- the trace of the run of a plan's job, unless the job is refused
 unfoldable pub trace_in : Planned → Job → ℕ → ℕ → Option Trace
 trace_in plan job steps last =
     option_map (trace_of steps last) (result_ok (start_in plan.answers job))

@@ -1,4 +1,4 @@
-//! What is fetched at an address.
+//! The encoding that is fetched at an address.
 
 ghost use Rattle.std.specs.Prelude.{◌≡◌, IfSome};
 ghost use Rattle.rv_isa.specs.Words.{IsWellFormed};
@@ -7,14 +7,14 @@ ghost use Rattle.rv_trace.specs.Code.{code_at, instr_of, size_of_code};
 use rv_isa::{Instr, Isa, decode16, decode32, is_long};
 use rv_memory::Bus;
 
-/// The code of an instruction: a halfword, or a word.
+/// The encoding of an instruction: a halfword or a word.
 #[derive(Clone, Copy)]
 pub enum Code {
     Half(u16),
     Word(u32),
 }
 
-/// The code that a fetch at an address reads, where it is not refused.
+/// Returns the encoding that a fetch at an address reads, unless the fetch faults.
 #[tactic(auto, unfolding(crate::specs::Code::code_at))]
 pub fn code_at(bus: &Bus, pc: u32) -> Option<Code>
     ensures { result ≡ code_at bus.now pc }
@@ -27,7 +27,7 @@ pub fn code_at(bus: &Bus, pc: u32) -> Option<Code>
     Some(Code::Word(u32::from(low) + 0x1_0000 * u32::from(high)))
 }
 
-/// The instruction of a code in RV32IMC, if it has one there.
+/// Returns the instruction of an encoding in RV32IMC, if it has one there.
 pub fn instr_of(code: Code) -> Option<Instr>
     ensures value { result ≡ instr_of code }
     ensures well_formed { IfSome result IsWellFormed }
@@ -38,7 +38,7 @@ pub fn instr_of(code: Code) -> Option<Instr>
     }
 }
 
-/// The length of a code in bytes.
+/// Returns the length of an encoding in bytes.
 pub fn code_length(code: Code) -> u32
     ensures { result ≡ size_of_code code }
 {

@@ -1,4 +1,4 @@
-//! The columns of the line of an instruction.
+//! The columns of an instruction's line.
 
 ghost use Rattle.std.specs.Prelude.{◌≡◌, ◌++◌, OnOk, drop, option_map, replicate};
 ghost use Rattle.rv_text.specs.Words.{word_digits};
@@ -9,13 +9,13 @@ use rv_elf::SymbolAt;
 use rv_text::{Span, push_spans, push_symbol, push_text, push_word_digits, tail_from};
 use std::alloc::{AllocError, Global};
 
-/// What separates two columns.
+/// The separator of columns.
 pub(crate) const GAP: &str = "  ";
 
-/// What each line begins with.
+/// The indentation of each line.
 pub(crate) const MARGIN: &str = "     ";
 
-/// Where an instruction stands, and what is told of it.
+/// An instruction's address and what its line shows.
 #[derive(Clone, Copy)]
 pub(crate) struct Instruction<'a> {
     pub symbol: Option<SymbolAt<'a>>,
@@ -23,7 +23,7 @@ pub(crate) struct Instruction<'a> {
     pub code: Option<Code>,
     /// Its assembly text.
     pub text: &'a [u8],
-    /// What became of it.
+    /// Its effect.
     pub told: &'a [u8],
 }
 
@@ -110,7 +110,7 @@ fn push_code_digits(alloc: Global, bytes: &mut Vec<u8>, code: Code) -> Result<()
     }
 }
 
-/// Appends the digits of a word but for the first ones, so many.
+/// Appends the hexadecimal digits of a word, without the first `count`.
 pub(crate) fn push_digits_after_first(
     alloc: Global,
     bytes: &mut Vec<u8>,
@@ -124,7 +124,7 @@ pub(crate) fn push_digits_after_first(
     bytes.extend_from_slice(tail_from(&digits, count))
 }
 
-/// Appends a text with spaces behind it, up to a width.
+/// Appends a text, padded with trailing spaces to a width.
 #[tactic(auto, unfolding(crate::specs::Text::padded_text))]
 pub(crate) fn push_padded_text(
     bytes: &mut Vec<u8>,

@@ -1,4 +1,4 @@
-//! An image that was read, beside the bytes of its file.
+//! A parsed image together with the bytes of its file.
 
 ghost use Rattle.std.specs.Prelude.{◌≡◌, Ok, option_map};
 ghost use Rattle.rv_elf.specs.Image.{image_of};
@@ -7,10 +7,10 @@ ghost use Rattle.rv_elf.specs.SymbolSearch.{symbol_at, symbol_of_value};
 use rv_elf::{Image, SymbolAt};
 use rv_isa::Isa;
 
-/// The bytes of an executable file, and the image that they were read as.
+/// The bytes of an executable file, and the image parsed from them.
 #[derive(Clone, Copy)]
 pub struct ElfFile<'a> {
-    /// The set of instructions that the file was read for.
+    /// The instruction set that the file was parsed for.
     pub isa: Isa,
     pub image: &'a Image,
     pub bytes: &'a [u8],
@@ -18,7 +18,7 @@ pub struct ElfFile<'a> {
 }
 
 impl<'a> ElfFile<'a> {
-    /// The symbol that an address of code belongs to.
+    /// Returns the symbol that a code address belongs to.
     pub(crate) fn symbol_at(&self, address: u32) -> Option<SymbolAt<'a>>
         ensures { option_map (λ s. (s.name.now, s.offset)) result
             ≡ symbol_at self.now.image.now self.now.bytes.now address }
@@ -26,7 +26,7 @@ impl<'a> ElfFile<'a> {
         rv_elf::symbol_at(self.image, self.bytes, address)
     }
 
-    /// The symbol that a value is the address of, or points into.
+    /// Returns the symbol whose address a value is, or into which it points.
     pub(crate) fn symbol_of_value(&self, value: u32) -> Option<SymbolAt<'a>>
         ensures { option_map (λ s. (s.name.now, s.offset)) result
             ≡ symbol_of_value self.now.image.now self.now.bytes.now value }

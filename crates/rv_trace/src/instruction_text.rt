@@ -1,4 +1,4 @@
-//! What is told of an instruction: its assembly text, what it wrote, and how it ended the run.
+//! The text for an instruction: its assembly, what it wrote, and how it ended the run.
 
 ghost use Rattle.std.specs.Prelude.{◌≡◌, ◌++◌, OnOk, option_map};
 ghost use Rattle.rv_disasm.specs.Operands.{register_name};
@@ -9,7 +9,7 @@ ghost use Rattle.rv_trace.specs.Text.{wrote_text};
 use crate::code::Code;
 use crate::columns::push_digits_after_first;
 use crate::elf_file::ElfFile;
-use crate::step::Wrote;
+use crate::step::WriteEffect;
 use rv_disasm::{push_assembly16, push_assembly32, push_illegal16, push_illegal32};
 use rv_elf::SymbolAt;
 use rv_machine::FaultKind;
@@ -18,7 +18,7 @@ use rv_rows::RowEnd;
 use rv_text::{Span, push_spans, push_symbol, push_text, push_word_digits};
 use std::alloc::{AllocError, Global};
 
-/// Appends the assembly text of a code at an address, where there is one.
+/// Appends the assembly text of an encoding at an address, if there is one.
 pub(crate) fn push_assembly(
     alloc: Global,
     bytes: &mut Vec<u8>,
@@ -54,20 +54,20 @@ pub(crate) fn push_wrote_text(
     alloc: Global,
     bytes: &mut Vec<u8>,
     elf: &ElfFile<'_>,
-    wrote: Wrote,
+    wrote: WriteEffect,
 ) -> Result<(), AllocError>
     ensures { OnOk result (bytes.new.items ≡ bytes.old.items
         ++ wrote_text elf.now.image.now elf.now.bytes.now wrote) }
 {
     match wrote {
-        Wrote::Nothing => Ok(()),
-        Wrote::Register(number, value) => push_register(bytes, number, value),
-        Wrote::Loaded(number, value, from) => {
+        WriteEffect::Nothing => Ok(()),
+        WriteEffect::Register(number, value) => push_register(bytes, number, value),
+        WriteEffect::Loaded(number, value, from) => {
             push_loaded_text(bytes, number, value)?;
             push_text(bytes, "from ")?;
             push_address(alloc, bytes, elf, from)
         }
-        Wrote::Stored(address, width, value) => {
+        WriteEffect::Stored(address, width, value) => {
             push_address(alloc, bytes, elf, address)?;
             push_text(bytes, " <- ")?;
             push_stored_value(alloc, bytes, width, value)
@@ -126,7 +126,7 @@ fn push_symbol_and_space(
     push_text(bytes, " ")
 }
 
-/// The name of a register, none where there is no such register.
+/// Returns the name of a register, empty if there is no such register.
 pub(crate) fn register_name_or_empty(number: u8) -> &'static str
     ensures { result.now ≡ register_name number }
 {
@@ -153,7 +153,7 @@ fn push_stored_value(
     }
 }
 
-/// Appends the text of the code at the end of a run, where there is one.
+/// Appends the assembly text of the encoding at the end of a run, if there is one.
 pub(crate) fn push_end_assembly(
     alloc: Global,
     bytes: &mut Vec<u8>,

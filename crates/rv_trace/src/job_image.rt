@@ -1,4 +1,4 @@
-//! The image of a job of a plan.
+//! The image of a plan's job.
 
 ghost use Rattle.std.specs.Prelude.{◌≡◌, ◌<◌, Some, length, slice_index_or};
 ghost use Rattle.rv_jobs.specs.declared_job.Job.{Job as AJob};
@@ -7,11 +7,11 @@ ghost use Rattle.rv_rows.specs.Rows.{image_in};
 use rv_elf::Image;
 use rv_jobs::Plan;
 
-/// The job at a place of a plan, and the image that its file was read as.
+/// The job at an index of a plan, and the image parsed from its file.
 #[derive(Clone, Copy)]
 pub struct JobImage<'a> {
     pub plan: &'a Plan,
-    /// Counted from 0.
+    /// The job's index, counted from 0.
     pub place: usize,
     pub image: &'a Image,
     pub ghost within: { place < length plan.now.jobs },

@@ -1,4 +1,4 @@
-//! Laws of traces, with nothing to run.
+//! Laws about traces; none of them is executed.
 
 ghost use Rattle.std.specs.Prelude.{◌≡◌, ℕ, Ok, false};
 ghost use Rattle.rv_isa.specs.declared.instruction.Instr.{Instr};
@@ -12,36 +12,34 @@ ghost use Rattle.rv_rows.specs.Rows.{row_of, start_in};
 ghost use Rattle.rv_memory.specs.Bus.{size_of, touches_console, value_at};
 ghost use Rattle.rv_memory.specs.declared.access.Width.{Width};
 ghost use Rattle.rv_trace.specs.declared.code.Code.{Code};
-ghost use Rattle.rv_trace.specs.declared.step.Wrote.TheVariants.{Stored};
+ghost use Rattle.rv_trace.specs.declared.step.WriteEffect.TheVariants.{Stored};
 ghost use Rattle.rv_trace.specs.Steps.{traced_step};
 ghost use Rattle.rv_trace.specs.Showing.{EndsThere, IsCodeOf, ShowsTheEnd};
 ghost use Rattle.rv_trace.specs.Trace.{trace_of};
 
-/// A trace of as many steps as a run completes shows the end of that run: the pc and the registers of its last state, and
-/// the last instructions in order, each as it stood at its state. These completed, and what stands at the end did
-/// not.
+/// A trace of as many steps as a run completes shows the end of that run: the pc and the registers of its last state, and the last
+/// instructions in order, each as it was at its state. These completed, and the one at the end did not.
 pub fn traces_show_the_end()
     ensures shown { (budget last : ℕ) (s : State)
         → ShowsTheEnd (trace_of (run_of budget s).steps last s) last (run_of budget s) s }
     ensures ended { (budget : ℕ) (s : State) → EndsThere (run_of budget s) s }
 {}
 
-/// What is fetched at a state is the instruction of the code that is shown of it.
+/// A fetch in a state returns the instruction of the encoding that is shown for the state.
 pub fn codes_are_fetched()
     ensures { (s : State) (i : Instr) (size : ℕ) → fetch s.isa s.bus s.pc ≡ Ok (i, size)
         → (code : Code) × IsCodeOf s i size code }
 {}
 
-/// What a store outside the console is said to have written stands in memory behind it. What a register is said to hold it
-/// holds by definition.
+/// The value that a store outside the console is shown to have written is in memory after it. Shown register values are correct by
+/// definition.
 pub fn stored_values_stand()
     ensures { (s t : State) (a v : ℕ) (w : Width) → step_of s ≡ Ok t
         → (traced_step s t).wrote ≡ Stored a w v → touches_console a (size_of w) ≡ false
         → value_at t.bus.memory a w ≡ v }
 {}
 
-/// The row of a plan's job that is not refused says how the run ended which a trace of the job shows, and how many steps
-/// it completed.
+/// For a plan's job that is not refused, the row states how the run in the job's trace ended, and how many steps it completed.
 pub fn rows_are_of_the_run()
     ensures ending { (plan : Planned) (job : Job) (s : State) → start_in plan.answers job ≡ Ok s
         → (row_of plan job).ending ≡ row_end (run_of job.budget s).ending }

@@ -1,10 +1,8 @@
-//! The way of a run to its end: the last instructions that completed, with what each wrote, the one that stands at the
-//! end, and the registers there.
+//! The trace of a run's end: the last instructions that completed, with what each wrote, the one at the end, and the registers there.
 //!
-//! A run is exact, so the state in front of its last instructions is that of the same run with a smaller budget.
-//! [`trace_run`] runs a machine so far, and then step by step; [`trace_job`] does so for a job of a plan, whose image was
-//! read before.
-//! [`push_trace`] appends the text of it, with the symbols of an [`ElfFile`].
+//! Runs are deterministic, so the state before a run's last instructions is the final state of the same run with a smaller budget.
+//! [`trace_run`] runs a machine that far, and then step by step; [`trace_job`] does so for a job of a plan whose image was read before.
+//! [`push_trace`] appends the text of a trace, with the symbols of an [`ElfFile`].
 #![tactic(auto)]
 
 mod code;
@@ -24,7 +22,7 @@ pub use elf_file::ElfFile;
 pub use job_file::{image_bytes, image_of_bytes};
 pub use job_image::JobImage;
 pub use law::{codes_are_fetched, rows_are_of_the_run, stored_values_stand, traces_show_the_end};
-pub use step::{TracedStep, TracedSteps, Wrote};
+pub use step::{TracedStep, TracedSteps, WriteEffect};
 pub use trace::{Trace, trace_job, trace_run};
 pub use trace_lines::push_trace;
 pub use write_targets::accessed_address;

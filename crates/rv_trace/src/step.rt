@@ -1,4 +1,4 @@
-//! One instruction of a machine.
+//! Single steps of a machine.
 
 ghost use Rattle.std.specs.Prelude.{◌≡◌, MatchBool, MatchOption, Ok, false, is_ok};
 ghost use Rattle.rv_machine.specs.Machine.{state_of};
@@ -13,29 +13,29 @@ use rv_memory::Width;
 
 /// What an instruction wrote.
 #[derive(Clone, Copy)]
-pub enum Wrote {
+pub enum WriteEffect {
     Nothing,
-    /// A register that is not x0, and its value afterwards.
+    /// A register other than x0, and its new value.
     Register(u8, u32),
-    /// A register, which may be x0, its value afterwards, and the address that was loaded from.
+    /// A register, which may be x0, its new value, and the address that was loaded from.
     Loaded(u8, u32, u32),
-    /// An address, the width of a store, and the value that it stored there.
+    /// An address, the width of the store, and the value stored there.
     Stored(u32, Width, u32),
 }
 
-/// An instruction that completed.
+/// A completed instruction.
 #[derive(Clone, Copy)]
 pub struct TracedStep {
     pub pc: u32,
-    /// What was fetched there: there is some, since the instruction completed.
+    /// The encoding that was fetched; always present, since the instruction completed.
     pub code: Option<Code>,
-    pub wrote: Wrote,
+    pub wrote: WriteEffect,
 }
 
-/// Instructions in the order in which they completed, of which contracts see their list.
+/// Instructions in the order in which they completed; contracts see them as a list.
 pub type TracedSteps = Sequence<TracedStep>;
 
-/// The next instruction of a machine, which is done, if it completes.
+/// Executes a machine's next instruction, and returns it if it completes.
 pub(crate) fn trace_next_step(machine: &mut Machine) -> Option<TracedStep>
     ensures { MatchOption result
         ((is_ok (step_of (state_of machine.old)) ≡ false)
@@ -56,8 +56,8 @@ pub(crate) fn trace_next_step(machine: &mut Machine) -> Option<TracedStep>
     })
 }
 
-// Does the next instruction of a machine, and tells whether it completed. It is a run of one step: so what an
-// instruction does has one caller in this program, too, the loop of a run, and the compiler joins the two.
+// Executes a machine's next instruction, and returns whether it completed. This is a run of one step, so that the execution of an
+// instruction has a single caller in this program, too, the loop of a run, and the compiler can inline it there.
 fn step_once(machine: &mut Machine) -> bool
     ensures { MatchBool result (step_of (state_of machine.old) ≡ Ok (state_of machine.new))
         ((is_ok (step_of (state_of machine.old)) ≡ false)

@@ -16,18 +16,18 @@ use std::alloc::{AllocError, Global};
 /// The last instructions of a run, and where it ended.
 #[derive(Drop)]
 pub struct Trace {
-    /// Those that completed, the oldest first.
+    /// The completed instructions, oldest first.
     pub steps: TracedSteps,
     /// The pc at the end.
     pub pc: u32,
-    /// What a fetch reads there, where it is not refused.
+    /// The encoding that a fetch reads there, unless it faults.
     pub code: Option<Code>,
     /// The registers x0 to x31 at the end.
     pub registers: [u32; 32],
 }
 
-/// The last instructions of a run that completes so many steps, or all where there are fewer, and where it ends. It takes
-/// the time of that run, and memory for each instruction that is shown.
+/// Returns the last `last` instructions of a run that completes `steps` steps, or all if there are fewer, and where it ends. Takes the time
+/// of that run, and memory for each instruction shown.
 #[tactic(auto, unfolding(crate::specs::Trace::trace_of))]
 pub fn trace_run(
     alloc: Global,
@@ -50,7 +50,7 @@ pub fn trace_run(
     })
 }
 
-/// The same of a job whose row has so many steps; nothing where the job is refused.
+/// Like [`trace_run`], for a job whose row has this many steps. Returns `None` if the job is refused.
 #[tactic(auto, unfolding(crate::specs::Trace::trace_in))]
 pub fn trace_job(
     alloc: Global,
@@ -67,7 +67,7 @@ pub fn trace_job(
     }
 }
 
-// The next instructions, as far as they complete.
+// Executes the next `count` instructions, as far as they complete, and returns them.
 fn trace_next_steps(
     alloc: Global,
     machine: &mut Machine,

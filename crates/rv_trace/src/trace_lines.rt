@@ -19,9 +19,9 @@ use rv_rows::RowEnd;
 use rv_text::{Span, push_spans, push_symbol, push_symbol_in_brackets, push_text};
 use std::alloc::{AllocError, Global};
 
-/// Appends the text of a trace: where the run ended, the 32 registers with the symbols that they point to, a line for each
-/// instruction that completed, and one for that at the end, with how it ended the run. Symbols are those of the job's
-/// file, and the ending is that of the row.
+/// Appends the text of a trace: where the run ended, the 32 registers with the symbols that they point to, a line for each completed
+/// instruction, and one for the instruction at the end with how it ended the run. Symbols come from the job's file, and the end from its
+/// row.
 #[tactic(auto, unfolding(crate::specs::Text::trace_text))]
 pub fn push_trace(
     alloc: Global,
@@ -101,7 +101,7 @@ fn push_register_line(
     push_text(bytes, "\n")
 }
 
-// What a value points to, behind it.
+// Appends the symbol that a value points to.
 fn push_symbol_of_value(
     alloc: Global,
     bytes: &mut Vec<u8>,

@@ -1,4 +1,4 @@
-//! What an instruction is about to write.
+//! The targets of an instruction's write, before it is executed.
 
 ghost use Rattle.std.specs.Prelude.{◌≡◌, ◌%◌, ◌^◌, ◌*◌};
 ghost use Rattle.rv_isa.specs.Words.{IsWellFormed};
@@ -9,12 +9,12 @@ ghost use Rattle.rv_trace.specs.Code.{code_at};
 ghost use Rattle.rv_trace.specs.Steps.{access_of, instruction_write_target, write_target, instr_at, completed_write, HasRegister};
 
 use crate::code::{Code, instr_of};
-use crate::step::Wrote;
+use crate::step::WriteEffect;
 use rv_isa::{Instr, Op};
 use rv_machine::Machine;
 use rv_memory::Width;
 
-/// How an instruction reaches memory.
+/// How an instruction accesses memory.
 #[derive(Clone, Copy)]
 pub(crate) enum Access {
     Load,
@@ -22,15 +22,15 @@ pub(crate) enum Access {
     Neither,
 }
 
-/// What an instruction is about to write.
+/// The target of an instruction's write, before it is executed.
 #[derive(Clone, Copy)]
-pub(crate) enum Aim {
+pub(crate) enum WriteTarget {
     Nothing,
-    /// A register that is not x0.
+    /// A register other than x0.
     Register(u8),
-    /// A register, which may be x0, from an address.
+    /// A register, which may be x0, and the address to load from.
     Load(u8, u32),
-    /// A value of this width, to an address.
+    /// A value, its width, and the address to store it at.
     Store(u32, Width, u32),
 }
 
@@ -46,38 +46,38 @@ pub(crate) fn access_of(op: Op) -> Access
     }
 }
 
-/// What the instruction of a code is about to write.
-pub(crate) fn write_target(machine: &Machine, code: Option<Code>) -> Aim
+/// Returns what the instruction of an encoding is about to write.
+pub(crate) fn write_target(machine: &Machine, code: Option<Code>) -> WriteTarget
     requires { code ≡ code_at (state_of machine.now).bus (state_of machine.now).pc }
     ensures value { result ≡ write_target (instr_at (state_of machine.now)) (state_of machine.now) }
     ensures register { HasRegister result }
 {
     let Some(code) = code else {
-        return Aim::Nothing;
+        return WriteTarget::Nothing;
     };
     match instr_of(code) {
         Some(instr) => instruction_write_target(access_of(instr.op), instr, machine),
-        None => Aim::Nothing,
+        None => WriteTarget::Nothing,
     }
 }
 
-fn instruction_write_target(access: Access, instr: Instr, machine: &Machine) -> Aim
+fn instruction_write_target(access: Access, instr: Instr, machine: &Machine) -> WriteTarget
     requires { IsWellFormed instr }
     ensures value { result ≡ instruction_write_target access instr (state_of machine.now) }
     ensures register { HasRegister result }
 {
     match access {
-        Access::Load => Aim::Load(instr.rd, accessed_address(machine, instr)),
+        Access::Load => WriteTarget::Load(instr.rd, accessed_address(machine, instr)),
         Access::Store(width) => {
             let value = low_bytes(machine.reg(instr.rs2), width);
-            Aim::Store(accessed_address(machine, instr), width, value)
+            WriteTarget::Store(accessed_address(machine, instr), width, value)
         }
-        Access::Neither if instr.rd == 0 => Aim::Nothing,
-        Access::Neither => Aim::Register(instr.rd),
+        Access::Neither if instr.rd == 0 => WriteTarget::Nothing,
+        Access::Neither => WriteTarget::Register(instr.rd),
     }
 }
 
-/// The address that a load or a store reaches.
+/// Returns the address that a load or a store accesses.
 pub fn accessed_address(machine: &Machine, instr: Instr) -> u32
     requires { IsWellFormed instr }
     ensures { result ≡ address (state_of machine.now) instr }
@@ -87,7 +87,7 @@ pub fn accessed_address(machine: &Machine, instr: Instr) -> u32
         .wrapping_add(instr.imm.cast_unsigned())
 }
 
-// As many of the low bytes as the width has.
+// Returns the low bytes of a value, as many as the width has.
 fn low_bytes(value: u32, width: Width) -> u32
     ensures { result ≡ value % 2 ^ (8 * size_of width) }
 {
@@ -98,17 +98,21 @@ fn low_bytes(value: u32, width: Width) -> u32
     }
 }
 
-impl Aim {
-    /// What was written, by the machine behind the instruction.
-    pub(crate) fn completed_write(self, machine: &Machine) -> Wrote
+impl WriteTarget {
+    /// Returns what was written, given the machine after the instruction.
+    pub(crate) fn completed_write(self, machine: &Machine) -> WriteEffect
         requires { HasRegister self }
         ensures { result ≡ completed_write self (state_of machine.now) }
     {
         match self {
-            Aim::Nothing => Wrote::Nothing,
-            Aim::Register(number) => Wrote::Register(number, machine.reg(number)),
-            Aim::Load(number, address) => Wrote::Loaded(number, machine.reg(number), address),
-            Aim::Store(address, width, value) => Wrote::Stored(address, width, value),
+            WriteTarget::Nothing => WriteEffect::Nothing,
+            WriteTarget::Register(number) => WriteEffect::Register(number, machine.reg(number)),
+            WriteTarget::Load(number, address) => WriteEffect::Loaded(
+                number,
+                machine.reg(number),
+                address,
+            ),
+            WriteTarget::Store(address, width, value) => WriteEffect::Stored(address, width, value),
         }
     }
 }

@@ -1,4 +1,4 @@
-//! The program `rvfleet`: hands the process's own words, files and streams to the library, and ends with its status.
+//! The program `rvfleet`: passes the process's own arguments, files and streams to the library, and exits with its status.
 #![tactic(auto)]
 
 use rv_files::{FileStore, StreamSink};
@@ -8,7 +8,7 @@ use std::env::Env;
 use std::process::ExitCode;
 use std::{env, io};
 
-// The answer to the process's own words, over its own streams and files.
+// Responds to the process's own arguments, with its own streams and files.
 fn main(rt: HostRuntime) -> ExitCode {
     let mut errors = StreamSink::new(rt.stderr());
     let texts = match words_of_process(&rt) {
@@ -28,8 +28,8 @@ fn main(rt: HostRuntime) -> ExitCode {
     ExitCode::from(status)
 }
 
-// The process's own words. It stands as a function of its own for the place of the loop of steps, which what stands before it
-// decides: docs/PERFORMANCE.md, "What must hold of the machine code".
+// Returns the process's own arguments. It is a separate function because the code before the loop of steps decides where that loop is
+// placed: docs/PERFORMANCE.md, "What must hold of the machine code".
 #[inline(never)]
 fn words_of_process(rt: &(impl Env + AllocGlobal)) -> io::Result<Vec<String>> {
     let mut texts = Vec::new(rt.alloc());

@@ -9,10 +9,10 @@ use Rattle.rv_fleet.specs.Report.{report_text}
 use Rattle.rv_fleet.specs.Rows.{rows_of}
 use Rattle.rv_jobs.specs.declared_job.Job.{Job}
 use Rattle.rv_jobs.specs.Plans.{Planned}
-use Rattle.rvfleet_app.specs.Answers.{Answers, IsReportBegun, IsReportSent, verdicts_status}
+use Rattle.rvfleet_app.specs.Answers.{Answers, IsReportPrefixWritten, IsReportSent, verdicts_status}
 use Rattle.rv_cli.specs.RvfleetCommand.{Request, raw}
 use Rattle.rvfleet_app.specs.declared.error.Failure.{Failure}
-use Rattle.rvfleet_app.specs.Plans.{AreJobRows, MayPlan, Stored}
+use Rattle.rvfleet_app.specs.Plans.{AreJobRows, IsPossiblePlan, Stored}
 use Rattle.rvfleet_app.specs.FlatImage.{AreRawRows}
 
 -- ---- nothing goes out
@@ -47,7 +47,7 @@ flat_reported input before after budget sent =
 pub raw_answers : (input : Option (List ℕ)) (store : Stored) (before after : Option (List ℕ)) (status budget : ℕ)
     → (status ≡ 0 → (rows : List Row) × (AreRawRows input budget rows × IsReportSent before after 0 rows))
     → (status ≡ 3
-    → Keeps before after ⊎ ((rows : List Row) × (AreRawRows input budget rows × IsReportBegun before after rows)))
+    → Keeps before after ⊎ ((rows : List Row) × (AreRawRows input budget rows × IsReportPrefixWritten before after rows)))
     → status ≡ 0 ⊎ status ≡ 3 → Answers (Some (raw budget)) input store before after status
 raw_answers input store before after status budget reported part range = record {
   reported = λ low. elim range [
@@ -68,7 +68,7 @@ raw_answers input store before after status budget reported part range = record 
 
 -- the report of a plan is one of rows that its jobs may have
 pub jobs_reported : (answer : Result ℕ Failure) (store : Stored) (jobs : List Job) (plan : Planned) (rows : List Row)
-    (before after : Option (List ℕ)) → MayPlan store jobs plan → rows ≡ rows_of plan
+    (before after : Option (List ℕ)) → IsPossiblePlan store jobs plan → rows ≡ rows_of plan
     → IfOk answer (λ status. IsReportSent before after status rows)
     → IfOk answer (λ status. (rows : List Row) × (AreJobRows store jobs rows × IsReportSent before after status rows))
 jobs_reported (Ok status) store jobs plan rows before after may is sent = (rows, ((plan, (may, is)), sent))

@@ -7,8 +7,8 @@ use Rattle.clap.specs.declared.error.kind.ErrorKind.{ErrorKind}
 use Rattle.clap.specs.declared.error.kind.ErrorKind.TheVariants.{OutOfMemory}
 use Rattle.rv_jobs.specs.Files.{FileContents}
 use Rattle.rvfleet_app.proofs.Failing.{any_why}
-use Rattle.rvfleet_app.specs.Answers.{IsQuiet, TellsWhy, TellsFailure, is_request_refused}
-use Rattle.rv_cli.specs.RvfleetCommand.{IsToAnswer, Request, faultless_request, fleet_app, are_words_taken, request_beside_faults, request_of}
+use Rattle.rvfleet_app.specs.Answers.{IsQuiet, ReportsReason, TellsFailure, is_request_refused}
+use Rattle.rv_cli.specs.RvfleetCommand.{IsToAnswer, Request, faultless_request, fleet_app, are_arguments_accepted, request_beside_faults, request_of}
 use Rattle.rvfleet_app.specs.Lines.{IsLinePut, bad_words_line}
 use Rattle.rv_cli.specs.RvfleetRequests.{request}
 use Rattle.rv_cli.specs.declared.rvfleet.Request.{Request as Value}
@@ -35,7 +35,7 @@ unfolding faultless_request
 nothing_asked words kind among = nothing_beside kind (fault_of fleet_app words) (request_of words) among
 
 -- words that are to be answered have no error but want of memory
-pub error_is_memory : (words : List Text) (kind : ErrorKind) → (are_words_taken words ≡ true → kind ≡ OutOfMemory)
+pub error_is_memory : (words : List Text) (kind : ErrorKind) → (are_arguments_accepted words ≡ true → kind ≡ OutOfMemory)
     → (kind ≡ OutOfMemory) ⊎ IsAmong kind (fault_of fleet_app words) → IsToAnswer words → kind ≡ OutOfMemory
 error_is_memory words kind taken why (inl is) = taken is
 error_is_memory words kind taken (inl out) (inr some) = out
@@ -46,7 +46,7 @@ error_is_memory words kind taken (inr among) (inr some) =
 pub bad_words : (request : Option Request) (known : Option FileContents) (before after : Option (List ℕ))
     (failures_before failures_after : ℕ) (status : ℕ)
     → status ≡ 2 → is_request_refused request ≡ true → IsLinePut before after failures_before failures_after bad_words_line
-    → TellsWhy request known before after failures_before failures_after status
+    → ReportsReason request known before after failures_before failures_after status
 bad_words request known before after failures_before failures_after status two bad line = record {
   quiet = λ low. elim low [ inl nought ↦ absurd (omega arith) | inr one ↦ absurd (omega arith) ];
   refused = λ _. inl (bad, line);
@@ -61,7 +61,7 @@ pub error_told : (words : List Text) (known : Option FileContents) (before after
     → (status ≡ 2 → IsLinePut before after failures_before failures_after bad_words_line)
     → (status ≡ 3 → TellsFailure None before after failures_before failures_after)
     → status ≡ 0 ⊎ status ≡ 2 ⊎ status ≡ 3
-    → TellsWhy (faultless_request words) known before after failures_before failures_after status
+    → ReportsReason (faultless_request words) known before after failures_before failures_after status
 error_told words known before after failures_before failures_after status kind memory why quiet refused failed range =
     record {
       quiet = λ low. elim low [

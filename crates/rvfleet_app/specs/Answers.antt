@@ -1,4 +1,4 @@
--- What the program owes to words.
+-- How the program must respond to its arguments.
 use Rattle.std.specs.Prelude.{◌≡◌, ◌⊎◌, ℕ, Bool, true, false, List, Option, Some, None, Ok}
 use Rattle.std.specs.Prelude.{if◌then◌else◌}
 use Rattle.std.specs.List.{list_any}
@@ -16,56 +16,56 @@ use Rattle.rvfleet_app.specs.declared.error.Failure.{Failure}
 use Rattle.rvfleet_app.specs.Failures.{is_failure_of_list, is_failure_of_raw, is_failure_of_sending}
 use Rattle.rvfleet_app.specs.Lines.{IsLinePut, bad_words_line, failure_line, fault_line}
 use Rattle.rvfleet_app.specs.ElfImage.{script_bytes, is_bad_image_request, is_bad_path, single_image_jobs}
-use Rattle.rvfleet_app.specs.Plans.{AreJobRows, MayFault, MayList, Stored}
+use Rattle.rvfleet_app.specs.Plans.{AreJobRows, IsPossibleListError, IsPossibleList, Stored}
 use Rattle.rvfleet_app.specs.FlatImage.{AreRawRows}
 
 -- ---- which words are refused
 
--- nothing is asked for, or a path or digits are refused
+-- there is no request, or its path or digits are rejected
 abbrev pub is_request_refused : Option Request → Bool
 is_request_refused (Some (raw budget)) = false
 is_request_refused (Some (one path budget digits)) = is_bad_image_request path digits
 is_request_refused (Some (run path workers group)) = is_bad_path path
 is_request_refused None = true
 
--- the fault of a list that the store may hold for the request
+-- the error of a list that the store may contain for the request
 abbrev pub IsFaultOfRequest : Option Request → Option FileContents → JobError → Type 0
 IsFaultOfRequest (Some (raw budget)) known error = ⊥
 IsFaultOfRequest (Some (one path budget digits)) known error = ⊥
-IsFaultOfRequest (Some (run path workers group)) known error = MayFault known path error
+IsFaultOfRequest (Some (run path workers group)) known error = IsPossibleListError known path error
 IsFaultOfRequest None known error = ⊥
 
--- a list that the store may hold for the request has a fault
+-- a list that the store may contain for the request has an error
 abbrev pub HasFault : Option Request → Stored → Type 0
 HasFault request store = (error : JobError) × IsFaultOfRequest request store.known error
 
 -- ---- which rows are owed
 
--- the words ask for a file
+-- the arguments request a file
 abbrev pub reads_store : Option Request → Bool
 reads_store (Some (raw budget)) = false
 reads_store (Some (one path budget digits)) = true
 reads_store (Some (run path workers group)) = true
 reads_store None = false
 
--- the words ask for the input
+-- the arguments request the input
 abbrev pub reads_input : Option Request → Bool
 reads_input (Some (raw budget)) = true
 reads_input (Some (one path budget digits)) = false
 reads_input (Some (run path workers group)) = false
 reads_input None = false
 
--- the rows of the one job of a path and the script that digits stand for
+-- the rows of the single job with this path and the console input that the digits represent
 abbrev pub AreImageRows : Stored → List ℕ → ℕ → Option (List ℕ) → List Row → Type 0
 AreImageRows store path budget digits rows = (script : List ℕ) × ((script_bytes digits ≡ Ok script)
     × AreJobRows store (single_image_jobs path budget script) rows)
 
--- the rows of the jobs of a list that the store may hold at a path
+-- the rows of the jobs of a list that the store may contain at a path
 abbrev pub AreListRows : Stored → List ℕ → List Row → Type 0
 AreListRows store path rows =
-    (jobs : List Job) × (MayList store.known path jobs × AreJobRows store jobs rows)
+    (jobs : List Job) × (IsPossibleList store.known path jobs × AreJobRows store jobs rows)
 
--- the rows of a request, over what the input has and the store may answer
+-- the rows of a request, given the bytes of the input and what the store may return
 abbrev pub AreRows : Option Request → Option (List ℕ) → Stored → List Row → Type 0
 AreRows (Some (raw budget)) input store rows = AreRawRows input budget rows
 AreRows (Some (one path budget digits)) input store rows = AreImageRows store path budget digits rows
@@ -82,23 +82,23 @@ is_fail_verdict verdict.Fail = true
 abbrev pub has_failed_row : List Row → Bool
 has_failed_row rows = list_any (λ row. is_fail_verdict row.verdict) rows
 
--- 1 where some verdict is fail, else 0
+-- 1 if some verdict is fail, else 0
 abbrev pub verdicts_status : List Row → ℕ
 verdicts_status rows = if has_failed_row rows then 1 else 0
 
--- the report of these rows went out, and the status is its own
+-- the report of these rows was written, and the status is that of the report
 pub record IsReportSent (before after : Option (List ℕ)) (status : ℕ) (rows : List Row) : Type 0 where
   pub appended : Appends before after (report_text rows)
   pub verdicts : status ≡ verdicts_status rows
 
--- a beginning of their report went out
-abbrev pub IsReportBegun : Option (List ℕ) → Option (List ℕ) → List Row → Type 0
-IsReportBegun before after rows = AppendsBeginning before after (report_text rows)
+-- a prefix of their report was written
+abbrev pub IsReportPrefixWritten : Option (List ℕ) → Option (List ℕ) → List Row → Type 0
+IsReportPrefixWritten before after rows = AppendsBeginning before after (report_text rows)
 
 -- ---- the answer
 
--- the answer to words that ask for this: with status 0 or 1 there are rows of the request whose
--- report went out; with 2 nothing did; with 3 nothing, or a beginning of the report of such rows
+-- the response to arguments with this request: with status 0 or 1 there are rows of the request whose report was written; with 2, nothing
+-- was written; with 3, nothing or a prefix of the report of such rows
 pub record Answers (request : Option Request) (input : Option (List ℕ)) (store : Stored)
     (before after : Option (List ℕ)) (status : ℕ) : Type 0 where
   pub reported : status ≡ 0 ⊎ status ≡ 1
@@ -107,11 +107,11 @@ pub record Answers (request : Option Request) (input : Option (List ℕ)) (store
   pub refused : status ≡ 2
       → Keeps before after × (is_request_refused request ≡ true ⊎ HasFault request store)
   pub failed : status ≡ 3 → Keeps before after
-      ⊎ ((rows : List Row) × (AreRows request input store rows × IsReportBegun before after rows))
+      ⊎ ((rows : List Row) × (AreRows request input store rows × IsReportPrefixWritten before after rows))
 
 -- ---- what standard error says
 
--- the line of why a request is refused is told: bad words, or the fault of its list
+-- the line says why a request is rejected: invalid arguments, or the error of its list
 abbrev pub TellsRefusal : Option Request → Option FileContents
     → Option (List ℕ) → Option (List ℕ) → ℕ → ℕ → Type 0
 TellsRefusal request known before after failures_before failures_after =
@@ -120,26 +120,26 @@ TellsRefusal request known before after failures_before failures_after =
     ⊎ ((error : JobError) × (IsFaultOfRequest request known error
     × IsLinePut before after failures_before failures_after (fault_line error)))
 
--- the request may fail so
+-- whether the request can fail in this way
 abbrev pub may_fail : Option Request → Failure → Bool
 may_fail (Some (raw budget)) failure = is_failure_of_raw failure
 may_fail (Some (one path budget digits)) failure = is_failure_of_sending failure
 may_fail (Some (run path workers group)) failure = is_failure_of_list failure
 may_fail None failure = is_failure_of_sending failure
 
--- the line of a failure is told that the request may have
+-- the line reports a failure that the request can have
 abbrev pub TellsFailure : Option Request → Option (List ℕ) → Option (List ℕ) → ℕ → ℕ → Type 0
 TellsFailure request before after failures_before failures_after =
     (failure : Failure) × ((may_fail request failure ≡ true)
     × IsLinePut before after failures_before failures_after (failure_line failure))
 
--- nothing is said, and no put failed
+-- nothing was written, and no write failed
 abbrev pub IsQuiet : Option (List ℕ) → Option (List ℕ) → ℕ → ℕ → Type 0
 IsQuiet before after failures_before failures_after =
     Keeps before after × (failures_after ≡ failures_before)
 
--- why the status is 2 or 3; beside 0 and 1 nothing is said
-pub record TellsWhy (request : Option Request) (known : Option FileContents)
+-- the line says why the status is 2 or 3; for 0 and 1, nothing is written
+pub record ReportsReason (request : Option Request) (known : Option FileContents)
     (before after : Option (List ℕ)) (failures_before failures_after : ℕ) (status : ℕ)
     : Type 0 where
   pub quiet : status ≡ 0 ⊎ status ≡ 1 → IsQuiet before after failures_before failures_after

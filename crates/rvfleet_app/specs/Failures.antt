@@ -1,4 +1,4 @@
--- What the program says of an error of a layer below.
+-- What the program reports for an error of a lower layer.
 use Rattle.std.specs.Prelude.{◌≡◌, Bool, true, false}
 use Rattle.rv_jobs.specs.declared_error.JobError.{JobError}
 use Rattle.rvfleet_app.specs.declared.error.ListError.{ListError}
@@ -20,51 +20,51 @@ abbrev pub input_read_failure : InputError → RunError
 input_read_failure input.OutOfMemory = run.OutOfMemory
 input_read_failure (input.Failed reason) = run.ReadFailed
 
--- a report that didn't go out
+-- a report that was not written
 abbrev pub write_failure : WriteError → RunError
 write_failure write.OutOfMemory = run.OutOfMemory
 write_failure write.Failed = run.WriteFailed
 
--- no report of a flat image, or not all of it
+-- the report of a flat image was not written, or not completely
 abbrev pub run_failure : RunError → Failure
 run_failure run.OutOfMemory = failure.OutOfMemory
 run_failure run.ReadFailed = failure.ReadFailed
 run_failure run.WriteFailed = failure.WriteFailed
 
--- no report of a plan
+-- the report of a plan was not made
 abbrev pub fleet_failure : FleetError → Failure
 fleet_failure fleet.OutOfMemory = failure.OutOfMemory
 fleet_failure fleet.NoWorker = failure.NoWorker
 
--- not all of the report of a plan
+-- the report of a plan was not written completely
 abbrev pub send_failure : WriteError → Failure
 send_failure write.OutOfMemory = failure.OutOfMemory
 send_failure write.Failed = failure.WriteFailed
 
--- sending a report, or help, may fail so
+-- whether writing a report or the help can fail in this way
 abbrev pub is_failure_of_sending : Failure → Bool
 is_failure_of_sending failure.OutOfMemory = true
 is_failure_of_sending failure.WriteFailed = true
 is_failure_of_sending _ = false
 
--- a flat image may fail so, whose input is read
+-- whether running a flat image, which reads the input, can fail in this way
 abbrev pub is_failure_of_raw : Failure → Bool
 is_failure_of_raw failure.OutOfMemory = true
 is_failure_of_raw failure.ReadFailed = true
 is_failure_of_raw failure.WriteFailed = true
 is_failure_of_raw _ = false
 
--- a job list may fail so, which has a file and workers, and for which the input isn't read
+-- whether running a job list, which uses a file and workers but not the input, can fail in this way
 abbrev pub is_failure_of_list : Failure → Bool
 is_failure_of_list failure.ReadFailed = false
 is_failure_of_list _ = true
 
--- reading a list failed so, if it did
+-- reading a list failed in this way, if it failed
 abbrev pub IsListFailure : ListError → Type 0
 IsListFailure (Refused error) = Unit {0}
 IsListFailure (Failed failure) = is_failure_of_list failure ≡ true
 
--- a list that is refused for this; want of memory is a failure of the program
+-- the list is rejected for this error; running out of memory is a failure of the program instead
 abbrev pub IsListError : JobError → ListError → Type 0
 IsListError error (Refused why) = (why ≡ error) × (error.what ≡ what.OutOfMemory → ⊥)
 IsListError error (Failed why) = (why ≡ failure.OutOfMemory) × (error.what ≡ what.OutOfMemory)

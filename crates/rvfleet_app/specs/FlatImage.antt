@@ -1,17 +1,17 @@
--- What comes of the input's bytes.
+-- How the bytes of the input are run.
 use Rattle.std.specs.Prelude.{◌≡◌, ℕ, List, [], ◌∷◌, take, Option, IfSome}
 use Rattle.rv_fleet.specs.declared_row.Row.{Row}
 use Rattle.rv_fleet.specs.Flat.{flat_row_of}
 
--- as many bytes are read at most: one more than an image may have
+-- the most bytes that are read: one more than an image may have
 abbrev pub most_read : ℕ
 most_read = 1048577
 
--- these bytes are read of the input: its first ones, where it tells what it has
+-- these bytes are read from the input: the first ones, if its contents are known
 abbrev pub IsInputBeginning : Option (List ℕ) → List ℕ → Type 0
 IsInputBeginning input bytes = IfSome input (λ known. bytes ≡ take most_read known)
 
--- the one row of the flat image that is read
+-- the single row of the flat image that is read
 abbrev pub AreRawRows : Option (List ℕ) → ℕ → List Row → Type 0
 AreRawRows input budget rows =
     (bytes : List ℕ) × (IsInputBeginning input bytes × (rows ≡ flat_row_of bytes budget ∷ []))

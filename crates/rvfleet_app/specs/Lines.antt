@@ -1,4 +1,4 @@
--- The lines of standard error.
+-- The lines on standard error.
 use Rattle.std.specs.Prelude.{◌≡◌, ◌⊎◌, ℕ, List, ◌++◌, Option, codes}
 use Rattle.std.specs.Fmt.{decimal}
 use Rattle.std.specs.Io.KnownBytes.{Appends}
@@ -14,11 +14,11 @@ use Rattle.rvfleet_app.specs.declared.error.Failure.TheVariants as failure
 abbrev pub program_line : List ℕ → List ℕ
 program_line text = line (codes "rvfleet: " ++ text)
 
--- the line of words that are refused
+-- the line for invalid arguments
 abbrev pub bad_words_line : List ℕ
 bad_words_line = program_line (codes "bad words")
 
--- the line of a list's fault: the number of the job, or 0 for the whole list, and the fault's name
+-- the line for a list's error: the number of the job, or 0 for the whole list, and the name of the error
 abbrev pub fault_line : JobError → List ℕ
 fault_line error =
     program_line (codes "job " ++ decimal error.job ++ codes ": " ++ what_name error.what)
@@ -31,12 +31,11 @@ failure_name failure.ListTooLong = codes "list too long"
 failure_name failure.ReadFailed = codes "read failed"
 failure_name failure.WriteFailed = codes "write failed"
 
--- the line of what failed
+-- the line for a failure
 abbrev pub failure_line : Failure → List ℕ
 failure_line failure = program_line (failure_name failure)
 
--- the whole line went out and no put failed; or one put failed, and a beginning of the line went
--- out
+-- the whole line was written and no write failed; or one write failed, and a prefix of the line was written
 unfoldable pub IsLinePut : Option (List ℕ) → Option (List ℕ) → ℕ → ℕ → List ℕ → Type 0
 IsLinePut before after failures_before failures_after line =
     (Appends before after line × (failures_after ≡ failures_before))

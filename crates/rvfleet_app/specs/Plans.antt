@@ -1,4 +1,4 @@
--- What the store may answer to what the program asks of it.
+-- What the store may return for what the program requests.
 use Rattle.std.specs.Prelude.{◌≡◌, ℕ, List, Option, Ok, Err}
 use Rattle.rv_fleet.specs.declared_row.Row.{Row}
 use Rattle.rv_fleet.specs.Rows.{rows_of}
@@ -12,7 +12,7 @@ use Rattle.rv_jobs.specs.Kept.{IsKeptOf}
 use Rattle.rvfleet_app.specs.declared.error.ListError.{ListError}
 use Rattle.rvfleet_app.specs.declared.error.ListError.TheVariants.{Failed, Refused}
 
--- a store's contents, where it tells them, and its count of unreadable files before and after
+-- a store's contents, if they are known, and its count of unreadable files before and after
 pub record Stored : Type 0 where
   pub known : Option FileContents
   pub before : ℕ
@@ -21,29 +21,28 @@ pub record Stored : Type 0 where
 abbrev pub stored_contents : Option FileContents → ℕ → ℕ → Stored
 stored_contents known before after = record { known = known; before = before; after = after }
 
--- a plan of jobs over answers that the store may give: one for each of their paths, and one more
--- fault for each that is unreadable
-pub record MayPlan (store : Stored) (list : List Job) (plan : Planned) : Type 0 where
+-- a plan of jobs over results that the store may return: one for each of their paths, and one more fault for each that cannot be read
+pub record IsPossiblePlan (store : Stored) (list : List Job) (plan : Planned) : Type 0 where
   pub jobs : plan.jobs ≡ list
   pub paths : paths_of plan.answers ≡ paths_used list
   pub kept : AreKept store.known plan.answers
   pub faults : store.after ≡ one_more_times store.before (unreadable_count plan.answers)
 
--- the rows of jobs, over answers that the store may give
+-- the rows of the jobs, over results that the store may return
 abbrev pub AreJobRows : Stored → List Job → List Row → Type 0
-AreJobRows store jobs rows = (plan : Planned) × (MayPlan store jobs plan × (rows ≡ rows_of plan))
+AreJobRows store jobs rows = (plan : Planned) × (IsPossiblePlan store jobs plan × (rows ≡ rows_of plan))
 
--- the jobs are those of a list that the store may hold at a path
-abbrev pub MayList : Option FileContents → List ℕ → List Job → Type 0
-MayList known path jobs =
+-- the jobs are those of a list that the store may contain at a path
+abbrev pub IsPossibleList : Option FileContents → List ℕ → List Job → Type 0
+IsPossibleList known path jobs =
     (list : List ℕ) × (IsKeptOf known path (Content list) × (job_list_of list ≡ Ok jobs))
 
--- a list that the store may hold at a path has this fault
-abbrev pub MayFault : Option FileContents → List ℕ → JobError → Type 0
-MayFault known path error =
+-- a list that the store may contain at a path has this error
+abbrev pub IsPossibleListError : Option FileContents → List ℕ → JobError → Type 0
+IsPossibleListError known path error =
     (list : List ℕ) × (IsKeptOf known path (Content list) × (job_list_of list ≡ Err error))
 
--- the fault of a list that was read; a list that wasn't read has none
+-- the error of a list that was read; a list that was not read has none
 abbrev pub IsListFault : Option FileContents → List ℕ → ListError → Type 0
-IsListFault known path (Refused error) = MayFault known path error
+IsListFault known path (Refused error) = IsPossibleListError known path error
 IsListFault known path (Failed failure) = Unit {0}

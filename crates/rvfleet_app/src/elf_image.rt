@@ -1,13 +1,13 @@
-//! One ELF image of a store.
+//! Running one ELF image of a store.
 
 ghost use Rattle.rv_jobs.specs.Limits.{most_budget};
 ghost use Rattle.std.specs.Prelude.{List, ◌≡◌, ◌≢◌, ◌<◌, ◌≤◌, ◌⊎◌, Ok, IfErr, IfOk, OnErr, OnOk};
 ghost use Rattle.std.specs.Prelude.{length, option_map, true, vec_len};
 ghost use Rattle.std.specs.Io.KnownBytes.{Keeps};
 ghost use Rattle.rv_fleet.specs.declared_row.Row.{Row as ARow};
-ghost use Rattle.rv_jobs.specs.Counts.{HasRisen};
+ghost use Rattle.rv_jobs.specs.Counts.{HasIncreased};
 ghost use Rattle.rv_jobs.specs.Limits.{most_path, most_script};
-ghost use Rattle.rvfleet_app.specs.Answers.{IsReportBegun, IsReportSent};
+ghost use Rattle.rvfleet_app.specs.Answers.{IsReportPrefixWritten, IsReportSent};
 ghost use Rattle.rvfleet_app.specs.Failures.{is_failure_of_sending};
 ghost use Rattle.rvfleet_app.specs.ElfImage.{script_bytes, is_bad_path, is_bad_script, single_image_jobs};
 ghost use Rattle.rvfleet_app.specs.Plans.{AreJobRows, stored_contents};
@@ -20,16 +20,16 @@ use rv_jobs::limits::{MOST_PATH, MOST_SCRIPT};
 use rv_jobs::{JobList, Store, gather};
 use std::alloc::Global;
 
-/// Why digits are no script.
+/// Why digits do not represent a console input.
 #[derive(Clone, Copy, Debug, PartialEq, Eq)]
 pub enum ScriptError {
-    /// They aren't hexadecimal, they are odd in number, or they stand for more than 65,536 bytes.
+    /// They are not hexadecimal, their number is odd, or they represent more than 65,536 bytes.
     Refused,
-    /// A growth was refused.
+    /// An allocation failed.
     OutOfMemory,
 }
 
-/// A run of one ELF image: its path in a store, how many steps it may take, and what it reads from its console.
+/// A run of one ELF image: its path in a store, its budget of steps, and its console input.
 #[derive(Drop)]
 pub struct ImageRun<'a> {
     pub path: &'a str,
@@ -48,7 +48,7 @@ pub fn is_bad_path(path: &str) -> bool
     path.is_empty() || MOST_PATH < path.len()
 }
 
-/// The script that hexadecimal digits of either case stand for; it is empty without digits.
+/// Returns the console input that hexadecimal digits of either case represent; it is empty without digits.
 pub fn read_script(alloc: Global, digits: Option<&str>) -> Result<Vec<u8>, ScriptError>
     ensures value { IfOk result
         (λ script. script_bytes (option_map (λ text. text.now) digits.entry) ≡ Ok script.items) }
@@ -67,8 +67,8 @@ pub fn read_script(alloc: Global, digits: Option<&str>) -> Result<Vec<u8>, Scrip
     }
 }
 
-/// Runs an ELF image of the store, whose path is read once, and appends its report to the sink. A path that can't be
-/// read is a row of the report. The answer is the status of the report's verdicts.
+/// Runs an ELF image of the store, whose path is read once, and writes its report to the sink. A path that cannot be read gives a row of
+/// the report. Returns the status of the report's verdicts.
 pub fn run_image<S: Store, O: Sink>(
     alloc: Global,
     run: ImageRun<'_>,
@@ -86,9 +86,9 @@ pub fn run_image<S: Store, O: Sink>(
         ⊎ ((rows : List ARow)
         × (AreJobRows (stored_contents (S.contents store.old) (S.faulted store.old) (S.faulted store.new))
         (single_image_jobs run.entry.path.now run.entry.budget run.entry.script.items) rows
-        × IsReportBegun (O.taken out.old) (O.taken out.new) rows))) }
+        × IsReportPrefixWritten (O.taken out.old) (O.taken out.new) rows))) }
     ensures failed { IfErr result
-        (λ error. error ≡ Failure.WriteFailed → HasRisen (O.failed out.old) (O.failed out.new)) }
+        (λ error. error ≡ Failure.WriteFailed → HasIncreased (O.failed out.old) (O.failed out.new)) }
     ensures same { S.contents store.new ≡ S.contents store.old }
 {
     let ImageRun {

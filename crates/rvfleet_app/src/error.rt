@@ -8,30 +8,30 @@ use rv_jobs::JobError;
 use std::alloc::AllocError;
 use thiserror::Error;
 
-/// Why no report of a flat image went out, or not all of it.
+/// Why the report of a flat image was not written, or not completely.
 #[derive(Clone, Copy, Debug, Error, PartialEq, Eq)]
 pub enum RunError {
-    /// A growth was refused.
+    /// An allocation failed.
     #[error("out of memory")]
     OutOfMemory,
-    /// A read of the input failed, an interrupted one included.
+    /// A read of the input failed or was interrupted.
     #[error("read failed")]
     ReadFailed,
-    /// A put of the sink failed.
+    /// A write to the sink failed.
     #[error("write failed")]
     WriteFailed,
 }
 
-/// Why the program has no report, or didn't send all of it.
+/// Why the program made no report, or did not write all of it.
 #[derive(Clone, Copy, Debug, Error, PartialEq, Eq)]
 pub enum Failure {
-    /// A growth was refused.
+    /// An allocation failed.
     #[error("out of memory")]
     OutOfMemory,
-    /// The start of a thread was refused.
+    /// A thread could not be started.
     #[error("no worker")]
     NoWorker,
-    /// There is no file of the job list, or reading it failed.
+    /// The file of the job list does not exist, or reading it failed.
     #[error("list unreadable")]
     ListUnreadable,
     /// The job list has more than 16,777,216 bytes.
@@ -40,7 +40,7 @@ pub enum Failure {
     /// A read of the input failed.
     #[error("read failed")]
     ReadFailed,
-    /// A put of the sink failed.
+    /// A write to the sink failed.
     #[error("write failed")]
     WriteFailed,
 }
@@ -48,9 +48,9 @@ pub enum Failure {
 /// Why there is no job list.
 #[derive(Clone, Copy, Debug, PartialEq, Eq)]
 pub enum ListError {
-    /// The list has a fault.
+    /// The list has an error.
     Refused(JobError),
-    /// It wasn't read, or memory was wanting.
+    /// The list was not read, or memory ran out.
     Failed(Failure),
 }
 

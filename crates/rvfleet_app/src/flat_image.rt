@@ -1,13 +1,13 @@
-//! A flat image from a reader.
+//! Running a flat image from a reader.
 
 ghost use Rattle.std.specs.Prelude.{◌≡◌, ◌⊎◌, List, [], ◌∷◌, IfErr, IfOk, OnErr, OnOk};
 ghost use Rattle.std.specs.Io.KnownBytes.{Appends, Keeps};
 ghost use Rattle.rv_fleet.specs.declared_row.Row.{Row as ARow};
 ghost use Rattle.rv_fleet.specs.Flat.{flat_row_of};
 ghost use Rattle.rv_fleet.specs.Report.{report_text};
-ghost use Rattle.rv_jobs.specs.Counts.{HasRisen};
+ghost use Rattle.rv_jobs.specs.Counts.{HasIncreased};
 ghost use Rattle.rv_files.specs.Input.{TookFirstBytes};
-ghost use Rattle.rvfleet_app.specs.Answers.{IsReportBegun};
+ghost use Rattle.rvfleet_app.specs.Answers.{IsReportPrefixWritten};
 ghost use Rattle.rvfleet_app.specs.FlatImage.{AreRawRows, IsInputBeginning, most_read};
 
 use crate::error::RunError;
@@ -19,8 +19,7 @@ use std::io::Read;
 // One byte more than an image may have.
 const MOST_READ: usize = 1_048_577;
 
-/// Runs the reader's bytes as a flat image, and appends its report to the sink. No more than
-/// 1,048,577 bytes are taken from the reader.
+/// Runs the reader's bytes as a flat image, and writes its report to the sink. Reads at most 1,048,577 bytes from the reader.
 pub fn run_raw<R: Read, O: Sink>(
     alloc: Global,
     input: &mut R,
@@ -37,9 +36,9 @@ pub fn run_raw<R: Read, O: Sink>(
         (λ error. error ≡ RunError.ReadFailed → Keeps (O.taken out.old) (O.taken out.new)) }
     ensures part { OnErr result (Keeps (O.taken out.old) (O.taken out.new)
         ⊎ ((rows : List ARow) × (AreRawRows (R.remaining input.old) budget rows
-        × IsReportBegun (O.taken out.old) (O.taken out.new) rows))) }
+        × IsReportPrefixWritten (O.taken out.old) (O.taken out.new) rows))) }
     ensures failed { IfErr result
-        (λ error. error ≡ RunError.WriteFailed → HasRisen (O.failed out.old) (O.failed out.new)) }
+        (λ error. error ≡ RunError.WriteFailed → HasIncreased (O.failed out.old) (O.failed out.new)) }
 {
     let bytes = read_flat_image(alloc, input)?;
     let report = flat_report(alloc, bytes.as_slice(), budget)?;
@@ -47,7 +46,7 @@ pub fn run_raw<R: Read, O: Sink>(
     Ok(())
 }
 
-// The reader's first bytes: so many that a longer image is told from one that fits.
+// Reads the reader's first bytes, one more than the longest image, so that a longer one is detected.
 fn read_flat_image<R: Read>(alloc: Global, input: &mut R) -> Result<Vec<u8>, InputError>
     ensures first { IfOk result (λ bytes. IsInputBeginning (R.remaining input.old) bytes.items) }
     ensures left { OnOk result

@@ -1,12 +1,12 @@
-//! The jobs of a list in a store.
+//! Reading and running the job list of a store.
 
 ghost use Rattle.std.specs.Prelude.{true, List, ◌≡◌, ◌≤◌, ◌⊎◌, IfErr, IfOk, OnErr, OnOk};
 ghost use Rattle.std.specs.Io.KnownBytes.{Keeps};
 ghost use Rattle.rv_fleet.specs.declared_row.Row.{Row as ARow};
-ghost use Rattle.rv_jobs.specs.Counts.{HasRisen};
-ghost use Rattle.rvfleet_app.specs.Answers.{IsReportBegun, IsReportSent};
+ghost use Rattle.rv_jobs.specs.Counts.{HasIncreased};
+ghost use Rattle.rvfleet_app.specs.Answers.{IsReportPrefixWritten, IsReportSent};
 ghost use Rattle.rvfleet_app.specs.Failures.{IsListError, IsListFailure, is_failure_of_list};
-ghost use Rattle.rvfleet_app.specs.Plans.{AreJobRows, MayList, IsListFault, stored_contents};
+ghost use Rattle.rvfleet_app.specs.Plans.{AreJobRows, IsPossibleList, IsListFault, stored_contents};
 
 use crate::error::{Failure, ListError};
 use crate::report_output::send_report;
@@ -19,7 +19,7 @@ use std::thread::Threads;
 /// Reads the job list at a path of the store.
 pub fn read_list<S: Store>(alloc: Global, store: &mut S, path: &str) -> Result<JobList, ListError>
     ensures same { S.contents store.new ≡ S.contents store.old }
-    ensures listed { IfOk result (MayList (S.contents store.old) path.now) }
+    ensures listed { IfOk result (IsPossibleList (S.contents store.old) path.now) }
     ensures unfaulted { OnOk result (S.faulted store.new ≡ S.faulted store.old) }
     ensures refused { IfErr result (IsListFault (S.contents store.old) path.now) }
     ensures why { IfErr result IsListFailure }
@@ -44,7 +44,7 @@ fn list_read_failure(error: ReadError) -> Failure
     }
 }
 
-// Want of memory is no fault of the list.
+// Running out of memory is not an error in the list.
 fn job_list_error(error: JobError) -> ListError
     ensures { IsListError error result }
 {
@@ -54,8 +54,8 @@ fn job_list_error(error: JobError) -> ListError
     }
 }
 
-/// Runs jobs by a crew, over the answers of a store for their paths, which are each read once, and appends the report to
-/// the sink. The answer is the status of the report's verdicts.
+/// Runs jobs on the workers of a crew, given what a store returns for their paths, each of which is read once, and writes the report to the
+/// sink. Returns the status of the report's verdicts.
 #[tactic(auto, using(crate::proofs::Failing::fleet_why, crate::proofs::Failing::list_why))]
 pub fn run_jobs<R: Threads + Wait, S: Store, O: Sink, G: Gate>(
     crew: &Crew<'_, R>,
@@ -75,9 +75,9 @@ pub fn run_jobs<R: Threads + Wait, S: Store, O: Sink, G: Gate>(
         ⊎ ((rows : List ARow)
         × (AreJobRows (stored_contents (S.contents store.old) (S.faulted store.old) (S.faulted store.new))
         jobs rows
-        × IsReportBegun (O.taken out.old) (O.taken out.new) rows))) }
+        × IsReportPrefixWritten (O.taken out.old) (O.taken out.new) rows))) }
     ensures failed { IfErr result
-        (λ error. error ≡ Failure.WriteFailed → HasRisen (O.failed out.old) (O.failed out.new)) }
+        (λ error. error ≡ Failure.WriteFailed → HasIncreased (O.failed out.old) (O.failed out.new)) }
     ensures same { S.contents store.new ≡ S.contents store.old }
 {
     let alloc = crew.alloc;

@@ -1,4 +1,4 @@
-//! The whole program, over a store, a reader and sinks.
+//! The whole program, given a store, a reader and sinks.
 
 ghost use Rattle.rv_jobs.specs.Limits.{most_budget, most_group, most_workers};
 ghost use Rattle.std.specs.Prelude.{◌≡◌, ◌⊎◌, ◌≤◌, List, Some, None, is_some, map, option_map};
@@ -6,9 +6,9 @@ ghost use Rattle.std.specs.Prelude.{true, false};
 ghost use Rattle.std.specs.Io.KnownBytes.{Keeps};
 ghost use Rattle.clap.specs.Words.{kind_of};
 ghost use Rattle.rv_fleet.specs.declared_row.Row.{Row};
-ghost use Rattle.rvfleet_app.specs.Answers.{Answers, IsReportBegun, IsQuiet, IsReportSent, TellsWhy, TellsFailure};
+ghost use Rattle.rvfleet_app.specs.Answers.{Answers, IsReportPrefixWritten, IsQuiet, IsReportSent, ReportsReason, TellsFailure};
 ghost use Rattle.rvfleet_app.specs.Answers.{reads_input, reads_store};
-ghost use Rattle.rv_cli.specs.RvfleetCommand.{AsksHelp, IsToAnswer, faultless_request, are_words_taken, one};
+ghost use Rattle.rv_cli.specs.RvfleetCommand.{AsksHelp, IsToAnswer, faultless_request, are_arguments_accepted, one};
 ghost use Rattle.rv_cli.specs.RvfleetCommand.{raw, request_of, run};
 ghost use Rattle.rvfleet_app.specs.Lines.{IsLinePut, bad_words_line};
 ghost use Rattle.rvfleet_app.specs.Plans.{stored_contents};
@@ -31,10 +31,9 @@ use std::io::Read;
 use std::sync::Wait;
 use std::thread::Threads;
 
-/// Answers words, the first of which is the program's name, with the status of the program: 0 where a report or help
-/// went out, 1 where a report with a failed verdict did, 2 for words or a job list refused, 3 for want of memory or of
-/// a thread, a failed read or a failed write. A line on `errors` tells why a status is 2 or 3; where that line fails
-/// nothing changes.
+/// Responds to the arguments, the first of which is the program's name, and returns the exit status: 0 if a report or the help was written,
+/// 1 if a report with a failed verdict was, 2 if the arguments or a job list are rejected, and 3 if memory or a thread could not be
+/// obtained, a read failed or a write failed. A line on `errors` says why a status is 2 or 3; a failure to write that line changes nothing.
 pub fn run_words<'a, R: Threads + Wait, T: AsStr, S: Store, I: Read, O: Sink, E: Sink, G: Gate>(
     rt: &R,
     alloc: Global,
@@ -45,29 +44,29 @@ pub fn run_words<'a, R: Threads + Wait, T: AsStr, S: Store, I: Read, O: Sink, E:
     errors: &mut E,
     gate: &G,
 ) -> u8
-    // Words that the command takes ask for something.
-    ensures asked { are_words_taken (map T.text words.entry.now) ≡ true
+    // Arguments that the command accepts make a request.
+    ensures asked { are_arguments_accepted (map T.text words.entry.now) ≡ true
         → is_some (request_of (map T.text words.entry.now)) ≡ true }
-    // Words that it takes, or in which it finds no fault, are answered: a report of what they ask for
-    // went out whole, in part, or not at all, as the status says.
+    // For arguments that it accepts, or in which it finds no error, the report of their request is written whole, in part, or not at all,
+    // as the status says.
     ensures answers { IsToAnswer (map T.text words.entry.now)
         → Answers (request_of (map T.text words.entry.now)) (I.remaining input.old)
         (stored_contents (S.contents store.old) (S.faulted store.old) (S.faulted store.new))
         (O.taken out.old) (O.taken out.new) result }
-    // No put of `out` failed where the status is 0 or 1.
+    // No write to `out` failed if the status is 0 or 1.
     ensures counted { result ≡ 0 ⊎ result ≡ 1 → O.failed out.new ≡ O.failed out.old }
-    // A line on `errors` says why the status is 2 or 3, for any words; else nothing is said there.
-    ensures told { TellsWhy (faultless_request (map T.text words.entry.now)) (S.contents store.old)
+    // A line on `errors` says why the status is 2 or 3, for any arguments; otherwise nothing is written there.
+    ensures told { ReportsReason (faultless_request (map T.text words.entry.now)) (S.contents store.old)
         (E.taken errors.old) (E.taken errors.new)
         (E.failed errors.old) (E.failed errors.new) result }
-    // Status 0 or 1 is for words that ask for something, or for help.
+    // Status 0 or 1 means that the arguments make a request or request help.
     ensures helped { result ≡ 0 ⊎ result ≡ 1
         → is_some (faultless_request (map T.text words.entry.now)) ≡ true
         ⊎ AsksHelp (map T.text words.entry.now) }
-    // Words that ask for no file have none read.
+    // No file is read for arguments that request none.
     ensures unread { reads_store (faultless_request (map T.text words.entry.now)) ≡ false
         → S.faulted store.new ≡ S.faulted store.old }
-    // Words that don't ask for the input leave it as it is.
+    // Arguments that do not request the input leave it unchanged.
     ensures untaken { reads_input (faultless_request (map T.text words.entry.now)) ≡ false
         → I.remaining input.new ≡ I.remaining input.old }
     // The status is 0, 1, 2 or 3.
@@ -91,7 +90,7 @@ struct Host<'a, R, G> {
     gate: &'a G,
 }
 
-/// One image that words ask for.
+/// A request to run one image.
 #[derive(Clone, Copy)]
 struct ImageAsked<'a> {
     path: &'a str,
@@ -99,7 +98,7 @@ struct ImageAsked<'a> {
     digits: Option<&'a str>,
 }
 
-/// A job list that words ask for.
+/// A request to run a job list.
 #[derive(Clone, Copy)]
 struct ListArgs<'a> {
     path: &'a str,
@@ -120,7 +119,7 @@ impl<'a, R: Threads + Wait, G: Gate> Host<'a, R, G> {
         ensures answers { Answers (Some (request asked.entry)) (I.remaining input.old)
             (stored_contents (S.contents store.old) (S.faulted store.old) (S.faulted store.new))
             (O.taken out.old) (O.taken out.new) result }
-        ensures told { TellsWhy (Some (request asked.entry)) (S.contents store.old)
+        ensures told { ReportsReason (Some (request asked.entry)) (S.contents store.old)
             (E.taken errors.old) (E.taken errors.new)
             (E.failed errors.old) (E.failed errors.new) result }
         ensures counted { result ≡ 0 ⊎ result ≡ 1 → O.failed out.new ≡ O.failed out.old }
@@ -159,7 +158,7 @@ impl<'a, R: Threads + Wait, G: Gate> Host<'a, R, G> {
         }
     }
 
-    // The list is read, and refused if it has a fault, before the files of its jobs are.
+    // Reads the list, and rejects it if it has an error, before the files of its jobs are read.
     fn answer_list<S: Store, O: Sink, E: Sink>(
         &self,
         asked: &ListArgs<'_>,
@@ -173,7 +172,7 @@ impl<'a, R: Threads + Wait, G: Gate> Host<'a, R, G> {
             (Some (run asked.now.path.now asked.now.workers asked.now.group)) None
             (stored_contents (S.contents store.old) (S.faulted store.old) (S.faulted store.new))
             (O.taken out.old) (O.taken out.new) result }
-        ensures told { TellsWhy
+        ensures told { ReportsReason
             (Some (run asked.now.path.now asked.now.workers asked.now.group))
             (S.contents store.old) (E.taken errors.old) (E.taken errors.new)
             (E.failed errors.old) (E.failed errors.new) result }
@@ -210,7 +209,7 @@ fn answer_raw<I: Read, O: Sink, E: Sink>(
     ensures counted { result ≡ DONE → O.failed out.new ≡ O.failed out.old }
     ensures part { result ≡ FAILED → Keeps (O.taken out.old) (O.taken out.new)
         ⊎ ((rows : List Row) × (AreRawRows (I.remaining input.old) budget rows
-        × IsReportBegun (O.taken out.old) (O.taken out.new) rows)) }
+        × IsReportPrefixWritten (O.taken out.old) (O.taken out.new) rows)) }
     ensures quiet { result ≡ DONE → IsQuiet (E.taken errors.old) (E.taken errors.new)
         (E.failed errors.old) (E.failed errors.new) }
     ensures told { result ≡ FAILED → TellsFailure (Some (raw budget))
@@ -223,7 +222,7 @@ fn answer_raw<I: Read, O: Sink, E: Sink>(
     }
 }
 
-// Both the path and the digits are asked before the store is read.
+// Checks both the path and the digits before the store is read.
 fn answer_image<S: Store, O: Sink, E: Sink>(
     alloc: Global,
     asked: &ImageAsked<'_>,
@@ -237,7 +236,7 @@ fn answer_image<S: Store, O: Sink, E: Sink>(
         (option_map (λ text. text.now) asked.now.digits))) None
         (stored_contents (S.contents store.old) (S.faulted store.old) (S.faulted store.new))
         (O.taken out.old) (O.taken out.new) result }
-    ensures told { TellsWhy
+    ensures told { ReportsReason
         (Some (one asked.now.path.now asked.now.budget
         (option_map (λ text. text.now) asked.now.digits)))
         (S.contents store.old) (E.taken errors.old) (E.taken errors.new)
@@ -264,7 +263,7 @@ fn answer_image<S: Store, O: Sink, E: Sink>(
     }
 }
 
-// Help is an error of `clap`, and goes to `out`; any other but want of memory refuses the words.
+// A request for help is an error of `clap`, and the help goes to `out`; any other error except running out of memory rejects the arguments.
 fn answer_clap_error<O: Sink, E: Sink>(
     alloc: Global,
     error: &Error,

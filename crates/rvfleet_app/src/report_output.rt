@@ -1,8 +1,8 @@
 //! A report and its status.
 
 ghost use Rattle.std.specs.Prelude.{true, ◌≡◌, ◌≤◌, IfErr, IfOk, OnErr, OnOk};
-ghost use Rattle.rv_jobs.specs.Counts.{HasRisen};
-ghost use Rattle.rvfleet_app.specs.Answers.{IsReportBegun, IsReportSent, has_failed_row, is_fail_verdict, verdicts_status};
+ghost use Rattle.rv_jobs.specs.Counts.{HasIncreased};
+ghost use Rattle.rvfleet_app.specs.Answers.{IsReportPrefixWritten, IsReportSent, has_failed_row, is_fail_verdict, verdicts_status};
 ghost use Rattle.rvfleet_app.specs.Failures.{is_failure_of_sending};
 
 use crate::error::Failure;
@@ -10,7 +10,7 @@ use crate::status::{DONE, SOME_FAIL};
 use rv_fleet::{Report, Row, Sink, Verdict, write_report};
 use std::alloc::Global;
 
-/// Appends a report to the sink, and gives the status of its verdicts.
+/// Writes a report to the sink, and returns the status of its verdicts.
 #[tactic(auto, using(crate::proofs::Failing::send_why))]
 pub fn send_report<O: Sink>(alloc: Global, report: &Report, out: &mut O) -> Result<u8, Failure>
     ensures reported { IfOk result
@@ -18,9 +18,9 @@ pub fn send_report<O: Sink>(alloc: Global, report: &Report, out: &mut O) -> Resu
     ensures range { IfOk result (λ status. status ≤ 1) }
     ensures counted { OnOk result (O.failed out.new ≡ O.failed out.old) }
     ensures why { IfErr result (λ failure. is_failure_of_sending failure ≡ true) }
-    ensures part { OnErr result (IsReportBegun (O.taken out.old) (O.taken out.new) report.now.rows) }
+    ensures part { OnErr result (IsReportPrefixWritten (O.taken out.old) (O.taken out.new) report.now.rows) }
     ensures failed { IfErr result
-        (λ error. error ≡ Failure.WriteFailed → HasRisen (O.failed out.old) (O.failed out.new)) }
+        (λ error. error ≡ Failure.WriteFailed → HasIncreased (O.failed out.old) (O.failed out.new)) }
 {
     write_report(alloc, report, out)?;
     Ok(verdicts_status(report.rows.as_slice()))

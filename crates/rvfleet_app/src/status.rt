@@ -1,4 +1,4 @@
-//! The statuses of the program, and the lines of standard error, each with the status that it tells of.
+//! The exit statuses of the program, and the lines on standard error, each with its status.
 
 ghost use Rattle.std.specs.Prelude.{◌≡◌, ◌⊎◌};
 ghost use Rattle.rvfleet_app.specs.Lines.{IsLinePut, bad_words_line, failure_line, fault_line};
@@ -9,19 +9,19 @@ use rv_jobs::JobError;
 use std::alloc::Global;
 use std::io::{self, ErrorKind};
 
-/// The status where a report with no failed verdict went out, or help.
+/// The status if a report without a failed verdict, or the help, was written.
 pub const DONE: u8 = 0;
 
-/// The status where a report with a failed verdict went out.
+/// The status if a report with a failed verdict was written.
 pub const SOME_FAIL: u8 = 1;
 
-/// The status where words are refused.
+/// The status if the arguments are rejected.
 pub const BAD_WORDS: u8 = 2;
 
-/// The status where memory was wanting, or a read or a write failed.
+/// The status if memory ran out, or a read or a write failed.
 pub const FAILED: u8 = 3;
 
-/// Says that words are refused, and gives the status.
+/// Reports that the arguments are rejected, and returns the status.
 pub fn refuse_words<E: Sink>(errors: &mut E) -> u8
     ensures status { result ≡ BAD_WORDS }
     ensures told { IsLinePut (E.taken errors.old) (E.taken errors.new)
@@ -31,7 +31,7 @@ pub fn refuse_words<E: Sink>(errors: &mut E) -> u8
     BAD_WORDS
 }
 
-/// Says what is wrong with a job list, and gives the status.
+/// Reports what is wrong with a job list, and returns the status.
 pub fn refuse_list<E: Sink>(alloc: Global, errors: &mut E, error: JobError) -> u8
     ensures status { result ≡ BAD_WORDS ⊎ result ≡ FAILED }
     ensures told { result ≡ BAD_WORDS
@@ -49,7 +49,7 @@ pub fn refuse_list<E: Sink>(alloc: Global, errors: &mut E, error: JobError) -> u
     BAD_WORDS
 }
 
-/// Says why the program failed, and gives the status.
+/// Reports why the program failed, and returns the status.
 pub fn put_failure<E: Sink>(errors: &mut E, failure: Failure) -> u8
     ensures status { result ≡ FAILED }
     ensures told { IsLinePut (E.taken errors.old) (E.taken errors.new)
@@ -59,7 +59,7 @@ pub fn put_failure<E: Sink>(errors: &mut E, failure: Failure) -> u8
     FAILED
 }
 
-/// The same of words that the process doesn't give: words that aren't UTF-8 are bad words.
+/// Reports arguments that the process cannot provide, and returns the status: arguments that are not UTF-8 are invalid.
 pub fn refuse_unreadable_words<E: Sink>(error: &io::Error, errors: &mut E) -> u8
     ensures status { result ≡ BAD_WORDS ⊎ result ≡ FAILED }
     ensures refused { result ≡ BAD_WORDS
@@ -88,7 +88,7 @@ fn failure_line(failure: Failure) -> &'static str
     }
 }
 
-// A failed put of the line changes no status.
+// A failure to write the line changes no status.
 fn put_error_line<E: Sink>(errors: &mut E, line: &str)
     ensures { IsLinePut (E.taken errors.old) (E.taken errors.new)
         (E.failed errors.old) (E.failed errors.new) line.now }

@@ -1,13 +1,12 @@
-//! The program asked by tables.
+//! The program, tested with tables.
 //!
-//! A table has three parts, with a line `====` between two: the form of what is given, that of what it answers, and
-//! rows that fill both. A row that begins with `3 rows: ` stands for three, with their numbers from 0 for `%`; `$S`
-//! stands for the names of the signature.
+//! A table has three parts, separated by lines `====`: the form of the input, the form of the expected output, and rows that fill both. A
+//! row that begins with `3 rows: ` represents three, with their numbers from 0 for `%`; `$S` represents the names of the signature.
 //!
-//! What is given has these parts, with a bar between two: the number of lines that have rows; what is compared; the
-//! words; the job list; the files; what fails; and numbers for the bytes of the input. Parts that follow may be left
-//! out. What is compared is all that is told (`0`), all but the puts (`1`), the status and what is told and goes out
-//! alone (`2`), or a summary, by the words of which a report's lines are told.
+//! The input has these parts, separated by bars: the number of lines that have rows; what is compared; the arguments; the job list; the
+//! files; what fails; and numbers for the bytes of standard input. Trailing parts may be left out. What is compared is the whole output
+//! (`0`), everything except the writes (`1`), only the status, the error output and the standard output (`2`), or a summary, given as the
+//! words that select the lines of a report.
 
 use crate::forms::{numbered, part, written};
 use crate::sample_store::SampleStore;
@@ -18,7 +17,7 @@ use std::sync::Wait;
 use std::test::Fail;
 use std::thread::Threads;
 
-// What is told of a case, with these bytes as its input.
+// Returns the output for a case, with these bytes as its input.
 fn told_of(
     rt: &(impl Threads + Wait),
     alloc: Global,
@@ -43,7 +42,7 @@ fn put_word(text: &mut String, word: &str) -> Result<(), AllocError> {
     text.push_str(word)
 }
 
-// What a summary has of a line of a report: what stands behind one of some words, or the last line.
+// Returns what a summary keeps of a line of a report: what comes after one of some words, or the last line.
 fn kept<'a>(view: &str, line: &'a str) -> &'a str {
     match line.split_once(' ') {
         Some(("done", _)) => line,
@@ -52,8 +51,7 @@ fn kept<'a>(view: &str, line: &'a str) -> &'a str {
     }
 }
 
-// The reads if they are asked for, the status, what is told, and what is asked for of a report, with a space between
-// two.
+// Returns the reads if they are requested, the status, the error output, and what is requested of a report, separated by spaces.
 fn summary(alloc: Global, view: &str, told: &str) -> Result<String, AllocError> {
     let mut text = String::new(alloc);
     if view.contains("reads") {
@@ -147,7 +145,7 @@ fn check_table(rt: &(impl Threads + Wait), alloc: Global, table: &str) -> Result
     check_parts(rt, alloc, ask, wanted, part_of_table(&table, 2))
 }
 
-/// Whether the program answers each row of some tables as it says.
+/// Checks that the program responds to each row of some tables as expected.
 pub(crate) fn check(
     rt: &(impl Threads + Wait),
     alloc: Global,

@@ -1,10 +1,10 @@
-//! Expected consoles and endings, through the whole program.
+//! Expected consoles and ends, through the whole program.
 
 use crate::cases::check;
 use std::test::Fail;
 
-// label | keys of a job beside its name and its budget of 100; an image prints by 100002b7 (the console's address), a
-// byte into x10, and 00a2a023 | the status and its verdict
+// label | keys of a job besides its name and its budget of 100; an image prints with 100002b7 (the console's address), a byte into x10, and
+// 00a2a023 | the status and its verdict
 const RUNS: &str = "\
 45|verdict|rvfleet run jobs|job = [{name = 'a', budget = 100, $1}]
 ====
@@ -59,8 +59,7 @@ all six but one | image = 'sign', $S, expect_signature = 'bytes 38 30*7 0a 66*8 
 expect_exit = 0 | 1 fail
 ";
 
-// An image that prints 65,536 times `A`, and exits or prints once more: what follows in the image | a key | its value |
-// the answer
+// An image that prints `A` 65,536 times, and exits or prints once more: what follows in the image | a key | its value | the output
 const FULL_CONSOLES: &str = "\
 6|verdict|rvfleet run jobs|job = [{name = 'a', budget = 200000, \
 image = 'code 100002b7 00010337 04100513 00a2a023 fff30313 fe031ce3 $0', $1 = ' + $2 + '}]
@@ -75,8 +74,8 @@ X | expect_console_file | bytes 41*65537 | 1 fail done 1
 00a2a023 | expect_end | console-full | 0 pass done 1
 ";
 
-// The reference and the console's file | the ending, and the steps | the files that are not found, and what is read.
-// The reference comes first.
+// The reference and the console's file | the end, and the steps | the files that are not found, and what is read. The reference comes
+// first.
 const REFERRING: &str = "\
 9|reads end steps|rvfleet run jobs|job = [{name = 'a', budget = 100, image = 'sign', $S, \
 expect_signature = '$0', expect_console_file = '$1'}]
@@ -94,8 +93,8 @@ missing | missing | refused reference-unreadable 0 | 1;jobs;sign;missing;
 bytes 00 | sign | exit 0 9 | 0;jobs;sign;bytes 00;
 ";
 
-// A job that names one with expectations of its own is judged by its outcome alone; both have both files. Each file is
-// read once, and none is missing.
+// A job that names one with expectations of its own is judged by the latter's outcome alone; both have both files. Each file is read once,
+// and none is missing.
 const NAMING: &str = "\
 3|reads verdict|$_|[[job]]
 name = 'a'

@@ -1,11 +1,10 @@
-//! Puts that fail, each in turn, reads of the input, and a line on errors that is not taken.
+//! Writes that fail, each in turn, reads of the input, and a line on standard error that is not accepted.
 
 use crate::cases::check;
 use std::test::Fail;
 
-// Puts of which one fails: words | a key of the first job | the most bytes of a put | how many go well before | their
-// bytes. By one worker, and by some that share the list, each of 405 puts of a byte; and where all rows are one put,
-// the first.
+// Writes of which one fails: arguments | a key of the first job | the most bytes per write | how many succeed before | their bytes. With
+// one worker, and with some that share the list, each of 405 writes of a byte; and if all rows are one write, the first.
 const CUT_REPORTS: &str = "\
 4|0|rvfleet $0|
 [[job]]
@@ -80,8 +79,8 @@ run jobs --workers 1 | expect_exit = 5 | 1000000 | 0 | 0
 run jobs --workers 4 --group 2 | expect_exit = 5 | 1000000 | 0 | 0
 ";
 
-// A flat image that sets x10 to 5 and exits, from a reader that gives a byte a read: label | the most bytes of a put |
-// the number of puts. The report has 71 bytes.
+// A flat image that sets x10 to 5 and exits, from a reader that returns one byte per read: label | the most bytes per write | the number of
+// writes. The report has 71 bytes.
 const RAW_PUTS: &str = "\
 2|0|rvfleet raw --budget 3|||read_most=1 $1|00500513 X
 ====
@@ -91,7 +90,7 @@ in one put | | 1
 a byte a put | put_most=1 | 71
 ";
 
-// Puts of ten bytes, of which one fails: label | what fails | how many go well before | their bytes
+// Writes of ten bytes, of which one fails: label | what fails | how many succeed before | their bytes
 const CUT_PUTS: &str = "\
 1|0|rvfleet raw --budget 3|||read_most=1 $1|00500513 X
 ====
@@ -101,7 +100,7 @@ none/done 1/
 8 rows: ten bytes a put | put_most=10 puts=% | % | %0
 ";
 
-// A reader that gives a byte a read, and fails behind the last; nothing is written.
+// A reader that returns one byte per read, and fails after the last; nothing is written.
 const BROKEN_OFF: &str = "\
 14|0|rvfleet raw --budget 3|||read_most=1 read_fails|$_
 ====
@@ -123,7 +122,7 @@ const BROKEN_OFF: &str = "\
 00500513
 ";
 
-// No more is read of an image than one byte more than it may have: its bytes | how many are left
+// At most one byte more than an image may have is read: its bytes | how many are left
 const LEFT_INPUT: &str = "\
 1|0|rvfleet raw --budget 3||||$0
 ====
@@ -132,7 +131,7 @@ const LEFT_INPUT: &str = "\
 01*1048580 | 3
 ";
 
-// Words of which the line on errors is not taken | the status | the reads
+// Arguments whose line on standard error is not accepted | the status | the reads
 const UNTOLD: &str = "\
 2|0|rvfleet $0||jobs = missing|line=0
 ====

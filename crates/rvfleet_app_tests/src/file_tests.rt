@@ -26,7 +26,7 @@ fn runs_a_file(rt: HostRuntime) -> Result<(), Fail> {
     agree(line, told.as_str(), IMAGE_REPORT)
 }
 
-// What the store answers for a path, where these bytes may be.
+// Returns what the store returns for a path that may have these bytes.
 fn answer(rt: &HostRuntime, path: &str, bytes: &[u8]) -> &'static str {
     let mut store = FileStore::new(rt);
     match store.read(rt.alloc(), path) {
@@ -38,8 +38,8 @@ fn answer(rt: &HostRuntime, path: &str, bytes: &[u8]) -> &'static str {
     }
 }
 
-// No bytes, the most, and one more; a mark of UTF-8, some pages of bytes and one more, and spaces in a path: the path
-// | the bytes | the answer.
+// No bytes, the most, and one more; a UTF-8 byte order mark, some pages of bytes and one more, and spaces in a path: the path
+// | the bytes | the result.
 const FILES: &str = "\
 zeros.bin| | these bytes
 zeros.bin| 00*16777216 | these bytes
@@ -50,8 +50,7 @@ pages.bin| 01 02 03 5a*8190 | these bytes
  spaced | 01 02 03 | these bytes
 ";
 
-// Whether the store answers so where the bytes of a line are, and that there is nothing to read once they are taken
-// away.
+// Checks that the store returns the result of a line while its file exists, and finds no file once it is removed.
 fn reads_file(rt: &HostRuntime, line: &str) -> Result<(), Fail> {
     let path = line.split('|').next().unwrap_or("");
     let bytes = numbers(rt.alloc(), cell_of(line, 1))?;

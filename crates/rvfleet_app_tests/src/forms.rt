@@ -1,15 +1,15 @@
 //! Forms of texts, which rows fill.
 //!
-//! In a form `$0`, `$1` and so on stand for the cells of a row, and `$_` for the row. A slash ends a line, and ` + `
-//! parts what stands one behind the other: `3 times TEXT` is three times that text, in each of which `%` is its
-//! number, from 1, and `3 bytes of TEXT` the text's first three bytes.
+//! In a form `$0`, `$1` and so on represent the cells of a row, and `$_` the whole row. A slash ends a line, and ` + ` separates parts that
+//! follow each other: `3 times TEXT` is that text three times, with `%` in each replaced by its number, from 1, and `3 bytes of TEXT` is
+//! the text's first three bytes.
 
 use samples::cell_of;
 use std::alloc::{AllocError, Global};
 
 const CELLS: [&str; 10] = ["$0", "$1", "$2", "$3", "$4", "$5", "$6", "$7", "$8", "$9"];
 
-/// The part of a text with this number, from 0; bars part them.
+/// Returns the part of a text with this index, from 0; parts are separated by bars.
 pub(crate) fn part(text: &str, place: usize) -> &str {
     text.split('|').nth(place).unwrap_or("")
 }
@@ -22,7 +22,7 @@ fn filled(alloc: Global, form: &str, row: &str) -> Result<String, AllocError> {
     text.as_str().replace(alloc, "/", "\n")
 }
 
-/// A text with a number in place of each `%`.
+/// Returns a text with a number in place of each `%`.
 pub(crate) fn numbered(alloc: Global, form: &str, number: usize) -> Result<String, AllocError> {
     let mut text = String::new(alloc);
     put_numbered(&mut text, form, number)?;
@@ -46,7 +46,7 @@ fn put_each(text: &mut String, form: &str, count: usize) -> Result<(), AllocErro
     Ok(())
 }
 
-// Quickly, since it is often millions of times.
+// Fast, because the count is often millions.
 fn put_same(text: &mut String, form: &str, count: usize) -> Result<(), AllocError> {
     for _ in 0..count {
         text.push_str(form)?;
@@ -84,7 +84,7 @@ fn expanded(alloc: Global, form: &str) -> Result<String, AllocError> {
     Ok(text)
 }
 
-/// The text of a form and a row.
+/// Returns the text of a form and a row.
 pub(crate) fn written(alloc: Global, form: &str, row: &str) -> Result<String, AllocError> {
     let text = filled(alloc, form, row)?;
     expanded(alloc, text.as_str())

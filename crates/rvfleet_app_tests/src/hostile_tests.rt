@@ -1,9 +1,9 @@
-//! Files and lists that are cut, and fields at their ends, through the whole program.
+//! Truncated files and lists, and fields at their limits, through the whole program.
 
 use crate::cases::check;
 use std::test::Fail;
 
-// label | file | budget | ending | steps | console
+// label | file | budget | end | steps | console
 const FIELDS: &str = "\
 56|1|rvfleet one image --budget $2||image = $1
 ====
@@ -67,7 +67,7 @@ memory size at 0 | one 72=00000000 | 3 | refused segment-sizes | 0 | -
 memory size at its greatest | one 72=ffffffff | 3 | refused segment-map | 0 | -
 ";
 
-// label | file | budget | keys | ending | steps | signature
+// label | file | budget | keys | end | steps | signature
 const SIGNATURE_FIELDS: &str = "\
 13|2|rvfleet run jobs|job = [{name = 'a.b-c_9', image = 'image', budget = $2, $3}]|image = $1
 ====
@@ -88,9 +88,9 @@ empty string table | sign 312=00000000 | 100 | $S | refused no-begin | 0 | -
 begin between two words | sign 152=80000029 | 100 | $S | refused signature-range | 0 | -
 ";
 
-// A job for each number of bytes, from 1, that may be left of the image's 332, and behind them one for none. How each
-// ends, and its steps: cut in the header, in its table, in the segment, behind it, and not at all. The signature | how
-// the image ends without its sections, and its steps.
+// A job for each number of bytes, from 1, that may be left of the image's 332, and then one for none. How each ends, and its steps:
+// truncated in the header, in its table, in the segment, after it, and not at all. The signature | how the image ends without its sections,
+// and its steps.
 const CUT_IMAGES: &str = "\
 2|end steps|rvfleet run jobs --workers 2 --group 3| + 332 times [[job]]/name = '%'/image = 'sign %'/budget = 100/$0/ \
 + [[job]]/name = '0'/image = 'sign 0'/budget = 100/$0/
@@ -102,7 +102,7 @@ $S | refused section-table 0
  | exit 0 9
 ";
 
-// How many bytes of a list are left | what is told of it
+// How many bytes of a list are left | the error output
 const CUT_LISTS: &str = "\
 41|1|rvfleet run jobs| + $0 bytes of [[job]]/name = \"a\"/image = \"b\"/budget = 3/
 ====

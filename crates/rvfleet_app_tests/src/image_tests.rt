@@ -3,7 +3,7 @@
 use crate::cases::check;
 use std::test::Fail;
 
-// label | numbers on standard input | budget | ending | steps | console
+// label | numbers on standard input | budget | end | steps | console
 const FLAT_RUNS: &str = "\
 57|2|rvfleet raw --budget $2||||$1
 ====
@@ -72,7 +72,7 @@ the console but for a byte | 100002b7 0002a023 ffdff06f | 131070 | budget | 1310
 one byte of the console | 100002b7 04100513 00a2a023 | 10 | fault illegal pc=8000000c value=00000000 | 3 | 41
 ";
 
-// label | file | budget, and the input where there is some | ending | steps | console
+// label | file | budget, and the input if there is any | end | steps | console
 const ONE_RUNS: &str = "\
 32|1|rvfleet one image --budget $2||image = $1
 ====
@@ -114,7 +114,7 @@ both cases of digits | code 100002b7 0002a503 00a2a023 0002a503 00a2a023 0002a50
 exit 4294967295 | 7 | 4fe0
 ";
 
-// firmware | input | ending | console; what the programs print is worked out from their source.
+// firmware | input | end | console; what the programs print was derived from their source.
 const FIRMWARE_RUNS: &str = "\
 2|end console|rvfleet one image --budget 100000 --input-hex $1||image = $0
 ====

@@ -1,4 +1,4 @@
-//! The program over a store that tells what its files hold, as the promise of a report asks of one.
+//! The program with a store whose file contents are known, as the contract on reports requires.
 
 ghost use Rattle.std.specs.Prelude.{Some};
 
@@ -10,7 +10,7 @@ use std::sync::Wait;
 use std::test::Fail;
 use std::thread::Threads;
 
-/// A store that has the same bytes at each path, and tells them.
+/// A store that has the same bytes at each path, and whose contents are known.
 #[derive(Drop)]
 struct KnownStore<'a> {
     bytes: &'a [u8],
@@ -45,7 +45,7 @@ done 1
 
 const LIST: &[u8] = b"[[job]]\nname = 'j'\nimage = 'i'\nbudget = 3\n";
 
-// The list is no image.
+// The list is not an image.
 const LIST_REPORT: &str = "\
 1 0 0 0|0;|0||job 1 j
 end refused short-header

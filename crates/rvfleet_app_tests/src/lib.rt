@@ -1,5 +1,5 @@
-//! Tests of the program over stores, readers and sinks in memory, and over files. The crate has nothing else, so that
-//! no code of the program is proved twice.
+//! Tests of the program with stores, readers and sinks in memory, and with files. The crate contains nothing else, so that no code of the
+//! program is proved twice.
 #![tactic(auto)]
 
 #[cfg(test)]

@@ -1,9 +1,9 @@
-//! What is as long as it may be, through the whole program: nothing of it is told as want of memory.
+//! Inputs of the greatest length, through the whole program: none is reported as out of memory.
 
 use crate::cases::check;
 use std::test::Fail;
 
-// A comment, and behind it a list of one job: as many bytes as a list may have, and one more.
+// A comment, followed by a list of one job: as many bytes as a list may have, and one more.
 const COMMENTS: &str = "\
 2|end|rvfleet run jobs| + $0 times # + /[[job]]/name = 'a'/image = 'a.elf'/budget = 3/|a.elf = one
 ====
@@ -21,8 +21,8 @@ const NO_LIST: &str = "\
 16777216 | job 0: not-toml
 ";
 
-// The image leaves its signature of 65,536 words 0, and the reference has a line for each: how often a letter stands in
-// its path, and the letter.
+// The image leaves its signature of 65,536 words 0, and the reference has a line for each: how often a letter occurs in its path, and the
+// letter.
 const LONGEST_SIGNATURE: &str = "\
 2|signature verdict|rvfleet run jobs|[[job]]/name = 'a'/image = 'long.elf'/budget = 100/$S/expect_signature = ' + $0 \
 times $1 + '/|long.elf = sign 152=80040000 168=80080000
@@ -42,8 +42,7 @@ const REGIONS: &str = "\
 17 | job 1: region
 ";
 
-// As many jobs as a list may have, each with an image and a reference of its own; the reference of the last is a wrong
-// one.
+// As many jobs as a list may have, each with its own image and reference; the reference of the last is wrong.
 const PATHS: &str = "\
 1|reads verdict|rvfleet run jobs --workers 4 --group 7| + \
 $0 times [[job]]/name = '%'/image = 'sign#%'/budget = 100/$S/\

@@ -1,9 +1,9 @@
-//! Job lists through the whole program, over files in memory.
+//! Job lists through the whole program, with files in memory.
 
 use crate::cases::check;
 use std::test::Fail;
 
-// label | file | budget | other keys | ending | steps | signature
+// label | file | budget | other keys | end | steps | signature
 const JOB_RUNS: &str = "\
 47|2|rvfleet run jobs|job = [{name = 'a.b-c_9', image = 'image', budget = $2, $3}]|image = $1
 ====
@@ -80,7 +80,7 @@ jump to the second stored word, refused | code 00000297 0002a723 0080006f 000000
 fault store-misaligned pc=80000004 value=8000000e | 1 | -
 ";
 
-// list, `/` for the end of a line | what is told of it: no file of its jobs is read
+// list, `/` for the end of a line | the error output: no file of its jobs is read
 const REFUSED_LISTS: &str = "\
 33|1|rvfleet run jobs|$0
 ====
@@ -129,7 +129,7 @@ const NO_TEXT: &str = "\
 6a ff | job 0: not-toml
 ";
 
-// the first line | what is told | the number of good jobs | what stands behind them
+// the first line | the error output | the number of valid jobs | what follows them
 const LONG_LISTS: &str = "\
 5|1|rvfleet run jobs|$0 + $2 times [[job]]/name = '%'/image = 'image'/budget = 10/ + $3
 ====
@@ -142,7 +142,7 @@ x = 1/ | job 0: too-many | 4097 |
  | job 4096: budget | 4095 | [[job]]/name = 'last'/image = 'image'/budget = 0/
 ";
 
-// The list is read through the store too: what it is | the files that are not found | what is told
+// The list is read through the store too: what it is | the files that are not found | the error output
 const UNREAD_LISTS: &str = "\
 2|1|rvfleet run jobs||jobs = $0
 ====
@@ -152,8 +152,7 @@ none | 1 | list unreadable
 bytes 20*16777217 | 0 | list too long
 ";
 
-// A row that has all that a row may have: keys | the status | the signature | the verdict. The image prints 41, 00
-// and ff.
+// A row that has everything a row may have: keys | the status | the signature | the verdict. The image prints 41, 00 and ff.
 const FULL_ROWS: &str = "\
 2|2|rvfleet run jobs|job = [{name = 'a.b_c-d', image = 'i', budget = 100, $0}]|i = sign 84=100002b7 88=04100513 \
 92=00a2a023 \
@@ -165,7 +164,7 @@ signature = ['end_signature', 'end_signature'], expect_exit = 5 | 0 | 0 | pass
 $S, expect_exit = 6 | 1 | 2/80000000/0000001f | fail
 ";
 
-// A list of 4,096 jobs of an image that is cut, which is read once. The rows go out together, some 32,768 bytes a put.
+// A list of 4,096 jobs with a truncated image, which is read once. The rows are written together, about 32,768 bytes per write.
 const LONGEST_LIST: &str = "\
 2|0|$_| + 4096 times [[job]]/name = '%'/image = 'image'/budget = 10/ + |image = one 51
 ====

@@ -1,10 +1,10 @@
-//! Reports of lists for every number of workers, and of lists of whose files one is not read, each in turn.
+//! Reports of lists with every number of workers, and of lists with one unreadable file, each in turn.
 
 use crate::cases::check;
 use std::test::Fail;
 
-// A list with one job of each kind of ending, by words | a key of the first job | its verdict | the most bytes of a put
-// | how many puts it takes. Each path is read once, in order of first use. The report has 405 bytes.
+// A list with one job of each kind of end: arguments | a key of the first job | its verdict | the most bytes per write
+// | how many writes it takes. Each path is read once, in order of first use. The report has 405 bytes.
 const REPORTED: &str = "\
 8|0|rvfleet $0|
 [[job]]
@@ -83,8 +83,8 @@ run jobs --workers 1 | expect_exit = 5 | pass | 1 | 405
 run jobs --workers 4 --group 2 | expect_exit = 5 | pass | 1 | 405
 ";
 
-// By one worker, and by some that share the list, where the file of one read is not found: words | a key of the first
-// job | its verdict | the read | the status | the end of each row
+// With one worker, and with some that share the list, if the file of one read is not found: arguments | a key of the first job | its
+// verdict | the read | the status | the end of each row
 const FAILED_READS: &str = "\
 8|0|rvfleet $0|
 [[job]]
@@ -169,7 +169,7 @@ fault breakpoint pc=80000000 value=00000000/steps 0 | budget/steps 2 | refused s
 refused image-unreadable/steps 0/console -/signature -
 ";
 
-// words | a key of the first job | the reads | the one that fails | what is told of it: nothing goes out
+// arguments | a key of the first job | the reads | the one that fails | the error output: nothing is written to standard output
 const ENDS: &str = "\
 12|0|rvfleet $0|
 [[job]]

@@ -1,4 +1,4 @@
-//! The text of a row, taken out of it.
+//! The text of a row, moved out of it.
 
 use rv_jobs::Text;
 use std::alloc::{AllocError, Global};

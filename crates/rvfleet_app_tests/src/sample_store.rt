@@ -8,14 +8,14 @@ use rv_jobs::{ReadError, Store};
 use samples::{BadSample, CHECKSUM, UPPER, file, file_bytes, numbers};
 use std::alloc::Global;
 
-/// A store that makes each file of a case when it is read. A line of its files, as `image = one 51`, tells what
-/// stands at a path; where none does, the list stands at `jobs`, and another path tells it itself: `bytes` and
-/// numbers, `upper` or `checksum` for the example firmware, or an image by a line of words. What stands behind a `#`
-/// tells nothing. Nothing is at `missing`, and `long` is too long.
+/// A store that makes each file of a case when it is read. A line of its files, such as `image = one 51`, describes the file at a path;
+/// without such a line, the list is at `jobs`, and any other path describes its own file: `bytes` and numbers, `upper` or `checksum` for
+/// the example firmware, or an image by a line of words. What follows a `#` is ignored. There is no file at `missing`, and `long` is too
+/// long.
 #[derive(Drop)]
 pub(crate) struct SampleStore<'a> {
     case: &'a str,
-    /// The paths that were read, each with a semicolon behind it.
+    /// The paths that were read, each followed by a semicolon.
     pub(crate) log: String,
     reads: usize,
     pub(crate) faults: u64,
@@ -31,7 +31,7 @@ impl<'a> SampleStore<'a> {
         }
     }
 
-    // What stands at a path, where this read is none of those that fail.
+    // Returns the file at a path, unless this read is one of those that fail.
     fn bytes(&self, alloc: Global, path: &str) -> Result<Vec<u8>, BadSample> {
         let faults = part(self.case, 5);
         if self.reads == number(faults, "no_memory=") {

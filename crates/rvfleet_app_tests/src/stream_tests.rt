@@ -1,4 +1,4 @@
-//! Streams as sinks, over a writer that fails.
+//! Streams as sinks, with a writer that fails.
 
 use rv_files::StreamSink;
 use rv_fleet::{Sink, put_all};
@@ -31,8 +31,8 @@ impl Write for CountingWriter {
     }
 }
 
-// What putting ten bytes into a stream over a writer that fails so comes to: whether all were taken, the
-// failures, and the calls of the writer, which writes four bytes at most.
+// Returns the result of writing ten bytes to a stream over a writer that fails in this way: whether all were accepted, the failures, and
+// the calls of the writer, which writes at most four bytes.
 fn put_ten(fails_at: u64, flush_fails: bool) -> (bool, u64, u64, u64) {
     let mut stream = StreamSink::new(CountingWriter {
         writes: 0,
@@ -46,7 +46,7 @@ fn put_ten(fails_at: u64, flush_fails: bool) -> (bool, u64, u64, u64) {
     (taken, failures, writer.writes, writer.flushes)
 }
 
-// A put is one write and one flush; one that fails is not tried again, and counts as one failure.
+// Each write to the sink is one write and one flush; a failed one is not tried again, and counts as one failure.
 #[test]
 fn puts_into_streams(rt: HostRuntime) {
     let whole = put_ten(0, false) == (true, 0, 3, 3);

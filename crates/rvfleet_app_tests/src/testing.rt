@@ -1,4 +1,4 @@
-//! Readers and sinks in memory, and the program's answer over them as one text.
+//! Readers and sinks in memory, and the program's output with them as one text.
 
 ghost use Rattle.std.specs.Prelude.{Some};
 
@@ -11,14 +11,14 @@ use std::sync::Wait;
 use std::test::Fail;
 use std::thread::Threads;
 
-/// A number that is given to a name in a text of words, as 3 to `put_most=`; else the greatest.
+/// Returns the number that a text of words gives for a name, such as 3 for `put_most=`; else the greatest number.
 pub(crate) fn number(faults: &str, name: &str) -> usize {
     let (_, rest) = faults.split_once(name).unwrap_or(("", ""));
     let number = rest.split(' ').next().unwrap_or("");
     number.parse::<usize>().unwrap_or(usize::MAX)
 }
 
-/// A sink over memory, which takes so many bytes a put, and fails once, behind so many puts that went well.
+/// A sink over memory that accepts a limited number of bytes per write, and fails once, after a number of successful writes.
 #[derive(Drop)]
 pub(crate) struct MemorySink {
     bytes: Vec<u8>,
@@ -39,7 +39,7 @@ impl MemorySink {
         }
     }
 
-    /// The sink's text, and how many puts went well and failed.
+    /// Returns the sink's text, and how many writes succeeded and failed.
     pub(crate) fn taken(&self) -> Result<(&str, usize, u64), Fail> {
         let text = std::str::from_utf8(self.bytes.as_slice())?;
         Ok((text, self.puts, self.failures))
@@ -67,7 +67,7 @@ impl Sink for MemorySink {
     }
 }
 
-// A reader that gives so many bytes a read at most, and fails at its end where it is told to.
+// A reader that returns a limited number of bytes per read, and fails at its end if requested.
 #[derive(Drop)]
 struct MemoryReader<'a> {
     bytes: &'a [u8],
@@ -97,7 +97,7 @@ pub(crate) struct Streams<'a> {
 }
 
 impl<'a> Streams<'a> {
-    /// Streams of which the input has these bytes, and which fail as this says.
+    /// Returns streams whose input has these bytes, and which fail as `faults` says.
     pub(crate) fn new(alloc: Global, faults: &str, bytes: &'a [u8]) -> Streams<'a> {
         Streams {
             input: MemoryReader {
@@ -110,7 +110,7 @@ impl<'a> Streams<'a> {
         }
     }
 
-    /// The program's status for the words of a command line, of which the first is the program's name.
+    /// Runs the program with the arguments of a command line, the first of which is the program's name, and returns its status.
     pub(crate) fn run<S: Store>(
         &mut self,
         rt: &(impl Threads + Wait),
@@ -123,9 +123,9 @@ impl<'a> Streams<'a> {
         Ok(run_words(rt, alloc, &words, store, input, out, errors, &FreeGate))
     }
 
-    /// How many puts went well, how many failed, how many failed of the line on errors, and how many bytes of the
-    /// input are left; a bar; the number of files that were not found, a semicolon, and the paths that were read; a
-    /// bar; the status; a bar; what was told; a bar; and what went out.
+    /// Returns how many writes succeeded, how many failed, how many failed for the line on standard error, and how many bytes of the input
+    /// are left; a bar; the number of files that were not found, a semicolon, and the paths that were read; a bar; the status; a bar; the
+    /// error output; a bar; and the standard output.
     pub(crate) fn told(
         &self,
         alloc: Global,
@@ -150,7 +150,7 @@ fn words_of(alloc: Global, line: &str) -> Result<Vec<&str>, AllocError> {
     Ok(words)
 }
 
-/// What is told of a run over a store that notes no path, without input.
+/// Returns the output of a run with a store that records no paths, without input.
 pub(crate) fn told_over<S: Store>(
     rt: &(impl Threads + Wait),
     alloc: Global,

@@ -3,7 +3,7 @@
 use crate::cases::check;
 use std::test::Fail;
 
-// label | jobs | the status and the verdicts. `lines` holds the signature.
+// label | jobs | the status and the verdicts. `lines` contains the signature.
 const VERDICTS: &str = "\
 24|verdict|rvfleet run jobs --workers 2|job = [$1]|a.elf = one
 f.elf = code 9002
@@ -66,8 +66,8 @@ all three but the other job | {name = '0', image = 's.elf', budget = 5, $S}, {na
 budget = 100, $S, expect_exit = 0, expect_signature = 'lines', same_as = '0'} | 1 none fail done 2
 ";
 
-// The refusal of a job whose reference was not read comes before its image is looked at. The exit code that the last
-// job expects is the one that its image would have, if it was run.
+// A job whose reference was not read is refused before its image is checked. The exit code that the last job expects is the one that its
+// image would have if it were run.
 const TWO_REFUSED: &str = "\
 1|1|rvfleet run jobs|job = [$_]|s.elf = sign
 cut.elf = one 51
@@ -105,8 +105,7 @@ done 1/
 {name = '0', image = 's.elf', budget = 100, $S, expect_signature = 'none', expect_exit = 0}
 ";
 
-// Each kind of fault behind an instruction more, and all kinds as jobs that name it: its name | its image | a key |
-// verdicts
+// Each kind of fault after one more instruction, and all kinds as jobs that name it: its name | its image | a key | verdicts
 const KINDS: &str = "\
 11|verdict|rvfleet run jobs|job = [{name = '0', image = '$1', budget = 300000$2}, \
 {name = 'fetch-access', image = 'code ffdff06f', budget = 200000, same_as = '0'}, \
@@ -149,7 +148,7 @@ const NAMED_BY_MANY: &str = "\
 4096
 ";
 
-// Each names the one before.
+// Each job names the one before.
 const NAMED_THE_ONE_BEFORE: &str = "\
 3|verdict|rvfleet run jobs --workers 2 --group $0|job = [{name = '0', image = 'one', budget = 3}, {name = '1', image \
 = 'one', budget = 3, same_as = \
@@ -163,7 +162,7 @@ const NAMED_THE_ONE_BEFORE: &str = "\
 4096
 ";
 
-// Two are named by turns.
+// Two jobs are named in turn.
 const NAMED_BY_TURNS: &str = "\
 3|verdict|rvfleet run jobs --workers 2 --group $0|job = [{name = '0', image = 'one', budget = 3}, {name = '1', image \
 = 'one', budget = 1}, {name = '2', \
@@ -177,7 +176,7 @@ image = 'one', budget = 1, same_as = '0'}, {name = '5', image = 'one', budget = 
 4096
 ";
 
-// One that is refused is named.
+// A refused job is named.
 const NAMED_REFUSED: &str = "\
 3|verdict|rvfleet run jobs --workers 2 --group $0|job = [{name = '0', image = 'one 83', budget = 3}, {name = '1', \
 image = 'one 83', budget = 3, same_as = '0'}, \
@@ -190,7 +189,7 @@ image = 'one 83', budget = 3, same_as = '0'}, \
 4096
 ";
 
-// `falls` and `zeros` print 65,536 bytes, each less by one than the one before, or all zero.
+// `falls` and `zeros` print 65,536 bytes, each one less than the one before, or all zero.
 const NAMED_FULL_CONSOLES: &str = "\
 3|verdict|rvfleet run jobs --workers 2 --group $0|job = [{name = '0', image = 'falls', budget = 200000}, {name = \
 '1', image = 'falls', budget = 200000, \
@@ -205,7 +204,7 @@ zeros = code 100002b7 00010337 0002a023 fff30313 fe031ce3 X
 4096
 ";
 
-// More are named than are kept.
+// More jobs are named than are kept.
 const NAMED_MORE_THAN_KEPT: &str = "\
 3|verdict|rvfleet run jobs --workers 2 --group $0|job = [{name = '0', image = 'one', budget = 3}, {name = '1', image \
 = 'one', budget = 1}, {name = \

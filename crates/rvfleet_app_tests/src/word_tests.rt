@@ -1,9 +1,9 @@
-//! The words of the command: refused ones, the longest, and help.
+//! The arguments of the command: rejected ones, the longest, and help.
 
 use crate::cases::check;
 use std::test::Fail;
 
-// Words that are refused, a line each; no path is read. The first has none.
+// Arguments that are rejected, one line each; no path is read. The first line has none.
 const BAD_WORDS: &str = "\
 31|1|rvfleet $_
 ====
@@ -42,7 +42,7 @@ run jobs --group 4097
 run jobs --group x
 ";
 
-// An image at a path, with a script: the length of the path, and the number of bytes of the script.
+// An image at a path, with console input: the length of the path, and the number of bytes of the input.
 const LONGEST_WORDS: &str = "\
 1|1|rvfleet one  + $0 times a +  --budget 10 --input-hex  + $1 times 4f + || + $0 times a +  = code 100002b7 0042a503 X
 ====
@@ -66,7 +66,7 @@ const LONGER_WORDS: &str = "\
 4097 |
 ";
 
-// A list at a path of this length where no file is.
+// A list at a path of this length where there is no file.
 const LONGEST_PATH: &str = "\
 1|1|rvfleet run  + $0 times a
 ====

@@ -1,4 +1,4 @@
-//! The program `rvtest`: hands the process's own words, files and streams to the library, and ends with its status.
+//! The program `rvtest`: passes the process's own arguments, files and streams to the library, and exits with its status.
 #![tactic(auto)]
 
 use rv_files::{PipeSink, StreamSink, SystemInputs, SystemOutputs};
@@ -8,7 +8,7 @@ use std::io::IsTerminal;
 use std::process::ExitCode;
 use std::{env, io};
 
-// The answer to the process's own words, over its own streams and files.
+// Responds to the process's own arguments, with its own streams and files.
 fn main(rt: HostRuntime) -> ExitCode {
     let (out, mut errors) = (PipeSink::new(rt.stdout()), StreamSink::new(rt.stderr()));
     let texts = match words_of_process(&rt) {
@@ -35,7 +35,7 @@ fn main(rt: HostRuntime) -> ExitCode {
     ExitCode::from(status)
 }
 
-// Whether a variable of the process has a text, and no empty one.
+// Whether a variable of the process is set and not empty.
 fn is_set(rt: &(impl Env + AllocGlobal), name: &str) -> bool {
     match env::var(rt, name) {
         Ok(text) => !text.is_empty(),
@@ -43,7 +43,7 @@ fn is_set(rt: &(impl Env + AllocGlobal), name: &str) -> bool {
     }
 }
 
-// Whether the terminal says that it takes text alone.
+// Whether the terminal declares that it supports only text.
 fn is_terminal_dumb(rt: &(impl Env + AllocGlobal)) -> bool {
     match env::var(rt, "TERM") {
         Ok(text) => text.as_str() == "dumb",
@@ -51,7 +51,7 @@ fn is_terminal_dumb(rt: &(impl Env + AllocGlobal)) -> bool {
     }
 }
 
-// The process's own words.
+// Returns the process's own arguments.
 fn words_of_process(rt: &(impl Env + AllocGlobal)) -> io::Result<Vec<String>> {
     let mut texts = Vec::new(rt.alloc());
     for text in env::args(rt)? {

@@ -16,7 +16,7 @@ use Rattle.rv_command.specs.Texts.{optional_text}
 use Rattle.rv_command.specs.declared.stop.Stop.{Stop}
 use Rattle.rv_files.specs.UnreadPaths.{resolved_path}
 use Rattle.rv_lists.specs.declared.job.Job.{Job}
-use Rattle.rvtest_app.specs.AcceptStops.{AreTargetsUnread, IsAcceptingStop, IsFileOfList, IsGoldenPath, IsGoldenUnreadStop, IsPutAcceptedStop, IsStopOfFiles, IsUnputStop}
+use Rattle.rvtest_app.specs.AcceptStops.{AreTargetsUnread, IsAcceptingStop, IsFileOfList, IsGoldenPath, IsGoldenUnreadStop, IsAcceptanceWriteStop, IsStopOfFiles, IsFileNotWrittenStop}
 use Rattle.rvtest_app.specs.Accepts.{AreGoldenFiles}
 
 -- what holds of an element that was met
@@ -66,15 +66,15 @@ stop_of_unread known words jobs why =
 stop_of_files : (known : Option FileContents) (words : AcceptArgs) (jobs : List Job) (list : List ℕ)
     (files : List GoldenFile) (why : Stop) → list ≡ words.run.list.now
     → All (λ (file : GoldenFile). IsGoldenPlace (optional_text words.run.root) jobs file.place) files
-    → IsStopOfFiles (IsUnputStop known) list files why
-    → (path : List ℕ) × (IsFileOfList words jobs path × IsUnputStop known path why)
+    → IsStopOfFiles (IsFileNotWrittenStop known) list files why
+    → (path : List ℕ) × (IsFileOfList words jobs path × IsFileNotWrittenStop known path why)
 stop_of_files known words jobs list files why same each = ⊎_elim (λ own. (list, (inl same, own)))
     (λ some. (some.1.place, (inr (rw some.3 at (each some.0 some.1 some.2)), some.4)))
 
 pub stop_of_put : (known : Option FileContents) (words : AcceptArgs) (jobs : List Job) (list : List ℕ)
     (files : List GoldenFile) (why : Stop) → list ≡ words.run.list.now
     → All (λ (file : GoldenFile). IsGoldenPlace (optional_text words.run.root) jobs file.place) files
-    → IsPutAcceptedStop known words.check list files why → IsAcceptingStop known words jobs why
+    → IsAcceptanceWriteStop known words.check list files why → IsAcceptingStop known words jobs why
 stop_of_put known words jobs list files why same each = ⊎_elim inl (⊎_elim (λ failed. inr (inr (inl failed)))
     (λ is. let of = stop_of_files known words jobs list files why same each is.1 in
     inr (inr (inr (of.0, (of.1.0, inr (is.0, of.1.1)))))))
@@ -98,7 +98,7 @@ pub files_unput : (known : Option FileContents) (words : AcceptArgs) (jobs : Lis
     (runs : List (Option JobRun)) (claims : List GoldenText) (files : List GoldenFile) (why : Stop)
     → list ≡ words.run.list.now → claims ≡ golden_texts_of_runs 0 jobs runs
     → AreGoldenFiles known (optional_text words.run.root) (fold (with_target runs claims) [] claims) files
-    → IsPutAcceptedStop known words.check list files why → IsAcceptingStop known words jobs why
+    → IsAcceptanceWriteStop known words.check list files why → IsAcceptingStop known words jobs why
 files_unput known words jobs list runs claims files why same are golden =
     stop_of_put known words jobs list files why same
     (places_of_targets known (optional_text words.run.root) jobs (fold (with_target runs claims) [] claims) files golden

@@ -21,7 +21,7 @@ use Rattle.rv_command.specs.Texts.{optional_text}
 use Rattle.rv_lists.specs.JobList.{job_list_of}
 use Rattle.rv_lists.specs.Jobs.{without_expectations}
 use Rattle.rv_lists.specs.declared.job.Job.{Job}
-use Rattle.rvtest_app.specs.Accepts.{AreGoldenFiles, IsOutcome, accepting_of}
+use Rattle.rvtest_app.specs.Accepts.{AreGoldenFiles, IsOutcome, IsAcceptSummaryOf}
 
 -- of the file of the list, its text and its jobs
 pub outcome_told : (known : Option FileContents) (words : AcceptArgs) (list : ListFile) (judged : List (Option JobRun))
@@ -32,7 +32,7 @@ pub outcome_told : (known : Option FileContents) (words : AcceptArgs) (list : Li
     → IfSome new.text (λ text. (edits : List Edit) × (text.items ≡ edited_from 0 list.text.now edits))
     → IfSome new.text (λ text. job_list_of text.items ≡ Ok (intended_jobs list.jobs.now new.runs.items))
     → (new.text ≡ None → intended_jobs list.jobs.now new.runs.items ≡ list.jobs.now)
-    → accepting_of list new.runs.items claims files new told
+    → IsAcceptSummaryOf list new.runs.items claims files new told
     → IsOutcome known words list.text.now list.jobs.now judged told
 outcome_told known words list judged claims files new told path left are golden edited meant unchanged of = record {
   path = rw of.0 path;

@@ -60,11 +60,11 @@ pub nothing_placed : (before : Option (List CommittedFile)) → AreFilesCommitte
 nothing_placed None = tt
 nothing_placed (Some earlier) = sym (ap Some (append-nil earlier))
 
-pub placed_behind : (before middle after : Option (List CommittedFile)) (first second : List CommittedFile)
+pub placed_if_reported : (before middle after : Option (List CommittedFile)) (first second : List CommittedFile)
     → AreFilesCommitted before middle (Some first) → AreFilesCommitted middle after (Some second)
     → AreFilesCommitted before after (Some (first ++ second))
-placed_behind None middle after first second placed more = tt
-placed_behind (Some earlier) middle after first second placed more =
+placed_if_reported None middle after first second placed more = tt
+placed_if_reported (Some earlier) middle after first second placed more =
     (rw placed at more) ∙ ap Some (append_assoc earlier first second)
 
 -- of files in their order, those that the first so many make, and the next one
@@ -81,4 +81,4 @@ pub placed_one_more : {X : Type 0} (made : X → List CommittedFile) (files : Li
     → AreFilesCommitted before after (Some (flat_map made (take (place + 1) files)))
 placed_one_more made files place file before middle after within is placed more =
     subst (λ all. AreFilesCommitted before after (Some all)) (sym (one_more_made made files place file within is))
-    (placed_behind before middle after (flat_map made (take place files)) (made file) placed more)
+    (placed_if_reported before middle after (flat_map made (take place files)) (made file) placed more)

@@ -4,39 +4,39 @@ use Rattle.std.proofs.Math.Seq.{take-suc}
 use Rattle.std.specs.Prelude.{min}
 use Rattle.rv_count_tables.specs.declared.table.AddressCounts.{AddressCounts}
 use Rattle.rv_count_tables.specs.declared.table.ImageCounts.{ImageCounts}
-use Rattle.rvtest_app.specs.CountSums.{begun_of_addresses, begun_of_images, most_number, shown_number}
+use Rattle.rvtest_app.specs.CountSums.{executed_at_addresses, executed_in_images, most_number, shown_number}
 
 addresses-snoc : (some : List AddressCounts) (one : AddressCounts)
-    → begun_of_addresses (some ++ one ∷ []) ≡ begun_of_addresses some + one.begun
+    → executed_at_addresses (some ++ one ∷ []) ≡ executed_at_addresses some + one.begun
 addresses-snoc [] one = omega arith
 addresses-snoc (c ∷ cs) one = omega (arith, addresses-snoc cs one)
 
 images-snoc : (some : List ImageCounts) (one : ImageCounts)
-    → begun_of_images (some ++ one ∷ []) ≡ begun_of_images some + begun_of_addresses one.addresses
+    → executed_in_images (some ++ one ∷ []) ≡ executed_in_images some + executed_at_addresses one.addresses
 images-snoc [] one = omega arith
 images-snoc (image ∷ images) one = omega (arith, images-snoc images one)
 
 addresses-more : (addresses : List AddressCounts) (i : ℕ) (d : AddressCounts) → i < length addresses
-    → begun_of_addresses (take (i + 1) addresses) ≡ begun_of_addresses (take i addresses) + (get_or addresses i d).begun
+    → executed_at_addresses (take (i + 1) addresses) ≡ executed_at_addresses (take i addresses) + (get_or addresses i d).begun
 addresses-more addresses i d within =
     rw (add-one i, take-suc addresses i d within) (addresses-snoc (take i addresses) (get_or addresses i d))
 
 images-more : (images : List ImageCounts) (i : ℕ) (d : ImageCounts) → i < length images
-    → begun_of_images (take (i + 1) images) ≡ begun_of_images (take i images) + begun_of_addresses (get_or images i d).addresses
+    → executed_in_images (take (i + 1) images) ≡ executed_in_images (take i images) + executed_at_addresses (get_or images i d).addresses
 images-more images i d within =
     rw (add-one i, take-suc images i d within) (images-snoc (take i images) (get_or images i d))
 
 -- the shown number of the first addresses, behind a number, and that of one more
 pub one_more_address : (before : ℕ) (addresses : List AddressCounts) (i : ℕ) (d : AddressCounts) (total next : ℕ)
-    → i < length addresses → total ≡ shown_number (before + begun_of_addresses (take i addresses))
+    → i < length addresses → total ≡ shown_number (before + executed_at_addresses (take i addresses))
     → next ≡ min (total + (get_or addresses i d).begun) most_number
-    → next ≡ shown_number (before + begun_of_addresses (take (i + 1) addresses))
+    → next ≡ shown_number (before + executed_at_addresses (take (i + 1) addresses))
 one_more_address before addresses i d total next within so_far added = omega (arith, addresses-more addresses i d within)
 
 -- the shown number of the first images, and that of one more
 pub one_more_image : (images : List ImageCounts) (i : ℕ) (image : ImageCounts) (total next : ℕ) → i < length images
-    → image ≡ get_or images i image → total ≡ shown_number (begun_of_images (take i images))
-    → next ≡ shown_number (total + begun_of_addresses image.addresses)
-    → next ≡ shown_number (begun_of_images (take (i + 1) images))
+    → image ≡ get_or images i image → total ≡ shown_number (executed_in_images (take i images))
+    → next ≡ shown_number (total + executed_at_addresses image.addresses)
+    → next ≡ shown_number (executed_in_images (take (i + 1) images))
 one_more_image images i image total next within is so_far added =
-    omega (arith, images-more images i image within, ap (λ (one : ImageCounts). begun_of_addresses one.addresses) is)
+    omega (arith, images-more images i image within, ap (λ (one : ImageCounts). executed_at_addresses one.addresses) is)

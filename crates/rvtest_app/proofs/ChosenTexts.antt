@@ -12,7 +12,7 @@ use Rattle.rv_report.specs.declared.saved.Extent.{Extent}
 use Rattle.rv_report.specs.declared.saved.Extent.TheVariants as extent
 use Rattle.rv_report.specs.declared.saved.Shard.{Shard}
 use Rattle.rv_stream.specs.Streams.{joined_row_texts, row_text_list}
-use Rattle.rvtest_app.specs.IntoReports.{rows_ahead, run_report_rest, run_report_text}
+use Rattle.rvtest_app.specs.IntoReports.{streamed_rows, run_report_rest, run_report_text}
 use Rattle.rvtest_app.specs.RunOutput.{chosen_last_line, chosen_report_text, job_numbers, part_text}
 use Rattle.rvtest_app.proofs.Numbers.{behind, fit_behind, next}
 
@@ -82,7 +82,7 @@ chosen_split jobs places None rows up within even =
 -- the report of a run in two: what goes to a file as the rows come, and the rest
 pub run_report_split : (old : Option (List Row)) (jobs : ℕ) (places : List ℕ) (shard : Option Shard) (rows : List Row)
     → IsStrictlyIncreasing places → All (λ place. place < jobs) places → length rows ≡ length places
-    → rows_ahead old places rows ++ run_report_rest old jobs places shard rows ≡ run_report_text old jobs places shard rows
+    → streamed_rows old places rows ++ run_report_rest old jobs places shard rows ≡ run_report_text old jobs places shard rows
 run_report_split None jobs places shard rows up within even = sym (chosen_split jobs places shard rows up within even)
 run_report_split (Some old) jobs places shard rows up within even = refl
 
@@ -95,6 +95,6 @@ texts_of_shown line (place ∷ places) [] = refl
 texts_of_shown line (place ∷ places) (row ∷ rows) = ap (λ texts. line place row ∷ texts) (texts_of_shown line places rows)
 
 pub ahead_of_shown : (old : Option (List Row)) (places : List ℕ) (rows : List Row)
-    → rows_ahead old (take (length rows) places) rows ≡ rows_ahead old places rows
+    → streamed_rows old (take (length rows) places) rows ≡ streamed_rows old places rows
 ahead_of_shown (Some old) places rows = refl
 ahead_of_shown None places rows = ap concat (texts_of_shown row_text places rows)

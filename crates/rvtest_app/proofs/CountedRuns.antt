@@ -10,13 +10,13 @@ use Rattle.rv_job_text.specs.RowReporter.{RowReporter}
 use Rattle.rv_jobs.specs.Plans.{Planned}
 use Rattle.rv_report.specs.declared.row.Row.{Row}
 use Rattle.rv_report.specs.declared.saved.Shard.{Shard}
-use Rattle.rvtest_app.proofs.PutStops.{unopened}
+use Rattle.rvtest_app.proofs.WriteStops.{unopened}
 use Rattle.rvtest_app.specs.Outlets.{AreFilesCommitted, AreFilesPartlyCommitted, HasTaken, file_path_at}
-use Rattle.rvtest_app.specs.PutStops.{IsUnopenedStop}
+use Rattle.rvtest_app.specs.WriteStops.{IsUnopenedStop}
 use Rattle.rvtest_app.specs.Puts.{IsShown}
 use Rattle.rvtest_app.specs.RunStops.{IsRunPutStop}
-use Rattle.rvtest_app.specs.Runs.{AreCountsPut, AreRunFilesPlacedInPart, IsCountsText, IsRunPut, junit_file, report_file}
-use Rattle.rvtest_app.specs.CommandOutputs.{CommandOutputs, placed_behind, where_told}
+use Rattle.rvtest_app.specs.Runs.{AreCountsWritten, AreRunFilesPlacedInPart, IsCountsText, IsRunWritten, junit_file, report_file}
+use Rattle.rvtest_app.specs.CommandOutputs.{CommandOutputs, placed_if_reported, with_placed_if_reported}
 use Rattle.rvtest_app.specs.StackStops.{IsCountsPutStop}
 use Rattle.rvtest_app.specs.WrittenTexts.{IsWrittenAt}
 use Rattle.rvtest_app.specs.declared.outlets.Outlet.{Outlet}
@@ -44,13 +44,13 @@ module _ {P W : Type 0} (pending_path : P → List ℕ) (taken : W → Option (L
 -- a table went to the path that was given
 pub counts_put : (stacks : Bool) (path : Option (List ℕ)) (plan : Planned) (places text : List ℕ) (before after : CommandOutputs)
     → is_some path ≡ true → IsCountsText stacks plan places text → IsWrittenAt path text before after
-    → AreCountsPut stacks path plan places before after
+    → AreCountsWritten stacks path plan places before after
 counts_put stacks None plan places text before after given is written = absurd cc
 counts_put stacks (Some path) plan places text before after given is written = (text, (is, written))
 
 -- none went anywhere where no path was given
 pub no_counts_put : (stacks : Bool) (path : Option (List ℕ)) (plan : Planned) (places : List ℕ) (before after : CommandOutputs)
-    → path ≡ None → IsWrittenAt None [] before after → AreCountsPut stacks path plan places before after
+    → path ≡ None → IsWrittenAt None [] before after → AreCountsWritten stacks path plan places before after
 no_counts_put stacks path plan places before after none written = rw none written
 
 -- ---- the rows that were put before the counts
@@ -61,13 +61,13 @@ placed_of_shown true text before after is = is.2
 placed_of_shown false text before after is = is.3
 
 placed_behind_same : (earlier before after files : Option (List CommittedFile)) → before ≡ earlier
-    → AreFilesCommitted before after files → AreFilesCommitted before (placed_behind earlier after) files
+    → AreFilesCommitted before after files → AreFilesCommitted before (placed_if_reported earlier after) files
 placed_behind_same None before after files same are = rw same tt
 placed_behind_same (Some placed) before after files same are = are
 
 pub run_put_where_told : (words : RunArgs) (reporter : RowReporter) (places : List ℕ) (shard : Option Shard)
-    (old : Option (List Row)) (rows : List Row) (before after : CommandOutputs) → IsRunPut words reporter places shard old rows before after
-    → IsRunPut words reporter places shard old rows before (where_told before.placed after)
+    (old : Option (List Row)) (rows : List Row) (before after : CommandOutputs) → IsRunWritten words reporter places shard old rows before after
+    → IsRunWritten words reporter places shard old rows before (with_placed_if_reported before.placed after)
 run_put_where_told words reporter places shard old rows before after put = record {
   middle = put.middle;
   seen = put.seen;
@@ -79,7 +79,7 @@ run_put_where_told words reporter places shard old rows before after put = recor
 }
 
 pub run_files_placed : (words : RunArgs) (reporter : RowReporter) (places : List ℕ) (shard : Option Shard)
-    (old : Option (List Row)) (rows : List Row) (before after : CommandOutputs) → IsRunPut words reporter places shard old rows before after
+    (old : Option (List Row)) (rows : List Row) (before after : CommandOutputs) → IsRunWritten words reporter places shard old rows before after
     → AreFilesCommitted before.placed after.placed
     (Some (junit_file words reporter places rows ++ report_file words reporter places shard old rows))
 run_files_placed words reporter places shard old rows before after put =
@@ -104,7 +104,7 @@ given_text words = of words.counts
 -- where the counts did not
 pub part_of_counts : (words : RunArgs) (reporter : RowReporter) (places : List ℕ) (shard : Option Shard)
     (old : Option (List Row)) (rows : List Row) (before after : CommandOutputs) (placed : Option (List CommittedFile))
-    → is_some (optional_text words.counts) ≡ true → IsRunPut words reporter places shard old rows before after
+    → is_some (optional_text words.counts) ≡ true → IsRunWritten words reporter places shard old rows before after
     → placed ≡ after.placed
     → (placed ≡ before.placed) ⊎ AreRunFilesPlacedInPart words reporter places shard old rows before.placed placed
 part_of_counts words reporter places shard old rows before after placed given put same =

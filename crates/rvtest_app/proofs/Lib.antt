@@ -16,7 +16,7 @@ mod Standings
 mod StopLemmas
 mod StoreAfter
 mod PutTexts
-mod PutStops
+mod WriteStops
 mod PartTexts
 mod JobStarts
 mod JobTexts

@@ -14,7 +14,7 @@ use Rattle.rv_expect.specs.declared.known_jobs.KnownJobs.{KnownJobs}
 use Rattle.rv_report.specs.declared.row.Row.{Row}
 use Rattle.rv_report.specs.declared.saved.Shard.{Shard}
 use Rattle.rvtest_app.specs.Commands.{failure_rule, requested_verbosity}
-use Rattle.rvtest_app.specs.Runs.{AreRunFilesPlacedInPart, run_rows, run_telling}
+use Rattle.rvtest_app.specs.Runs.{AreRunFilesPlacedInPart, run_rows, run_reporter}
 
 -- how rows are told, by a rule, of a plan
 abbrev pub told_by : RunArgs → Option KnownJobs → Planned → List UnreadPath → Rule → Verbosity → RowReporter
@@ -37,7 +37,7 @@ known_behind (Some jobs) = refl
 pub told_as_asked : (words : RunArgs) (failures known : Option KnownJobs) (plan : Planned) (unread : List UnreadPath) (rule : Rule)
     (verbosity : Verbosity) → rule ≡ failure_rule words.lenient → known ≡ failures
     → verbosity ≡ requested_verbosity words.verbose words.quiet
-    → told_by words known plan unread rule verbosity ≡ run_telling words failures plan unread
+    → told_by words known plan unread rule verbosity ≡ run_reporter words failures plan unread
 told_as_asked words failures known plan unread rule verbosity e f h =
     ap (λ (r : Rule). told_by words known plan unread r verbosity) e
     ∙ ap (λ (k : Option KnownJobs). told_by words k plan unread (failure_rule words.lenient) verbosity) f

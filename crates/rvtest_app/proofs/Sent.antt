@@ -5,9 +5,9 @@ use Rattle.std.proofs.KnownBytes.{Appends-trans}
 use Rattle.rv_lists.specs.Sinks.{AppendsBeginning}
 
 -- a text went out, and a beginning of the next
-begun_behind : (a b c : Option (List ℕ)) (front text : List ℕ) → Appends a b front
+add_executed : (a b c : Option (List ℕ)) (front text : List ℕ) → Appends a b front
     → AppendsBeginning b c text → AppendsBeginning a c (front ++ text)
-begun_behind a b c front text before begun = record {
+add_executed a b c front text before begun = record {
   part = front ++ begun.part;
   rest = begun.rest;
   whole = ap (λ more. front ++ more) begun.whole ∙ sym (append_assoc front begun.part begun.rest);
@@ -18,7 +18,7 @@ begun_behind a b c front text before begun = record {
 pub told_behind : {A : Type 0} (a b c : Option (List ℕ)) (front : List ℕ) (text : A → List ℕ) (x y : A) → x ≡ y
     → Appends a b front → AppendsBeginning b c (text x) → AppendsBeginning a c (front ++ text y)
 told_behind a b c front text x y same before begun =
-    subst (λ z. AppendsBeginning a c (front ++ text z)) same (begun_behind a b c front (text x) before begun)
+    subst (λ z. AppendsBeginning a c (front ++ text z)) same (add_executed a b c front (text x) before begun)
 
 -- a beginning of a text is one of what goes on behind it
 pub begun_before : (a b : Option (List ℕ)) (front text : List ℕ) → AppendsBeginning a b front

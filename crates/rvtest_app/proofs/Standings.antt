@@ -18,7 +18,7 @@ use Rattle.rv_lists.specs.declared.job.Job.{Job}
 use Rattle.rv_report.specs.declared.row.Row.{Row}
 use Rattle.rv_report.specs.declared.row.RowEnd.{RowEnd}
 use Rattle.rv_rows.specs.Verdict.{did_run, expects_anything, has_expected_end, has_expected_exit}
-use Rattle.rvtest_app.specs.Standings.{AreCandidates, IsCandidateAt, IsStanding, standing_by, standing_of}
+use Rattle.rvtest_app.specs.Standings.{AreCandidates, IsCandidateAt, IsStanding, standing_by, verdict_of_sides}
 
 -- ---- nothing is unmet
 
@@ -51,7 +51,7 @@ any_end : (how : Option ExpectedEnd) (end : RowEnd) → is_some how ≡ false �
 any_end None end is = refl
 any_end (Some how) end is = cc
 
-pub ended_well : (sides : Sides) → standing_of sides ≡ standing.Passes → EndedWell sides.job sides.row
+pub ended_well : (sides : Sides) → verdict_of_sides sides ≡ standing.Passes → EndedWell sides.job sides.row
 unfolding unmet_of
 ended_well sides passes =
     let none = passes_by (did_run sides.row.ending) (unmet_of sides) passes in

@@ -16,13 +16,13 @@ use Rattle.rv_command.specs.declared.stop.Stop.{Stop}
 use Rattle.rv_command.specs.declared.stop.Stop.TheVariants as stop
 use Rattle.rvtest_app.specs.Accepts.{IsAcceptedAt}
 use Rattle.rvtest_app.specs.CommandStops.{IsCommandStop, IsDiffAtStop, IsGdbStop, IsGdbStopped}
-use Rattle.rvtest_app.specs.CountSums.{IsSumPut}
+use Rattle.rvtest_app.specs.CountSums.{IsSumWritten}
 use Rattle.rvtest_app.specs.Merges.{IsMergedAt}
 use Rattle.rvtest_app.specs.Outlets.{is_stdout}
 use Rattle.rvtest_app.specs.Runs.{AreJobsToRun}
 use Rattle.rvtest_app.specs.CommandOutputs.{CommandOutputs}
 use Rattle.rvtest_app.specs.Shows.{IsShownAt}
-use Rattle.rvtest_app.specs.ToldStops.{IsDiffStop}
+use Rattle.rvtest_app.specs.ReportedStops.{IsDiffStop}
 use Rattle.rvtest_app.specs.WrittenTexts.{IsUnwrittenBy, written_path}
 
 pub IfErr-map : {X Y : Type 0} (r : Result X Y) (P Q : Y → Type 0) → ((y : Y) → P y → Q y) → IfErr r P → IfErr r Q
@@ -84,7 +84,7 @@ unshown_report known is_terminal words status before after done = inr (inr (done
 
 -- a sum of tables that goes to standard output may be stopped there, and one that goes to a file put nothing there
 pub unshown_sum : (known : Option FileContents) (is_terminal : Bool) (words : CountsArgs) (status : ℕ) (before after : CommandOutputs) (Untouched : Type 0)
-    → IsSumPut known words status before after
+    → IsSumWritten known words status before after
     → (is_stdout (written_path (optional_text words.out)) ≡ true) ⊎ Untouched
     → IsCommandStop known is_terminal (asked.Counts words) stop.WriteFailed ⊎ Untouched
 unshown_sum known is_terminal words status before after Untouched put =

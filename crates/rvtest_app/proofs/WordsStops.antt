@@ -5,7 +5,7 @@ use Rattle.clap.specs.Words.{fault_of}
 use Rattle.clap.specs.declared.error.kind.ErrorKind.{ErrorKind}
 use Rattle.rv_base.specs.Files.{FileContents}
 use Rattle.rvtest_cli.specs.RvtestCommand.{test_app}
-use Rattle.rvtest_cli.specs.RvtestWords.{IsMisuseTold, misuse_text, words_fault_kinds, words_misuse}
+use Rattle.rvtest_cli.specs.RvtestWords.{IsMisuseReported, misuse_text, words_fault_kinds, words_misuse}
 use Rattle.rvtest_cli.specs.WordsErrors.{IsToldOf}
 use Rattle.rvtest_cli.specs.declared.words_error.WordsError.{WordsError}
 use Rattle.rvtest_cli.specs.declared.words_error.WordsError.TheVariants as error
@@ -14,7 +14,7 @@ use Rattle.rv_command.specs.declared.stop.Stop.{Stop}
 use Rattle.rv_command.specs.declared.stop.Stop.TheVariants as stop
 use Rattle.rvtest_app.specs.Answers.{AskForHelp}
 use Rattle.rvtest_app.specs.CommandStops.{IsStopFor}
-use Rattle.rvtest_app.specs.ToldStops.{IsHelpAsked, IsHelpStop, IsWordsErrorStop}
+use Rattle.rvtest_app.specs.ReportedStops.{IsHelpAsked, IsHelpStop, IsWordsErrorStop}
 
 pub ask_for_help : (words : List (List ℕ)) (fault : ErrorKind) → IsAmong fault (words_fault_kinds words)
     → IsHelpAsked fault → AskForHelp words
@@ -35,7 +35,7 @@ help_stop known is_terminal words before after why asked is =
 -- a fault of words stops the program by its kind
 stop_of_error : (known : Option FileContents) (is_terminal : Bool) (words : List (List ℕ)) (told : WordsError) (before after : ℕ) (why : Stop)
     → IsToldOf (words_fault_kinds words) told
-    → (fault_of test_app words ≡ [] → IsMisuseTold (words_misuse words) told)
+    → (fault_of test_app words ≡ [] → IsMisuseReported (words_misuse words) told)
     → IsWordsErrorStop told before after why → IsStopFor known is_terminal words why
 stop_of_error known is_terminal words error.OutOfMemory before after why among misused is = inr (inl is)
 stop_of_error known is_terminal words (error.Told fault text) before after why among misused is =
@@ -43,14 +43,14 @@ stop_of_error known is_terminal words (error.Told fault text) before after why a
     (λ other. inr (inr (inr (record {
       faulty = (fault, (among, other.0));
       refused = inr other.1.0;
-      misused = λ none. by_option (λ o. IsMisuseTold o (error.Told fault text)) (why ≡ stop.OutOfMemory)
+      misused = λ none. by_option (λ o. IsMisuseReported o (error.Told fault text)) (why ≡ stop.OutOfMemory)
           (λ misuse. IsUsageStop (misuse_text misuse) why) (λ told. absurd told)
           (λ misuse told. inr (other.1.0, (told.1.0, other.1.1 ∙ told.1.1))) (words_misuse words) (misused none);
     })))) is
 
 pub words_stop : (known : Option FileContents) (is_terminal : Bool) (words : List (List ℕ)) (told : WordsError) (answer : Result ℕ Stop)
     (before after : ℕ) → IsToldOf (words_fault_kinds words) told
-    → (fault_of test_app words ≡ [] → IsMisuseTold (words_misuse words) told)
+    → (fault_of test_app words ≡ [] → IsMisuseReported (words_misuse words) told)
     → IfErr answer (IsWordsErrorStop told before after) → IfErr answer (IsStopFor known is_terminal words)
 words_stop known is_terminal words told (Ok status) before after among misused is = tt
 words_stop known is_terminal words told (Err why) before after among misused is =

@@ -1,4 +1,4 @@
--- What `run` says of a job that `accept` accepted, over the store with the new files.
+-- What `run` reports for a job that `accept` accepted, when it runs against the store with the new files.
 use Rattle.std.specs.Prelude.{◌≡◌, ◌⊎◌, ℕ, Bool, true, false, IfSome, IsFalse, IsTrue, List, Ok, Some, None, slice_get}
 use Rattle.std.specs.List.{All, Any}
 use Rattle.rv_accept.specs.Sharing.{names_golden_file}
@@ -25,8 +25,8 @@ use Rattle.rvtest_app.specs.Runs.{IsPlanFor}
 
 -- ---- the store
 
--- paths lead to places, perhaps several to one, as links do. Each file that was written is there, and every path that leads to no such file
--- holds what it held
+-- paths lead to files, and several paths may lead to one file, as links do. Each file that was written is in the new store, and every path
+-- that leads to none of these files still has its old contents
 pub record IsStoreAfter (written : List CommittedFile) (before after : FileContents) : Type 0 where
   pub leads : List ℕ → List ℕ
   pub one_before : (path other : List ℕ) → leads path ≡ leads other → before path ≡ before other
@@ -34,14 +34,14 @@ pub record IsStoreAfter (written : List CommittedFile) (before after : FileConte
   pub there : All (λ file. after file.path ≡ Some file.bytes) written
   pub others : (path : List ℕ) → (after path ≡ before path) ⊎ Any (λ file. leads file.path ≡ leads path) written
 
--- golden files that lead to one place are given the same text
+-- golden files whose paths lead to one file are given the same text
 abbrev pub HaveOneTextEach : (List ℕ → List ℕ) → List GoldenFile → Type 0
 HaveOneTextEach leads files = All (λ (file : GoldenFile). All (λ (other : GoldenFile).
     leads file.place ≡ leads other.place → file.target.fate ≡ other.target.fate) files) files
 
 -- ---- the job
 
--- of the jobs of a list this one is chosen and not left, none of its golden files is left, and it names no other job
+-- this job of the list is chosen and not rejected, none of its golden files is rejected, and it names no other job
 pub record IsWhollyAccepted (told : AcceptSummary) (place : ℕ) (job : Job) : Type 0 where
   pub stands : slice_get told.list.jobs.now place ≡ Some job
   pub accepted : IsTrue (is_of_accepted (slice_get told.runs.now place))
@@ -55,13 +55,13 @@ abbrev pub is_read : Kept → Bool
 is_read (kept.Content bytes) = true
 is_read _ = false
 
--- the files of a job were read
+-- all files of the job were read
 pub record AreFilesRead (answers : List Answer) (job : Job) : Type 0 where
   pub image : IsTrue (is_read (kept_for answers job.image))
   pub signature : IfSome job.expect_signature (λ path. IsTrue (is_read (kept_for answers path)))
   pub console : IfSome (console_path job.expect_console) (λ path. IsTrue (is_read (kept_for answers path)))
 
--- the row of the job at a place in a run of the list over a store, of which the job's files were read
+-- the row of the job at this index when the list runs against the store, with all of the job's files read
 pub record IsRowIn (store : FileContents) (words : RunArgs) (place : ℕ) (row : Row) : Type 0 where
   pub bytes : List ℕ
   pub read : IsTextAt (Some store) words.list.now bytes

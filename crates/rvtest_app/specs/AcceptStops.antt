@@ -1,4 +1,4 @@
--- Why `accept` ended before its work was done.
+-- Why `accept` stopped before its work was done.
 use Rattle.std.specs.Prelude.{◌≡◌, ◌⊎◌, ℕ, Bool, false, List, IsTrue, Ok, Option, codes}
 use Rattle.std.specs.List.{Any, list_any}
 use Rattle.rv_accept.specs.Sharing.{names_golden_file}
@@ -15,76 +15,76 @@ use Rattle.rv_files.specs.UnreadPaths.{resolved_path}
 use Rattle.rv_lists.specs.JobList.{job_list_of}
 use Rattle.rv_lists.specs.declared.job.Job.{Job}
 use Rattle.rvtest_app.specs.Overwrites.{IsAcceptOverwriteStop}
-use Rattle.rvtest_app.specs.PutStops.{IsUnopenedStop, IsUnwrittenStop}
+use Rattle.rvtest_app.specs.WriteStops.{IsUnopenedStop, IsUnwrittenStop}
 
 -- ---- one file
 
--- the file for a path was not opened, not written, or not put in its place
-abbrev pub IsUnmadeStop : List ℕ → Stop → Type 0
-IsUnmadeStop path why = IsUnopenedStop path why ⊎ IsUnwrittenStop path why
+-- the file for the path was not opened, not written, or not moved to its path
+abbrev pub IsFileNotCreatedStop : List ℕ → Stop → Type 0
+IsFileNotCreatedStop path why = IsUnopenedStop path why ⊎ IsUnwrittenStop path why
 
--- it has other bytes than were written
+-- the file has other bytes than those that were written
 abbrev pub IsOtherBytesStop : List ℕ → Stop → Type 0
 IsOtherBytesStop path why = IsStop 3 (path_message path (codes "does not contain what was written")) why
 
--- it is another file than the one that was read
+-- the path now leads to another file than the one that was read
 abbrev pub IsChangedStop : List ℕ → Stop → Type 0
 IsChangedStop path why = IsStop 3 (path_message path (codes "changed since it was read; nothing was written")) why
 
--- it was not read again, or it was, and has other bytes than it had when it was read or was written
+-- the file could not be read again, or its bytes differ from those that were read or written
 abbrev pub IsUncheckedStop : Option FileContents → List ℕ → Stop → Type 0
 IsUncheckedStop known path why = IsListUnreadStop known path why ⊎ (IsOtherBytesStop path why ⊎ IsChangedStop path why)
 
--- it was not written as it is meant to be
-abbrev pub IsUnputStop : Option FileContents → List ℕ → Stop → Type 0
-IsUnputStop known path why = IsUnmadeStop path why ⊎ IsUncheckedStop known path why
+-- the file was not written as intended
+abbrev pub IsFileNotWrittenStop : Option FileContents → List ℕ → Stop → Type 0
+IsFileNotWrittenStop known path why = IsFileNotCreatedStop path why ⊎ IsUncheckedStop known path why
 
 -- ---- the files of what is accepted
 
--- that happened to the list at a path, or to a golden file
+-- this happened to the list at the path, or to a golden file
 abbrev pub IsStopOfFiles : (List ℕ → Stop → Type 0) → List ℕ → List GoldenFile → Stop → Type 0
 IsStopOfFiles happened list files why = happened list why ⊎ Any (λ file. happened file.place why) files
 
--- memory was wanting, or the file of a target was not read
+-- out of memory, or the file of a target was not read
 abbrev pub AreTargetsUnread : Option FileContents → Option (List ℕ) → List Target → Stop → Type 0
 AreTargetsUnread known root targets why = (why ≡ stop.OutOfMemory)
     ⊎ Any (λ target. IsListUnreadStop known (resolved_path root target.path) why) targets
 
--- memory was wanting, standard output did not take all, or, where words ask for no check, a file was not written
-abbrev pub IsPutAcceptedStop : Option FileContents → Bool → List ℕ → List GoldenFile → Stop → Type 0
-IsPutAcceptedStop known check list files why = (why ≡ stop.OutOfMemory) ⊎ ((why ≡ stop.WriteFailed)
-    ⊎ ((check ≡ false) × IsStopOfFiles (IsUnputStop known) list files why))
+-- out of memory, a failed write to standard output, or, without `--check`, a file that was not written
+abbrev pub IsAcceptanceWriteStop : Option FileContents → Bool → List ℕ → List GoldenFile → Stop → Type 0
+IsAcceptanceWriteStop known check list files why = (why ≡ stop.OutOfMemory) ⊎ ((why ≡ stop.WriteFailed)
+    ⊎ ((check ≡ false) × IsStopOfFiles (IsFileNotWrittenStop known) list files why))
 
 -- ---- the command
 
--- some job names the file at a path as a golden file
+-- some job names the file at the path as a golden file
 abbrev pub IsGoldenPath : List Job → List ℕ → Type 0
 IsGoldenPath jobs path = IsTrue (list_any (names_golden_file path) jobs)
 
--- a file of the list: the list itself, or a golden file of a job
+-- the file belongs to the list: it is the list itself, or a golden file of a job
 abbrev pub IsFileOfList : AcceptArgs → List Job → List ℕ → Type 0
 IsFileOfList words jobs place = (place ≡ words.run.list.now)
     ⊎ ((path : List ℕ) × (IsGoldenPath jobs path × (place ≡ resolved_path (optional_text words.run.root) path)))
 
--- memory was wanting, or a golden file was not read
+-- out of memory, or a golden file was not read
 abbrev pub IsGoldenUnreadStop : Option FileContents → AcceptArgs → List Job → Stop → Type 0
 IsGoldenUnreadStop known words jobs why = (why ≡ stop.OutOfMemory)
     ⊎ ((path : List ℕ) × (IsFileOfList words jobs path × IsListUnreadStop known path why))
 
--- it was not read; or, where words ask for no check, not written
+-- the file was not read or, without `--check`, not written
 abbrev pub IsFileOfListStop : Option FileContents → Bool → List ℕ → Stop → Type 0
-IsFileOfListStop known check path why = IsListUnreadStop known path why ⊎ ((check ≡ false) × IsUnputStop known path why)
+IsFileOfListStop known check path why = IsListUnreadStop known path why ⊎ ((check ≡ false) × IsFileNotWrittenStop known path why)
 
--- memory was wanting, no thread was there, standard output did not take all, or a file of the list was not read or not written
+-- out of memory, no thread could be started, a failed write to standard output, or a file of the list that was not read or not written
 abbrev pub IsAcceptingStop : Option FileContents → AcceptArgs → List Job → Stop → Type 0
 IsAcceptingStop known words jobs why = (why ≡ stop.OutOfMemory) ⊎ ((why ≡ stop.NoWorker) ⊎ ((why ≡ stop.WriteFailed)
     ⊎ ((path : List ℕ) × (IsFileOfList words jobs path × IsFileOfListStop known words.check path why))))
 
--- a file would overwrite something; or that happened
+-- a file would overwrite an input, or accepting the chosen jobs stopped
 abbrev pub IsAcceptChosenStop : Option FileContents → AcceptArgs → List Job → Stop → Type 0
 IsAcceptChosenStop known words jobs why = IsAcceptOverwriteStop why ⊎ IsAcceptingStop known words jobs why
 
--- the list was read, and then that
+-- the list was read, and then choosing or accepting its jobs stopped
 abbrev pub IsUnacceptedStop : Option FileContents → AcceptArgs → Stop → Type 0
 IsUnacceptedStop known words why = (text : List ℕ) × (IsTextAt known words.run.list.now text
     × ((jobs : List Job) × ((job_list_of text ≡ Ok jobs) × IsAcceptChosenStop known words jobs why)))

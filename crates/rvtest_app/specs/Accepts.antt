@@ -1,4 +1,4 @@
--- What `accept` runs, tells and writes.
+-- What `accept` runs, reports and writes.
 use Rattle.std.specs.Prelude.{◌==◌, ◌≡◌, ◌&&◌, ◌++◌, ℕ, Bool, true, false, List, [], ◌∷◌, Option, Some, None, IfSome, Ok, ⊤, fold, if◌then◌else◌, length, map, option_map}
 use Rattle.std.specs.Io.KnownBytes.{Appends}
 use Rattle.std.specs.List.{flat_map}
@@ -45,12 +45,12 @@ use Rattle.rvtest_app.specs.Standings.{AreCandidates}
 
 -- ---- what is run
 
--- with --ends or without
+-- with or without `--ends`
 abbrev pub acceptance_of : Bool → Acceptance
 acceptance_of true = acceptance.InExpectedWay
 acceptance_of false = acceptance.Expected
 
--- these jobs, which expect nothing, ran where they are marked, over a plan of what stands there; each row stands at the place of its job
+-- the selected jobs ran without their expectations, over a plan of the files in the store; each row is at the index of its job
 pub record AreRowsOfMarked (known : Option FileContents) (root : Option (List ℕ)) (bare : List Job) (marks : List Bool)
     (rows : List (Option Row)) (note : List ℕ) : Type 0 where
   pub plan : Planned
@@ -59,7 +59,7 @@ pub record AreRowsOfMarked (known : Option FileContents) (root : Option (List �
   pub are : rows ≡ indexed_rows marks (rows_at plan (places_of_marks marks))
   pub noted : note ≡ missing_images_note plan.jobs unread (length (places_of_marks marks)) root
 
--- the same, and what is said of images that are missing went to standard error
+-- the selected jobs ran as above, and the note about missing images went to standard error
 pub record AreRowsPut (known : Option FileContents) (root : Option (List ℕ)) (bare : List Job) (marks : List Bool)
     (rows : List (Option Row)) (before after : CommandOutputs) : Type 0 where
   pub note : List ℕ
@@ -68,11 +68,11 @@ pub record AreRowsPut (known : Option FileContents) (root : Option (List ℕ)) (
 
 -- ---- what is written
 
--- what stands at a place, if anything does
+-- the contents of the file at a path, or none if there is no file
 abbrev pub IsOldAt : Option FileContents → List ℕ → Option (List ℕ) → Type 0
 IsOldAt known path old = IfSome known (λ files. files path ≡ old)
 
--- the file of a target, with what stands at its place
+-- the golden file of a target, with the contents of the file at its path
 pub record IsGoldenFile (known : Option FileContents) (root : Option (List ℕ)) (target : Target) (file : GoldenFile)
     : Type 0 where
   pub of : file.target ≡ target
@@ -92,19 +92,20 @@ file_if path (Some text) = placed_file path text ∷ []
 abbrev pub new_list_text : AcceptSummary → Option (List ℕ)
 new_list_text told = option_map (λ text. text.items) told.new.now.text
 
--- the golden files that are written, in the order of the list, and then the list
+-- the golden files that are written, in list order, followed by the list
 abbrev pub written_files : AcceptSummary → List CommittedFile
 written_files told = flat_map (λ file. file_if file.place (new_text told.list file)) told.files.now
     ++ file_if told.list.path.now (new_list_text told)
 
 -- ---- the whole
 
--- 0 where nothing is left, and in a check nothing would change
+-- 0 if nothing is rejected and, in a check, nothing would change
 abbrev pub accept_status : ℕ → ℕ → ℕ
 accept_status left changed = if left == 0 && changed == 0 then 0 else 1
 
--- what is told of golden files and of the list is so of the runs of a list's jobs, of which perhaps more are left: each golden file is
--- what all jobs make of it that name it, and a new list reads as the jobs that are meant; where there is none, they are those of the list
+-- what is reported about the golden files and the list follows from the runs of the list's jobs, more of which may be rejected: the text of
+-- each golden file is what all jobs that name it make of it, and a new list parses as the intended jobs; without a new list, the intended
+-- jobs are those of the old one
 pub record IsOutcome (known : Option FileContents) (words : AcceptArgs) (bytes : List ℕ) (jobs : List Job)
     (judged : List (Option JobRun)) (told : AcceptSummary) : Type 0 where
   pub path : told.list.path.now ≡ words.run.list.now
@@ -118,47 +119,47 @@ pub record IsOutcome (known : Option FileContents) (words : AcceptArgs) (bytes :
   pub meant : IfSome told.new.now.text (λ text. job_list_of text.items ≡ Ok (intended_jobs jobs told.runs.now))
   pub unchanged : told.new.now.text ≡ None → intended_jobs jobs told.runs.now ≡ jobs
 
--- all of that went to standard output, with the line that counts; the files are in their places, but in a check
-abbrev pub IsAcceptancePut : Bool → AcceptSummary → ℕ → CommandOutputs → CommandOutputs → Type 0
-IsAcceptancePut true told status before after =
+-- the report went to standard output, with the summary line; unless this is a check, the files were written to their paths
+abbrev pub IsAcceptanceWritten : Bool → AcceptSummary → ℕ → CommandOutputs → CommandOutputs → Type 0
+IsAcceptanceWritten true told status before after =
     (status ≡ accept_status (left_count told) (changed_count told))
     × IsOnlyStandardOutput (told_lines told ++ count_line writing.Asked (changed_count told) (left_count told)) before after
-IsAcceptancePut false told status before after =
+IsAcceptanceWritten false told status before after =
     (status ≡ accept_status (left_count told) 0)
     × Appends before.out after.out (told_lines told ++ count_line writing.Done (changed_count told) (left_count told))
     × (after.errors ≡ before.errors) × (after.failures ≡ before.failures)
     × AreFilesCommitted before.placed after.placed (Some (written_files told))
 
--- the same of its parts
-abbrev pub accepting_of : ListFile → List (Option JobRun) → List GoldenText → List GoldenFile → NewList → AcceptSummary → Type 0
-accepting_of list runs claims files new told = (told.list ≡ list) × (told.runs.now ≡ runs) × (told.claims.now ≡ claims)
+-- the summary with these parts
+abbrev pub IsAcceptSummaryOf : ListFile → List (Option JobRun) → List GoldenText → List GoldenFile → NewList → AcceptSummary → Type 0
+IsAcceptSummaryOf list runs claims files new told = (told.list ≡ list) × (told.runs.now ≡ runs) × (told.claims.now ≡ claims)
     × (told.files.now ≡ files) × (told.new.now ≡ new)
 
-pub record IsOutcomePut (check : Bool) (list : ListFile) (runs : List (Option JobRun)) (claims : List GoldenText)
+pub record IsOutcomeWritten (check : Bool) (list : ListFile) (runs : List (Option JobRun)) (claims : List GoldenText)
     (files : List GoldenFile) (new : NewList) (status : ℕ) (before after : CommandOutputs) : Type 0 where
   pub told : AcceptSummary
-  pub of : accepting_of list runs claims files new told
-  pub put : IsAcceptancePut check told status before after
+  pub of : IsAcceptSummaryOf list runs claims files new told
+  pub put : IsAcceptanceWritten check told status before after
 
--- it was said which golden files are outside of the list's directory, as far as there are directories
-pub record IsOutsideTold (before after : CommandOutputs) : Type 0 where
+-- the golden files outside of the list's directory were reported; there are none if committed files are reported
+pub record AreOutsideFilesReported (before after : CommandOutputs) : Type 0 where
   pub outside : List ℕ
   pub inside : IfSome before.placed (λ _. outside ≡ [])
   pub told : IsOnlyErrorOutput outside before after
 
--- the runs of jobs of which some are chosen, by their rows: each is left or accepted by how it stands
+-- the runs of a list's jobs, some of which are chosen, are judged by their rows: each job is rejected or accepted by its verdict
 pub record AreJudged (known : Option FileContents) (words : AcceptArgs) (jobs : List Job) (chosen : List Bool)
     (rows : List (Option Row)) (judged : List (Option JobRun)) : Type 0 where
   pub candidates : List Candidate
   pub stand : AreCandidates known (optional_text words.run.root) rows jobs chosen candidates
   pub are : judged ≡ judged_runs (acceptance_of words.ends) jobs candidates rows
 
--- that was said, and the jobs that are chosen ran, without their expectations, those that name a golden file of theirs, and those with
--- which one of all these is compared
+-- the outside files were reported; the chosen jobs ran without their expectations, and so did the jobs that name one of their golden files
+-- and those that one of all these jobs is compared with
 pub record IsAcceptedOfMarks (known : Option FileContents) (words : AcceptArgs) (bytes : List ℕ) (jobs : List Job)
     (chosen : List Bool) (status : ℕ) (before after : CommandOutputs) : Type 0 where
   pub first : CommandOutputs
-  pub outside : IsOutsideTold before first
+  pub outside : AreOutsideFilesReported before first
   pub rows : List (Option Row)
   pub middle : CommandOutputs
   pub ran : AreRowsPut known (optional_text words.run.root) (map without_expectations jobs)
@@ -167,16 +168,16 @@ pub record IsAcceptedOfMarks (known : Option FileContents) (words : AcceptArgs) 
   pub judging : AreJudged known words jobs chosen rows judged
   pub told : AcceptSummary
   pub outcome : IsOutcome known words bytes jobs judged told
-  pub put : IsAcceptancePut words.check told status middle after
+  pub put : IsAcceptanceWritten words.check told status middle after
 
--- where no job is chosen, the status is 0 and nothing more is said
+-- if no job is chosen, the status is 0 and nothing more is reported
 abbrev pub IsAcceptedOfChosen : Option FileContents → AcceptArgs → List ℕ → List Job → Option (List Bool) → ℕ
     → CommandOutputs → CommandOutputs → Type 0
 IsAcceptedOfChosen known words bytes jobs None status before after = (status ≡ 0) × (after ≡ before)
 IsAcceptedOfChosen known words bytes jobs (Some chosen) status before after =
     IsAcceptedOfMarks known words bytes jobs chosen status before after
 
--- of the list at the path that words name, what is said of the choice goes to standard error, and then that
+-- for the list at the path in the arguments, notes about the choice go to standard error, and then the chosen jobs are accepted
 pub record IsAcceptedAt (known : Option FileContents) (words : AcceptArgs) (status : ℕ) (before after : CommandOutputs)
     : Type 0 where
   pub bytes : List ℕ

@@ -1,4 +1,4 @@
--- What the program answers to words.
+-- How the program responds to its arguments.
 use Rattle.std.specs.Prelude.{◌≡◌, ◌⊎◌, ℕ, Bool, List, Option, Some, None}
 use Rattle.clap.specs.Kinds.{IsAmong}
 use Rattle.clap.specs.declared.error.kind.ErrorKind.TheVariants.{DisplayHelp, DisplayVersion}
@@ -8,21 +8,21 @@ use Rattle.rvtest_cli.specs.declared.requests.Asked.{Asked}
 use Rattle.rvtest_cli.specs.declared.requests.Asked.TheVariants as asked
 use Rattle.rvtest_app.specs.Accepts.{IsAcceptedAt}
 use Rattle.rvtest_app.specs.Colors.{IsColoredOutput, requested_colors}
-use Rattle.rvtest_app.specs.Consoles.{IsConsolePut}
-use Rattle.rvtest_app.specs.CountSums.{IsSumPut}
-use Rattle.rvtest_app.specs.Covers.{IsCoverPut}
+use Rattle.rvtest_app.specs.Consoles.{IsConsoleWritten}
+use Rattle.rvtest_app.specs.CountSums.{IsSumWritten}
+use Rattle.rvtest_app.specs.Covers.{IsCoverageWritten}
 use Rattle.rvtest_app.specs.Debugging.{IsGdbAnswered}
-use Rattle.rvtest_app.specs.HelpTopics.{IsTopicTold}
-use Rattle.rvtest_app.specs.Lists.{IsListPut}
+use Rattle.rvtest_app.specs.HelpTopics.{IsTopicPrinted}
+use Rattle.rvtest_app.specs.Lists.{IsListWritten}
 use Rattle.rvtest_app.specs.Merges.{IsMergedAt}
-use Rattle.rvtest_app.specs.Profiles.{IsProfilePut}
-use Rattle.rvtest_app.specs.Reports.{IsCheckAt, IsDiffPut, IsExplanationAt}
+use Rattle.rvtest_app.specs.Profiles.{IsProfileWritten}
+use Rattle.rvtest_app.specs.Reports.{IsCheckAt, IsDiffWritten, IsExplanationAt}
 use Rattle.rvtest_app.specs.Runs.{IsRunAt}
 use Rattle.rvtest_app.specs.CommandOutputs.{IsOnlyStandardOutput, CommandOutputs}
 use Rattle.rvtest_app.specs.Shows.{IsShownAt}
 
--- a command did what is asked for, over what is known of files and of standard input, and where standard output is a terminal or is
--- none: its status, and all that went to standard output, to standard error and into files
+-- a command did what was requested, given what is known of files and standard input and whether standard output is a terminal: its status,
+-- and everything written to standard output, to standard error and to files
 abbrev pub IsDone : Option FileContents → Option (List ℕ) → Bool → Asked → ℕ → CommandOutputs → CommandOutputs → Type 0
 IsDone known input is_terminal (asked.Run words) status before after =
     IsRunAt known words status before after
@@ -30,9 +30,9 @@ IsDone known input is_terminal (asked.Explain words) status before after =
     (text : List ℕ) × (IsExplanationAt known words text status
     × IsOnlyStandardOutput text before after)
 IsDone known input is_terminal (asked.List words) status before after =
-    IsListPut known words status before after
+    IsListWritten known words status before after
 IsDone known input is_terminal (asked.Console words) status before after =
-    IsConsolePut known words status before after
+    IsConsoleWritten known words status before after
 IsDone known input is_terminal (asked.Gdb words) status before after =
     (rest : Option (List ℕ)) × IsGdbAnswered known is_terminal words input rest status before after
 IsDone known input is_terminal (asked.Check words) status before after =
@@ -43,37 +43,37 @@ IsDone known input is_terminal (asked.Accept words) status before after =
 IsDone known input is_terminal (asked.Merge words) status before after =
     IsMergedAt known words status before after
 IsDone known input is_terminal (asked.Diff words) status before after =
-    IsDiffPut known words status before after
+    IsDiffWritten known words status before after
 IsDone known input is_terminal (asked.Show words) status before after =
     IsShownAt known words status before after
 IsDone known input is_terminal (asked.Counts words) status before after =
-    IsSumPut known words status before after
+    IsSumWritten known words status before after
 IsDone known input is_terminal (asked.Cover words) status before after =
-    IsCoverPut known words status before after
+    IsCoverageWritten known words status before after
 IsDone known input is_terminal (asked.Profile words) status before after =
-    IsProfilePut known words status before after
+    IsProfileWritten known words status before after
 IsDone known input is_terminal (asked.Help words) status before after =
-    (text : List ℕ) × (IsTopicTold words.topic.now text status
+    (text : List ℕ) × (IsTopicPrinted words.topic.now text status
     × IsOnlyStandardOutput text before after)
 
--- a command did what is asked for, and standard output took its results in the colours that are asked for, where it is a terminal
--- for colours, or is none
+-- a command did what was requested, and its results on standard output were coloured as requested, given whether standard output is a
+-- terminal that supports colours
 pub record IsDoneInColors (known : Option FileContents) (input : Option (List ℕ)) (is_terminal is_colored : Bool) (asked : Asked)
     (status : ℕ) (before after : CommandOutputs) : Type 0 where
   pub plain : CommandOutputs
   pub done : IsDone known input is_terminal asked status before plain
   pub shown : IsColoredOutput (requested_colors asked is_colored) before plain after
 
--- words ask for the help, or for the version
+-- the arguments request the help or the version
 abbrev pub AskForHelp : List (List ℕ) → Type 0
 AskForHelp words = IsAmong DisplayHelp (words_fault_kinds words) ⊎ IsAmong DisplayVersion (words_fault_kinds words)
 
--- an answer that puts nothing but text to standard output: that words ask for nothing, or the help
+-- a response that only writes text to standard output: there were no arguments, or they request the help
 abbrev pub IsAnsweredAlone : List (List ℕ) → ℕ → Type 0
 IsAnsweredAlone words status =
     ((words_request words ≡ None) × (status ≡ 2)) ⊎ (AskForHelp words × (status ≡ 0))
 
--- the program answered words: it did what they ask for, in colours or without, or else told how it is used
+-- the program responded to its arguments: it did what they request, coloured or not, or it reported how it is used
 abbrev pub IsAnswered : Option FileContents → Option (List ℕ) → Bool → Bool → List (List ℕ) → ℕ → CommandOutputs → CommandOutputs → Type 0
 IsAnswered known input is_terminal is_colored words status before after =
     ((asked : Asked) × ((words_request words ≡ Some (asked_words asked))

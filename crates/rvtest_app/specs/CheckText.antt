@@ -1,5 +1,5 @@
--- What `check` says of a list without faults: a line for each file for which a job is refused, a warning for each job that
--- expects two ends, where every image is missing where paths are taken from, and a line that counts jobs of both kinds.
+-- What `check` reports for a list without errors: a line for each file that makes a job refused, a warning for each job that expects two
+-- ends, a note about the directory that paths are resolved against if every image is missing, and a line that counts both kinds of jobs.
 use Rattle.std.specs.Prelude.{◌==◌, ◌+◌, ℕ, List, [], ◌++◌, Option, Some, None, codes, if◌then◌else◌, length, option_map}
 use Rattle.std.specs.Prelude.{slice_get, unwrap_or}
 use Rattle.std.specs.Fmt.{decimal}
@@ -30,7 +30,7 @@ use Rattle.rvtest_app.specs.MissingImages.{missing_images_line}
 
 -- ---- where a job stands
 
--- the line on which each job begins; none is known in a text that is no UTF-8, which no list is
+-- the line on which each job begins; unknown in a text that is not UTF-8, which no list is
 abbrev pub job_begin_lines : List ℕ → List ℕ
 job_begin_lines text = if is_utf8 text then job_lines text else []
 
@@ -39,21 +39,21 @@ abbrev pub path_and_line : List ℕ → Option ℕ → List ℕ
 path_and_line path None = printable_text path
 path_and_line path (Some number) = printable_text path ++ codes ":" ++ decimal number
 
--- where the job at a place begins, its number, counted from 1, and its name
+-- where the job at an index begins, its number, counted from 1, and its name
 unfoldable pub job_prefix : List ℕ → List ℕ → ℕ → Job → List ℕ
 job_prefix path lines place job =
     path_and_line path (slice_get lines place) ++ codes ": job " ++ decimal (place + 1) ++ codes " \"" ++ job.name ++ codes "\": "
 
 -- ---- a job that is refused
 
--- the word for why it is refused, and the reason where more is known
+-- the word for the reason of the refusal, and details where they are known
 abbrev pub refusal_text : Refusal → Option (List ℕ) → List ℕ
 refusal_text why reason = codes "refused " ++ refusal_name why ++ optional_reason_text reason
 
 unfoldable pub refused_file_line : List ℕ → List ℕ → ℕ → Job → Refusal → Option (List ℕ) → List ℕ
 refused_file_line path lines place job why reason = line (job_prefix path lines place job ++ refusal_text why reason)
 
--- the line of its image, for which it would be refused whatever its other files are
+-- the line for a job's image if the image alone makes the job refused, whatever its other files are
 abbrev pub refused_image_line : List ℕ → List ℕ → Planned → List UnreadPath → ℕ → Job → Refusal → List ℕ
 refused_image_line path lines plan unread place job why =
     refused_file_line path lines place job why (refusal_reason plan.answers unread job why)
@@ -62,7 +62,7 @@ abbrev pub refused_image_text : List ℕ → List ℕ → Planned → List Unrea
 refused_image_text path lines plan unread place job =
     unwrap_or (option_map (refused_image_line path lines plan unread place job) (image_refusal_in plan.answers job)) []
 
--- the line of a file with what it expects, by what is kept of the file's path; nothing of one that was read
+-- the line for an expectation file, given what is kept of its path; empty if the file was read
 abbrev pub unread_reference_text : List ℕ → List ℕ → List UnreadPath → ℕ → Job → Option Kept → Option (List ℕ) → List ℕ
 unread_reference_text path lines unread place job (Some kept.Unreadable) (Some file) =
     refused_file_line path lines place job refusal.ReferenceUnreadable (Some (unread_file_text unread file))
@@ -70,30 +70,30 @@ unread_reference_text path lines unread place job (Some kept.TooLong) (Some file
     refused_file_line path lines place job refusal.ReferenceTooLong (Some (too_long_file_text file))
 unread_reference_text path lines unread place job _ _ = []
 
--- of the path of such a file
+-- the line for the expectation file at a path
 abbrev pub reference_text : List ℕ → List ℕ → Planned → List UnreadPath → ℕ → Job → Option (List ℕ) → List ℕ
 reference_text path lines plan unread place job file =
     unread_reference_text path lines unread place job (option_map (kept_for plan.answers) file) file
 
--- the lines of its image, and of the files with the signature and the console that it expects
+-- the lines for the image and for the files with the expected signature and console
 unfoldable pub refused_files_text : List ℕ → List ℕ → Planned → List UnreadPath → ℕ → Job → List ℕ
 refused_files_text path lines plan unread place job = refused_image_text path lines plan unread place job
     ++ (reference_text path lines plan unread place job job.expect_signature
     ++ reference_text path lines plan unread place job (console_path job.expect_console))
 
--- nothing of a job that is not refused
+-- the lines for a refused job; empty if the job is not refused
 unfoldable pub refused_job_text : List ℕ → List ℕ → Planned → List UnreadPath → ℕ → Job → List ℕ
 refused_job_text path lines plan unread place job =
     if is_job_refused plan job then refused_files_text path lines plan unread place job else []
 
 -- ---- a job that expects two ends
 
--- what a list says for the end that a job expects
+-- the list's word for the end that a job expects
 abbrev pub expected_end_name : Option ExpectedEnd → List ℕ
 expected_end_name (Some (expected.Fault kind)) = fault_name kind
 expected_end_name _ = codes "budget"
 
--- the code and the end that a job expects, which no run meets
+-- the code and the end that a job expects, which no run satisfies
 abbrev pub two_ends_text : Option ℕ → Option ExpectedEnd → List ℕ
 two_ends_text code end = codes "warning: expect_exit = " ++ decimal (unwrap_or code 0)
     ++ codes " with expect_end = \"" ++ expected_end_name end
@@ -103,7 +103,7 @@ unfoldable pub two_ends_line : List ℕ → List ℕ → ℕ → Job → List �
 two_ends_line path lines place job =
     line (job_prefix path lines place job ++ two_ends_text job.expect_exit job.expect_end)
 
--- its warning; nothing of a job that does not expect two
+-- the warning for a job that expects two ends; empty for any other job
 unfoldable pub warned_job_text : List ℕ → List ℕ → ℕ → Job → List ℕ
 warned_job_text path lines place job = if expects_two_ends job then two_ends_line path lines place job else []
 
@@ -112,7 +112,7 @@ warned_job_text path lines place job = if expects_two_ends job then two_ends_lin
 abbrev pub refused_count_text : ℕ → List ℕ
 refused_count_text refused = if refused == 0 then codes "none refused" else decimal refused ++ codes " refused"
 
--- told where there are any
+-- the number of warnings, if there are any
 abbrev pub warning_count_text : ℕ → List ℕ
 warning_count_text warned = if warned == 0 then []
     else codes ", " ++ decimal warned ++ (if warned == 1 then codes " warning" else codes " warnings")
@@ -123,12 +123,12 @@ job_counts_line jobs refused warned =
 
 -- ---- the text
 
--- a text for each job and its place, counted from 0, in order
+-- a text for each job and its index, counted from 0, in order
 abbrev pub texts_of_jobs : (ℕ → Job → List ℕ) → List Job → List ℕ
 texts_of_jobs text jobs = flat_map (λ entry. text entry.0 entry.1) (enumerate_from 0 jobs)
 
--- what is said of the list of a path and a text, whose paths are taken from a folder where one is given, by its plan and what
--- was noted of files that were not read
+-- the whole output for the list with this path and text, with paths resolved against the root if one is given, from its plan and the notes
+-- about files that were not read
 unfoldable pub check_text : List ℕ → List ℕ → Option (List ℕ) → Planned → List UnreadPath → List ℕ
 check_text path text root plan unread = let lines = job_begin_lines text in
     texts_of_jobs (refused_job_text path lines plan unread) plan.jobs

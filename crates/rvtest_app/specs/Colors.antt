@@ -1,4 +1,4 @@
--- Whether results have colours, and what is said where they have.
+-- Whether results are coloured, and what the coloured output is.
 use Rattle.std.specs.Prelude.{◌≡◌, ℕ, Bool, List, Option, Some, None, codes, if◌then◌else◌}
 use Rattle.std.specs.Str.{bytes_eq}
 use Rattle.rvtest_cli.specs.declared.requests.Asked.{Asked}
@@ -11,7 +11,7 @@ use Rattle.rvtest_app.specs.IntoReports.{uses_run_stdout}
 use Rattle.rvtest_app.specs.Outlets.{is_stdout_at}
 use Rattle.rvtest_app.specs.CommandOutputs.{CommandOutputs}
 
--- without a word they are on a terminal
+-- by default, results are coloured on a terminal
 abbrev pub terminal_colors : Bool → Colors
 terminal_colors is_terminal = if is_terminal then colors.With else colors.Without
 
@@ -20,11 +20,12 @@ colors_of_word (Some word) is_terminal = if bytes_eq word (codes "always") then 
     else if bytes_eq word (codes "never") then colors.Without else terminal_colors is_terminal
 colors_of_word None is_terminal = terminal_colors is_terminal
 
--- a file that goes to standard output has none
+-- results are not coloured if a file goes to standard output
 abbrev pub beside_file : Bool → Colors → Colors
 beside_file uses_stdout asked = if uses_stdout then colors.Without else asked
 
--- what words ask for, where standard output is a terminal for colours, or is none; names, consoles, faults and reports have none
+-- the requested colours, given whether standard output is a terminal that supports them; names, consoles, errors and reports are never
+-- coloured
 abbrev pub requested_colors : Asked → Bool → Colors
 requested_colors (asked.Run words) is_terminal =
     beside_file (uses_run_stdout words) (colors_of_word (optional_text words.color) is_terminal)
@@ -34,7 +35,7 @@ requested_colors (asked.Show words) is_terminal =
     beside_file (is_stdout_at (optional_text words.junit)) (colors_of_word (optional_text words.color) is_terminal)
 requested_colors _ is_terminal = colors.Without
 
--- what is said, and the same with the results on standard output in their colours: nothing else has any
+-- the plain output, with the results on standard output coloured and nothing else
 pub record IsColoredOutput (colors : Colors) (before plain after : CommandOutputs) : Type 0 where
   pub out : IsOut colors before.out plain.out after.out
   pub errors : after.errors ≡ plain.errors

@@ -1,19 +1,19 @@
--- What a command said so far, and the files that it put in their places.
+-- What a command has output so far, and the files that it has committed.
 use Rattle.std.specs.Prelude.{◌≡◌, ℕ, List, None, Option, Some}
 use Rattle.std.specs.Io.KnownBytes.{Appends}
-use Rattle.rv_command.specs.Messages.{IsMessagePut}
+use Rattle.rv_command.specs.Messages.{IsMessageWritten}
 use Rattle.rv_files.specs.Placed.{CommittedFile}
 use Rattle.rvtest_app.specs.declared.destinations.Destinations.{Destinations}
 
--- what went to standard output and to standard error, how many puts to standard error failed, and which files were put in
--- their places, each where that is told
+-- what went to standard output and to standard error, how many writes to standard error failed, and which files were committed, each if it
+-- is reported
 pub record CommandOutputs : Type 0 where
   pub out : Option (List ℕ)
   pub errors : Option (List ℕ)
   pub failures : ℕ
   pub placed : Option (List CommittedFile)
 
--- the same of destinations
+-- the outputs that the destinations report
 abbrev pub outputs_of : {F O E : Type 0} → (F → Option (List CommittedFile)) → (O → Option (List ℕ)) → (E → Option (List ℕ))
     → (E → ℕ) → Destinations F O E → CommandOutputs
 outputs_of placed taken told failed to = record {
@@ -23,23 +23,23 @@ outputs_of placed taken told failed to = record {
   placed = placed to.files;
 }
 
--- the files that stand in their places, where it was told which of them did before
-abbrev pub placed_behind : Option (List CommittedFile) → Option (List CommittedFile) → Option (List CommittedFile)
-placed_behind None placed = None
-placed_behind (Some earlier) placed = placed
+-- the committed files, if those committed before were reported
+abbrev pub placed_if_reported : Option (List CommittedFile) → Option (List CommittedFile) → Option (List CommittedFile)
+placed_if_reported None placed = None
+placed_if_reported (Some earlier) placed = placed
 
--- what was said, and of the files what is told where it was told of those before
-abbrev pub where_told : Option (List CommittedFile) → CommandOutputs → CommandOutputs
-where_told earlier now = record now { placed = placed_behind earlier now.placed }
+-- the outputs, with the committed files if those committed before were reported
+abbrev pub with_placed_if_reported : Option (List CommittedFile) → CommandOutputs → CommandOutputs
+with_placed_if_reported earlier now = record now { placed = placed_if_reported earlier now.placed }
 
--- a text went to standard output, and nothing else was said
+-- the text went to standard output, and nothing else was output
 abbrev pub IsOnlyStandardOutput : List ℕ → CommandOutputs → CommandOutputs → Type 0
 IsOnlyStandardOutput text before after =
     Appends before.out after.out text × (after.errors ≡ before.errors) × (after.failures ≡ before.failures)
     × (after.placed ≡ before.placed)
 
--- a message went to standard error, or a beginning of it where a put failed, and nothing else was said
+-- the message went to standard error, or a prefix of it if a write failed, and nothing else was output
 abbrev pub IsOnlyErrorOutput : List ℕ → CommandOutputs → CommandOutputs → Type 0
 IsOnlyErrorOutput text before after =
-    (after.out ≡ before.out) × IsMessagePut before.errors after.errors before.failures after.failures text
+    (after.out ≡ before.out) × IsMessageWritten before.errors after.errors before.failures after.failures text
     × (after.placed ≡ before.placed)

@@ -1,4 +1,4 @@
--- Why commands ended before their work was done.
+-- Why commands stopped before their work was done.
 use Rattle.std.specs.Prelude.{◌≡◌, ◌⊎◌, ℕ, Bool, true, false, List, [], MatchOption, Option, None, Some, Ok}
 use Rattle.clap.specs.Kinds.{IsAmong}
 use Rattle.clap.specs.Words.{fault_of}
@@ -31,87 +31,88 @@ use Rattle.rvtest_app.specs.Answers.{AskForHelp}
 use Rattle.rvtest_app.specs.Commands.{failure_rule}
 use Rattle.rvtest_app.specs.CountStops.{IsCountsStop}
 use Rattle.rvtest_app.specs.CoverStops.{IsCoverStop}
-use Rattle.rvtest_app.specs.Debugging.{IsBrokenStop, IsFailureTold, IsNoGdbStop, IsUnopenedOfStop}
+use Rattle.rvtest_app.specs.Debugging.{IsBrokenStop, IsFailureCounted, IsNoGdbStop, IsUnopenedOfStop}
 use Rattle.rvtest_app.specs.HelpTopics.{IsNoTopicStop}
 use Rattle.rvtest_app.specs.MergeStops.{IsMergeStop}
 use Rattle.rvtest_app.specs.Overwrites.{IsShowOverwriteStop}
 use Rattle.rvtest_app.specs.ProfileStops.{IsProfileStop}
-use Rattle.rvtest_app.specs.PutStops.{IsOutputStop}
+use Rattle.rvtest_app.specs.WriteStops.{IsOutputStop}
 use Rattle.rvtest_app.specs.RunStops.{IsRunStop}
 use Rattle.rvtest_app.specs.CommandOutputs.{CommandOutputs}
-use Rattle.rvtest_app.specs.ToldStops.{IsHelpAsked}
+use Rattle.rvtest_app.specs.ReportedStops.{IsHelpAsked}
 
--- `check`: the list was not read; or memory was wanting, or the list has a fault
+-- `check`: the list was not read, memory ran out, or the list has an error
 abbrev pub IsCheckStop : Option FileContents → CheckArgs → Stop → Type 0
 IsCheckStop known words why = IsListUnreadStop known words.list.now why
     ⊎ ((text : List ℕ) × (IsTextAt known words.list.now text × IsListFaultStop words.list.now text why))
 
--- a text at a path is no list, or no job of it has a name
+-- the text at the path is not a list, or none of its jobs has the name
 abbrev pub IsNoJobStop : List ℕ → List ℕ → List ℕ → Stop → Type 0
 IsNoJobStop path text name why = IsListFaultStop path text why
     ⊎ ((jobs : List Job) × ((job_list_of text ≡ Ok jobs) × IsUnknownNameStop path jobs name why))
 
--- `explain`: the list was not read, or it has no such job
+-- `explain`: the list was not read, or it has no job of that name
 abbrev pub IsExplainStop : Option FileContents → ExplainArgs → Stop → Type 0
 IsExplainStop known words why = IsListUnreadStop known words.list.now why
     ⊎ ((text : List ℕ) × (IsTextAt known words.list.now text × IsNoJobStop words.list.now text words.name.now why))
 
--- `console`: the same
+-- `console`: the list was not read, or it has no job of that name
 abbrev pub IsConsoleStop : Option FileContents → ConsoleArgs → Stop → Type 0
 IsConsoleStop known words why = IsListUnreadStop known words.list.now why
     ⊎ ((text : List ℕ) × (IsTextAt known words.list.now text × IsNoJobStop words.list.now text words.name.now why))
 
--- `gdb`: the list was not read, it has no such job, or that job is refused; or memory was wanting, or standard input was not read
+-- `gdb`: the list was not read, it has no job of that name, the job is refused, memory ran out, or standard input was not read
 abbrev pub IsUnopenedAtStop : Option FileContents → GdbArgs → Stop → Type 0
 IsUnopenedAtStop known words why = IsListUnreadStop known words.list.now why
     ⊎ ((text : List ℕ) × (IsTextAt known words.list.now text
     × (IsNoJobStop words.list.now text words.name.now why ⊎ IsUnopenedOfStop known words text why)))
 
--- standard output is a terminal, or it is none and the job is not shown
+-- standard output is a terminal, or it is not and the job was not opened
 abbrev pub IsUnshownStop : Option FileContents → Bool → GdbArgs → Stop → Type 0
 IsUnshownStop known is_terminal words why = ((is_terminal ≡ true) × IsNoGdbStop why)
     ⊎ ((is_terminal ≡ false) × IsUnopenedAtStop known words why)
 
--- the job was not shown, or the session was broken off
+-- the job was not opened, or the session ended with an error
 abbrev pub IsGdbStop : Option FileContents → Bool → GdbArgs → Stop → Type 0
 IsGdbStop known is_terminal words why = IsUnshownStop known is_terminal words why
     ⊎ ((is_terminal ≡ false) × ((broken : SessionError) × IsBrokenStop broken why))
 
--- The job was not shown, and nothing was said. Or the session was broken off: by a put if one failed of those to standard output,
--- which are counted before and behind, and by something else if none did.
+-- The job was not opened, and nothing was output. Or the session ended with an error: a failed write if the count of failed writes to
+-- standard output rose, and another error if it did not.
 abbrev pub IsGdbStopped : Option FileContents → Bool → GdbArgs → Stop → CommandOutputs → CommandOutputs → ℕ → ℕ → Type 0
 IsGdbStopped known is_terminal words why before after failures_before failures_after =
     (IsUnshownStop known is_terminal words why × (after ≡ before))
-    ⊎ ((is_terminal ≡ false) × ((broken : SessionError) × (IsBrokenStop broken why × IsFailureTold broken failures_before failures_after)))
+    ⊎ ((is_terminal ≡ false) × ((broken : SessionError) × (IsBrokenStop broken why × IsFailureCounted broken failures_before failures_after)))
 
--- a text is no list, or words choose no job of it
+-- the text is not a list, or the arguments choose none of its jobs
 abbrev pub IsNoChoiceStop : Option FileContents → RunArgs → List ℕ → Stop → Type 0
 IsNoChoiceStop known words text why = IsListFaultStop words.list.now text why
     ⊎ ((jobs : List Job) × ((job_list_of text ≡ Ok jobs)
     × IsChoiceStop known words (failure_rule words.lenient) jobs why))
 
--- `list`: the list was not read, or words choose no job of it
+-- `list`: the list was not read, or the arguments choose none of its jobs
 abbrev pub IsListStop : Option FileContents → RunArgs → Stop → Type 0
 IsListStop known words why = IsListUnreadStop known words.list.now why
     ⊎ ((text : List ℕ) × (IsTextAt known words.list.now text × IsNoChoiceStop known words text why))
 
--- `accept`: no jobs were found that words choose, or the chosen ones were not accepted
+-- `accept`: no chosen jobs were found, or they were not accepted
 abbrev pub IsAcceptStop : Option FileContents → AcceptArgs → Stop → Type 0
 IsAcceptStop known words why = IsListStop known words.run why ⊎ IsUnacceptedStop known words why
 
--- `diff`: the old report was not read, or it was, and the new one was not
+-- `diff`: the old report was not read, or it was and the new one was not
 abbrev pub IsDiffAtStop : Option FileContents → DiffArgs → Stop → Type 0
 IsDiffAtStop known words why = IsRequestedUnreadStop known words.partial words.old.now why
     ⊎ ((found : PartialReport) × (IsReportReadAt known words.partial words.old.now found
     × IsRequestedUnreadStop known words.partial words.new.now why))
 
--- `show`: the JUnit file would replace the report; or that was not read, or it was, and what is shown of it did not go out
+-- `show`: the JUnit file would replace the report; or the report was not read; or it was, and the output was not written
 abbrev pub IsShowStop : Option FileContents → ShowArgs → Stop → Type 0
 IsShowStop known words why = IsShowOverwriteStop words why ⊎ (IsRequestedUnreadStop known words.partial words.report.now why
     ⊎ ((found : PartialReport) × (IsReportReadAt known words.partial words.report.now found
     × IsOutputStop None (optional_text words.junit) why)))
 
--- what stopped a command, where standard output is a terminal or is none; one that puts a text alone was stopped before, or the text was not put
+-- what stopped a command, given whether standard output is a terminal; a command that only prints a text stopped earlier or could not write
+-- it
 abbrev pub IsCommandStop : Option FileContents → Bool → Asked → Stop → Type 0
 IsCommandStop known is_terminal (asked.Explain words) why = (why ≡ stop.WriteFailed) ⊎ IsExplainStop known words why
 IsCommandStop known is_terminal (asked.List words) why = (why ≡ stop.WriteFailed) ⊎ IsListStop known words why
@@ -128,22 +129,22 @@ IsCommandStop known is_terminal (asked.Counts words) why = IsCountsStop known wo
 IsCommandStop known is_terminal (asked.Cover words) why = (why ≡ stop.WriteFailed) ⊎ IsCoverStop known words why
 IsCommandStop known is_terminal (asked.Profile words) why = (why ≡ stop.WriteFailed) ⊎ IsProfileStop known words why
 
--- words have a fault of some kind, which is not that they ask for help
+-- the arguments have an error of some kind other than a request for help
 abbrev pub AreFaulty : List (List ℕ) → Type 0
 AreFaulty words = (kind : WordsFault) × (IsAmong kind (words_fault_kinds words) × (IsHelpAsked kind → ⊥))
 
--- it is told which options do not go together, if that is a fault of the words
+-- the message names the options that cannot be combined, if that is the error
 abbrev pub IsMisuseStop : List (List ℕ) → Stop → Type 0
 IsMisuseStop words why =
     MatchOption (words_misuse words) (why ≡ stop.OutOfMemory) (λ misuse. IsUsageStop (misuse_text misuse) why)
 
--- faulty words are refused; where `clap` finds no fault, it is told which options do not go together
+-- invalid arguments are rejected; if `clap` finds no error, the message names the options that cannot be combined
 pub record IsFaultStop (words : List (List ℕ)) (why : Stop) : Type 0 where
   pub faulty : AreFaulty words
   pub refused : IsRefusal why
   pub misused : fault_of test_app words ≡ [] → IsMisuseStop words why
 
--- words stopped the program: memory was wanting; the help that they ask for was not put; or they are refused
+-- the arguments stopped the program: memory ran out, the requested help was not written, or the arguments are rejected
 abbrev pub IsWordsStop : List (List ℕ) → Stop → Type 0
 IsWordsStop words why = (why ≡ stop.OutOfMemory)
     ⊎ ((AskForHelp words × (why ≡ stop.WriteFailed)) ⊎ IsFaultStop words why)

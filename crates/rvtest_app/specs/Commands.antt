@@ -1,4 +1,4 @@
--- What words ask of commands, and the statuses.
+-- What the arguments request of the commands, and the exit statuses.
 use Rattle.std.specs.Prelude.{◌==◌, ℕ, Bool, true, false, length}
 use Rattle.std.specs.Prelude.{if◌then◌else◌, is_some}
 use Rattle.std.specs.List.{filter}
@@ -19,7 +19,7 @@ use Rattle.rv_stream.specs.declared.error.StreamError.TheVariants as stream
 use Rattle.rv_diff.specs.Diff.{differing_count}
 use Rattle.rv_diff.specs.declared.diff.Differing.{Differing}
 
--- the rule by which jobs fail, with --lenient or without
+-- the rule by which jobs fail, with or without `--lenient`
 abbrev pub failure_rule : Bool → Rule
 failure_rule true = Lenient
 failure_rule false = Strict
@@ -28,37 +28,37 @@ failure_rule false = Strict
 abbrev pub report_judging : Bool → Judging
 report_judging is_lenient = judging_by_rule (failure_rule is_lenient)
 
--- what is shown of jobs, with --verbose or without, and with --quiet or without
+-- what is shown of jobs, with or without `--verbose` and `--quiet`
 abbrev pub requested_verbosity : Bool → Bool → Verbosity
 requested_verbosity verbose true = Quiet
 requested_verbosity true false = All
 requested_verbosity false false = Failures
 
--- the status of two reports: 0 where no job differs, else 1
+-- the status of comparing two reports: 0 if no job differs, else 1
 abbrev pub diff_status : Differing → ℕ
 diff_status counts = if differing_count counts == 0 then 0 else 1
 
--- a job of a plan is refused before it runs
+-- whether a job of the plan is refused before it runs
 abbrev pub is_job_refused : Planned → Job → Bool
 is_job_refused plan job = is_some (refusal_in (outcome_in plan.answers job).ending)
 
--- how many jobs of a plan are refused
+-- the number of refused jobs in the plan
 abbrev pub refused_job_count : Planned → ℕ
 refused_job_count plan = length (filter (is_job_refused plan) plan.jobs)
 
--- how many jobs of a plan expect two ends, so that they never pass
+-- the number of jobs in the plan that expect two ends and so never pass
 abbrev pub warned_job_count : Planned → ℕ
 warned_job_count plan = length (filter expects_two_ends plan.jobs)
 
--- the status of a plan whose files were looked at: 2 where a job is refused, else 0
+-- the status of checking a plan: 2 if a job is refused, else 0
 abbrev pub check_status : ℕ → ℕ
 check_status refused = if refused == 0 then 0 else 2
 
--- the status of one job
+-- the status for a single job
 abbrev pub passing_status : Bool → ℕ
 passing_status passed = if passed then 0 else 1
 
--- why a run ends that stopped on its way
+-- why a run stopped before its end
 abbrev pub stop_of_stream : StreamError → Stop
 stop_of_stream stream.OutOfMemory = stop.OutOfMemory
 stop_of_stream stream.NoWorker = stop.NoWorker

@@ -1,4 +1,4 @@
--- What `console` puts of a job.
+-- What `console` prints for a job.
 use Rattle.std.specs.Prelude.{◌≡◌, ℕ, List, [], ◌∷◌, Option, Ok, slice_index_or}
 use Rattle.rv_base.specs.Files.{FileContents}
 use Rattle.rvtest_cli.specs.declared.console.ConsoleArgs.{ConsoleArgs}
@@ -17,8 +17,7 @@ use Rattle.rvtest_app.specs.Commands.{passing_status}
 use Rattle.rvtest_app.specs.Reports.{AreNotesOf, IsFirstNamed}
 use Rattle.rvtest_app.specs.CommandOutputs.{IsOnlyStandardOutput, IsOnlyErrorOutput, CommandOutputs}
 
--- the console, the line and the status are those of the row of the job at a place, over answers for the paths that its row needs,
--- which agree with what stands there
+-- the console, the line and the status are those of the row of the job at this index, with the files that the row needs read from the store
 pub record IsJobConsole (known : Option FileContents) (jobs : List Job) (place : ℕ) (console line : List ℕ) (status : ℕ)
     : Type 0 where
   pub plan : Planned
@@ -33,7 +32,7 @@ pub record IsJobConsole (known : Option FileContents) (jobs : List Job) (place :
   pub judged : (d : Job) → status ≡ passing_status
       (has_passed Strict (row_of plan (slice_index_or plan.jobs place d)))
 
--- the same of the first job of a name in the list that a text is
+-- the console, line and status of the first job of this name in the list with this text
 pub record IsConsoleOf (known : Option FileContents) (bytes name console line : List ℕ) (status : ℕ) : Type 0 where
   pub jobs : List Job
   pub listed : job_list_of bytes ≡ Ok jobs
@@ -41,15 +40,15 @@ pub record IsConsoleOf (known : Option FileContents) (bytes name console line : 
   pub first : IsFirstNamed jobs name place
   pub of_job : IsJobConsole known jobs place console line status
 
--- the same of the list at the path that words name
+-- the console, line and status for the list at the path in the arguments
 pub record IsConsoleAt (known : Option FileContents) (words : ConsoleArgs) (console line : List ℕ) (status : ℕ)
     : Type 0 where
   pub bytes : List ℕ
   pub read : IsTextAt known words.list.now bytes
   pub of_list : IsConsoleOf (contents_below (optional_text words.root) known) bytes words.name.now console line status
 
--- that console went to standard output and nothing else did, and then that line to standard error
-pub record IsConsolePut (known : Option FileContents) (words : ConsoleArgs) (status : ℕ) (before after : CommandOutputs)
+-- only the console went to standard output, and then the line to standard error
+pub record IsConsoleWritten (known : Option FileContents) (words : ConsoleArgs) (status : ℕ) (before after : CommandOutputs)
     : Type 0 where
   pub console : List ℕ
   pub line : List ℕ

@@ -1,4 +1,4 @@
--- Why `counts` ended before its work was done.
+-- Why `counts` stopped before its work was done.
 use Rattle.std.specs.Prelude.{◌≡◌, ◌⊎◌, ◌++◌, ◌∷◌, ℕ, List, Option, codes}
 use Rattle.std.specs.Borrow.{Bor}
 use Rattle.rv_base.specs.Files.{FileContents}
@@ -23,50 +23,50 @@ use Rattle.rvtest_app.specs.CountSums.{AreAdded, IsTableAt}
 use Rattle.rvtest_app.specs.Overwrites.{IsSumOverwriteStop}
 use Rattle.rvtest_app.specs.WrittenTexts.{IsUnwrittenAtStop, written_path}
 
--- a text at a path is refused as a table of counts
+-- the text at the path is rejected as a table of counts
 abbrev pub IsReadErrorStop : List ℕ → ReadError → Stop → Type 0
 IsReadErrorStop path read.OutOfMemory why = why ≡ stop.OutOfMemory
 IsReadErrorStop path (read.Line line) why =
     IsStop 2 (path_number_message path (codes ":") line (codes ": invalid line in a table of counts\n")) why
 IsReadErrorStop path read.CutOff why = IsStop 2 (path_message path (codes "the table is truncated")) why
 
--- a count of an address, or in the stacks of a function, would be 2^64 or more with the table at a path
-abbrev pub great_count_message : List ℕ → List ℕ → ℕ → List ℕ
-great_count_message path what address = codes "rvtest: " ++ printable_text path ++ what ++ word_digits address
+-- adding the table at the path would make the count of an address, or in the stacks of a function, 2^64 or more
+abbrev pub count_overflow_message : List ℕ → List ℕ → ℕ → List ℕ
+count_overflow_message path what address = codes "rvtest: " ++ printable_text path ++ what ++ word_digits address
     ++ codes " does not fit in 64 bits\n"
 
--- a function has one name in the table at a path, and another in those before
+-- a function has one name in the table at the path and another in the tables before it
 abbrev pub two_names_message : List ℕ → ℕ → List ℕ
 two_names_message path function = codes "rvtest: " ++ printable_text path ++ codes ": " ++ word_digits function
     ++ codes " has two names in one image\n"
 
--- a table is not added to others
+-- a table cannot be added to the others
 abbrev pub IsSumErrorStop : List ℕ → SumError → Stop → Type 0
 IsSumErrorStop path sum.OutOfMemory why = why ≡ stop.OutOfMemory
-IsSumErrorStop path (sum.Count address) why = IsStop 2 (great_count_message path (codes ": the count at ") address) why
+IsSumErrorStop path (sum.Count address) why = IsStop 2 (count_overflow_message path (codes ": the count at ") address) why
 IsSumErrorStop path (sum.Spot function) why =
-    IsStop 2 (great_count_message path (codes ": a count in the stacks of ") function) why
+    IsStop 2 (count_overflow_message path (codes ": a count in the stacks of ") function) why
 IsSumErrorStop path (sum.Names function) why = IsStop 2 (two_names_message path function) why
 IsSumErrorStop path sum.Runs why = IsStop 2 (path_message path (codes "the number of runs does not fit in 64 bits")) why
 
--- memory was wanting; or the text at a path is no table: the least line is told that no table has there, or that it is cut off; a
--- whole table has no fault
+-- out of memory, or the text at the path is not a table: the first line that no table has there is reported, or that the table is cut off;
+-- a complete table has no error
 pub record IsTableFaultStop (path text : List ℕ) (why : Stop) : Type 0 where
   pub told : (error : ReadError) × (IsLeast error text × IsReadErrorStop path error why)
   pub whole : (table : CountTable) → IsTable table → table_text table ≡ text → why ≡ stop.OutOfMemory
 
--- the table at a path has no sum with what was added before it
-abbrev pub IsGreatSumStop : Option FileContents → List ℕ → CountTable → Stop → Type 0
-IsGreatSumStop known path before why = (table : CountTable) × (IsTableAt known path table
+-- the table at the path cannot be added to the sum of those before it
+abbrev pub IsSumOverflowStop : Option FileContents → List ℕ → CountTable → Stop → Type 0
+IsSumOverflowStop known path before why = (table : CountTable) × (IsTableAt known path table
     × ((error : SumError) × (HaveNoSum error before table × IsSumErrorStop path error why)))
 
--- the path was not read; or its text is no table; or it has no sum with what was added before
+-- the path was not read, its text is not a table, or the table cannot be added to the sum of those before it
 abbrev pub IsUnaddedStop : Option FileContents → List ℕ → CountTable → Stop → Type 0
 IsUnaddedStop known path before why = IsResultUnreadStop known path why
     ⊎ (((text : List ℕ) × (IsTextAt known path text × IsTableFaultStop path text why))
-    ⊎ IsGreatSumStop known path before why)
+    ⊎ IsSumOverflowStop known path before why)
 
--- that happened to one of the paths, and the tables at those before it were added
+-- one of the paths failed in this way, and the tables at the paths before it were added
 pub record IsSumStop (known : Option FileContents) (paths : List (Bor (List ℕ))) (why : Stop) : Type 0 where
   pub before : List (Bor (List ℕ))
   pub path : Bor (List ℕ)
@@ -76,8 +76,7 @@ pub record IsSumStop (known : Option FileContents) (paths : List (Bor (List ℕ)
   pub added : AreAdded known before no_counts sum
   pub stopped : IsUnaddedStop known path.now sum why
 
--- `counts`: the sum would replace a table; or memory was wanting, or one of the tables was not added, or all were, and their sum was
--- not written
+-- `counts`: the sum would replace a table, memory ran out, a table was not added, or all were and their sum was not written
 abbrev pub IsCountsStop : Option FileContents → CountsArgs → Stop → Type 0
 IsCountsStop known words why = IsSumOverwriteStop words why ⊎ ((why ≡ stop.OutOfMemory) ⊎ (IsSumStop known words.tables.items why
     ⊎ ((sum : CountTable) × (AreAdded known words.tables.items no_counts sum

@@ -1,4 +1,4 @@
--- The sum of the tables of counts at some paths, and what `counts` puts.
+-- The sum of the count tables at some paths, and what `counts` writes.
 use Rattle.std.specs.Prelude.{◌≡◌, ◌++◌, ◌==◌, ◌+◌, ◌-◌, ◌^◌, if◌then◌else◌, ℕ, List, [], ◌∷◌, Option, Some, codes, length, min}
 use Rattle.std.specs.Borrow.{Bor}
 use Rattle.std.specs.Fmt.{decimal}
@@ -14,28 +14,28 @@ use Rattle.rv_count_tables.specs.declared.table.ImageCounts.{ImageCounts}
 use Rattle.rvtest_app.specs.CommandOutputs.{IsOnlyErrorOutput, CommandOutputs}
 use Rattle.rvtest_app.specs.WrittenTexts.{IsWrittenAt, written_path}
 
--- the table whose text stands at a path
+-- the table whose text is at the path
 abbrev pub IsTableAt : Option FileContents → List ℕ → CountTable → Type 0
 IsTableAt known path table = IsTable table × IsTextAt known path (table_text table)
 
--- a table with the one at a path added to it
+-- a table plus the one at the path
 abbrev pub IsAdded : Option FileContents → List ℕ → CountTable → CountTable → Type 0
 IsAdded known path before after = (table : CountTable) × (IsTableAt known path table × IsSum before table after)
 
--- a table with those at the paths added to it, one after the other
+-- a table plus those at the paths, added one after the other
 abbrev pub AreAdded : Option FileContents → List (Bor (List ℕ)) → CountTable → CountTable → Type 0
 AreAdded known [] before after = after ≡ before
 AreAdded known (path ∷ paths) before after =
     (next : CountTable) × (IsAdded known path.now before next × AreAdded known paths next after)
 
--- how many instructions began in all, or the greatest number of 64 bits where they are more
-abbrev pub begun_of_addresses : List AddressCounts → ℕ
-begun_of_addresses [] = 0
-begun_of_addresses (c ∷ cs) = c.begun + begun_of_addresses cs
+-- the number of executed instructions in all, or the greatest 64-bit number if there are more
+abbrev pub executed_at_addresses : List AddressCounts → ℕ
+executed_at_addresses [] = 0
+executed_at_addresses (c ∷ cs) = c.begun + executed_at_addresses cs
 
-abbrev pub begun_of_images : List ImageCounts → ℕ
-begun_of_images [] = 0
-begun_of_images (image ∷ images) = begun_of_addresses image.addresses + begun_of_images images
+abbrev pub executed_in_images : List ImageCounts → ℕ
+executed_in_images [] = 0
+executed_in_images (image ∷ images) = executed_at_addresses image.addresses + executed_in_images images
 
 abbrev pub most_number : ℕ
 most_number = 2 ^ 64 - 1
@@ -43,7 +43,7 @@ most_number = 2 ^ 64 - 1
 abbrev pub shown_number : ℕ → ℕ
 shown_number number = min number most_number
 
--- what is said of a sum: how many runs it is of, of how many images, and how many instructions began
+-- the summary of a sum: the number of runs, of images and of executed instructions
 abbrev pub run_word : ℕ → List ℕ
 run_word count = if count == 1 then codes " run of " else codes " runs of "
 
@@ -61,11 +61,10 @@ instructions_text number = number_head number ++ decimal number ++ instruction_w
 
 abbrev pub sum_note : CountTable → List ℕ
 sum_note table = decimal table.runs ++ run_word table.runs ++ decimal (length table.images) ++ image_word (length table.images)
-    ++ instructions_text (shown_number (begun_of_images table.images))
+    ++ instructions_text (shown_number (executed_in_images table.images))
 
--- the text of the sum of the tables at the paths went to the path that is given, or to standard output, and what is said of it to standard
--- error; the status is 0
-pub record IsSumPut (known : Option FileContents) (words : CountsArgs) (status : ℕ) (before after : CommandOutputs) : Type 0 where
+-- the sum of the tables at the paths went to the given path or to standard output, and its summary to standard error; the status is 0
+pub record IsSumWritten (known : Option FileContents) (words : CountsArgs) (status : ℕ) (before after : CommandOutputs) : Type 0 where
   pub sum : CountTable
   pub added : AreAdded known words.tables.items no_counts sum
   pub middle : CommandOutputs

@@ -1,4 +1,4 @@
--- Why `cover` ended before its work was done.
+-- Why `cover` stopped before its work was done.
 use Rattle.std.specs.Prelude.{Option}
 use Rattle.rv_base.specs.Files.{FileContents}
 use Rattle.rvtest_cli.specs.declared.cover.CoverArgs.{CoverArgs}
@@ -6,6 +6,6 @@ use Rattle.rv_command.specs.declared.stop.Stop.{Stop}
 use Rattle.rvtest_app.specs.ViewStops.{IsViewStop}
 use Rattle.rvtest_app.specs.declared.view.View.TheVariants as view
 
--- no jobs were found that words ask for, or they were, and what ran of their images was not put
+-- the requested jobs were not found, or they were and the coverage of their images was not written
 abbrev pub IsCoverStop : Option FileContents → CoverArgs → Stop → Type 0
 IsCoverStop known words why = IsViewStop known words.run (view.Cover words.csv) why

@@ -1,12 +1,11 @@
--- What `cover` puts: what of the images of jobs ran that words ask for.
+-- What `cover` writes: the coverage of the images of the requested jobs.
 use Rattle.std.specs.Prelude.{ℕ, Option}
 use Rattle.rv_base.specs.Files.{FileContents}
 use Rattle.rvtest_cli.specs.declared.cover.CoverArgs.{CoverArgs}
 use Rattle.rvtest_app.specs.CommandOutputs.{CommandOutputs}
-use Rattle.rvtest_app.specs.Views.{IsViewPut}
+use Rattle.rvtest_app.specs.Views.{IsViewWritten}
 use Rattle.rvtest_app.specs.declared.view.View.TheVariants as view
 
--- what is said of the choice went to standard error, and then what ran of the images of the jobs that words ask for was put; the
--- status is 0
-abbrev pub IsCoverPut : Option FileContents → CoverArgs → ℕ → CommandOutputs → CommandOutputs → Type 0
-IsCoverPut known words status before after = IsViewPut known words.run (view.Cover words.csv) status before after
+-- notes about the choice went to standard error, and then the coverage of the requested jobs' images was written; the status is 0
+abbrev pub IsCoverageWritten : Option FileContents → CoverArgs → ℕ → CommandOutputs → CommandOutputs → Type 0
+IsCoverageWritten known words status before after = IsViewWritten known words.run (view.Cover words.csv) status before after

@@ -1,4 +1,4 @@
--- What `gdb` answers gdb, of a job.
+-- How `gdb` responds to gdb, for a job.
 use Rattle.std.specs.Prelude.{◌≡◌, ◌≢◌, ◌⊎◌, ℕ, Bool, List, [], ◌∷◌, Option, Some, None, Ok, codes, false, is_ok, option_and_then, slice_get, slice_index_or, true, unwrap_or}
 use Rattle.std.specs.Io.KnownBytes.{Consumes, IsAtEnd}
 use Rattle.std.specs.Result.{result_ok}
@@ -30,22 +30,22 @@ use Rattle.rv_session.specs.declared.session.Session.{Session}
 use Rattle.rvtest_app.specs.Reports.{AreNotesOf, IsFirstNamed}
 use Rattle.rvtest_app.specs.CommandOutputs.{IsOnlyStandardOutput, CommandOutputs}
 
--- what `run` says of a job: its line, and the expectations that it does not meet
+-- what `run` reports for a job: its line and its unmet expectations
 abbrev pub end_text_of_job : Planned → List UnreadPath → Option Job → List ℕ
 end_text_of_job plan unread None = []
 end_text_of_job plan unread (Some job) = outcome_text plan unread (judging_by_rule Strict) job (row_of plan job)
 
--- the same of the job at a place
+-- what `run` reports for the job at an index
 unfoldable pub job_end_text : Planned → List UnreadPath → ℕ → List ℕ
 job_end_text plan unread place = end_text_of_job plan unread (slice_get plan.jobs place)
 
--- the state in which the run of the job at a place starts; where none does, as of an image without a byte
+-- the state in which the run of the job at an index starts, or would start if the job is refused, as for an image of 0 bytes
 unfoldable pub job_start : Planned → ℕ → State
 job_start plan place =
     unwrap_or (option_and_then (λ (job : Job). result_ok (start_in plan.answers job)) (slice_get plan.jobs place)) (flat_state [])
 
--- the session is over the run of the job at a place, whose image's path is taken from a folder, over answers for the paths that its
--- row needs, which agree with what stands there; and the text is what is said of the job
+-- the session debugs the run of the job at this index, with the files that its row needs read from the store and its image's path resolved
+-- against the root; the text is what `run` reports for the job
 pub record IsJobOpened (known : Option FileContents) (root : Option (List ℕ)) (jobs : List Job) (place : ℕ) (end_text : List ℕ)
     (session : Session) : Type 0 where
   pub plan : Planned
@@ -58,7 +58,7 @@ pub record IsJobOpened (known : Option FileContents) (root : Option (List ℕ)) 
       (resolved_path root (slice_index_or plan.jobs place d).image) session
   pub outputs_of : end_text ≡ job_end_text plan unread place
 
--- the same of the first job of a name in the list that a text is
+-- the session and text for the first job of this name in the list with this text
 pub record IsOpenedOf (known : Option FileContents) (words : GdbArgs) (bytes end_text : List ℕ) (session : Session) : Type 0 where
   pub jobs : List Job
   pub listed : job_list_of bytes ≡ Ok jobs
@@ -66,15 +66,15 @@ pub record IsOpenedOf (known : Option FileContents) (words : GdbArgs) (bytes end
   pub first : IsFirstNamed jobs words.name.now place
   pub of_job : IsJobOpened (contents_below (optional_text words.root) known) (optional_text words.root) jobs place end_text session
 
--- the same of the list at the path that words name
+-- the session and text for the list at the path in the arguments
 pub record IsOpenedAt (known : Option FileContents) (words : GdbArgs) (end_text : List ℕ) (session : Session) : Type 0 where
   pub bytes : List ℕ
   pub read : IsTextAt known words.list.now bytes
   pub of_list : IsOpenedOf known words bytes end_text session
 
--- bytes of standard input were read, up to the end of the session or of the bytes, none once the session was over, and what the session answers to them went to
--- standard output, which is no terminal, and nothing else did; in front of each stop at the end of the run goes what `run` says of the
--- job. A move was broken off only where 0x03 came next, or the end of the bytes.
+-- bytes of standard input were read, up to the end of the session or of the input and none after the session ended. Only the session's
+-- responses went to standard output, which is not a terminal; before each stop at the end of the run comes what `run` reports for the job.
+-- A move was interrupted only if 0x03 or the end of the input came next.
 pub record IsGdbAnswered (known : Option FileContents) (is_terminal : Bool) (words : GdbArgs) (input rest : Option (List ℕ))
     (status : ℕ) (before after : CommandOutputs) : Type 0 where
   pub spoken : is_terminal ≡ false
@@ -96,12 +96,12 @@ pub record IsGdbAnswered (known : Option FileContents) (is_terminal : Bool) (wor
 
 -- ---- why it is stopped
 
--- a terminal stands in gdb's place: it is said how gdb starts the command
+-- standard output is a terminal instead of gdb: the message shows how gdb starts the command
 abbrev pub IsNoGdbStop : Stop → Type 0
 IsNoGdbStop why = IsStop 2 (path_message (codes "standard output")
     (codes "expected gdb, found a terminal; run gdb-multiarch -ex 'target remote | rvtest gdb LIST NAME'")) why
 
--- a job is refused, as its line says
+-- the job is refused, with its line as the message
 pub record IsRefusedJobStop (known : Option FileContents) (jobs : List Job) (place : ℕ) (why : Stop) : Type 0 where
   pub plan : Planned
   pub listed : plan.jobs ≡ jobs
@@ -113,11 +113,11 @@ pub record IsRefusedJobStop (known : Option FileContents) (jobs : List Job) (pla
   pub told : (d : Job) → IsStop 2 (row_line plan unread (judging_by_rule Strict) (slice_index_or plan.jobs place d)
       (row_of plan (slice_index_or plan.jobs place d))) why
 
--- memory was wanting, or the job at a place is refused
+-- out of memory, or the job at the index is refused
 abbrev pub IsUnopenedStop : Option FileContents → List Job → ℕ → Stop → Type 0
 IsUnopenedStop known jobs place why = (why ≡ stop.OutOfMemory) ⊎ IsRefusedJobStop known jobs place why
 
--- the first job of a name in the list that a text is was not shown
+-- the first job of this name in the list with this text was not opened
 pub record IsUnopenedOfStop (known : Option FileContents) (words : GdbArgs) (bytes : List ℕ) (why : Stop) : Type 0 where
   pub jobs : List Job
   pub listed : job_list_of bytes ≡ Ok jobs
@@ -125,12 +125,12 @@ pub record IsUnopenedOfStop (known : Option FileContents) (words : GdbArgs) (byt
   pub first : IsFirstNamed jobs words.name.now place
   pub refused : IsRefusedJobStop (contents_below (optional_text words.root) known) jobs place why
 
--- what broke off the session: memory was wanting; standard input was not read, for a reason of the system's; or a put failed
+-- the session ended with an error: memory ran out, standard input was not read for a reason that the system gave, or a write failed
 abbrev pub IsBrokenStop : SessionError → Stop → Type 0
 IsBrokenStop broken.OutOfMemory why = why ≡ stop.OutOfMemory
 IsBrokenStop (broken.UnreadPath reason) why = IsSystemStop (codes "standard input") reason why
-IsBrokenStop broken.Unput why = why ≡ stop.WriteFailed
+IsBrokenStop broken.ReplyWriteFailed why = why ≡ stop.WriteFailed
 
--- a put broke the session off where one failed, and something else where none did, as the count of failed puts tells
-abbrev pub IsFailureTold : SessionError → ℕ → ℕ → Type 0
-IsFailureTold cause before after = (cause ≡ broken.Unput → after ≡ one_more before) × (cause ≢ broken.Unput → after ≡ before)
+-- the count of failed writes rises by one if a failed write ended the session, and is unchanged if another error did
+abbrev pub IsFailureCounted : SessionError → ℕ → ℕ → Type 0
+IsFailureCounted cause before after = (cause ≡ broken.ReplyWriteFailed → after ≡ one_more before) × (cause ≢ broken.ReplyWriteFailed → after ≡ before)

@@ -1,4 +1,4 @@
--- The rows of a run that are put into the whole report of their list.
+-- Merging the rows of a run into the whole report of their list.
 use Rattle.std.specs.Prelude.{◌≡◌, ◌||◌, ℕ, Bool, List, [], ◌∷◌, IsSomeAnd, MatchOption, Option, Some, None, map, slice_set}
 use Rattle.std.specs.Option.{option_or}
 use Rattle.rv_base.specs.Files.{FileContents}
@@ -20,49 +20,49 @@ use Rattle.rvtest_app.specs.RunOutput.{chosen_last_line, chosen_report_text}
 abbrev pub job_names : List Job → List (List ℕ)
 job_names jobs = map (λ (job : Job). job.name) jobs
 
--- a report has one row of each job of a list, in their order
+-- the report has one row for each job of the list, in list order
 pub record IsWholeReport (jobs : List Job) (report : SavedReport) : Type 0 where
   pub extent : report.extent ≡ extent.Whole
   pub named : row_names report.rows ≡ job_names jobs
 
--- the rows are those of such a report, which stands at a path
+-- the rows are those of a whole report at the path
 abbrev pub IsWholeReportAt : Option FileContents → List ℕ → List Job → List Row → Type 0
 IsWholeReportAt known path jobs rows = (report : SavedReport) × (IsReportAt known path report
     × (IsWholeReport jobs report × (rows ≡ report.rows)))
 
--- the rows among which words put those of the run, if they name a report for that
+-- the old rows into which the run's rows are merged, if the arguments name a report for that
 abbrev pub AreOldRows : Option FileContents → RunArgs → List Job → Option (List Row) → Type 0
 AreOldRows known words jobs old = MatchOption words.into (old ≡ None)
     (λ path. IsSomeAnd old (IsWholeReportAt known path.now jobs))
 
 -- ---- the rows that are put into it
 
--- old rows, but at some places these, in their order
-abbrev pub rows_put : List ℕ → List Row → List Row → List Row
-rows_put [] rows old = old
-rows_put (place ∷ places) [] old = old
-rows_put (place ∷ places) (row ∷ rows) old = rows_put places rows (slice_set old place row)
+-- the old rows, with those at some indices replaced by these, in order
+abbrev pub merged_rows : List ℕ → List Row → List Row → List Row
+merged_rows [] rows old = old
+merged_rows (place ∷ places) [] old = old
+merged_rows (place ∷ places) (row ∷ rows) old = merged_rows places rows (slice_set old place row)
 
--- the report of the rows of the jobs at some places: the whole one into which they are put, or that of these rows alone
+-- the report of the rows of the jobs at some indices: the whole report after merging, or a report of these rows alone
 abbrev pub run_report_text : Option (List Row) → ℕ → List ℕ → Option Shard → List Row → List ℕ
-run_report_text (Some old) jobs places shard rows = report_text (rows_put places rows old)
+run_report_text (Some old) jobs places shard rows = report_text (merged_rows places rows old)
 run_report_text None jobs places shard rows = chosen_report_text jobs places shard rows
 
--- what of it goes to a file as the rows come: none where they are put into another report
-abbrev pub rows_ahead : Option (List Row) → List ℕ → List Row → List ℕ
-rows_ahead (Some old) places rows = []
-rows_ahead None places rows = joined_row_texts row_text places rows
+-- the part of the report that is written as rows arrive: empty if they are merged into another report
+abbrev pub streamed_rows : Option (List Row) → List ℕ → List Row → List ℕ
+streamed_rows (Some old) places rows = []
+streamed_rows None places rows = joined_row_texts row_text places rows
 
--- what of it goes there behind that
+-- the part of the report that is written after that
 abbrev pub run_report_rest : Option (List Row) → ℕ → List ℕ → Option Shard → List Row → List ℕ
-run_report_rest (Some old) jobs places shard rows = report_text (rows_put places rows old)
+run_report_rest (Some old) jobs places shard rows = report_text (merged_rows places rows old)
 run_report_rest None jobs places shard rows = chosen_last_line jobs places shard rows
 
--- the path at which it is put
+-- the path at which the report is written
 abbrev pub run_report_path : RunArgs → Option (List ℕ)
 run_report_path words = option_or (optional_text words.into) (optional_text words.report)
 
--- whether one of the files that words ask for goes to standard output
+-- whether one of the requested files goes to standard output
 abbrev pub uses_run_stdout : RunArgs → Bool
 uses_run_stdout words = (is_stdout_at (run_report_path words) || is_stdout_at (optional_text words.junit))
     || is_stdout_at (optional_text words.counts)

@@ -1,4 +1,4 @@
--- Why no rows are put into a report.
+-- Why rows cannot be merged into a report.
 use Rattle.std.specs.Prelude.{◌≡◌, ◌⊎◌, ◌==◌, ◌++◌, ◌+◌, ℕ, false, List, IsSomeAnd, Option, Some, None, codes, length, slice_get, take}
 use Rattle.std.specs.Fmt.{decimal}
 use Rattle.std.specs.Str.{bytes_eq}
@@ -20,25 +20,25 @@ use Rattle.rvtest_app.specs.declared.whole_report.OtherName.{OtherName}
 
 -- ---- the texts
 
--- what is wanted in the place of such a report
-abbrev pub whole_wanted : List ℕ
-whole_wanted = codes ": --into expects a report of the whole list\n"
+-- what is expected instead of such a report
+abbrev pub expected_whole_report : List ℕ
+expected_whole_report = codes ": --into expects a report of the whole list\n"
 
--- the report at a path has so many rows of a list of so many jobs
+-- the report at the path has this many rows of a list of this many jobs
 abbrev pub part_refusal : List ℕ → ℕ → ℕ → List ℕ
 part_refusal path rows jobs = codes "rvtest: " ++ printable_text path ++ codes ": rows of " ++ decimal rows
-    ++ codes " of " ++ decimal jobs ++ codes " jobs" ++ whole_wanted
+    ++ codes " of " ++ decimal jobs ++ codes " jobs" ++ expected_whole_report
 
--- it has so many rows, and the list at a path so many jobs
+-- the report has this many rows, and the list at the path this many jobs
 abbrev pub count_refusal : List ℕ → List ℕ → ℕ → ℕ → List ℕ
 count_refusal path list rows jobs = codes "rvtest: " ++ printable_text path ++ codes ": " ++ decimal rows
-    ++ codes " rows, but " ++ printable_text list ++ codes " has " ++ decimal jobs ++ codes " jobs" ++ whole_wanted
+    ++ codes " rows, but " ++ printable_text list ++ codes " has " ++ decimal jobs ++ codes " jobs" ++ expected_whole_report
 
--- the job of a number has one name in it, and another in the list at a path
+-- the job of this number has one name in the report and another in the list at the path
 abbrev pub name_refusal : List ℕ → List ℕ → ℕ → List ℕ → List ℕ → List ℕ
 name_refusal path list number name wanted = codes "rvtest: " ++ printable_text path ++ codes ": job "
     ++ decimal number ++ codes " is \"" ++ name ++ codes "\", but \"" ++ wanted ++ codes "\" in "
-    ++ printable_text list ++ whole_wanted
+    ++ printable_text list ++ expected_whole_report
 
 abbrev pub not_whole_refusal : List ℕ → List ℕ → NotWhole → List ℕ
 not_whole_refusal path list (other.Part rows jobs) = part_refusal path rows jobs
@@ -47,13 +47,13 @@ not_whole_refusal path list (other.Name name) = name_refusal path list name.numb
 
 -- ---- which of them is told
 
--- how many jobs the list has of which a report has a part
+-- the number of jobs in the list of which the report covers a part
 abbrev pub jobs_beside_part : Extent → Option ℕ
 jobs_beside_part extent.Whole = None
 jobs_beside_part (extent.Choice jobs) = Some jobs
 jobs_beside_part (extent.Shard shard) = Some shard.jobs
 
--- the first place at which two lists have two names
+-- the first index at which two lists have different names
 pub record IsFirstOtherName (names all : List (List ℕ)) (other : OtherName) : Type 0 where
   pub place : ℕ
   pub number : other.number ≡ place + 1
@@ -62,8 +62,8 @@ pub record IsFirstOtherName (names all : List (List ℕ)) (other : OtherName) : 
   pub differ : bytes_eq other.met.now other.listed.now ≡ false
   pub before : take place names ≡ take place all
 
--- what keeps a report from being the whole one of the jobs of a list: it is of a part; or it is whole, and has another number of
--- rows, or as many, of which one has another name
+-- why a report is not the whole report of a list's jobs: it covers a part; or it is whole and has a different number of rows, or the same
+-- number with one different name
 abbrev pub IsNotWhole : List Job → SavedReport → NotWhole → Type 0
 IsNotWhole jobs report (other.Part rows count) = (rows ≡ length report.rows)
     × (jobs_beside_part report.extent ≡ Some count)
@@ -72,13 +72,13 @@ IsNotWhole jobs report (other.Count rows count) = (report.extent ≡ extent.Whol
 IsNotWhole jobs report (other.Name name) = (report.extent ≡ extent.Whole)
     × ((length report.rows ≡ length jobs) × IsFirstOtherName (row_names report.rows) (job_names jobs) name)
 
--- the report at a path was not read, or it is not the whole one of the jobs of the list at another, and is refused for that
+-- the report at the path was not read, or it is rejected because it is not the whole report of the jobs of the list at the other path
 abbrev pub IsNoWholeReportStop : Option FileContents → List ℕ → List ℕ → List Job → Stop → Type 0
 IsNoWholeReportStop known path list jobs why = IsReportReadError known path why
     ⊎ ((report : SavedReport) × (IsReportAt known path report
     × ((other : NotWhole) × (IsNotWhole jobs report other × IsStop 2 (not_whole_refusal path list other) why))))
 
--- words name such a path for the rows of a run
+-- the arguments name such a path for the rows of a run
 abbrev pub IsIntoStop : Option FileContents → RunArgs → List Job → Stop → Type 0
 IsIntoStop known words jobs why =
     IsSomeAnd words.into (λ path. IsNoWholeReportStop known path.now words.list.now jobs why)

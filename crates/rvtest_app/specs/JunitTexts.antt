@@ -1,4 +1,4 @@
--- What a JUnit document has of the rows of a report.
+-- What a JUnit document contains for the rows of a report.
 use Rattle.std.specs.Prelude.{ℕ, List, Option, Some, None, map, unwrap_or}
 use Rattle.std.specs.Path.{path_file_stem}
 use Rattle.rv_expect.specs.Judgement.{Judging}
@@ -6,16 +6,16 @@ use Rattle.rv_junit.specs.Junit.{junit_text}
 use Rattle.rv_report.specs.declared.row.Row.{Row}
 use Rattle.rvtest_app.specs.ReportSummary.{failed_line}
 
--- the name of a file without its folders and its ending, as the class of its jobs in JUnit's XML
+-- the file name without its directories and its extension, used as the class of its jobs in JUnit XML
 abbrev pub junit_class : List ℕ → List ℕ
 junit_class path = unwrap_or (path_file_stem path) path
 
--- the name of the suite: the one that is asked for, else by the path of a file
+-- the suite name: the requested one, else one derived from the path of a file
 abbrev pub suite_name : Option (List ℕ) → List ℕ → List ℕ
 suite_name (Some name) path = name
 suite_name None path = junit_class path
 
--- the document of the rows of a report, of which no more is known: each with the line of a row that failed
+-- the document for the rows of a report, of which nothing more is known: each failed row with its line
 abbrev pub failures_junit : List ℕ → Judging → List Row → List ℕ
 failures_junit class judging rows = junit_text class judging
     (map (failed_line judging) rows) rows

@@ -1,4 +1,4 @@
--- The jobs that the file at a path names as known to fail.
+-- The jobs that the file at a path lists as known failures.
 use Rattle.std.specs.Prelude.{◌≡◌, ◌++◌, ℕ, IsSomeAnd, List, Ok, Option, Some, None, codes}
 use Rattle.std.specs.Fmt.{decimal}
 use Rattle.rv_base.specs.Files.{FileContents}
@@ -12,21 +12,21 @@ use Rattle.rv_lists.specs.JobList.{names_of_jobs}
 use Rattle.rv_lists.specs.declared.job.Job.{Job}
 use Rattle.rv_text.specs.Printable.{printable_text, printable_value}
 
--- what the text at a path names, among the jobs of a list
+-- the known failures that the text at the path names among the jobs of a list
 pub record IsKnownFile (files : Option FileContents) (path : List ℕ) (jobs : List Job) (known : KnownJobs) : Type 0 where
   pub bytes : List ℕ
   pub read : IsTextAt files path bytes
   pub named : known_jobs_of (names_of_jobs jobs) bytes ≡ Ok known.jobs
   pub named_by : known.path ≡ path
 
--- where words name a file, and else nothing
+-- the known failures if the arguments name a file, else none
 abbrev pub IsKnownAt : Option FileContents → Option (List ℕ) → List Job → Option KnownJobs → Type 0
 IsKnownAt files None jobs known = known ≡ None
 IsKnownAt files (Some path) jobs known = IsSomeAnd known (IsKnownFile files path jobs)
 
 -- ---- a file that is refused
 
--- what is wrong with a line, over the path of the list
+-- what is wrong with a line, given the path of the list
 abbrev pub known_fault_text : List ℕ → List ℕ → KnownFaultKind → List ℕ
 known_fault_text list name kind.NoName =
     codes "\"" ++ printable_value name ++ codes "\" is not a job name: expected NAME [# REASON]"

@@ -1,4 +1,4 @@
--- Why the jobs that are known to fail were not had.
+-- Why the known failures could not be read.
 use Rattle.std.specs.Prelude.{◌≡◌, ◌⊎◌, ℕ, List, IsSomeAnd, Option, Err}
 use Rattle.rv_base.specs.Files.{FileContents}
 use Rattle.rvtest_cli.specs.declared.run.RunArgs.{RunArgs}
@@ -12,18 +12,18 @@ use Rattle.rv_lists.specs.JobList.{names_of_jobs}
 use Rattle.rv_lists.specs.declared.job.Job.{Job}
 use Rattle.rvtest_app.specs.KnownFiles.{known_fault_message}
 
--- memory was wanting; or the text at a path has a fault among the jobs of the list at another, and its first one is told
+-- out of memory, or the text at the path has an error, given the jobs of the list at the other path, and the first error is reported
 abbrev pub IsKnownFaultStop : List ℕ → List ℕ → List Job → List ℕ → Stop → Type 0
 IsKnownFaultStop path list jobs bytes why = (why ≡ stop.OutOfMemory)
     ⊎ ((fault : KnownFault) × ((known_jobs_of (names_of_jobs jobs) bytes ≡ Err fault)
     × IsStop 2 (known_fault_message path list fault) why))
 
--- the path was not read, or what stands there has a fault
+-- the file at the path was not read, or it has an error
 abbrev pub IsNoKnownFileStop : Option FileContents → List ℕ → List ℕ → List Job → Stop → Type 0
 IsNoKnownFileStop known path list jobs why = IsListUnreadStop known path why
     ⊎ ((bytes : List ℕ) × (IsTextAt known path bytes × IsKnownFaultStop path list jobs bytes why))
 
--- words name such a path for the jobs that are known to fail
+-- the arguments name such a path for the known failures
 abbrev pub IsKnownStop : Option FileContents → RunArgs → List Job → Stop → Type 0
 IsKnownStop known words jobs why =
     IsSomeAnd words.known (λ path. IsNoKnownFileStop known path.now words.list.now jobs why)

@@ -1,4 +1,4 @@
--- What `list` puts of a list.
+-- What `list` prints for a list.
 use Rattle.std.specs.Prelude.{◌≡◌, ℕ, Bool, List, [], Option, Some, None, Ok, slice_index_or}
 use Rattle.std.specs.List.{flat_map}
 use Rattle.rv_base.specs.Files.{FileContents}
@@ -16,17 +16,17 @@ use Rattle.rvtest_app.specs.CommandOutputs.{IsOnlyStandardOutput, IsOnlyErrorOut
 abbrev pub name_line : Job → List ℕ
 name_line job = line job.name
 
--- the names of the jobs at some places, one a line
+-- the names of the jobs at some indices, one per line
 abbrev pub name_lines : List Job → List ℕ → List ℕ
 name_lines jobs places = flat_map (λ place. name_line (slice_index_or jobs place (single_job [] 0 []))) places
 
--- those of the jobs that a run of these marks would run
+-- the names of the jobs that a run with this selection would run
 abbrev pub chosen_name_lines : List Job → Option (List Bool) → List ℕ
 chosen_name_lines jobs None = []
 chosen_name_lines jobs (Some marks) = name_lines jobs (places_of_marks marks)
 
--- the names are those of the jobs that a run of these words would run, of the list that a text is, and the notes are what is said
--- of the choice
+-- the names are those of the jobs that a run with these arguments would run, of the list with this text, and the notes are those about the
+-- choice
 pub record AreListedOf (known : Option FileContents) (words : RunArgs) (bytes names notes : List ℕ) : Type 0 where
   pub jobs : List Job
   pub listed : job_list_of bytes ≡ Ok jobs
@@ -34,14 +34,14 @@ pub record AreListedOf (known : Option FileContents) (words : RunArgs) (bytes na
   pub chosen : IsChoice known words (failure_rule words.lenient) jobs marks notes
   pub named : names ≡ chosen_name_lines jobs marks
 
--- the same of the list at the path that words name
+-- the names and notes for the list at the path in the arguments
 pub record AreListedAt (known : Option FileContents) (words : RunArgs) (names notes : List ℕ) : Type 0 where
   pub bytes : List ℕ
   pub read : IsTextAt known words.list.now bytes
   pub of : AreListedOf known words bytes names notes
 
--- those notes went to standard error, and then those names to standard output; the status is 0
-pub record IsListPut (known : Option FileContents) (words : RunArgs) (status : ℕ) (before after : CommandOutputs) : Type 0 where
+-- the notes went to standard error, and then the names to standard output; the status is 0
+pub record IsListWritten (known : Option FileContents) (words : RunArgs) (status : ℕ) (before after : CommandOutputs) : Type 0 where
   pub names : List ℕ
   pub notes : List ℕ
   pub are : AreListedAt known words names notes

@@ -1,4 +1,4 @@
--- Why `merge` refuses its parts, and how that is told.
+-- Why `merge` rejects its shards, and how that is reported.
 use Rattle.std.specs.Prelude.{◌≡◌, ◌⊎◌, ◌++◌, ℕ, List, codes, slice_get}
 use Rattle.std.specs.Borrow.{Bor}
 use Rattle.std.specs.Fmt.{decimal}
@@ -16,20 +16,20 @@ use Rattle.rv_merge.specs.declared.error.MergeError.{MergeError}
 use Rattle.rv_merge.specs.declared.error.MergeError.TheVariants as error
 use Rattle.rv_text.specs.Printable.{printable_text}
 
--- the path of the part at a place
+-- the path of the shard at an index
 abbrev pub part_path : List (Bor (List ℕ)) → ℕ → List ℕ
 part_path parts place = option_map_or (λ path. path.now) (slice_get parts place) (codes "a part")
 
--- what a part is beside another one
+-- how one shard conflicts with another
 abbrev pub two_parts_message : List ℕ → List ℕ → List ℕ → List ℕ → List ℕ
 two_parts_message path what other end =
     codes "rvtest: " ++ printable_text path ++ codes ": " ++ what ++ printable_text other ++ end
 
--- that a part is of another run than the first
+-- a shard belongs to another run than the first one
 abbrev pub other_run_message : List (Bor (List ℕ)) → List ℕ → List ℕ → List ℕ
 other_run_message parts path what = two_parts_message path what (part_path parts 0) (codes "\n")
 
--- what is wrong with the part of a path and a text
+-- what is wrong with the shard with this path and text
 abbrev pub flaw_message : List (Bor (List ℕ)) → List ℕ → List ℕ → Flaw → List ℕ
 flaw_message parts path text (flaw.Line number) = refused_line_message (codes "part") path text number
 flaw_message parts path text flaw.CutOff = path_message path (codes "the part is truncated")
@@ -44,7 +44,7 @@ flaw_message parts path text (flaw.OtherText earlier) =
 flaw_message parts path text (flaw.NameTwice number) =
     path_number_message path (codes ": job ") number (codes " has the name of an earlier job\n")
 
--- the parts of some paths and texts are refused for an error: the part that it is of is blamed
+-- the shards with these paths and texts are rejected for an error: the message blames the shard that has it
 abbrev pub IsMergeErrorStop : List (Bor (List ℕ)) → List (List ℕ) → MergeError → Stop → Type 0
 IsMergeErrorStop parts texts error.OutOfMemory why = why ≡ stop.OutOfMemory
 IsMergeErrorStop parts texts error.NoTexts why = IsStop 2 (codes "rvtest: expected at least one part\n") why
@@ -53,7 +53,7 @@ IsMergeErrorStop parts texts (error.Text place flaw) why =
 IsMergeErrorStop parts texts (error.Missing number) why =
     IsStop 2 (codes "rvtest: missing part of shard " ++ decimal number ++ codes "\n") why
 
--- memory was wanting, or the texts at the paths are refused for an error that they have
+-- out of memory, or the texts at the paths are rejected for an error that they have
 abbrev pub ArePartsRefused : List (Bor (List ℕ)) → List (List ℕ) → Stop → Type 0
 ArePartsRefused parts texts why = (why ≡ stop.OutOfMemory)
     ⊎ ((error : MergeError) × IsRefused texts error × IsMergeErrorStop parts texts error why)

@@ -1,4 +1,4 @@
--- What `merge` reads, and what it puts where.
+-- What `merge` reads, and what it writes where.
 use Rattle.std.specs.Prelude.{◌≡◌, ◌⊎◌, ℕ, List, [], ◌∷◌, Option, Some, None, codes, if◌then◌else◌, unwrap_or, ⊤}
 use Rattle.std.specs.Borrow.{Bor}
 use Rattle.rv_base.specs.Files.{FileContents}
@@ -16,30 +16,30 @@ use Rattle.rvtest_app.specs.RunOutput.{rows_status}
 use Rattle.rvtest_app.specs.JunitTexts.{failures_junit, suite_name}
 use Rattle.rvtest_app.specs.CommandOutputs.{CommandOutputs}
 
--- the texts are what stands at the paths, in order
+-- the texts are the contents of the files at the paths, in order
 abbrev pub AreTextsAt : Option FileContents → List (Bor (List ℕ)) → List (List ℕ) → Type 0
 AreTextsAt known [] [] = ⊤
 AreTextsAt known (path ∷ paths) (text ∷ texts) = IsTextAt known path.now text × AreTextsAt known paths texts
 AreTextsAt known _ _ = ⊥
 
--- standard output has the report where nothing else is asked for
+-- the report goes to standard output if nothing else is requested
 abbrev pub merged_report_path : Option (List ℕ) → Option (List ℕ) → Option (List ℕ)
 merged_report_path (Some path) junit = Some path
 merged_report_path None None = Some (codes "-")
 merged_report_path None (Some junit) = if is_stdout junit then None else Some (codes "-")
 
--- the name of the suite: the one that is asked for, else by the report's path, if one is given
+-- the suite name: the requested one, else one derived from the report's path, if one is given
 abbrev pub merged_suite : Option (List ℕ) → Option (List ℕ) → List ℕ
 merged_suite suite (Some path) = suite_name suite path
 merged_suite suite None = unwrap_or suite (codes "merged")
 
--- JUnit's document of merged rows
+-- the JUnit document of the merged rows
 abbrev pub merged_junit : MergeArgs → List Row → List ℕ
 merged_junit words rows = failures_junit (merged_suite (optional_text words.suite) (optional_text words.report))
     (report_judging words.lenient) rows
 
--- of the rows of the list whose parts stand at the paths that words name, the line that counts them went out, the report, and
--- where it is asked for JUnit's document; the status is by these rows
+-- for the rows of the list whose shards are at the paths in the arguments, the summary line was printed and the report and, if requested,
+-- the JUnit document were written; the status follows from these rows
 pub record IsMergedAt (known : Option FileContents) (words : MergeArgs) (status : ℕ) (before after : CommandOutputs)
     : Type 0 where
   pub texts : List (List ℕ)
@@ -51,7 +51,7 @@ pub record IsMergedAt (known : Option FileContents) (words : MergeArgs) (status 
       (optional_text words.junit) (totals_line (report_judging words.lenient) rows) (report_text rows)
       (merged_junit words rows) before after
 
--- of these rows that document alone was put in its place
+-- only the JUnit document of these rows was committed
 pub record IsMergedJunitAlone (known : Option FileContents) (words : MergeArgs) (before after : Option (List CommittedFile))
     : Type 0 where
   pub texts : List (List ℕ)
@@ -60,6 +60,6 @@ pub record IsMergedJunitAlone (known : Option FileContents) (words : MergeArgs) 
   pub parts : AreParts rows texts
   pub placed : AreFilesCommitted before after (Some (file_at (optional_text words.junit) (merged_junit words rows)))
 
--- a merge that an error ended put no file in its place, or that document alone
+-- a merge that ended with an error committed no file, or only the JUnit document
 abbrev pub IsUndoneMergeAt : Option FileContents → MergeArgs → Option (List CommittedFile) → Option (List CommittedFile) → Type 0
 IsUndoneMergeAt known words before after = (after ≡ before) ⊎ IsMergedJunitAlone known words before after

@@ -1,4 +1,4 @@
--- Where texts of rows go: to standard output, to the file at a path, or nowhere.
+-- Where the texts of rows go: to standard output, to the file at a path, or nowhere.
 use Rattle.std.specs.Prelude.{◌≡◌, ◌||◌, ◌⊎◌, ℕ, Bool, true, false, List, [], ◌∷◌, ◌++◌, Option, Some, None, IfSome, option_map, option_and_then, ⊤}
 use Rattle.std.specs.Prelude.{codes, if◌then◌else◌}
 use Rattle.std.specs.Str.{bytes_eq}
@@ -9,18 +9,18 @@ use Rattle.rvtest_app.specs.declared.outlets.Outlet.TheVariants as outlet
 use Rattle.rvtest_app.specs.declared.outlets.Outlets.{Outlets}
 use Rattle.rvtest_app.specs.declared.placing.SyncedFile.{SyncedFile}
 
--- a path that stands for standard output
+-- whether the path represents standard output
 abbrev pub is_stdout : List ℕ → Bool
 is_stdout path = bytes_eq path (codes "-")
 
 -- ---- by paths
 
--- the file that a text makes at a path, if one is given that is not standard output
+-- the file with a text at a path, if one is given that is not standard output
 abbrev pub file_at : Option (List ℕ) → List ℕ → List CommittedFile
 file_at None text = []
 file_at (Some path) text = if is_stdout path then [] else record { path = path; bytes = text } ∷ []
 
--- what of it goes to standard output
+-- what of the text goes to standard output
 abbrev pub stdout_at : Option (List ℕ) → List ℕ → List ℕ
 stdout_at None text = []
 stdout_at (Some path) text = if is_stdout path then text else []
@@ -30,7 +30,7 @@ abbrev pub file_path_at : Option (List ℕ) → Option (List ℕ)
 file_path_at None = None
 file_path_at (Some path) = if is_stdout path then None else Some path
 
--- whether a path is given that stands for standard output
+-- whether a path is given that represents standard output
 abbrev pub is_stdout_at : Option (List ℕ) → Bool
 is_stdout_at None = false
 is_stdout_at (Some path) = is_stdout path
@@ -46,13 +46,13 @@ module _ {P W : Type 0} where
   abbrev pub uses_stdout : Outlets P W → Bool
   uses_stdout outlets = is_out outlets.report || is_out outlets.junit
 
-  -- the path by which messages name the file of an outlet, if it is one
+  -- the path by which messages name the file of an outlet, if it is a file
   abbrev pub outlet_path : Outlet P W → Option (List ℕ)
   outlet_path outlet.Nowhere = None
   outlet_path outlet.Out = None
   outlet_path (outlet.File file) = Some file.path.now
 
-  -- what of a text that is put into an outlet goes to standard output
+  -- the part of a text written to an outlet that goes to standard output
   abbrev pub stdout_part : Outlet P W → List ℕ → List ℕ
   stdout_part outlet.Nowhere text = []
   stdout_part outlet.Out text = text
@@ -63,7 +63,7 @@ module _ {P W : Type 0} where
   has_no_failure failed outlet.Out = ⊤
   has_no_failure failed (outlet.File file) = failed file.sink ≡ 0
 
-  -- the outlet is for a path, which messages name, and took this text so far, where it is told what is placed
+  -- the outlet is for a path, by which messages name it, and has received this text so far, if committed files are reported
   abbrev pub HasTaken : (P → List ℕ) → (W → Option (List ℕ)) → (W → ℕ) → Option (List CommittedFile)
       → Option (List ℕ) → List ℕ → Outlet P W → Type 0
   HasTaken pending_path taken failed placed path text outlet.Nowhere = path ≡ None
@@ -73,7 +73,7 @@ module _ {P W : Type 0} where
       × (IfSome placed (λ _. taken file.sink ≡ Some text) × (failed file.sink ≡ 0)
       × (file.path.now ≡ pending_path file.place)))
 
-  -- a text was put into the outlet, and no put failed
+  -- the text was written to the outlet, and no write failed
   abbrev pub IsPutInto : (W → Option (List ℕ)) → (W → ℕ) → Outlet P W → Outlet P W → List ℕ → Type 0
   IsPutInto taken failed outlet.Nowhere outlet.Nowhere text = ⊤
   IsPutInto taken failed outlet.Out outlet.Out text = ⊤
@@ -82,7 +82,7 @@ module _ {P W : Type 0} where
       × (failed after.sink ≡ failed before.sink))
   IsPutInto taken failed _ _ text = ⊥
 
-  -- the files that outlets make, where it is told what they took
+  -- the files that outlets make, if what they received is reported
   abbrev pub files_of : (P → List ℕ) → (W → Option (List ℕ)) → Outlet P W → Option (List CommittedFile)
   files_of pending_path taken outlet.Nowhere = Some []
   files_of pending_path taken outlet.Out = Some []
@@ -99,14 +99,14 @@ module _ {P S : Type 0} where
   abbrev pub synced_path : Option (SyncedFile P S) → Option (List ℕ)
   synced_path synced = option_map (λ file. file.path.now) synced
 
--- files were put in their places, behind those that stood there
+-- files were committed, after those committed before
 abbrev pub AreFilesCommitted : Option (List CommittedFile) → Option (List CommittedFile) → Option (List CommittedFile) → Type 0
 AreFilesCommitted before after files = IfSome before (λ earlier. IfSome files (λ files. after ≡ Some (earlier ++ files)))
 
--- what an error leaves: no more files in their places, or the first of two alone, where the second was not put in its place
+-- what an error leaves: no more committed files, or only the first of two if the second was not committed
 abbrev pub AreFilesPartlyCommitted : Option (List CommittedFile) → Option (List CommittedFile) → Option (List CommittedFile) → Type 0
 AreFilesPartlyCommitted before after first = (after ≡ before) ⊎ AreFilesCommitted before after first
 
--- the files of the first and then those of the second
+-- the files of the first list followed by those of the second
 abbrev pub both_files : Option (List CommittedFile) → Option (List CommittedFile) → Option (List CommittedFile)
 both_files first second = option_and_then (λ first. option_map (λ second. first ++ second) second) first

@@ -1,4 +1,4 @@
--- Files of a command that would replace what the command reads.
+-- Files of a command that would overwrite its inputs.
 use Rattle.std.specs.Prelude.{◌≡◌, ◌⊎◌, ◌++◌, ℕ, Bool, List, Ok, [], ◌∷◌, false, IfSome, IsSomeAnd, Option, codes, if◌then◌else◌, map, option_to_list}
 use Rattle.std.specs.Borrow.{Bor}
 use Rattle.std.specs.List.{flat_map, list_any}
@@ -26,30 +26,30 @@ use Rattle.rvtest_app.specs.declared.read_files.ReadPath.{ReadPath}
 use Rattle.rvtest_app.specs.declared.read_files.ReadRole.{ReadRole}
 use Rattle.rvtest_app.specs.declared.read_files.ReadRole.TheVariants as role
 use Rattle.rvtest_app.specs.Outlets.{file_path_at}
-use Rattle.rvtest_app.specs.PutStops.{IsUnopenedStop}
+use Rattle.rvtest_app.specs.WriteStops.{IsUnopenedStop}
 
 -- ---- one file
 
 abbrev pub read_paths : List ReadPath → List (List ℕ)
 read_paths read = map (λ (one : ReadPath). path_buf_bytes one.path) read
 
--- where it is told which files are placed, these are known by their paths
+-- if the committed files are reported, these are their identities
 abbrev pub AreFilesOf : Option (List CommittedFile) → List (List ℕ) → ReadFiles → Type 0
 AreFilesOf placed paths read = IfSome placed (λ _. read.identities.items ≡ paths)
 
--- a file is one of some files, by what they are known by
+-- whether a file is one of some files, by its identity
 abbrev pub is_among : List (List ℕ) → List ℕ → Bool
 is_among files identity = list_any (λ (file : List ℕ). bytes_eq file identity) files
 
--- the file at a path is none of those that are read
+-- the file at the path is not one of those that are read
 abbrev pub IsUnread : List (List ℕ) → List ℕ → Type 0
 IsUnread read path = list_any (is_among (path ∷ [])) read ≡ false
 
--- so is the file of an option, if it has one
+-- the file of an option, if it has one, is not one of those that are read
 abbrev pub IsApart : List (List ℕ) → Option (List ℕ) → Type 0
 IsApart read path = IfSome (file_path_at path) (IsUnread read)
 
--- what a file that is read is to the command: what a word of its usage stands for, or what a job names by a key
+-- what an input is to the command: a placeholder of its usage, or a key by which a job names it
 abbrev pub job_file_text : List ℕ → List ℕ → List ℕ
 job_file_text key job = codes "the \"" ++ key ++ codes "\" of job \"" ++ job ++ codes "\""
 
@@ -57,7 +57,7 @@ abbrev pub role_text : ReadRole → List ℕ
 role_text (role.Word word) = word.now
 role_text (role.JobFile key job) = job_file_text key.now job.now
 
--- what a file that is written is to the command
+-- what a written file is to the command
 abbrev pub job_writer_text : List ℕ → List ℕ → List ℕ
 job_writer_text key job = codes "job \"" ++ job ++ codes "\": " ++ key
 
@@ -65,7 +65,7 @@ abbrev pub writer_text : ReadRole → List ℕ
 writer_text (role.Word word) = word.now
 writer_text (role.JobFile key job) = job_writer_text key.now job.now
 
--- which option, with which path, would overwrite what, which the command reads at which path
+-- which option, with which path, would overwrite which input at which path
 abbrev pub overwrite_head : List ℕ → List ℕ → List ℕ
 overwrite_head option path = codes "rvtest: " ++ option ++ codes " \"" ++ printable_text path ++ codes "\" would overwrite "
 
@@ -75,26 +75,26 @@ read_path_text path = codes ": \"" ++ printable_text path ++ codes "\"\n"
 abbrev pub overwrite_message : List ℕ → List ℕ → List ℕ → List ℕ → List ℕ
 overwrite_message option path role read = overwrite_head option path ++ role ++ read_path_text read
 
--- it is told that the file would overwrite something that is read
-abbrev pub IsOverwriteTold : List ℕ → List ℕ → Stop → Type 0
-IsOverwriteTold option path why = (role : List ℕ) × (read : List ℕ) × IsStop 2 (overwrite_message option path role read) why
+-- the message says that the file would overwrite an input
+abbrev pub IsOverwriteReported : List ℕ → List ℕ → Stop → Type 0
+IsOverwriteReported option path why = (role : List ℕ) × (read : List ℕ) × IsStop 2 (overwrite_message option path role read) why
 
--- or the system refused to say to which file its path leads
+-- the file would overwrite an input, or the system would not say which file its path leads to
 abbrev pub IsOverwriteStop : List ℕ → List ℕ → Stop → Type 0
-IsOverwriteStop option path why = IsUnopenedStop path why ⊎ IsOverwriteTold option path why
+IsOverwriteStop option path why = IsUnopenedStop path why ⊎ IsOverwriteReported option path why
 
--- the same of the file of an option, if it has one
+-- the file of an option, if it has one, would overwrite an input
 abbrev pub IsOptionStop : List ℕ → Option (List ℕ) → Stop → Type 0
 IsOptionStop option path why = IsSomeAnd (file_path_at path) (λ path. IsOverwriteStop option path why)
 
 -- ---- the files of a run
 
--- the golden files that a job names, each taken from a folder if one is given
+-- the golden files that a job names, each resolved against the root if one is given
 abbrev pub golden_paths_of_job : Option (List ℕ) → Job → List (List ℕ)
 golden_paths_of_job root job = map (resolved_path root)
     (option_to_list job.expect_signature ++ option_to_list (console_path job.expect_console))
 
--- all files that it names
+-- all files that the job names
 abbrev pub paths_of_job : Option (List ℕ) → Job → List (List ℕ)
 paths_of_job root job = resolved_path root job.image ∷ golden_paths_of_job root job
 
@@ -103,21 +103,21 @@ abbrev pub inputs_of_run : RunArgs → List Job → List (List ℕ)
 inputs_of_run words jobs = words.list.now ∷ option_to_list (optional_text words.known)
     ++ flat_map (paths_of_job (optional_text words.root)) jobs
 
--- the report whose failed jobs it runs again
+-- the report whose failed jobs are run again
 abbrev pub failed_of_run : RunArgs → List (List ℕ)
 failed_of_run words = option_to_list (optional_text words.failed)
 
--- the reports that it reads, of which --into replaces its own
+-- the reports that the run reads, including the one that `--into` replaces
 abbrev pub reports_of_run : RunArgs → List (List ℕ)
 reports_of_run words = failed_of_run words ++ option_to_list (optional_text words.into)
 
--- no file of a run is a report that it reads, but that of --into
+-- no file of a run is a report that it reads, except the one of `--into`
 pub record AreReportsKept (words : RunArgs) : Type 0 where
   pub report : IsApart (failed_of_run words) (optional_text words.report)
   pub junit : IsApart (reports_of_run words) (optional_text words.junit)
   pub counts : IsApart (reports_of_run words) (optional_text words.counts)
 
--- no file of a run is one that it reads
+-- no file of a run is one of its inputs
 pub record AreRunFilesApart (words : RunArgs) (jobs : List Job) : Type 0 where
   pub report : IsApart (inputs_of_run words jobs) (optional_text words.report)
   pub junit : IsApart (inputs_of_run words jobs) (optional_text words.junit)
@@ -125,7 +125,7 @@ pub record AreRunFilesApart (words : RunArgs) (jobs : List Job) : Type 0 where
   pub into : IsApart (inputs_of_run words jobs) (optional_text words.into)
   pub reports : AreReportsKept words
 
--- a file of a run would be one
+-- a file of a run would be one of its inputs
 abbrev pub IsRunOverwriteStop : RunArgs → Stop → Type 0
 IsRunOverwriteStop words why = (why ≡ stop.OutOfMemory)
     ⊎ (IsOptionStop (codes "--report") (optional_text words.report) why
@@ -133,11 +133,11 @@ IsRunOverwriteStop words why = (why ≡ stop.OutOfMemory)
     ⊎ (IsOptionStop (codes "--counts") (optional_text words.counts) why
     ⊎ IsOptionStop (codes "--into") (optional_text words.into) why)))
 
--- files were placed only where none of them is one that is read, as far as it is told which files are placed
+-- files were committed only if none of them is an input, as far as committed files are reported
 abbrev pub IsPlacedApart : Type 0 → Option (List CommittedFile) → Option (List CommittedFile) → Type 0
 IsPlacedApart Apart before after = (after ≡ before) ⊎ IfSome before (λ _. Apart)
 
--- so of a run of a list
+-- a run of a list committed no file that is an input
 abbrev pub AreRunInputsKept : Option FileContents → RunArgs → Option (List CommittedFile) → Option (List CommittedFile) → Type 0
 AreRunInputsKept known words before after = (after ≡ before)
     ⊎ ((text : List ℕ) × (jobs : List Job) × (IsTextAt known words.list.now text × ((job_list_of text ≡ Ok jobs)
@@ -145,34 +145,34 @@ AreRunInputsKept known words before after = (after ≡ before)
 
 -- ---- the files of accept
 
--- what accept reads beside the list and never writes: the report whose failed jobs it chooses, and the images of all jobs
+-- what `accept` reads besides the list and never writes: the report whose failed jobs it chooses, and the images of all jobs
 abbrev pub image_paths : Option (List ℕ) → Job → List (List ℕ)
 image_paths root job = resolved_path root job.image ∷ []
 
 abbrev pub inputs_of_accept : AcceptArgs → List Job → List (List ℕ)
 inputs_of_accept words jobs = failed_of_run words.run ++ flat_map (image_paths (optional_text words.run.root)) jobs
 
--- the golden files of the jobs that are marked
+-- the golden files of the selected jobs
 unfoldable pub golden_paths_of_marked : Option (List ℕ) → List Job → List Bool → List (List ℕ)
 golden_paths_of_marked root [] marks = []
 golden_paths_of_marked root (job ∷ jobs) [] = []
 golden_paths_of_marked root (job ∷ jobs) (marked ∷ marks) =
     (if marked then golden_paths_of_job root job else []) ++ golden_paths_of_marked root jobs marks
 
--- the file at a path is one of those that are read, by what they are known by
+-- whether the file at the path is one of the inputs, by its identity
 abbrev pub is_read : List (List ℕ) → List ℕ → Bool
 is_read read path = list_any (is_among (path ∷ [])) read
 
 abbrev pub is_golden_read : List (List ℕ) → ReadPath → Bool
 is_golden_read read golden = is_read read (path_buf_bytes golden.path)
 
--- no golden file of the marked jobs is the list or something else that is read, and nor is the list
+-- no golden file of the selected jobs is the list or another input, and neither is the list
 pub record AreAcceptFilesApart (words : AcceptArgs) (jobs : List Job) (marks : List Bool) : Type 0 where
   pub list : IsUnread (inputs_of_accept words jobs) words.run.list.now
   pub no_list : list_any (is_read (words.run.list.now ∷ [])) (golden_paths_of_marked (optional_text words.run.root) jobs marks) ≡ false
   pub no_input : list_any (is_read (inputs_of_accept words jobs)) (golden_paths_of_marked (optional_text words.run.root) jobs marks) ≡ false
 
--- a golden file is outside of a directory
+-- a golden file is outside of the directory
 abbrev pub outside_head : List ℕ → List ℕ
 outside_head role = codes "rvtest: " ++ role
 
@@ -191,19 +191,19 @@ outside_message role path directory = outside_text role path directory ++ codes 
 abbrev pub IsOutsideStop : List ℕ → Stop → Type 0
 IsOutsideStop path why = (role : List ℕ) × (directory : List ℕ) × IsStop 2 (outside_message role path directory) why
 
--- a file that accept writes would overwrite something, cannot be written, or is outside of the directory
+-- a file that `accept` writes would overwrite an input, cannot be written, or is outside of the directory
 abbrev pub IsUnwritableStop : List ℕ → Stop → Type 0
 IsUnwritableStop path why = (why ≡ stop.OutOfMemory)
     ⊎ (((role : List ℕ) × IsOverwriteStop role path why) ⊎ IsOutsideStop path why)
 
--- so some file
+-- some file is unwritable in this way
 abbrev pub IsAnyUnwritableStop : Stop → Type 0
 IsAnyUnwritableStop why = (path : List ℕ) × IsUnwritableStop path why
 
 abbrev pub IsAcceptOverwriteStop : Stop → Type 0
 IsAcceptOverwriteStop why = (why ≡ stop.OutOfMemory) ⊎ IsAnyUnwritableStop why
 
--- accept placed files only where none of them is one that it reads, as far as it is told which files are placed
+-- `accept` committed files only if none of them is an input, as far as committed files are reported
 abbrev pub AreAcceptInputsKept : Option FileContents → AcceptArgs → Option (List CommittedFile) → Option (List CommittedFile) → Type 0
 AreAcceptInputsKept known words before after = (after ≡ before)
     ⊎ ((text : List ℕ) × (jobs : List Job) × (chosen : List Bool) × (IsTextAt known words.run.list.now text
@@ -214,7 +214,7 @@ AreAcceptInputsKept known words before after = (after ≡ before)
 abbrev pub paths_of_words : List (Bor (List ℕ)) → List (List ℕ)
 paths_of_words words = map (λ (word : Bor (List ℕ)). word.now) words
 
--- no file of a merge is a part
+-- no file of a merge is one of its shards
 abbrev pub AreMergeFilesApart : MergeArgs → Type 0
 AreMergeFilesApart words = IsApart (paths_of_words words.parts.items) (optional_text words.report)
     × IsApart (paths_of_words words.parts.items) (optional_text words.junit)
@@ -231,7 +231,7 @@ IsShowFileApart words = IsApart (words.report.now ∷ []) (optional_text words.j
 abbrev pub IsShowOverwriteStop : ShowArgs → Stop → Type 0
 IsShowOverwriteStop words why = (why ≡ stop.OutOfMemory) ⊎ IsOptionStop (codes "--junit") (optional_text words.junit) why
 
--- the sum of tables is none of them
+-- the file of the sum is not one of the tables
 abbrev pub IsSumFileApart : CountsArgs → Type 0
 IsSumFileApart words = IsApart (paths_of_words words.tables.items) (optional_text words.out)
 

@@ -1,16 +1,15 @@
--- What `profile` puts: where the steps of the jobs that words ask for were in their images.
+-- What `profile` writes: where in their images the requested jobs spent their steps.
 use Rattle.std.specs.Prelude.{ℕ, Option}
 use Rattle.rv_base.specs.Files.{FileContents}
 use Rattle.rvtest_cli.specs.declared.profile.ProfileArgs.{ProfileArgs}
 use Rattle.rv_profile.specs.declared.format.ProfileFormat.{ProfileFormat}
 use Rattle.rvtest_app.specs.CommandOutputs.{CommandOutputs}
-use Rattle.rvtest_app.specs.Views.{IsViewPut}
+use Rattle.rvtest_app.specs.Views.{IsViewWritten}
 use Rattle.rvtest_app.specs.declared.view.View.TheVariants as view
 
 abbrev pub profile_format : ProfileArgs → ProfileFormat
 profile_format words = record { csv = words.csv; top = words.top }
 
--- what is said of the choice went to standard error, and then where the steps of the jobs that words ask for were was put; the status
--- is 0
-abbrev pub IsProfilePut : Option FileContents → ProfileArgs → ℕ → CommandOutputs → CommandOutputs → Type 0
-IsProfilePut known words status before after = IsViewPut known words.run (view.Profile (profile_format words)) status before after
+-- notes about the choice went to standard error, and then the profile of the requested jobs was written; the status is 0
+abbrev pub IsProfileWritten : Option FileContents → ProfileArgs → ℕ → CommandOutputs → CommandOutputs → Type 0
+IsProfileWritten known words status before after = IsViewWritten known words.run (view.Profile (profile_format words)) status before after

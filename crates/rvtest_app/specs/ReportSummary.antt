@@ -9,31 +9,30 @@ use Rattle.rv_job_text.specs.TotalsLine.{totals_line}
 use Rattle.rv_expect.specs.Judgement.{Judging, fails, judgement}
 use Rattle.rv_job_text.specs.ResultLine.{result_line}
 
--- the line of a row that counts as a failure, as far as a report knows it
+-- the line for a row that counts as a failure, as far as a report knows it
 abbrev pub failed_line : Judging → Row → List ℕ
 failed_line judging row = if fails judging row then result_line (judgement judging row) row None None else []
 
 -- ---- the most steps
 
--- a row behind those in front that have more steps
+-- the rows with a row inserted after the leading rows that have more steps
 abbrev pub inserted_by_steps : Row → List Row → List Row
 inserted_by_steps row [] = row ∷ []
 inserted_by_steps row (first ∷ more) =
     if nat_lt row.steps first.steps then first ∷ inserted_by_steps row more else row ∷ first ∷ more
 
--- rows with the most steps first, and of equal ones in their order
+-- the rows with the most steps first, and rows with equal steps in their original order
 unfoldable pub rows_by_steps : List Row → List Row
 rows_by_steps [] = []
 rows_by_steps (row ∷ rows) = inserted_by_steps row (rows_by_steps rows)
 
--- the same rows, of which none has fewer steps than one behind it, and those of equal steps stand
--- as they stood
+-- the same rows, sorted by descending steps; rows with equal steps keep their order
 pub record AreSortedBySteps (rows sorted : List Row) : Type 0 where
   pub same_rows : IsPermutation rows sorted
   pub most_first : AllPairs (λ row behind. behind.steps ≤ row.steps) sorted
   pub stable : (steps : ℕ) → filter (λ row. row.steps == steps) sorted ≡ filter (λ row. row.steps == steps) rows
 
--- how many rows are shown of those with the most steps
+-- the number of rows shown among those with the most steps
 abbrev pub most_rows_shown : ℕ
 most_rows_shown = 10
 

@@ -2,7 +2,7 @@
 use Rattle.std.specs.Prelude.{ℕ, List}
 use Rattle.rv_report.specs.Report.{report_text}
 use Rattle.rv_report.specs.declared.row.Row.{Row}
-use Rattle.rvtest_app.specs.IntoReports.{rows_put}
+use Rattle.rvtest_app.specs.IntoReports.{merged_rows}
 use Rattle.rvtest_app.specs.RunOutput.{chosen_last_line, chosen_report_text}
 use Rattle.rvtest_app.specs.declared.report_texts.ReportText.{ReportText}
 use Rattle.rvtest_app.specs.declared.report_texts.ReportText.TheVariants as report
@@ -10,13 +10,13 @@ use Rattle.rvtest_app.specs.declared.report_texts.ReportText.TheVariants as repo
 abbrev pub report_text_of : ReportText → List ℕ
 report_text_of (report.Whole rows) = report_text rows
 report_text_of (report.Chosen chosen shard) = chosen_report_text chosen.jobs chosen.places.now shard chosen.rows
-report_text_of (report.Into into) = report_text (rows_put into.chosen.places.now into.chosen.rows into.old)
+report_text_of (report.Into into) = report_text (merged_rows into.chosen.places.now into.chosen.rows into.old)
 
--- what of it goes to a file that took the rows as they came, where it is one whose rows do
+-- the part of the report that goes to a file after the rows that were written as they came, if it is such a report
 abbrev pub report_rest_of : ReportText → List ℕ
 report_rest_of (report.Whole rows) = report_text rows
 report_rest_of (report.Chosen chosen shard) = chosen_last_line chosen.jobs chosen.places.now shard chosen.rows
-report_rest_of (report.Into into) = report_text (rows_put into.chosen.places.now into.chosen.rows into.old)
+report_rest_of (report.Into into) = report_text (merged_rows into.chosen.places.now into.chosen.rows into.old)
 
 abbrev pub report_rows : ReportText → List Row
 report_rows (report.Whole rows) = rows

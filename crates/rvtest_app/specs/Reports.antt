@@ -1,4 +1,4 @@
--- What the commands that run no list find, in what stands at the paths that they read.
+-- What the commands that run no list find in the files that they read.
 use Rattle.std.specs.Prelude.{◌≡◌, ◌+◌, ◌++◌, ◌-◌, if◌then◌else◌, ℕ, Bool, true, false, List, [], ◌∷◌, length, None, Option, Some, Ok, position}
 use Rattle.std.specs.Prelude.{slice_index_or}
 use Rattle.std.specs.Str.{bytes_eq}
@@ -40,40 +40,40 @@ use Rattle.rvtest_app.specs.Commands.{check_status, diff_status, passing_status,
 
 -- ---- paths that were not read
 
--- there is a note for each path that is unreadable
+-- there is a note for each path that cannot be read
 abbrev pub AreNotesOf : List Answer → List UnreadPath → Type 0
 AreNotesOf answers unread = length unread ≡ one_more_times 0 (unreadable_count answers)
 
 -- ---- diff
 
--- what is compared, with --steps, with --slower, or without
+-- what is compared, with `--steps`, with `--slower`, or by default
 abbrev pub requested_comparison : Bool → Option ℕ → Compare
 requested_comparison true slower = Steps
 requested_comparison false (Some percent) = Slower percent
 requested_comparison false None = Outcomes
 
--- the report of a choice leaves out jobs of a whole one
+-- whether the report of a choice leaves out jobs of a whole report
 abbrev pub leaves_out : Extent → Extent → Bool
 leaves_out (extent.Choice jobs) extent.Whole = true
 leaves_out _ _ = false
 
--- the rows of a report that are compared with another: where that leaves out jobs, those of the jobs that it has
+-- the rows of a report that are compared with another: if the other leaves out jobs, only those of the jobs that it has
 abbrev pub compared_rows : SavedReport → SavedReport → List Row
 compared_rows other report = if leaves_out other.extent report.extent then rows_beside other.rows report.rows
     else report.rows
 
--- how many rows of two reports are not compared
+-- the number of rows of two reports that are not compared
 abbrev pub left_out_count : SavedReport → SavedReport → ℕ
 left_out_count old new = (length old.rows - length (compared_rows new old))
     + (length new.rows - length (compared_rows old new))
 
--- the output and the status are those of the rows of two reports
+-- the output and the status for the rows of two reports
 pub record IsDiffOfReports (compare : Compare) (before after : SavedReport) (output : List ℕ) (status : ℕ) : Type 0 where
   pub text : output ≡ diff_text compare (compared_rows after before) (compared_rows before after)
       (left_out_count before after)
   pub judged : status ≡ diff_status (counts_of_differing compare (compared_rows after before) (compared_rows before after))
 
--- the same of the reports that two texts are; the notes say how many rows each has that is cut off
+-- the output and the status for the reports with these texts; the notes say how many rows each truncated report has
 pub record IsDiffOf (words : DiffArgs) (old new output notes : List ℕ) (status : ℕ) : Type 0 where
   pub before : PartialReport
   pub before_is : IsReportRead words.partial old before
@@ -82,7 +82,7 @@ pub record IsDiffOf (words : DiffArgs) (old new output notes : List ℕ) (status
   pub diff : IsDiffOfReports (requested_comparison words.steps words.slower) before.report after.report output status
   pub noted : notes ≡ cut_off_note words.old.now before ++ cut_off_note words.new.now after
 
--- the same of what stands at the two paths that words name
+-- the output, notes and status for the files at the two paths in the arguments
 pub record IsDiffAt (known : Option FileContents) (words : DiffArgs) (output notes : List ℕ) (status : ℕ) : Type 0 where
   pub old : List ℕ
   pub old_read : IsTextAt known words.old.now old
@@ -91,7 +91,7 @@ pub record IsDiffAt (known : Option FileContents) (words : DiffArgs) (output not
   pub diff : IsDiffOf words old new output notes status
 
 -- the notes went to standard error, and then the output to standard output
-pub record IsDiffPut (known : Option FileContents) (words : DiffArgs) (status : ℕ) (before after : CommandOutputs) : Type 0 where
+pub record IsDiffWritten (known : Option FileContents) (words : DiffArgs) (status : ℕ) (before after : CommandOutputs) : Type 0 where
   pub text : List ℕ
   pub notes : List ℕ
   pub diff : IsDiffAt known words text notes status
@@ -101,8 +101,8 @@ pub record IsDiffPut (known : Option FileContents) (words : DiffArgs) (status : 
 
 -- ---- check
 
--- the output and the status are those of a plan of the jobs of a list, with answers for all their paths that agree with
--- what stands there, and of what was noted of paths that were not read
+-- the output and the status are those of a plan of the list's jobs, with all their files read from the store, and of the notes about paths
+-- that were not read
 pub record IsPlanCheckOf (known : Option FileContents) (root : Option (List ℕ)) (path bytes output : List ℕ) (status : ℕ)
     : Type 0 where
   pub plan : Planned
@@ -114,14 +114,14 @@ pub record IsPlanCheckOf (known : Option FileContents) (root : Option (List ℕ)
   pub text : output ≡ check_text path bytes root plan unread
   pub judged : status ≡ check_status (refused_job_count plan)
 
--- of each bad job the output has a line or more, each of which begins with the path, a line and a column of the text, and the job's
--- number and name, and then the status is 2; a list without faults has the output and the status of a plan
+-- for each invalid job the output has one or more lines, each of which begins with the path, a line and a column of the text, and the job's
+-- number and name, and the status is 2; for a list without errors, the output and status are those of its plan
 abbrev pub IsCheckOf : Option FileContents → Option (List ℕ) → List JobError → List ℕ → List ℕ → List ℕ → ℕ → Type 0
 IsCheckOf known root [] path bytes output status = IsPlanCheckOf known root path bytes output status
 IsCheckOf known root (fault ∷ faults) path bytes output status =
     PutsEachFault (IsToldFault path bytes) (fault ∷ faults) [] output × (status ≡ 2)
 
--- the same of the list at the path that words name
+-- the output and the status for the list at the path in the arguments
 pub record IsCheckAt (known : Option FileContents) (words : CheckArgs) (output : List ℕ) (status : ℕ) : Type 0 where
   pub bytes : List ℕ
   pub read : IsTextAt known words.list.now bytes
@@ -130,8 +130,8 @@ pub record IsCheckAt (known : Option FileContents) (words : CheckArgs) (output :
 
 -- ---- explain
 
--- a text explains the row of the job at a place of a plan, with so many of its last instructions, and with what is found of
--- a used-up budget
+-- the text explains the row of the job at an index of the plan, with this many of its last instructions and with the findings about an
+-- exhausted budget
 pub record IsTextExplaining (plan : Planned) (unread : List UnreadPath) (place last : ℕ) (text : List ℕ) : Type 0 where
   pub budget_use : Option BudgetUse
   pub found : (d : Job) → IsUseOfRow plan (slice_index_or plan.jobs place d)
@@ -139,8 +139,7 @@ pub record IsTextExplaining (plan : Planned) (unread : List UnreadPath) (place l
   pub told : (d : Job) → text ≡ explanation_text plan unread (judging_by_rule Strict) (slice_index_or plan.jobs place d)
       (row_of plan (slice_index_or plan.jobs place d)) (record { last = last; budget_use = budget_use })
 
--- the output and the status are those of the explanation of the job at a place, over answers for the
--- paths that its row needs, which agree with what stands there
+-- the output and the status are those of the explanation of the job at this index, with the files that its row needs read from the store
 pub record IsJobExplained (known : Option FileContents) (jobs : List Job) (place last : ℕ) (output : List ℕ)
     (status : ℕ) : Type 0 where
   pub plan : Planned
@@ -153,12 +152,11 @@ pub record IsJobExplained (known : Option FileContents) (jobs : List Job) (place
   pub judged : (d : Job) → status ≡ passing_status
       (has_passed Strict (row_of plan (slice_index_or plan.jobs place d)))
 
--- the place is that of the first job of a name
+-- the index of the first job of this name
 abbrev pub IsFirstNamed : List Job → List ℕ → ℕ → Type 0
 IsFirstNamed jobs name place = position (λ (job : Job). bytes_eq job.name name) jobs ≡ Some place
 
--- the same of the first job of the name that words say in the list that a text is, all jobs of the list with the budget that is
--- asked for
+-- the explanation of the first job named by the arguments in the list with this text, with all jobs of the list given the requested budget
 pub record IsExplanationOf (known : Option FileContents) (words : ExplainArgs) (bytes output : List ℕ) (status : ℕ)
     : Type 0 where
   pub jobs : List Job
@@ -168,7 +166,7 @@ pub record IsExplanationOf (known : Option FileContents) (words : ExplainArgs) (
   pub explained : IsJobExplained (contents_below (optional_text words.root) known) (with_budget words.budget jobs) place
       words.last output status
 
--- the same of the list at the path that words name
+-- the explanation for the list at the path in the arguments
 pub record IsExplanationAt (known : Option FileContents) (words : ExplainArgs) (output : List ℕ) (status : ℕ)
     : Type 0 where
   pub bytes : List ℕ

@@ -1,4 +1,4 @@
--- The file that takes what a report says of each row as the row comes.
+-- The file that receives the report text of each row as the row comes.
 use Rattle.std.specs.Prelude.{◌≡◌, ℕ, List, Option, Some, None, option_map, ⊤}
 use Rattle.std.specs.Io.KnownBytes.{Appends}
 use Rattle.std.specs.Borrow.{Bor}
@@ -11,7 +11,7 @@ module _ {N V : Type 0} where
   abbrev pub file_name : Option (RowsFile N V) → Option N
   file_name file = option_map (λ file. file.name) file
 
-  -- a text was put into the file, if there is one, and no put failed
+  -- the text was written to the file, if there is one, and no write failed
   abbrev pub AreRowsPut : (V → Option (List ℕ)) → (V → ℕ) → Option (RowsFile N V) → Option (RowsFile N V) → List ℕ → Type 0
   AreRowsPut taken failed None None text = ⊤
   AreRowsPut taken failed (Some before) (Some after) text =
@@ -19,7 +19,7 @@ module _ {N V : Type 0} where
   AreRowsPut taken failed _ _ text = ⊥
 
 module _ {P V : Type 0} where
-  -- an outlet is the file that took rows, which a path and a place name, or none
+  -- the outlet is the file that received the rows, with the `path` and `place` that name it, or there is none
   abbrev pub IsOutletOfRows : Option (RowsFile (Bor (List ℕ) × P) V) → Outlet P V → Type 0
   IsOutletOfRows None to = to ≡ outlet.Nowhere
   IsOutletOfRows (Some rows) to =

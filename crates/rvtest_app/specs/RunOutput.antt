@@ -12,16 +12,16 @@ use Rattle.rv_report.specs.declared.row.Row.{Row}
 use Rattle.rv_report.specs.Report.{report_text}
 use Rattle.rv_stream.specs.Streams.{joined_row_texts}
 
--- what is told of the rows of the first of the jobs at some places, and the line that counts them, and the jobs that have none
+-- what is reported for the rows of the first of the jobs at some indices, then the summary line, which counts also the jobs without a row
 abbrev pub run_output_text : (ℕ → Row → List ℕ) → Judging → List ℕ → List Row → List ℕ
 run_output_text line judging places rows =
     joined_row_texts line places rows ++ run_totals_line judging rows (length places - length rows)
 
--- 1 where some row counts as a failure, else 0
+-- 1 if some row counts as a failure, else 0
 abbrev pub rows_status : Judging → List Row → ℕ
 rows_status judging rows = if list_any (fails judging) rows then 1 else 0
 
--- the numbers of the jobs at some places, from 1
+-- the numbers of the jobs at some indices, counted from 1
 abbrev pub job_numbers : List ℕ → List ℕ
 job_numbers places = map (λ place. place + 1) places
 
@@ -33,8 +33,7 @@ part_text jobs places rows = saved_text (record {
   rows = rows;
 })
 
--- the report of a shard, if it is one; else the whole report where these are all jobs of the list,
--- else that of a choice
+-- the report of a shard, if there is one; else the whole report if these are all jobs of the list, else the report of a choice
 abbrev pub chosen_report_text : ℕ → List ℕ → Option Shard → List Row → List ℕ
 chosen_report_text jobs places (Some shard) rows = part_text (extent.Shard shard) places rows
 chosen_report_text jobs places None rows =
@@ -46,6 +45,6 @@ abbrev pub chosen_extent : ℕ → List ℕ → Option Shard → Extent
 chosen_extent jobs places (Some shard) = extent.Shard shard
 chosen_extent jobs places None = if length places == jobs then extent.Whole else extent.Choice jobs
 
--- the line below their rows
+-- the last line, after the rows
 abbrev pub chosen_last_line : ℕ → List ℕ → Option Shard → List Row → List ℕ
 chosen_last_line jobs places shard rows = extent_line (chosen_extent jobs places shard) (length rows)

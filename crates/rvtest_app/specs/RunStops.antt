@@ -1,4 +1,4 @@
--- Why `run` ended before its work was done.
+-- Why `run` stopped before its work was done.
 use Rattle.std.specs.Prelude.{◌≡◌, ◌⊎◌, ℕ, Bool, List, IsSomeAnd, Option, Ok, false, is_some}
 use Rattle.rv_base.specs.Files.{FileContents}
 use Rattle.rv_choice.specs.ChoiceStops.{IsChoiceStop}
@@ -22,27 +22,27 @@ use Rattle.rvtest_app.specs.IntoStops.{IsIntoStop}
 use Rattle.rvtest_app.specs.KnownStops.{IsKnownStop}
 use Rattle.rvtest_app.specs.Outlets.{file_path_at}
 use Rattle.rvtest_app.specs.Overwrites.{IsRunOverwriteStop}
-use Rattle.rvtest_app.specs.PutStops.{IsFileStop, IsOutputStop, IsUnwrittenStop}
+use Rattle.rvtest_app.specs.WriteStops.{IsFileStop, IsOutputStop, IsUnwrittenStop}
 use Rattle.rvtest_app.specs.Runs.{AreJobsToRun, AreRequestedJobs}
 use Rattle.rvtest_app.specs.StackStops.{IsUnstackedStop}
 
--- the shard is refused; or no shard is asked for, and words choose no jobs
+-- the shard is rejected; or no shard is requested, and the arguments choose no jobs
 abbrev pub IsUnmarkedStop : Option FileContents → RunArgs → List Job → Stop → Type 0
 IsUnmarkedStop known words jobs why = IsShardStop words.shard words.stamp why
     ⊎ ((is_some words.shard ≡ false) × IsChoiceStop known words (failure_rule words.lenient) jobs why)
 
--- a text is no list; or the report that words name is not the whole one of its jobs, or they ask for none of these
+-- the text is not a list, the report in the arguments is not the whole report of its jobs, or no jobs are requested
 abbrev pub IsUnlistedStop : Option FileContents → RunArgs → List ℕ → Stop → Type 0
 IsUnlistedStop known words text why = IsListFaultStop words.list.now text why
     ⊎ ((jobs : List Job) × ((job_list_of text ≡ Ok jobs)
     × (IsIntoStop known words jobs why ⊎ IsUnmarkedStop known words jobs why)))
 
--- the list was not read, or it has no jobs that words ask for
+-- the list was not read, or the requested jobs were not found in it
 abbrev pub IsUnrequestedStop : Option FileContents → RunArgs → Stop → Type 0
 IsUnrequestedStop known words why = IsListUnreadStop known words.list.now why
     ⊎ ((text : List ℕ) × (IsTextAt known words.list.now text × IsUnlistedStop known words text why))
 
--- the jobs of the list that words ask for were found, and the file that they name has not the known failures among them
+-- the requested jobs of the list were found, but the known failures among them could not be read from the given file
 pub record IsUnknownStop (known : Option FileContents) (words : RunArgs) (why : Stop) : Type 0 where
   pub jobs : List Job
   pub marks : Option (List Bool)
@@ -52,37 +52,37 @@ pub record IsUnknownStop (known : Option FileContents) (words : RunArgs) (why : 
   pub asked : AreRequestedJobs known words jobs marks shard old notes
   pub unknown : IsKnownStop known words jobs why
 
--- the run of the jobs ended on its way
+-- the run of the jobs stopped before its end
 abbrev pub IsStreamStop : Stop → Type 0
 IsStreamStop why = (error : StreamError) × (why ≡ stop_of_stream error)
 
--- or the file for a path, if there is one, did not take the report's rows
+-- the run stopped before its end, or the report's rows were not written to the file for the path, if there is one
 abbrev pub IsRowsStop : Option (List ℕ) → Stop → Type 0
 IsRowsStop report why = IsStreamStop why ⊎ IsSomeAnd report (λ path. IsUnwrittenStop path why)
 
--- why it ended: the second error is that of the file for a path
+-- why it stopped: the second error is that of the file for the path
 abbrev pub IsBothStop : List ℕ → BothError → Stop → Type 0
 IsBothStop path (both.First error) why = why ≡ stop_of_stream error
 IsBothStop path (both.Second stream.Failed) why = IsUnwrittenStop path why
 IsBothStop path (both.Second stream.OutOfMemory) why = why ≡ stop.OutOfMemory
 IsBothStop path (both.Second stream.NoWorker) why = why ≡ stop.NoWorker
 
--- jobs that are asked for were not run, or the results, the report or JUnit's file did not go out
+-- the requested jobs were not run, or the results, the report or the JUnit file were not written
 abbrev pub IsRowsPutStop : RunArgs → Stop → Type 0
 IsRowsPutStop words why = (why ≡ stop.NoWorker)
     ⊎ IsOutputStop (run_report_path words) (optional_text words.junit) why
 
--- or the table of counts did not, or the stacks that are to stand in it have no sum
+-- the rows stopped this way, the table of counts was not written, or its requested stacks have no sum
 abbrev pub IsRunPutStop : RunArgs → Stop → Type 0
 IsRunPutStop words why = IsRowsPutStop words why
     ⊎ (IsFileStop (file_path_at (optional_text words.counts)) why ⊎ IsUnstackedStop words why)
 
--- jobs that are to run were found, and that happened
+-- jobs to run were found, and then the run stopped
 abbrev pub IsUnfinishedStop : Option FileContents → RunArgs → Stop → Type 0
 IsUnfinishedStop known words why = AreJobsToRun known words × IsRunPutStop words why
 
--- `run`: a file would replace one that it reads; or no jobs were found that words ask for; or they were, and the known failures among
--- them were not; or both were, and the run was not finished
+-- `run`: a file would overwrite an input; the requested jobs were not found; they were, but the known failures were not read; or both were
+-- found, and the run did not finish
 abbrev pub IsRunStop : Option FileContents → RunArgs → Stop → Type 0
 IsRunStop known words why = IsRunOverwriteStop words why ⊎ (IsUnrequestedStop known words why
     ⊎ (IsUnknownStop known words why ⊎ IsUnfinishedStop known words why))

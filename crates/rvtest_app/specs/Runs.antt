@@ -39,12 +39,11 @@ use Rattle.rvtest_app.specs.JunitTexts.{suite_name}
 use Rattle.rvtest_app.specs.CommandOutputs.{IsOnlyErrorOutput, CommandOutputs}
 use Rattle.rvtest_app.specs.WrittenTexts.{IsWrittenAt}
 
--- the places of the jobs that are marked
+-- the indices of the selected jobs
 abbrev pub places_of_marks : List Bool → List ℕ
 places_of_marks marks = selected_indices marks (length marks)
 
--- the marks of the jobs that words ask for, if any are: those of a shard, else those that are chosen; and what is said of the
--- choice
+-- the selection of the requested jobs, if any: those of a shard, else the chosen ones; and the notes about the choice
 abbrev pub AreRequestedMarks : Option FileContents → Option Shard → RunArgs → List Job → Option (List Bool) → List ℕ
     → Type 0
 AreRequestedMarks known (Some shard) words jobs marks notes =
@@ -52,8 +51,8 @@ AreRequestedMarks known (Some shard) words jobs marks notes =
 AreRequestedMarks known None words jobs marks notes =
     IsChoice known words (failure_rule words.lenient) jobs marks notes
 
--- the jobs of the list at the path that words name, the marks of those that are to run, if any are, the shard that they are
--- of, the rows of the whole report into which theirs are put, if one is named, and what is said of the choice
+-- the jobs of the list at the path in the arguments, the selection of those that run, if any, their shard, the rows of the whole report
+-- into which theirs are merged, if one is named, and the notes about the choice
 pub record AreRequestedJobs (known : Option FileContents) (words : RunArgs) (jobs : List Job)
     (marks : Option (List Bool)) (shard : Option Shard) (old : Option (List Row)) (notes : List ℕ) : Type 0 where
   pub bytes : List ℕ
@@ -64,7 +63,7 @@ pub record AreRequestedJobs (known : Option FileContents) (words : RunArgs) (job
   pub marked : AreRequestedMarks known shard words jobs marks notes
   pub into : AreOldRows known words jobs old
 
--- the jobs of the list that words ask for were found, with the known failures among them, and some are to run
+-- the requested jobs of the list were found, with the known failures among them, and some of them run
 pub record AreJobsToRun (known : Option FileContents) (words : RunArgs) : Type 0 where
   pub jobs : List Job
   pub marks : List Bool
@@ -75,8 +74,8 @@ pub record AreJobsToRun (known : Option FileContents) (words : RunArgs) : Type 0
   pub failures : Option KnownJobs
   pub known_to_fail : IsKnownAt known (optional_text words.known) jobs failures
 
--- a plan of the jobs has answers for the paths that the rows at some places need, which agree with what stands there; why paths
--- were not read is noted as often as answers are unreadable
+-- a plan of the jobs, with the files that the rows at these indices need read from the store; there is one note for each path that cannot
+-- be read
 pub record IsPlanFor (known : Option FileContents) (jobs : List Job) (places : List ℕ) (plan : Planned)
     (unread : List UnreadPath) : Type 0 where
   pub listed : plan.jobs ≡ jobs
@@ -84,18 +83,18 @@ pub record IsPlanFor (known : Option FileContents) (jobs : List Job) (places : L
   pub kept : AreKept known plan.answers
   pub noted : length unread ≡ one_more_times 0 (unreadable_count plan.answers)
 
--- the document of the rows of the jobs at some places, with the lines that are told of those that failed
+-- the JUnit document of the rows of the jobs at some indices, with the lines that are reported for the failed ones
 abbrev pub run_junit : RunArgs → RowReporter → List ℕ → List Row → List ℕ
 run_junit words reporter places rows = junit_text (suite_name (optional_text words.suite) words.list.now) reporter.judging
     (row_text_list (row_lines_at (record reporter { verbosity = Failures })) places rows) rows
 
--- how the rows of a run are counted, with the known failures, where there are any
+-- how the rows of a run are counted, with the known failures, if there are any
 abbrev pub run_judging : RunArgs → Option KnownJobs → Judging
 run_judging words failures = record { rule = failure_rule words.lenient; known = failures }
 
--- how they are told
-abbrev pub run_telling : RunArgs → Option KnownJobs → Planned → List UnreadPath → RowReporter
-run_telling words failures plan unread = record {
+-- how the rows of a run are reported
+abbrev pub run_reporter : RunArgs → Option KnownJobs → Planned → List UnreadPath → RowReporter
+run_reporter words failures plan unread = record {
   plan = plan;
   unread = unread;
   judging = run_judging words failures;
@@ -103,58 +102,58 @@ run_telling words failures plan unread = record {
   last = words.last;
 }
 
--- the rows of a run over a plan: of the jobs at some places, up to the failure that ends it, if one does
+-- the rows of a run over a plan: those of the jobs at some indices, up to the failure that stops it, if one does
 abbrev pub run_rows : Option ℕ → Judging → Planned → List ℕ → List Row
 run_rows stop_after judging plan places = rows_up_to stop_after (fails judging) (rows_at plan places)
 
--- the places of the jobs that have one of these rows
-abbrev pub shown_places : List ℕ → List Row → List ℕ
-shown_places places rows = take (length rows) places
+-- the indices of the jobs that have one of these rows
+abbrev pub shown_indices : List ℕ → List Row → List ℕ
+shown_indices places rows = take (length rows) places
 
--- the two files of these rows, where words ask for them
+-- the files of these rows that the arguments request
 abbrev pub junit_file : RunArgs → RowReporter → List ℕ → List Row → List CommittedFile
 junit_file words reporter places rows =
-    file_at (optional_text words.junit) (run_junit words reporter (shown_places places rows) rows)
+    file_at (optional_text words.junit) (run_junit words reporter (shown_indices places rows) rows)
 
 abbrev pub report_file : RunArgs → RowReporter → List ℕ → Option Shard → Option (List Row) → List Row → List CommittedFile
 report_file words reporter places shard old rows = file_at (run_report_path words)
-    (run_report_text old (length reporter.plan.jobs) (shown_places places rows) shard rows)
+    (run_report_text old (length reporter.plan.jobs) (shown_indices places rows) shard rows)
 
--- a run that words ask for put these rows, of the first of the jobs at some places: their lines with the totals, the report, and
--- JUnit's document
-abbrev pub IsRunPut : RunArgs → RowReporter → List ℕ → Option Shard → Option (List Row) → List Row → CommandOutputs → CommandOutputs → Type 0
-IsRunPut words reporter places shard old rows before after =
+-- a requested run wrote these rows, those of the first of the jobs at some indices: their lines with the totals, the report, and the JUnit
+-- document
+abbrev pub IsRunWritten : RunArgs → RowReporter → List ℕ → Option Shard → Option (List Row) → List Row → CommandOutputs → CommandOutputs → Type 0
+IsRunWritten words reporter places shard old rows before after =
     WentOutBeside (uses_run_stdout words) (run_report_path words) (optional_text words.junit)
     (run_output_text (row_lines_at reporter) reporter.judging places rows)
-    (run_report_text old (length reporter.plan.jobs) (shown_places places rows) shard rows)
-    (run_junit words reporter (shown_places places rows) rows) before after
+    (run_report_text old (length reporter.plan.jobs) (shown_indices places rows) shard rows)
+    (run_junit words reporter (shown_indices places rows) rows) before after
 
--- the table of counts of the runs of the jobs at some places, with their stacks where those are asked for
+-- the table of counts of the runs of the jobs at some indices, with their stacks if requested
 abbrev pub IsCountsTable : Bool → Planned → List ℕ → CountTable → Type 0
 IsCountsTable false plan places table = IsTableOfPlaces plan places table
 IsCountsTable true plan places table = IsTableWithStacks plan places table
 
--- its text
+-- the text of this table
 abbrev pub IsCountsText : Bool → Planned → List ℕ → List ℕ → Type 0
 IsCountsText stacks plan places text =
     (table : CountTable) × (IsCountsTable stacks plan places table × (text ≡ table_text table))
 
--- it went to a path, if one is given
-abbrev pub AreCountsPut : Bool → Option (List ℕ) → Planned → List ℕ → CommandOutputs → CommandOutputs → Type 0
-AreCountsPut stacks None plan places before after = IsWrittenAt None [] before after
-AreCountsPut stacks (Some path) plan places before after =
+-- the text of this table was written to the path, if one is given
+abbrev pub AreCountsWritten : Bool → Option (List ℕ) → Planned → List ℕ → CommandOutputs → CommandOutputs → Type 0
+AreCountsWritten stacks None plan places before after = IsWrittenAt None [] before after
+AreCountsWritten stacks (Some path) plan places before after =
     (text : List ℕ) × (IsCountsText stacks plan places text × IsWrittenAt (Some path) text before after)
 
--- that run put these rows, and then the table of its counts
-pub record IsCountedRunPut (words : RunArgs) (reporter : RowReporter) (places : List ℕ) (shard : Option Shard) (old : Option (List Row))
+-- the run wrote these rows, and then the table of its counts
+pub record IsCountedRunWritten (words : RunArgs) (reporter : RowReporter) (places : List ℕ) (shard : Option Shard) (old : Option (List Row))
     (rows : List Row) (before after : CommandOutputs) : Type 0 where
   pub middle : CommandOutputs
-  pub put : IsRunPut words reporter places shard old rows before middle
-  pub counted : AreCountsPut words.stacks (optional_text words.counts) reporter.plan (shown_places places rows) middle after
+  pub put : IsRunWritten words reporter places shard old rows before middle
+  pub counted : AreCountsWritten words.stacks (optional_text words.counts) reporter.plan (shown_indices places rows) middle after
 
--- over such a plan of the jobs, all with the budget that words ask for, it is said where paths are taken from, if every image
--- is missing; and the rows of the jobs at some places went out as words ask for them: their lines with the totals, the report,
--- and JUnit's document; the status is by these rows
+-- with a plan of the jobs, all with the requested budget, the directory that paths are resolved against is reported if every image is
+-- missing; and the rows of the jobs at these indices were written as requested: their lines with the totals, the report, and the JUnit
+-- document; the status follows from these rows
 pub record IsRunOfPlaces (known : Option FileContents) (words : RunArgs) (failures : Option KnownJobs) (jobs : List Job) (places : List ℕ)
     (shard : Option Shard) (old : Option (List Row)) (status : ℕ) (before after : CommandOutputs) : Type 0 where
   pub plan : Planned
@@ -166,16 +165,17 @@ pub record IsRunOfPlaces (known : Option FileContents) (words : RunArgs) (failur
   pub judged : status ≡ rows_status (run_judging words failures) rows
   pub middle : CommandOutputs
   pub noted : IsOnlyErrorOutput (missing_images_note plan.jobs unread (length places) (optional_text words.root)) before middle
-  pub put : IsCountedRunPut words (run_telling words failures plan unread) places shard old rows middle after
+  pub put : IsCountedRunWritten words (run_reporter words failures plan unread) places shard old rows middle after
 
--- the same of the jobs that are marked; where none are to run, the status is 0 and nothing more is said
+-- the run of the selected jobs; if none are selected, the status is 0 and nothing more is reported
 abbrev pub IsRunOfMarked : Option FileContents → RunArgs → Option KnownJobs → List Job → Option (List Bool) → Option Shard
     → Option (List Row) → ℕ → CommandOutputs → CommandOutputs → Type 0
 IsRunOfMarked known words failures jobs None shard old status before after = (status ≡ 0) × (after ≡ before)
 IsRunOfMarked known words failures jobs (Some marks) shard old status before after =
     IsRunOfPlaces known words failures jobs (places_of_marks marks) shard old status before after
 
--- a run of what words ask for, with the failures that their file knows: what is said of the choice goes to standard error, and then the jobs run
+-- a run of the requested jobs, with the known failures of the given file: notes about the choice go to standard error, and then the jobs
+-- run
 pub record IsRunAt (known : Option FileContents) (words : RunArgs) (status : ℕ) (before after : CommandOutputs) : Type 0 where
   pub jobs : List Job
   pub marks : Option (List Bool)
@@ -191,8 +191,8 @@ pub record IsRunAt (known : Option FileContents) (words : RunArgs) (status : ℕ
 
 -- ---- runs that an error ended
 
--- the files of the rows of a run that were put in their places where one behind them was not: JUnit's document alone, or, where counts are
--- asked for, the report too
+-- the files of the rows of a run that were committed when a later one was not: only the JUnit document or, if counts are requested, the
+-- report too
 abbrev pub AreRunFilesPlacedInPart : RunArgs → RowReporter → List ℕ → Option Shard → Option (List Row) → List Row
     → Option (List CommittedFile) → Option (List CommittedFile) → Type 0
 AreRunFilesPlacedInPart words reporter places shard old rows before after =
@@ -200,7 +200,7 @@ AreRunFilesPlacedInPart words reporter places shard old rows before after =
     ⊎ ((is_some words.counts ≡ true) × AreFilesCommitted before after
     (Some (junit_file words reporter places rows ++ report_file words reporter places shard old rows)))
 
--- over a plan of the jobs, all with the budget that words ask for, these files of those at some places alone were put in their places
+-- for a plan of the jobs, all with the requested budget, only these files of the rows at these indices were committed
 pub record IsRunInPart (known : Option FileContents) (words : RunArgs) (failures : Option KnownJobs) (jobs : List Job) (places : List ℕ)
     (shard : Option Shard) (old : Option (List Row)) (before after : Option (List CommittedFile)) : Type 0 where
   pub plan : Planned
@@ -209,20 +209,20 @@ pub record IsRunInPart (known : Option FileContents) (words : RunArgs) (failures
       unread
   pub rows : List Row
   pub shown : rows ≡ run_rows words.stop_after (run_judging words failures) plan places
-  pub placed : AreRunFilesPlacedInPart words (run_telling words failures plan unread) places shard old rows before after
+  pub placed : AreRunFilesPlacedInPart words (run_reporter words failures plan unread) places shard old rows before after
 
--- no file was put in its place, or these alone
+-- no file was committed, or only these
 abbrev pub IsUndoneRunOfPlaces : Option FileContents → RunArgs → Option KnownJobs → List Job → List ℕ → Option Shard
     → Option (List Row) → Option (List CommittedFile) → Option (List CommittedFile) → Type 0
 IsUndoneRunOfPlaces known words failures jobs places shard old before after =
     (after ≡ before) ⊎ IsRunInPart known words failures jobs places shard old before after
 
--- of the jobs that words ask for, these files alone were put in their places
+-- of the requested jobs, only these files were committed
 pub record IsRunInPartAt (known : Option FileContents) (words : RunArgs) (before after : Option (List CommittedFile))
     : Type 0 where
   pub found : AreJobsToRun known words
   pub alone : IsRunInPart known words found.failures found.jobs (places_of_marks found.marks) found.shard found.old before after
 
--- a run that an error ended put no file in its place, or these alone
+-- a run that ended with an error committed no file, or only these
 abbrev pub IsUndoneRunAt : Option FileContents → RunArgs → Option (List CommittedFile) → Option (List CommittedFile) → Type 0
 IsUndoneRunAt known words before after = (after ≡ before) ⊎ IsRunInPartAt known words before after

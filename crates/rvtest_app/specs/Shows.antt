@@ -1,4 +1,4 @@
--- What `show` shows of a report.
+-- What `show` prints for a report.
 use Rattle.std.specs.Prelude.{◌≡◌, ◌⊎◌, ℕ, List, Option, None, Some}
 use Rattle.rv_base.specs.Files.{FileContents}
 use Rattle.rvtest_cli.specs.declared.show.ShowArgs.{ShowArgs}
@@ -16,13 +16,13 @@ use Rattle.rvtest_app.specs.RunOutput.{rows_status}
 use Rattle.rvtest_app.specs.JunitTexts.{failures_junit, suite_name}
 use Rattle.rvtest_app.specs.CommandOutputs.{IsOnlyErrorOutput, CommandOutputs}
 
--- JUnit's document of the rows of a report
+-- the JUnit document of the rows of a report
 abbrev pub shown_junit : ShowArgs → List Row → List ℕ
 shown_junit words rows =
     failures_junit (suite_name (optional_text words.suite) words.report.now) (report_judging words.lenient) rows
 
--- of the report at the path that words name: where it is cut off that went to standard error, with how many rows it has; and then the
--- summary went out, and where it is asked for JUnit's document; the status is by its rows
+-- for the report at the path in the arguments: if it is truncated, a note with its number of rows went to standard error; then the summary
+-- was printed and, if requested, the JUnit document was written; the status follows from its rows
 pub record IsShownAt (known : Option FileContents) (words : ShowArgs) (status : ℕ) (before after : CommandOutputs)
     : Type 0 where
   pub found : PartialReport
@@ -34,12 +34,12 @@ pub record IsShownAt (known : Option FileContents) (words : ShowArgs) (status : 
       (report_text found.report.rows) (shown_junit words found.report.rows)
       middle after
 
--- of these rows that document was put in its place
+-- only the JUnit document of these rows was committed
 pub record IsShownJunit (known : Option FileContents) (words : ShowArgs) (before after : Option (List CommittedFile)) : Type 0 where
   pub found : PartialReport
   pub read : IsReportReadAt known words.partial words.report.now found
   pub placed : AreFilesCommitted before after (Some (file_at (optional_text words.junit) (shown_junit words found.report.rows)))
 
--- an error left no file in its place, or that document
+-- an error left no committed file, or only the JUnit document
 abbrev pub IsUndoneShowAt : Option FileContents → ShowArgs → Option (List CommittedFile) → Option (List CommittedFile) → Type 0
 IsUndoneShowAt known words before after = (after ≡ before) ⊎ IsShownJunit known words before after

@@ -1,4 +1,4 @@
--- Why the counts of a run did not go out.
+-- Why the counts of a run were not written.
 use Rattle.std.specs.Prelude.{◌≡◌, ◌⊎◌, ℕ, List, Option, true}
 use Rattle.rvtest_cli.specs.declared.run.RunArgs.{RunArgs}
 use Rattle.rv_command.specs.Texts.{optional_text}
@@ -6,20 +6,19 @@ use Rattle.rv_command.specs.declared.stop.Stop.{Stop}
 use Rattle.rv_command.specs.declared.stop.Stop.TheVariants as stop
 use Rattle.rv_count_tables.specs.declared.sum.SumError.{SumError}
 use Rattle.rvtest_app.specs.CountStops.{IsSumErrorStop}
-use Rattle.rvtest_app.specs.PutStops.{IsFileStop}
+use Rattle.rvtest_app.specs.WriteStops.{IsFileStop}
 use Rattle.rvtest_app.specs.WrittenTexts.{written_path}
 
--- stacks that words ask for have no sum, which is told of the path of the table
+-- the requested stacks have no sum, which is reported for the path of the table
 abbrev pub IsUnstackedStop : RunArgs → Stop → Type 0
 IsUnstackedStop words why = (words.stacks ≡ true)
     × ((error : SumError) × IsSumErrorStop (written_path (optional_text words.counts)) error why)
 
--- there is no table
+-- the run has no table of counts
 abbrev pub IsUncountedRunStop : RunArgs → Stop → Type 0
 IsUncountedRunStop words why = (why ≡ stop.OutOfMemory) ⊎ IsUnstackedStop words why
 
--- memory was wanting, standard output did not take all, the file at a path did not come to be, if there is one, or stacks have no
--- sum
+-- out of memory, a failed write to standard output, the file at the path, if there is one, was not created, or the stacks have no sum
 abbrev pub IsCountsPutStop : RunArgs → Option (List ℕ) → Stop → Type 0
 IsCountsPutStop words path why =
     (why ≡ stop.OutOfMemory) ⊎ ((why ≡ stop.WriteFailed) ⊎ (IsFileStop path why ⊎ IsUnstackedStop words why))

@@ -1,4 +1,4 @@
--- What `cover` and `profile` put: what is shown of the images of the jobs that words ask for, by a run of these jobs or by a table of counts.
+-- What `cover` and `profile` write: a view of the images of the requested jobs, from a run of these jobs or from a table of counts.
 use Rattle.std.specs.Prelude.{◌≡◌, ℕ, Bool, true, List, None, Option, Some}
 use Rattle.rv_base.specs.Files.{FileContents}
 use Rattle.rvtest_cli.specs.declared.run.RunArgs.{RunArgs}
@@ -26,36 +26,36 @@ use Rattle.rvtest_app.specs.declared.view.View.TheVariants as view
 
 -- ---- what a view takes and shows
 
--- a run of the jobs at some places gives the table: of their counts, or of their counts and stacks
+-- a run of the jobs at these indices yields the table: of their counts, or of their counts and stacks
 abbrev pub IsCountedFor : View → Planned → List ℕ → CountTable → Type 0
 IsCountedFor (view.Cover csv) plan places table = IsTableOfPlaces plan places table
 IsCountedFor (view.Profile format) plan places table = IsTableWithStacks plan places table
 
--- any table tells what ran; only one with stacks tells where steps were
+-- any table has counts for coverage; only a table with stacks has counts for a profile
 abbrev pub has_counts_for : View → CountTable → Bool
 has_counts_for (view.Cover csv) table = true
 has_counts_for (view.Profile format) table = has_stacks table
 
--- this is shown of images by a table
+-- the text is the view of the images that the table gives
 abbrev pub IsViewText : View → CountTable → List FileImage → List ℕ → Type 0
 IsViewText (view.Cover csv) table images text = IsCoverText csv table images text
 IsViewText (view.Profile format) table images text = IsProfileText format table images text
 
 -- ---- what is shown
 
--- the table at a path has what is shown, and no counts of other images than these at their paths
+-- the table at the path has the counts to be shown, and no counts of images other than these at their paths
 pub record IsFitTableAt (known : Option FileContents) (shown : View) (path : List ℕ) (images : List FileImage) (table : CountTable)
     : Type 0 where
   pub at : IsTableAt known path table
   pub of_images : other_image table images ≡ None
   pub fit : has_counts_for shown table ≡ true
 
--- the table is that of a run of the jobs at some places, or that at a path
+-- the table is that of a run of the jobs at these indices, or the one at the path
 abbrev pub IsTableFor : Option FileContents → View → Option (List ℕ) → Planned → List ℕ → CountTable → Type 0
 IsTableFor known shown None plan places table = IsCountedFor shown plan places table
 IsTableFor known shown (Some path) plan places table = IsFitTableAt known shown path (images_of plan.answers (jobs_at plan places)) table
 
--- this is shown of the images of the jobs at some places of a plan
+-- the text is the view of the images of the jobs at these indices of a plan
 abbrev pub IsViewOfPlan : Option FileContents → RunArgs → View → Planned → List ℕ → List ℕ → Type 0
 IsViewOfPlan known words shown plan places text = (table : CountTable)
     × (IsTableFor known shown (optional_text words.counts) plan places table
@@ -63,7 +63,7 @@ IsViewOfPlan known words shown plan places text = (table : CountTable)
 
 -- ---- the command
 
--- over a plan of the jobs at some places this was told, and then what is shown was put
+-- for a plan of the jobs at these indices the notes were reported, and then the view was written
 pub record IsViewOfPlaces (known : Option FileContents) (words : RunArgs) (shown : View) (jobs : List Job) (places : List ℕ)
     (before after : CommandOutputs) : Type 0 where
   pub plan : Planned
@@ -75,15 +75,14 @@ pub record IsViewOfPlaces (known : Option FileContents) (words : RunArgs) (shown
   pub of_plan : IsViewOfPlan known words shown plan places text
   pub put : IsOnlyStandardOutput text middle after
 
--- the same of the jobs that are marked; where there are none, nothing is put
+-- the view of the selected jobs; if there are none, nothing is written
 abbrev pub IsViewOfMarked : Option FileContents → RunArgs → View → List Job → Option (List Bool) → CommandOutputs → CommandOutputs → Type 0
 IsViewOfMarked known words shown jobs None before after = after ≡ before
 IsViewOfMarked known words shown jobs (Some marks) before after =
     IsViewOfPlaces known words shown jobs (places_of_marks marks) before after
 
--- what is said of the choice went to standard error, and then what is shown of the images of the jobs that words ask for was put; the
--- status is 0
-pub record IsViewPut (known : Option FileContents) (words : RunArgs) (shown : View) (status : ℕ) (before after : CommandOutputs) : Type 0 where
+-- notes about the choice went to standard error, and then the view of the requested jobs' images was written; the status is 0
+pub record IsViewWritten (known : Option FileContents) (words : RunArgs) (shown : View) (status : ℕ) (before after : CommandOutputs) : Type 0 where
   pub jobs : List Job
   pub marks : Option (List Bool)
   pub shard : Option Shard

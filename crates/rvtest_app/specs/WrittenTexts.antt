@@ -1,28 +1,28 @@
--- A text that a command writes to a file, or to standard output where no file is named.
+-- A text that a command writes to a file, or to standard output if no file is named.
 use Rattle.std.specs.Prelude.{◌≡◌, ℕ, Bool, true, false, List, Option, Some, None, codes}
 use Rattle.std.specs.Io.KnownBytes.{Appends}
 use Rattle.rv_command.specs.declared.stop.Stop.{Stop}
 use Rattle.rv_command.specs.declared.stop.Stop.TheVariants as stop
-use Rattle.rvtest_app.specs.AcceptStops.{IsUnmadeStop}
+use Rattle.rvtest_app.specs.AcceptStops.{IsFileNotCreatedStop}
 use Rattle.rvtest_app.specs.Outlets.{AreFilesCommitted, file_at, is_stdout, stdout_at}
 use Rattle.rvtest_app.specs.CommandOutputs.{CommandOutputs}
 
--- the path that is given, or the one that stands for standard output
+-- the given path, or the one that represents standard output
 abbrev pub written_path : Option (List ℕ) → List ℕ
 written_path (Some path) = path
 written_path None = codes "-"
 
--- a text went to the file at the path, or to standard output, and nothing else was said; without a path it went nowhere
+-- the text was written to the file at the path or to standard output, and nothing else was output; without a path it was not written
 pub record IsWrittenAt (path : Option (List ℕ)) (text : List ℕ) (before after : CommandOutputs) : Type 0 where
   pub out : Appends before.out after.out (stdout_at path text)
   pub errors : after.errors ≡ before.errors
   pub failures : after.failures ≡ before.failures
   pub placed : AreFilesCommitted before.placed after.placed (Some (file_at path text))
 
--- why a text was not written there
+-- why the text was not written
 abbrev pub IsUnwrittenBy : Bool → List ℕ → Stop → Type 0
 IsUnwrittenBy true path why = why ≡ stop.WriteFailed
-IsUnwrittenBy false path why = IsUnmadeStop path why
+IsUnwrittenBy false path why = IsFileNotCreatedStop path why
 
 abbrev pub IsUnwrittenAtStop : List ℕ → Stop → Type 0
 IsUnwrittenAtStop path why = IsUnwrittenBy (is_stdout path) path why

@@ -15,8 +15,8 @@ ghost use Rattle.rv_choice.specs.Chosen.{IsChoice};
 ghost use Rattle.rv_command.specs.Texts.{IsTextAt, optional_text};
 ghost use Rattle.rv_lists.specs.JobList.{job_list_of};
 ghost use Rattle.rv_lists.specs.Jobs.{without_expectations};
-ghost use Rattle.rvtest_app.specs.AcceptStops.{IsAcceptChosenStop, IsGoldenUnreadStop, IsPutAcceptedStop};
-ghost use Rattle.rvtest_app.specs.Accepts.{AreGoldenFiles, AreJudged, AreRowsPut, IsAcceptedAt, IsAcceptedOfMarks, IsOutcomePut, IsOutsideTold, accept_status};
+ghost use Rattle.rvtest_app.specs.AcceptStops.{IsAcceptChosenStop, IsGoldenUnreadStop, IsAcceptanceWriteStop};
+ghost use Rattle.rvtest_app.specs.Accepts.{AreGoldenFiles, AreJudged, AreRowsPut, IsAcceptedAt, IsAcceptedOfMarks, IsOutcomeWritten, AreOutsideFilesReported, accept_status};
 ghost use Rattle.rvtest_app.specs.Accepts.{acceptance_of};
 ghost use Rattle.rvtest_app.specs.CommandStops.{IsAcceptStop, IsListStop};
 ghost use Rattle.rvtest_app.specs.Commands.{failure_rule};
@@ -51,19 +51,19 @@ use std::alloc::{AllocError, Global};
 use std::sync::Wait;
 use std::thread::Threads;
 
-// The list that words name, and the jobs that they choose.
+// The list at the path in the arguments, and the jobs that they choose.
 #[derive(Drop)]
 struct ChosenList {
     text: Vec<u8>,
     jobs: JobList,
-    // None where no job is chosen.
+    // `None` if no job is chosen.
     chosen: Option<Vec<bool>>,
-    // What is said of the choice.
+    // The notes about the choice.
     notes: Vec<u8>,
     ghost counted: { ForSome chosen (λ marks. length marks.items ≡ length jobs) },
 }
 
-// Jobs that expect nothing, with a mark for each that runs.
+// Jobs without their expectations, and the selection of those that run.
 #[derive(Drop)]
 struct BareJobs {
     jobs: JobList,
@@ -71,7 +71,7 @@ struct BareJobs {
     ghost counted: { length marks.items ≡ length jobs },
 }
 
-// What the jobs came to that were run.
+// The outcomes of the jobs that ran.
 #[derive(Drop)]
 struct Outcomes {
     claims: Vec<GoldenText>,
@@ -79,8 +79,8 @@ struct Outcomes {
     new: NewList,
 }
 
-/// Runs jobs without their expectations, tells what changes where their runs are what is expected, and writes it, but where words
-/// ask for a check. The status is 1 where a job or a file is left, and in a check also where a file would change.
+/// Runs jobs without their expectations, reports what changes if their actual results become the expected ones and, unless this is a check,
+/// writes it. The status is 1 if a job or a file is rejected and, in a check, also if a file would change.
 pub(crate) fn accept_runs<
     R: Threads + Wait + Sync,
     D: Inputs,
@@ -91,10 +91,10 @@ pub(crate) fn accept_runs<
     ensures low { IfOk result (λ status. status ≤ 1) }
     ensures accepted { IfOk result (λ status. IsAcceptedAt (D.contents host.now.inputs.now) asked.now status
         (outputs_of F.placed O.taken E.taken E.failed to.old) (outputs_of F.placed O.taken E.taken E.failed to.new)) }
-    // In a check nothing is opened for writing, whatever comes of it.
+    // A check opens no file for writing, whatever its result.
     ensures unwritten { asked.now.check ≡ true → to.new.files ≡ to.old.files }
     ensures stopped { IfErr result (IsAcceptStop (D.contents host.now.inputs.now) asked.now) }
-    // What is read and not accepted stays.
+    // No input is overwritten, except accepted files.
     ensures kept { AreAcceptInputsKept (D.contents host.now.inputs.now) asked.now (F.placed to.old.files) (F.placed to.new.files) }
 {
     let list = chosen_list(host, asked)?;
@@ -105,7 +105,7 @@ pub(crate) fn accept_runs<
     }
 }
 
-// The same of the jobs that are chosen.
+// Accepts the chosen jobs.
 fn accept_chosen<
     R: Threads + Wait + Sync,
     D: Inputs,
@@ -143,7 +143,7 @@ fn accept_chosen<
     put_accepted(host, asked, &list, &outcomes, to)
 }
 
-// The jobs that run, once it is known that no file replaces something else that is read.
+// Returns the jobs to run, once it is certain that no file overwrites another input.
 fn guarded_jobs<R, D, F: Outputs + Drop, O: Sink + Drop, E: Sink + Drop>(
     host: &Host<'_, R, D>,
     asked: &AcceptArgs<'_>,
@@ -157,7 +157,7 @@ fn guarded_jobs<R, D, F: Outputs + Drop, O: Sink + Drop, E: Sink + Drop>(
     ensures marks { IfOk result (λ marked. marked.marks.items
         ≡ jobs_to_run list.now.jobs chosen.now) }
     ensures files { to.new.files ≡ to.old.files }
-    ensures outside { OnOk result (IsOutsideTold (outputs_of F.placed O.taken E.taken E.failed to.old)
+    ensures outside { OnOk result (AreOutsideFilesReported (outputs_of F.placed O.taken E.taken E.failed to.old)
         (outputs_of F.placed O.taken E.taken E.failed to.new)) }
     ensures apart { OnOk result (IfSome (F.placed to.old.files) (λ _. AreAcceptFilesApart
         asked.now list.now.jobs (jobs_to_run list.now.jobs chosen.now))) }
@@ -170,7 +170,7 @@ fn guarded_jobs<R, D, F: Outputs + Drop, O: Sink + Drop, E: Sink + Drop>(
     Ok(marked)
 }
 
-// The runs of jobs, of which some are chosen, by the rows of those that were run.
+// Judges the runs of the jobs, some of which are chosen, by the rows of those that ran.
 fn judge_rows<R, D: Inputs>(
     host: &Host<'_, R, D>,
     asked: &AcceptArgs<'_>,
@@ -202,7 +202,7 @@ fn acceptance_of(ends: bool) -> Acceptance
     }
 }
 
-// The list at the path that words name, and the jobs that they choose.
+// Reads the list at the path in the arguments, and chooses its jobs.
 fn chosen_list<R, D: Inputs>(
     host: &Host<'_, R, D>,
     asked: &AcceptArgs<'_>,
@@ -232,7 +232,7 @@ fn chosen_list<R, D: Inputs>(
     })
 }
 
-// The jobs of a list without their expectations, with marks for those that run where some are chosen.
+// Returns the jobs of a list without their expectations, with the selection of those that run for the chosen ones.
 fn marked_jobs(
     alloc: Global,
     asked: &AcceptArgs<'_>,
@@ -252,7 +252,7 @@ fn marked_jobs(
     Ok(BareJobs { jobs, marks })
 }
 
-// The rows of the jobs that are marked, each at the place of its job.
+// Runs the selected jobs and returns their rows, each at the index of its job.
 fn run_marked<
     R: Threads + Wait + Sync,
     D: Inputs,
@@ -296,7 +296,7 @@ fn stop_of_run(error: RunError) -> Stop
     }
 }
 
-// What changes where runs are accepted, and what stands now where it is written.
+// Returns what changes if the runs are accepted, with the current contents of the files that would be written.
 fn outcomes_of_runs<R, D: Inputs>(
     host: &Host<'_, R, D>,
     asked: &AcceptArgs<'_>,
@@ -326,7 +326,7 @@ fn outcomes_of_runs<R, D: Inputs>(
     Ok(Outcomes { claims, files, new })
 }
 
-// Tells what changes, and writes it.
+// Reports what changes, and writes it.
 fn put_accepted<'x, R, D: Inputs, F: Outputs + Drop, O: Sink + Drop, E: Sink + Drop>(
     host: &Host<'_, R, D>,
     asked: &AcceptArgs<'_>,
@@ -336,10 +336,10 @@ fn put_accepted<'x, R, D: Inputs, F: Outputs + Drop, O: Sink + Drop, E: Sink + D
 ) -> Result<u8, Stop>
     ensures low { IfOk result (λ status. status ≤ 1) }
     ensures unwritten { asked.now.check ≡ true → to.new.files ≡ to.old.files }
-    ensures put { IfOk result (λ status. IsOutcomePut asked.now.check list.now outcomes.now.new.runs.items
+    ensures put { IfOk result (λ status. IsOutcomeWritten asked.now.check list.now outcomes.now.new.runs.items
         outcomes.now.claims.items outcomes.now.files.items outcomes.now.new status
         (outputs_of F.placed O.taken E.taken E.failed to.old) (outputs_of F.placed O.taken E.taken E.failed to.new)) }
-    ensures stopped { IfErr result (IsPutAcceptedStop (D.contents host.now.inputs.now) asked.now.check
+    ensures stopped { IfErr result (IsAcceptanceWriteStop (D.contents host.now.inputs.now) asked.now.check
         list.now.path.now outcomes.now.files.items) }
 {
     let accepting = AcceptSummary {
@@ -385,7 +385,7 @@ fn put_count<O: Sink>(
     put_results(out, line.as_slice())
 }
 
-// The status where so many are left, and so many would change.
+// Returns the status, given how many jobs and files are rejected and how many files would change.
 fn accept_status(left: usize, changed: usize) -> u8
     ensures value { result ≡ accept_status left changed }
     ensures low { result ≤ 1 }

@@ -1,10 +1,10 @@
-//! What `accept` reads, beside the files that it writes.
+//! The inputs of `accept` other than the files that it writes.
 
 ghost use Rattle.std.specs.Prelude.{◌≡◌, ◌<◌, ◌⊎◌, ◌++◌, ◌∷◌, [], ℕ, List, None, IfErr, IfOk, IfSome, OnOk, codes, false, length, string_bytes};
 ghost use Rattle.std.specs.List.{flat_map, list_any};
 ghost use Rattle.std.specs.Path.{path_buf_bytes};
 ghost use Rattle.rv_command.specs.Texts.{optional_text};
-ghost use Rattle.rvtest_app.specs.Overwrites.{AreAcceptFilesApart, AreFilesOf, IsAcceptOverwriteStop, IsOverwriteStop, IsOverwriteTold};
+ghost use Rattle.rvtest_app.specs.Overwrites.{AreAcceptFilesApart, AreFilesOf, IsAcceptOverwriteStop, IsOverwriteStop, IsOverwriteReported};
 ghost use Rattle.rvtest_app.specs.Overwrites.{IsUnread, golden_paths_of_job, golden_paths_of_marked, inputs_of_accept, job_writer_text};
 ghost use Rattle.rvtest_app.specs.Overwrites.{is_golden_read, outside_head, outside_message, outside_path, outside_text, quoted_text, read_paths, writer_text};
 
@@ -22,7 +22,7 @@ use rvtest_cli::AcceptArgs;
 use std::alloc::{AllocError, Global};
 use std::path::Path;
 
-// What `accept` reads.
+// The inputs of `accept`.
 #[derive(Drop)]
 struct AcceptReads<'a> {
     list: ReadFiles<'a>,
@@ -32,9 +32,9 @@ struct AcceptReads<'a> {
     golden: ReadFiles<'a>,
 }
 
-/// Refuses the list and the golden files of the jobs that run, where writing one would replace or remove something else that the
-/// command reads, where two paths lead to one of them, and where one cannot be written, or is outside of the list's directory. Gives
-/// what is said of those that are outside, where that is asked for.
+/// Rejects the list and the golden files of the jobs that run if writing one would replace or remove another input of the command, if two
+/// paths lead to one of them, if one cannot be written, or if one is outside of the list's directory. Returns the notes about those
+/// outside, if writing them is allowed.
 pub(crate) fn refuse_accept_overwrites<F: Outputs>(
     files: &F,
     alloc: Global,
@@ -102,7 +102,7 @@ fn golden_of_jobs<'a>(
     Ok(read)
 }
 
-// Appends the golden files of the jobs that are marked.
+// Appends the golden files of the selected jobs.
 #[tactic(auto, unfolding(crate::specs::Overwrites::golden_paths_of_marked))]
 fn push_golden_of_marked<'a>(
     alloc: Global,
@@ -126,7 +126,7 @@ fn push_golden_of_marked<'a>(
     }
 }
 
-// The list replaces neither an input nor a golden file.
+// Rejects the list if it would overwrite an input or a golden file.
 fn refuse_list_overwrite<F: Outputs>(
     files: &F,
     alloc: Global,
@@ -141,7 +141,7 @@ fn refuse_list_overwrite<F: Outputs>(
     refuse_file(files, alloc, "LIST", list, &reads.golden)
 }
 
-// No golden file replaces the list, an input, or a golden file of another path.
+// Rejects golden files that would overwrite the list, an input, or a golden file with another path.
 fn refuse_golden_files<F: Outputs>(
     files: &F,
     alloc: Global,
@@ -185,7 +185,7 @@ fn refuse_golden_file<F: Outputs>(
     refuse_first(alloc, golden, &reads.golden, other)
 }
 
-// The first that is one of some files, and has another path than this.
+// Returns the index of the first file that is one of `files` and has another path than `path`.
 fn first_of_another_path(read: &ReadFiles<'_>, files: &[Text], path: &str) -> Option<usize>
     ensures { IfSome result (λ at. at < length read.now.paths.items) }
 {
@@ -197,7 +197,7 @@ fn first_of_another_path(read: &ReadFiles<'_>, files: &[Text], path: &str) -> Op
     None
 }
 
-// A golden file would replace the one that is read at an index, if there is one.
+// Rejects a golden file that would overwrite the input at an index, if there is one.
 fn refuse_first(
     alloc: Global,
     golden: &ReadPath<'_>,
@@ -206,7 +206,7 @@ fn refuse_first(
 ) -> Result<(), Stop>
     requires { IfSome first (λ at. at < length read.now.paths.items) }
     ensures none { OnOk result (first ≡ None) }
-    ensures stopped { IfErr result (IsOverwriteTold (writer_text golden.now.role) (path_buf_bytes golden.now.path)) }
+    ensures stopped { IfErr result (IsOverwriteReported (writer_text golden.now.role) (path_buf_bytes golden.now.path)) }
 {
     match first {
         None => Ok(()),
@@ -215,7 +215,7 @@ fn refuse_first(
 }
 
 fn golden_overwrite_stop(alloc: Global, golden: &ReadPath<'_>, read: &ReadPath<'_>) -> Stop
-    ensures { IsOverwriteTold (writer_text golden.now.role) (path_buf_bytes golden.now.path) result }
+    ensures { IsOverwriteReported (writer_text golden.now.role) (path_buf_bytes golden.now.path) result }
 {
     match writer_text(alloc, golden.role) {
         Ok(role) => overwrite_stop(alloc, role.as_str(), golden.path.as_str(), read),
@@ -242,14 +242,14 @@ fn job_writer_text(alloc: Global, key: &str, job: &str) -> Result<String, AllocE
     Ok(text)
 }
 
-// The directory in which golden files are written, and whether they are written elsewhere, too.
+// The directory in which golden files are written, and whether they may be written outside of it.
 #[derive(Clone, Copy)]
 struct Bounds<'a> {
     directory: &'a str,
     is_outside_allowed: bool,
 }
 
-// What is said of golden files outside of the list's directory, or of the one that paths are taken from.
+// Returns the notes about golden files outside of the list's directory, or outside of the root.
 fn outside_notes<F: Outputs>(
     files: &F,
     alloc: Global,
@@ -297,6 +297,7 @@ fn push_outside_notes<F: Outputs>(
     }
 }
 
+// Rejects a golden file outside of the directory or, if writing there is allowed, notes it.
 fn check_bounds<F: Outputs>(
     files: &F,
     alloc: Global,

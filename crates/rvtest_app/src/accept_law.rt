@@ -1,4 +1,4 @@
-//! Laws of what `accept` writes, with nothing to run.
+//! Laws about what `accept` writes; there is nothing to run.
 
 ghost use Rattle.std.specs.Prelude.{◌≡◌, ℕ, Bool, IsTrue, List, Ok, Some};
 ghost use Rattle.rv_accept.specs.Passing.{is_pass_or_unasked};
@@ -12,9 +12,9 @@ ghost use Rattle.rvtest_app.specs.AcceptLaw.{HaveOneTextEach, IsRowIn, IsStoreAf
 ghost use Rattle.rvtest_app.specs.Accepts.{IsAcceptedOfMarks, written_files};
 ghost use Rattle.rvtest_app.specs.CommandOutputs.{CommandOutputs};
 
-/// After `accept`, over the store with the new files, each chosen job passes in `run`, or nothing is expected of it, if it is not left, none
-/// of its golden files is left, and it names no other job. The golden files that lead to one place are given the same text, and the
-/// run reads the job's files.
+/// After `accept`, each chosen job passes in a `run` with the new files, or nothing is expected of it, if it is not rejected, none of its
+/// golden files is rejected, and it names no other job. Golden files whose paths lead to one file are given the same text, and the run
+/// reads the job's files.
 pub fn accepted_jobs_pass()
     ensures { (words : Words) (before after : FileContents) (bytes : List ℕ) (jobs : List Job) (chosen : List Bool)
         (status : ℕ) (from to : CommandOutputs) (place : ℕ) (job : Job) (row : Row)

@@ -4,7 +4,7 @@ ghost use Rattle.std.specs.Prelude.{◌≡◌, ◌++◌, ◌∷◌, [], IfErr, I
 ghost use Rattle.rv_command.specs.Stops.{IsListUnreadStop};
 ghost use Rattle.rv_command.specs.Texts.{optional_text};
 ghost use Rattle.rv_files.specs.UnreadPaths.{resolved_path};
-ghost use Rattle.rvtest_app.specs.AcceptStops.{AreTargetsUnread, IsChangedStop, IsOtherBytesStop, IsStopOfFiles, IsUncheckedStop, IsUnmadeStop};
+ghost use Rattle.rvtest_app.specs.AcceptStops.{AreTargetsUnread, IsChangedStop, IsOtherBytesStop, IsStopOfFiles, IsUncheckedStop, IsFileNotCreatedStop};
 ghost use Rattle.rvtest_app.specs.Accepts.{AreGoldenFiles, IsOldAt, written_files};
 ghost use Rattle.rvtest_app.specs.Outlets.{AreFilesCommitted};
 
@@ -18,7 +18,7 @@ use rv_jobs::{Bytes, Text};
 use std::alloc::{AllocError, Global};
 use std::io::ErrorKind;
 
-/// The golden files at the paths of some targets, which are taken from a folder where one is given, with what stands there now.
+/// Reads the golden files at the paths of the targets, resolved against `folder` if given, with their current contents.
 pub(crate) fn read_golden_files<D: Inputs>(
     inputs: &D,
     alloc: Global,
@@ -45,7 +45,7 @@ fn add_file(files: &mut Vec<GoldenFile>, file: GoldenFile) -> Result<(), AllocEr
     Ok(())
 }
 
-/// The path of a golden file, which is taken from a folder where one is given.
+/// Returns the path of a golden file, resolved against `folder` if given.
 pub(crate) fn place_of_path(
     alloc: Global,
     folder: Option<&str>,
@@ -57,7 +57,7 @@ pub(crate) fn place_of_path(
     Text::copy(alloc, place.as_str())
 }
 
-// What stands at a place; nothing where the file is missing.
+// Reads the file at a path; returns `None` if it is missing.
 fn read_golden_file<D: Inputs>(inputs: &D, alloc: Global, path: &str) -> Result<Option<Bytes>, Stop>
     ensures old { IfOk result (IsOldAt (D.contents inputs.now) path.now) }
     ensures stopped { IfErr result (IsListUnreadStop (D.contents inputs.now) path.now) }
@@ -79,7 +79,7 @@ fn read_golden_file<D: Inputs>(inputs: &D, alloc: Global, path: &str) -> Result<
     }
 }
 
-/// Refuses to write over a golden file or a list that changed since it was read.
+/// Rejects overwriting a golden file or a list that changed after it was read.
 pub(crate) fn check_unchanged_files<D: Inputs>(
     inputs: &D,
     alloc: Global,
@@ -141,7 +141,7 @@ fn changed_stop(alloc: Global, path: &str) -> Stop
     Stop::of_failure(path_message(alloc, path, what))
 }
 
-/// Writes each golden file that changes, in the order of the list, and then the list. Each is there whole or as it was.
+/// Writes each golden file that changes, in list order, and then the list. Each is written completely or left unchanged.
 pub(crate) fn write_accepted_files<F: Outputs>(
     files: &mut F,
     alloc: Global,
@@ -149,7 +149,7 @@ pub(crate) fn write_accepted_files<F: Outputs>(
 ) -> Result<(), Stop>
     ensures placed { OnOk result (AreFilesCommitted (F.placed files.old) (F.placed files.new) (Some (written_files accepting.now))) }
     ensures stopped { IfErr result
-        (IsStopOfFiles IsUnmadeStop accepting.now.list.path.now accepting.now.files.now) }
+        (IsStopOfFiles IsFileNotCreatedStop accepting.now.list.path.now accepting.now.files.now) }
 {
     for file in accepting.files {
         if let Some(text) = file.new_text(&accepting.list) {
@@ -162,8 +162,8 @@ pub(crate) fn write_accepted_files<F: Outputs>(
     }
 }
 
-/// Reads back each golden file on whose text the jobs agree, and the list where it was written. One that has other bytes now was written
-/// under another path that leads there.
+/// Reads back each golden file on whose text the jobs agree, and the list if it was written. A file with other bytes was overwritten
+/// through another path that leads to it.
 pub(crate) fn check_written_files<D: Inputs>(
     inputs: &D,
     alloc: Global,

@@ -21,7 +21,7 @@ use rv_lists::read_faults;
 use rvtest_cli::CheckArgs;
 use std::alloc::{AllocError, Global};
 
-/// All that is wrong with a list, or with the files of its jobs; nothing is run. The status is 2 where anything is.
+/// Reports everything that is wrong with a list or with the files of its jobs, without running any. The status is 2 if there is an error.
 pub(crate) fn check_list<D: Inputs>(
     inputs: &D,
     alloc: Global,
@@ -36,7 +36,7 @@ pub(crate) fn check_list<D: Inputs>(
     check_list_text(inputs, alloc, asked, text.as_slice())
 }
 
-// The same of the list's text.
+// Checks the text of the list.
 fn check_list_text<D: Inputs>(
     inputs: &D,
     alloc: Global,
@@ -61,7 +61,7 @@ fn check_list_text<D: Inputs>(
     })
 }
 
-// Which jobs of a list are refused for their files.
+// Finds the jobs of a list that are refused for their files.
 fn check_files<D: Inputs>(
     inputs: &D,
     alloc: Global,
@@ -80,7 +80,7 @@ fn check_files<D: Inputs>(
     check_plan(alloc, asked, text, &plan, store.unread_paths())
 }
 
-// The same of a list whose files were read.
+// Reports on a list whose files were read.
 #[tactic(auto, unfolding(crate::specs::CheckText::check_text))]
 fn check_plan(
     alloc: Global,

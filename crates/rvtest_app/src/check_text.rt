@@ -1,4 +1,4 @@
-//! What `check` says of a list without faults.
+//! What `check` reports for a list without errors.
 
 ghost use Rattle.std.specs.Prelude.{◌≡◌, ◌≤◌, ◌<◌, ◌++◌, IfOk, OnOk, length, option_map, slice_get, slice_index_or};
 ghost use Rattle.rv_expect.specs.TwoEnds.{expects_two_ends};
@@ -31,7 +31,7 @@ pub(crate) struct CheckedList<'a> {
     ghost few: { length plan.now.jobs ≤ most_jobs },
 }
 
-// A file with what a job expects, where it names one: what is kept of its path, and the path.
+// An expectation file that a job may name: what is kept of its path, and the path.
 #[derive(Clone, Copy)]
 struct Reference<'a> {
     kept: Option<&'a Kept>,
@@ -39,7 +39,7 @@ struct Reference<'a> {
 }
 
 impl<'a> CheckedList<'a> {
-    /// Appends a line for each file for which a job is refused, and gives the number of these jobs.
+    /// Appends a line for each file that makes a job refused, and returns the number of refused jobs.
     pub(crate) fn push_refused_jobs(
         &self,
         alloc: Global,
@@ -60,7 +60,7 @@ impl<'a> CheckedList<'a> {
         Ok(refused)
     }
 
-    // Appends the lines of the job at a place if it is refused, and gives whether it is.
+    // Appends the lines for the job at an index if it is refused, and returns whether it is.
     #[tactic(auto, unfolding(crate::specs::CheckText::refused_job_text))]
     fn push_job_if_refused(
         &self,
@@ -84,7 +84,7 @@ impl<'a> CheckedList<'a> {
         }
     }
 
-    // Appends the lines of the files for which the job at a place is refused.
+    // Appends the lines for the files that make the job at an index refused.
     #[tactic(auto, unfolding(crate::specs::CheckText::refused_files_text))]
     fn push_refused_files(
         &self,
@@ -111,7 +111,7 @@ impl<'a> CheckedList<'a> {
         self.push_reference_if_unread(alloc, told, place, console)
     }
 
-    // Appends the line of the image of the job at a place, if that refuses the job.
+    // Appends the line for the image of the job at an index if it makes the job refused.
     #[tactic(auto, unfolding(rv_job_text::specs::RefusalReasons::ending_reason))]
     fn push_image_if_refused(
         &self,
@@ -134,7 +134,7 @@ impl<'a> CheckedList<'a> {
         }
     }
 
-    // Appends the line of a file with what the job at a place expects, if the file was not read.
+    // Appends the line for an expectation file of the job at an index if the file was not read.
     fn push_reference_if_unread(
         &self,
         alloc: Global,
@@ -161,7 +161,7 @@ impl<'a> CheckedList<'a> {
         }
     }
 
-    // Appends the line of a file for which the job at a place is refused.
+    // Appends the line for a file that makes the job at an index refused.
     #[tactic(auto, unfolding(crate::specs::CheckText::refused_file_line))]
     fn push_refused_file(
         &self,
@@ -180,7 +180,7 @@ impl<'a> CheckedList<'a> {
         push_text(told, "\n")
     }
 
-    /// Appends a line for each job that expects two ends, and gives their number.
+    /// Appends a line for each job that expects two ends, and returns their number.
     pub(crate) fn push_warned_jobs(&self, told: &mut Vec<u8>) -> Result<usize, AllocError>
         ensures text { OnOk result (told.new.items ≡ told.old.items ++ texts_of_jobs
             (warned_job_text self.now.path.now self.now.lines.now) self.now.plan.now.jobs) }
@@ -197,7 +197,7 @@ impl<'a> CheckedList<'a> {
         Ok(warned)
     }
 
-    // Appends the warning of a job at a place if it expects two ends.
+    // Appends the warning for the job at an index if it expects two ends.
     #[tactic(auto, unfolding(crate::specs::CheckText::warned_job_text))]
     fn push_job_if_warned(
         &self,
@@ -231,7 +231,7 @@ impl<'a> CheckedList<'a> {
         push_text(told, "\n")
     }
 
-    // Appends where a job at a place stands, and its name.
+    // Appends the location of the job at an index, and its name.
     #[tactic(auto, unfolding(crate::specs::CheckText::job_prefix))]
     fn push_job_prefix(&self, told: &mut Vec<u8>, place: usize, job: &Job) -> Result<(), AllocError>
         requires { place < length self.now.plan.now.jobs }
@@ -251,7 +251,7 @@ impl<'a> CheckedList<'a> {
         )
     }
 
-    // Appends the path of the list, and the line where the job begins, if that is known.
+    // Appends the path of the list, and the line on which the job begins, if it is known.
     fn push_path_and_line(&self, told: &mut Vec<u8>, place: usize) -> Result<(), AllocError>
         ensures { OnOk result (told.new.items ≡ told.old.items
             ++ path_and_line self.now.path.now (slice_get self.now.lines.now place)) }
@@ -305,7 +305,7 @@ fn push_two_ends(
     )
 }
 
-// What a list says for the end that a job expects.
+// Returns the list's word for the end that a job expects.
 fn expected_end_name(end: Option<ExpectedEnd>) -> &'static str
     ensures { result.now ≡ expected_end_name end }
 {
@@ -315,7 +315,7 @@ fn expected_end_name(end: Option<ExpectedEnd>) -> &'static str
     }
 }
 
-/// Appends the line that counts the jobs, those that are refused, and the warnings.
+/// Appends the line that counts the jobs, the refused jobs and the warnings.
 #[tactic(auto, unfolding(crate::specs::CheckText::job_counts_line))]
 pub(crate) fn push_job_counts_line(
     told: &mut Vec<u8>,
@@ -350,7 +350,7 @@ fn push_refused_count(told: &mut Vec<u8>, refused: usize) -> Result<(), AllocErr
     )
 }
 
-// Appends how many warnings there are, where there are any.
+// Appends the number of warnings, if there are any.
 fn push_warning_count(told: &mut Vec<u8>, warned: usize) -> Result<(), AllocError>
     ensures { OnOk result (told.new.items ≡ told.old.items ++ warning_count_text warned) }
 {

@@ -7,10 +7,10 @@ ghost use Rattle.rv_lists.specs.Limits.{most_jobs};
 
 use rv_fleet::Rows;
 
-/// The rows of the jobs at some places of a list.
+/// The rows of the jobs at some indices of a list.
 #[derive(Drop)]
 pub(crate) struct ChosenRows<'a> {
-    /// How many jobs the list has.
+    /// The number of jobs in the list.
     pub(crate) jobs: usize,
     pub(crate) places: &'a [usize],
     pub(crate) rows: Rows,

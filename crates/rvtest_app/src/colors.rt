@@ -1,4 +1,4 @@
-//! Whether results have colours.
+//! Whether results are coloured.
 
 ghost use Rattle.std.specs.Prelude.{◌≡◌};
 ghost use Rattle.rv_command.specs.Texts.{optional_text};
@@ -9,7 +9,7 @@ use crate::outlets::is_stdout_at;
 use rv_terminal::Colors;
 use rvtest_cli::Asked;
 
-/// Whether what words ask for has colours, where standard output is a terminal for colours, or is none.
+/// Returns the colours for the requested command, given whether standard output is a terminal that supports them.
 pub(crate) fn requested_colors(asked: &Asked<'_>, is_terminal: bool) -> Colors
     ensures { result ≡ requested_colors asked.now is_terminal }
 {
@@ -39,7 +39,7 @@ pub(crate) fn requested_colors(asked: &Asked<'_>, is_terminal: bool) -> Colors
     }
 }
 
-// A file that goes to standard output has no colours.
+// Returns no colours if a file goes to standard output.
 fn beside_file(uses_stdout: bool, colors: Colors) -> Colors
     ensures { result ≡ beside_file uses_stdout colors }
 {

@@ -11,7 +11,7 @@ ghost use Rattle.rv_job_text.specs.RowReporter.{row_line};
 ghost use Rattle.rv_rows.specs.Rows.{row_of};
 ghost use Rattle.rvtest_app.specs.CommandStops.{IsConsoleStop, IsNoJobStop};
 ghost use Rattle.rvtest_app.specs.Commands.{passing_status};
-ghost use Rattle.rvtest_app.specs.Consoles.{IsConsoleAt, IsConsoleOf, IsConsolePut, IsJobConsole};
+ghost use Rattle.rvtest_app.specs.Consoles.{IsConsoleAt, IsConsoleOf, IsConsoleWritten, IsJobConsole};
 ghost use Rattle.rvtest_app.specs.CommandOutputs.{outputs_of};
 
 use crate::destinations::Destinations;
@@ -34,14 +34,14 @@ struct ReportedRow {
     status: u8,
 }
 
-/// Runs the job of a name, and puts its console to standard output and its line to standard error. The status is 1 where it failed.
+/// Runs the job of a name, and writes its console to standard output and its line to standard error. The status is 1 if it failed.
 pub(crate) fn put_job_console<D: Inputs, F: Outputs + Drop, O: Sink + Drop, E: Sink + Drop>(
     inputs: &D,
     alloc: Global,
     asked: ConsoleArgs<'_>,
     to: &mut Destinations<F, O, E>,
 ) -> Result<u8, Stop>
-    ensures put { IfOk result (λ status. IsConsolePut (D.contents inputs.now) asked.entry status
+    ensures put { IfOk result (λ status. IsConsoleWritten (D.contents inputs.now) asked.entry status
         (outputs_of F.placed O.taken E.taken E.failed to.old) (outputs_of F.placed O.taken E.taken E.failed to.new)) }
     ensures low { IfOk result (λ status. status ≤ 1) }
     ensures stopped { IfErr result (λ why. (why ≡ Stop.WriteFailed)
@@ -53,7 +53,7 @@ pub(crate) fn put_job_console<D: Inputs, F: Outputs + Drop, O: Sink + Drop, E: S
     Ok(status)
 }
 
-// The row of the job of a name, with its line.
+// Runs the job of a name, and returns its row with its line.
 fn run_named_job<D: Inputs>(
     inputs: &D,
     alloc: Global,
@@ -68,7 +68,7 @@ fn run_named_job<D: Inputs>(
     run_job_of_text(inputs, alloc, asked, text.as_slice())
 }
 
-// The same of the list's text.
+// Runs the named job of the list's text.
 fn run_job_of_text<D: Inputs>(
     inputs: &D,
     alloc: Global,
@@ -85,7 +85,7 @@ fn run_job_of_text<D: Inputs>(
     run_job_at(inputs, alloc, asked, jobs, place)
 }
 
-// The same of the job at a place.
+// Runs the job at an index.
 fn run_job_at<D: Inputs>(
     inputs: &D,
     alloc: Global,
@@ -106,7 +106,7 @@ fn run_job_at<D: Inputs>(
     run_planned_job(alloc, &plan, store.unread_paths(), place)
 }
 
-// The same of a plan.
+// Runs the job at an index of a plan.
 fn run_planned_job(
     alloc: Global,
     plan: &Plan,

@@ -5,8 +5,8 @@ ghost use Rattle.rv_command.specs.Texts.{optional_text};
 ghost use Rattle.rv_count_tables.specs.Sum.{no_counts};
 ghost use Rattle.rv_count_tables.specs.Table.{IsTable};
 ghost use Rattle.rv_count_tables.specs.Text.{table_text};
-ghost use Rattle.rvtest_app.specs.CountStops.{IsCountsStop, IsReadErrorStop, IsSumErrorStop, IsSumStop, IsTableFaultStop, IsUnaddedStop, great_count_message, two_names_message};
-ghost use Rattle.rvtest_app.specs.CountSums.{AreAdded, IsAdded, IsSumPut};
+ghost use Rattle.rvtest_app.specs.CountStops.{IsCountsStop, IsReadErrorStop, IsSumErrorStop, IsSumStop, IsTableFaultStop, IsUnaddedStop, count_overflow_message, two_names_message};
+ghost use Rattle.rvtest_app.specs.CountSums.{AreAdded, IsAdded, IsSumWritten};
 ghost use Rattle.rvtest_app.specs.Outlets.{is_stdout};
 ghost use Rattle.rvtest_app.specs.Overwrites.{IsPlacedApart, IsSumFileApart, IsSumOverwriteStop};
 ghost use Rattle.rvtest_app.specs.CommandOutputs.{outputs_of};
@@ -33,14 +33,14 @@ pub(crate) fn put_sum_of_tables<D: Inputs, F: Outputs + Drop, O: Sink + Drop, E:
     asked: &CountsArgs<'_>,
     to: &mut Destinations<F, O, E>,
 ) -> Result<u8, Stop>
-    ensures put { IfOk result (λ status. IsSumPut (D.contents inputs.now) asked.now status
+    ensures put { IfOk result (λ status. IsSumWritten (D.contents inputs.now) asked.now status
         (outputs_of F.placed O.taken E.taken E.failed to.old) (outputs_of F.placed O.taken E.taken E.failed to.new)) }
     ensures low { IfOk result (λ status. status ≤ 1) }
     ensures undone { OnErr result (F.placed to.new.files ≡ F.placed to.old.files) }
-    // The sum goes to standard output, or nothing does.
+    // Only the sum may go to standard output.
     ensures untouched { (is_stdout (written_path (optional_text asked.now.out)) ≡ true) ⊎ (to.new.out ≡ to.old.out) }
     ensures stopped { IfErr result (IsCountsStop (D.contents inputs.now) asked.now) }
-    // The tables stay.
+    // The tables are not overwritten.
     ensures kept { IsPlacedApart (IsSumFileApart asked.now) (F.placed to.old.files) (F.placed to.new.files) }
 {
     refuse_sum_overwrite(&to.files, alloc, asked)?;
@@ -52,7 +52,7 @@ pub(crate) fn put_sum_of_tables<D: Inputs, F: Outputs + Drop, O: Sink + Drop, E:
     Ok(DONE)
 }
 
-// Refuses a file for the sum that would replace or remove a table.
+// Rejects a file for the sum that would replace or remove a table.
 fn refuse_sum_overwrite<F: Outputs>(
     files: &F,
     alloc: Global,
@@ -69,7 +69,7 @@ fn refuse_sum_overwrite<F: Outputs>(
     refuse_overwrite(files, alloc, "--out", asked.out, &read)
 }
 
-// The sum of the tables at some paths.
+// Returns the sum of the tables at some paths.
 fn sum_of_paths<D: Inputs>(inputs: &D, alloc: Global, paths: &[&str]) -> Result<CountTable, Stop>
     ensures added { IfOk result (AreAdded (D.contents inputs.now) paths.now no_counts) }
     ensures table { IfOk result IsTable }
@@ -85,7 +85,7 @@ fn sum_of_paths<D: Inputs>(inputs: &D, alloc: Global, paths: &[&str]) -> Result<
     Ok(sum)
 }
 
-// A table with the one at a path added to it.
+// Adds the table at a path to the sum of those before it.
 fn sum_with_path<D: Inputs>(
     inputs: &D,
     alloc: Global,
@@ -105,7 +105,7 @@ fn sum_with_path<D: Inputs>(
     }
 }
 
-/// The table that the text at a path is.
+/// Parses the text at a path as a table of counts.
 pub(crate) fn table_of_text(alloc: Global, path: &str, text: &[u8]) -> Result<CountTable, Stop>
     ensures table { IfOk result (λ table. IsTable table × (table_text table ≡ text.now)) }
     ensures stopped { IfErr result (IsTableFaultStop path.now text.now) }
@@ -131,7 +131,7 @@ fn read_error_stop(alloc: Global, path: &str, error: ReadError) -> Stop
     }
 }
 
-/// What is told where the table at a path has no sum with others.
+/// Returns the message for a table at a path that cannot be added to others.
 pub(crate) fn sum_error_stop(alloc: Global, path: &str, error: SumError) -> Stop
     ensures { IsSumErrorStop path.now error result }
 {
@@ -139,11 +139,11 @@ pub(crate) fn sum_error_stop(alloc: Global, path: &str, error: SumError) -> Stop
         SumError::OutOfMemory => Stop::OutOfMemory,
         SumError::Count(address) => {
             let what = ": the count at ";
-            Stop::of_refusal(great_count_message(alloc, path, what, address))
+            Stop::of_refusal(count_overflow_message(alloc, path, what, address))
         }
         SumError::Spot(function) => {
             let what = ": a count in the stacks of ";
-            Stop::of_refusal(great_count_message(alloc, path, what, function))
+            Stop::of_refusal(count_overflow_message(alloc, path, what, function))
         }
         SumError::Names(function) => Stop::of_refusal(two_names_message(alloc, path, function)),
         SumError::Runs => {
@@ -168,13 +168,13 @@ fn two_names_message(alloc: Global, path: &str, function: u32) -> Result<Vec<u8>
     )
 }
 
-fn great_count_message<'a>(
+fn count_overflow_message<'a>(
     alloc: Global,
     path: &'a str,
     what: &'a str,
     address: u32,
 ) -> Result<Vec<u8>, AllocError>
-    ensures { IfOk result (λ text. text.items ≡ great_count_message path.now what.now address) }
+    ensures { IfOk result (λ text. text.items ≡ count_overflow_message path.now what.now address) }
 {
     text_of_spans(
         alloc,

@@ -1,19 +1,19 @@
-//! What is said of a sum of tables of counts.
+//! The summary of a sum of count tables.
 
 ghost use Rattle.std.specs.Prelude.{◌≡◌, ◌+◌, IfOk};
-ghost use Rattle.rvtest_app.specs.CountSums.{begun_of_addresses, begun_of_images, image_word, instruction_word, number_head, run_word, shown_number, sum_note};
+ghost use Rattle.rvtest_app.specs.CountSums.{executed_at_addresses, executed_in_images, image_word, instruction_word, number_head, run_word, shown_number, sum_note};
 
 use rv_count_tables::{AddressCounts, CountTable, ImageCounts};
 use rv_text::{Span, text_of_spans};
 use std::alloc::{AllocError, Global};
 
-/// How many runs a table is of, of how many images, and how many instructions began.
+/// Returns the number of runs, of images and of executed instructions in a table, as a line.
 pub(crate) fn sum_note(alloc: Global, table: &CountTable) -> Result<Vec<u8>, AllocError>
     ensures { IfOk result (λ note. note.items ≡ sum_note table.now) }
 {
     let images = table.images.as_slice();
     let count = images.len() as u64;
-    let begun = begun_of_images(images);
+    let begun = executed_in_images(images);
     text_of_spans(
         alloc,
         &[
@@ -56,20 +56,20 @@ fn number_head(number: u64) -> &'static str
     if number == u64::MAX { "at least " } else { "" }
 }
 
-// How often an instruction began in some images, or the greatest number of 64 bits where that is more.
-fn begun_of_images(images: &[ImageCounts]) -> u64
-    ensures { result ≡ shown_number (begun_of_images images.now) }
+// Returns the number of executed instructions in some images, or the greatest 64-bit number if there are more.
+fn executed_in_images(images: &[ImageCounts]) -> u64
+    ensures { result ≡ shown_number (executed_in_images images.now) }
 {
     let mut total = 0;
     for image in images {
-        total = begun_behind(total, image.addresses.as_slice());
+        total = add_executed(total, image.addresses.as_slice());
     }
     total
 }
 
-// The same of addresses, added to a number.
-fn begun_behind(before: u64, addresses: &[AddressCounts]) -> u64
-    ensures { result ≡ shown_number (before + begun_of_addresses addresses.now) }
+// Adds the number of executed instructions at some addresses to `before`, saturating.
+fn add_executed(before: u64, addresses: &[AddressCounts]) -> u64
+    ensures { result ≡ shown_number (before + executed_at_addresses addresses.now) }
 {
     let mut total = before;
     for counts in addresses {

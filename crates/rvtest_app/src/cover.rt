@@ -2,7 +2,7 @@
 
 ghost use Rattle.std.specs.Prelude.{◌≡◌, ◌⊎◌, ◌≤◌, IfErr, IfOk};
 ghost use Rattle.rvtest_app.specs.CoverStops.{IsCoverStop};
-ghost use Rattle.rvtest_app.specs.Covers.{IsCoverPut};
+ghost use Rattle.rvtest_app.specs.Covers.{IsCoverageWritten};
 ghost use Rattle.rvtest_app.specs.CommandOutputs.{outputs_of};
 
 use crate::destinations::Destinations;
@@ -15,7 +15,7 @@ use rvtest_cli::{ChoosingCommand, CoverArgs};
 use std::sync::Wait;
 use std::thread::Threads;
 
-/// Shows what ran of the images of the jobs that are asked for: by a run of them, or by a table of counts. The status is 0.
+/// Shows the coverage of the images of the requested jobs: from a run of them, or from a table of counts. The status is 0.
 pub(crate) fn cover_requested_jobs<
     R: Threads + Wait + Sync,
     D: Inputs,
@@ -23,7 +23,7 @@ pub(crate) fn cover_requested_jobs<
     O: Sink + Drop,
     E: Sink + Drop,
 >(host: &Host<'_, R, D>, asked: &CoverArgs<'_>, to: &mut Destinations<F, O, E>) -> Result<u8, Stop>
-    ensures put { IfOk result (λ status. IsCoverPut (D.contents host.now.inputs.now) asked.now status
+    ensures put { IfOk result (λ status. IsCoverageWritten (D.contents host.now.inputs.now) asked.now status
         (outputs_of F.placed O.taken E.taken E.failed to.old) (outputs_of F.placed O.taken E.taken E.failed to.new)) }
     ensures low { IfOk result (λ status. status ≤ 1) }
     ensures stopped { IfErr result (λ why. (why ≡ Stop.WriteFailed)

@@ -1,4 +1,4 @@
-//! The threads of a run.
+//! The worker threads of a run.
 
 ghost use Rattle.std.specs.Prelude.{◌≡◌};
 ghost use Rattle.rvtest_app.specs.Crews.{AreRequestedWorkers, requested_group};
@@ -9,7 +9,7 @@ use rvtest_cli::RunArgs;
 use std::alloc::Global;
 use std::thread::{self, Threads};
 
-/// The threads that words ask for, each of which takes as many jobs at a time as they ask for.
+/// Returns the requested worker threads, each of which takes chunks of the requested number of jobs.
 pub(crate) fn requested_crew<'r, R: Threads>(
     rt: &'r R,
     alloc: Global,
@@ -22,7 +22,7 @@ pub(crate) fn requested_crew<'r, R: Threads>(
     Crew::new(rt, alloc, requested_workers(rt, asked), group)
 }
 
-// As many threads as are asked for, or as there are processors: from 1 to 64.
+// Returns the requested number of threads, or the number of processors by default: from 1 to 64.
 fn requested_workers<R: Threads>(rt: &R, asked: &RunArgs<'_>) -> u32
     ensures { AreRequestedWorkers asked.now.workers result }
 {

@@ -1,6 +1,6 @@
-//! Where a command's texts go.
+//! Where the texts of a command go.
 
-/// Where a command's texts go: files, and standard output and standard error as sinks.
+/// Where the texts of a command go: files, and standard output and standard error as sinks.
 #[derive(Drop)]
 pub struct Destinations<F: Drop, O: Drop, E: Drop> {
     pub files: F,

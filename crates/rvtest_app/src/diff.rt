@@ -3,11 +3,11 @@
 ghost use Rattle.std.specs.Prelude.{◌≡◌, ◌⊎◌, ◌≤◌, ◌<◌, ◌^◌, ◌++◌, IfErr, IfOk, MatchResult, length};
 ghost use Rattle.rv_command.specs.Messages.{cut_off_note};
 ghost use Rattle.rvtest_app.specs.Commands.{diff_status};
-ghost use Rattle.rvtest_app.specs.Reports.{IsDiffAt, IsDiffOf, IsDiffOfReports, IsDiffPut, compared_rows, leaves_out, left_out_count};
+ghost use Rattle.rvtest_app.specs.Reports.{IsDiffAt, IsDiffOf, IsDiffOfReports, IsDiffWritten, compared_rows, leaves_out, left_out_count};
 ghost use Rattle.rvtest_app.specs.Reports.{requested_comparison};
 ghost use Rattle.rvtest_app.specs.CommandOutputs.{outputs_of};
 ghost use Rattle.rvtest_app.specs.CommandStops.{IsDiffAtStop};
-ghost use Rattle.rvtest_app.specs.ToldStops.{IsDiffStop};
+ghost use Rattle.rvtest_app.specs.ReportedStops.{IsDiffStop};
 ghost use Rattle.rv_command.specs.declared.stop.Stop.TheVariants.{OutOfMemory, WriteFailed};
 ghost use Rattle.rv_diff.specs.Diff.{diff_text, counts_of_differing};
 
@@ -24,22 +24,21 @@ use rv_rows::{Row, Sink};
 use rvtest_cli::DiffArgs;
 use std::alloc::{AllocError, Global};
 
-// In which jobs two reports differ, the status of that, and what is said of reports that are cut off.
+// The differences of two reports, the status, and the notes about truncated reports.
 #[derive(Drop)]
 struct NotedDiff {
     found: Found,
     notes: Vec<u8>,
 }
 
-/// Puts in which jobs two reports differ, and before that what is said of those that are cut off. The status is 1 where they do in
-/// any.
+/// Writes the notes about truncated reports, and then which jobs differ between two reports. The status is 1 if any does.
 pub(crate) fn diff_reports<D: Inputs, F: Outputs + Drop, O: Sink + Drop, E: Sink + Drop>(
     inputs: &D,
     alloc: Global,
     asked: DiffArgs<'_>,
     to: &mut Destinations<F, O, E>,
 ) -> Result<u8, Stop>
-    ensures put { IfOk result (λ status. IsDiffPut (D.contents inputs.now) asked.entry status
+    ensures put { IfOk result (λ status. IsDiffWritten (D.contents inputs.now) asked.entry status
         (outputs_of F.placed O.taken E.taken E.failed to.old) (outputs_of F.placed O.taken E.taken E.failed to.new)) }
     ensures low { IfOk result (λ status. status ≤ 1) }
     ensures stopped { IfErr result (λ why. (why ≡ WriteFailed)
@@ -51,7 +50,7 @@ pub(crate) fn diff_reports<D: Inputs, F: Outputs + Drop, O: Sink + Drop, E: Sink
     Ok(found.status)
 }
 
-// The same of what stands at the two paths.
+// Compares the files at the two paths.
 fn diff_of_files<D: Inputs>(
     inputs: &D,
     alloc: Global,
@@ -67,7 +66,7 @@ fn diff_of_files<D: Inputs>(
     diff_report_texts(alloc, asked, old.as_slice(), new)
 }
 
-// The same of the texts of the two. What is wrong with the old one comes before what kept the new one from being read.
+// Compares two reports by their texts. An error in the old one takes precedence over a failure to read the new one.
 fn diff_report_texts(
     alloc: Global,
     asked: DiffArgs<'_>,
@@ -85,7 +84,7 @@ fn diff_report_texts(
     diff_read_reports(alloc, asked, old, new)
 }
 
-// The report at one of the two paths.
+// Returns the request for the report at one of the two paths.
 fn requested<'a>(path: &'a str, asked: DiffArgs<'_>) -> RequestedReport<'a>
     ensures path { result.path.now ≡ path.entry.now }
     ensures partial { result.partial ≡ asked.entry.partial }
@@ -96,7 +95,7 @@ fn requested<'a>(path: &'a str, asked: DiffArgs<'_>) -> RequestedReport<'a>
     }
 }
 
-// The same of the two reports that were read.
+// Compares two reports that were read, possibly truncated.
 fn diff_read_reports(
     alloc: Global,
     asked: DiffArgs<'_>,
@@ -119,7 +118,7 @@ fn diff_read_reports(
     Ok(NotedDiff { found, notes })
 }
 
-// The same of the two reports.
+// Compares two complete reports.
 fn diff_saved_reports(
     alloc: Global,
     compare: Compare,
@@ -145,7 +144,7 @@ fn diff_saved_reports(
     diff_rows(alloc, compare, compared)
 }
 
-// The rows that are compared: of a whole report beside that of a choice those of the jobs that this has.
+// Returns the rows to compare: if one report is whole and the other that of a choice, only the rows of the jobs in the choice.
 fn compared_rows(
     alloc: Global,
     old: SavedReport,
@@ -170,7 +169,7 @@ fn compared_rows(
     Ok((old, new))
 }
 
-// Whether the report of a choice stands beside a whole one.
+// Whether `part` is the report of a choice and `other` a whole one.
 fn leaves_out(part: &Extent, other: &Extent) -> bool
     ensures { result ≡ leaves_out part.now other.now }
 {
@@ -180,7 +179,7 @@ fn leaves_out(part: &Extent, other: &Extent) -> bool
     }
 }
 
-// What `--steps` or `--slower` asks for.
+// Returns the comparison that `--steps` or `--slower` requests.
 fn requested_comparison(steps: bool, slower: Option<u32>) -> Compare
     ensures { result ≡ requested_comparison steps slower }
 {
@@ -191,7 +190,7 @@ fn requested_comparison(steps: bool, slower: Option<u32>) -> Compare
     }
 }
 
-// The same of the rows that are compared.
+// Compares the rows.
 fn diff_rows(alloc: Global, compare: Compare, compared: Compared<'_>) -> Result<Found, Stop>
     requires old { length compared.old.now < 2 ^ 32 }
     requires new { length compared.new.now < 2 ^ 32 }

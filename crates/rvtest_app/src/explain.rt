@@ -24,7 +24,7 @@ use rv_rows::row_at;
 use rvtest_cli::ExplainArgs;
 use std::alloc::Global;
 
-/// How the job of a name ends and comes there, which is run for that. The status is 1 where it failed.
+/// Runs the job of a name, and explains how it ends and how it got there. The status is 1 if it failed.
 pub(crate) fn explain_named_job<D: Inputs>(
     inputs: &D,
     alloc: Global,
@@ -39,7 +39,7 @@ pub(crate) fn explain_named_job<D: Inputs>(
     explain_job_of_text(inputs, alloc, asked, text.as_slice())
 }
 
-// The same of the list's text.
+// Explains the named job of the list's text.
 fn explain_job_of_text<D: Inputs>(
     inputs: &D,
     alloc: Global,
@@ -55,7 +55,7 @@ fn explain_job_of_text<D: Inputs>(
     explain_job_at(inputs, alloc, asked, jobs, place)
 }
 
-// The same of the job at a place. A budget that is asked for is that of every job.
+// Explains the job at an index. A requested budget applies to every job.
 fn explain_job_at<D: Inputs>(
     inputs: &D,
     alloc: Global,
@@ -77,7 +77,7 @@ fn explain_job_at<D: Inputs>(
     explain_planned_job(alloc, &plan, store.unread_paths(), place, asked.last)
 }
 
-// The same of a plan.
+// Explains the job at an index of a plan.
 fn explain_planned_job(
     alloc: Global,
     plan: &Plan,

@@ -10,7 +10,7 @@ use rv_rows::Row;
 use rv_stream::RowReporter;
 use std::alloc::{AllocError, Global};
 
-/// Tells of a row that counts as a failure its line, with no symbol and no reason, and of any other nothing.
+/// Reports the line of each row that counts as a failure, without symbols or reasons, and nothing for other rows.
 #[derive(Clone, Copy)]
 pub struct FailedLines<'a> {
     pub judge: Judge<'a>,
@@ -33,7 +33,7 @@ impl<'a> RowReporter for FailedLines<'a> {
     }
 }
 
-/// Appends the line of a row that counts as a failure, and of any other nothing.
+/// Appends the line of a row that counts as a failure; does nothing for other rows.
 pub(crate) fn push_failed_line(
     alloc: Global,
     text: &mut Vec<u8>,

@@ -6,7 +6,7 @@ ghost use Rattle.rvtest_app.specs.ReportTexts.{report_rows};
 use crate::report_texts::ReportText;
 use rv_junit::Suite;
 
-/// What goes to files: a report, and its rows as JUnit's XML with the lines that are told of the jobs at some places.
+/// What goes to files: a report, and its rows as JUnit XML with the lines that are reported for the jobs at some indices.
 #[derive(Drop)]
 pub(crate) struct FileTexts<'s, 't, 'p, T> {
     pub(crate) suite: Suite<'s>,

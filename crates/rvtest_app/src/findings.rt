@@ -1,4 +1,4 @@
-//! What a command found that runs no list.
+//! The findings of commands that run no list.
 
 ghost use Rattle.std.specs.Prelude.{◌≡◌, IfErr, IfOk, MatchResult, OnErr, OnOk};
 ghost use Rattle.std.specs.Io.KnownBytes.{Appends};
@@ -8,14 +8,14 @@ ghost use Rattle.rv_base.specs.Sinks.{AppendsBeginning};
 use rv_command::{Stop, put_results};
 use rv_rows::Sink;
 
-/// What a command found: the text that goes to standard output, and the status.
+/// The findings of a command: the text for standard output, and the status.
 #[derive(Drop)]
 pub(crate) struct Found {
     pub(crate) text: Vec<u8>,
     pub(crate) status: u8,
 }
 
-/// Puts the text of what a command found, and hands its status on.
+/// Writes the findings of a command, and returns its status.
 pub(crate) fn put_findings<O: Sink>(out: &mut O, found: Result<Found, Stop>) -> Result<u8, Stop>
     ensures put { IfOk result (λ status. MatchResult found (λ found. (status ≡ found.status)
         × Appends (O.taken out.old) (O.taken out.new) found.text.items) (λ stop. ⊥)) }

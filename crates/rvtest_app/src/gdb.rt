@@ -34,7 +34,7 @@ use std::alloc::{AllocError, Global};
 use std::io::Read;
 use std::thread::Threads;
 
-/// A session over the run of a job, and the job.
+/// A debugging session of a job's run, and the job.
 #[derive(Drop)]
 struct Opened {
     session: Session,
@@ -42,9 +42,9 @@ struct Opened {
     ghost same_run: { job_start job.plan job.place ≡ session.history.start } by { Coded-set state_code (job_start job.plan job.place) session.history.start },
 }
 
-/// Shows the run of the job of a name to gdb, whose bytes the reader has, and puts the replies to standard output, until gdb ends the
-/// session or sends no more. Only Ctrl-C breaks a move off, or the end of gdb's bytes. The status is 0. Where standard output is a
-/// terminal nobody there would understand them.
+/// Debugs the run of the job of a name with gdb, whose packets come from the reader, and writes the responses to standard output, until gdb
+/// ends the session or sends no more. Only Ctrl-C or the end of gdb's input interrupts a move. The status is 0. It is an error if standard
+/// output is a terminal, where nobody would understand the responses.
 pub(crate) fn show_job_to_gdb<
     R: Threads,
     D: Inputs,
@@ -85,7 +85,7 @@ pub(crate) fn show_job_to_gdb<
     }
 }
 
-// What the session takes at most is what is asked for, if anything is.
+// Limits the session's memory to the requested number of megabytes, if there is one.
 fn set_memory(alloc: Global, session: &mut Session, megabytes: Option<u32>)
     ensures { session.new ≡ session.old }
 {
@@ -94,7 +94,7 @@ fn set_memory(alloc: Global, session: &mut Session, megabytes: Option<u32>)
     }
 }
 
-// It is said how gdb starts the command.
+// Returns the message that shows how gdb starts the command.
 fn no_gdb_stop(alloc: Global) -> Stop
     ensures { IsNoGdbStop result }
 {
@@ -103,20 +103,20 @@ fn no_gdb_stop(alloc: Global) -> Stop
     Stop::of_refusal(path_message(alloc, "standard output", how))
 }
 
-// Why the session with gdb was broken off.
+// Returns why the session with gdb ended with an error.
 fn broken_stop(alloc: Global, broken: SessionError) -> Stop
     ensures { IsBrokenStop broken result }
 {
     match broken {
         SessionError::OutOfMemory => Stop::OutOfMemory,
-        SessionError::Unput => Stop::WriteFailed,
+        SessionError::ReplyWriteFailed => Stop::WriteFailed,
         SessionError::UnreadPath(reason) => {
             file_error_stop(alloc, "standard input", FileError::Failed(reason))
         }
     }
 }
 
-// The session over the run of the job of a name, before gdb says anything.
+// Opens the session of the named job's run, before gdb sends anything.
 fn session_of_named_job<D: Inputs>(
     inputs: &D,
     alloc: Global,
@@ -130,7 +130,7 @@ fn session_of_named_job<D: Inputs>(
     session_of_text(inputs, alloc, asked, text.as_slice())
 }
 
-// The same of the list's text.
+// Opens the session of the named job of the list's text.
 fn session_of_text<D: Inputs>(
     inputs: &D,
     alloc: Global,
@@ -146,7 +146,7 @@ fn session_of_text<D: Inputs>(
     session_of_job(inputs, alloc, asked, named)
 }
 
-// The same of the job at the place that was found.
+// Opens the session of the job at the index that was found.
 fn session_of_job<D: Inputs>(
     inputs: &D,
     alloc: Global,
@@ -178,7 +178,8 @@ fn session_of_job<D: Inputs>(
     }
 }
 
-// The session over the run of the job at a place of a plan, whose image's path is taken from a folder; nothing where the job is refused.
+// Opens the session of the run of the job at an index of a plan, with its image's path resolved against the root; returns `None` if the job
+// is refused.
 fn session_over_plan(
     alloc: Global,
     plan: &Plan,
@@ -195,7 +196,7 @@ fn session_over_plan(
     session_at(alloc, plan, place, path)
 }
 
-// The path of an image, resolved against the root.
+// Returns the path of an image, resolved against the root.
 fn image_path(alloc: Global, root: Option<&str>, image: &str) -> Result<Bytes, AllocError>
     ensures { IfOk result (λ path. path ≡ resolved_path (optional_text root.entry) image.now) }
 {
@@ -203,7 +204,7 @@ fn image_path(alloc: Global, root: Option<&str>, image: &str) -> Result<Bytes, A
     Ok(Bytes::new(Vec::from_slice(alloc, path.as_str().as_bytes())?))
 }
 
-// The job at a place is refused, as its line says.
+// Returns the error for the refused job at an index, with its line as the message.
 fn refused_job_stop(alloc: Global, plan: &Plan, unread: &[UnreadPath], place: usize) -> Stop
     requires { place < length plan.now.jobs }
     ensures { (d : AJob) → IsStop 2 (row_line plan.now unread.now (judging_by_rule Strict)
@@ -212,7 +213,7 @@ fn refused_job_stop(alloc: Global, plan: &Plan, unread: &[UnreadPath], place: us
     Stop::of_refusal(row_line(alloc, plan, unread, place))
 }
 
-// The line of the job at a place.
+// Returns the line of the job at an index.
 fn row_line(
     alloc: Global,
     plan: &Plan,

@@ -3,17 +3,17 @@
 ghost use Rattle.std.specs.Prelude.{◌≡◌, IfErr, IfOk, OnErr, OnOk};
 ghost use Rattle.std.specs.Io.KnownBytes.{Appends};
 ghost use Rattle.rv_base.specs.Sinks.{AppendsBeginning};
-ghost use Rattle.rvtest_app.specs.ToldStops.{IsHelpPut, IsHelpStop, IsWordsErrorStop};
+ghost use Rattle.rvtest_app.specs.ReportedStops.{IsHelpWritten, IsHelpStop, IsWordsErrorStop};
 
 use clap::error::ErrorKind;
 use rv_command::{DONE, Stop, put_results};
 use rv_rows::Sink;
 use rvtest_cli::WordsError;
 
-/// Help and the version are errors of words, and go to standard output. Any other error refuses the words.
+/// Writes the help or the version, which are errors of the arguments, to standard output. Any other error rejects the arguments.
 pub(crate) fn answer_words_error<O: Sink>(out: &mut O, error: WordsError) -> Result<u8, Stop>
     ensures done { IfOk result (λ status. status ≡ 0) }
-    ensures helped { OnOk result (IsHelpPut error (O.taken out.old) (O.taken out.new)) }
+    ensures helped { OnOk result (IsHelpWritten error (O.taken out.old) (O.taken out.new)) }
     ensures counted { OnOk result (O.failed out.new ≡ O.failed out.old) }
     ensures stopped { IfErr result (IsWordsErrorStop error (O.failed out.old) (O.failed out.new)) }
 {
@@ -25,7 +25,7 @@ pub(crate) fn answer_words_error<O: Sink>(out: &mut O, error: WordsError) -> Res
     }
 }
 
-// Puts a text that was asked for in place of a command.
+// Writes a text that was requested instead of a command.
 fn put_help<O: Sink>(out: &mut O, text: &str) -> Result<u8, Stop>
     ensures done { IfOk result (λ status. status ≡ 0) }
     ensures put { OnOk result (Appends (O.taken out.old) (O.taken out.new) text.now) }

@@ -1,8 +1,8 @@
-//! What is told of a topic that is no command.
+//! What `help` prints for a topic that is not a command.
 
 ghost use Rattle.std.specs.Prelude.{◌≡◌, IfErr, IfOk};
 ghost use Rattle.rv_command.specs.Stops.{IsStop};
-ghost use Rattle.rvtest_app.specs.HelpTopics.{IsNoTopicStop, IsTopicTold, no_topic_message};
+ghost use Rattle.rvtest_app.specs.HelpTopics.{IsNoTopicStop, IsTopicPrinted, no_topic_message};
 
 use crate::findings::Found;
 use crate::list_keys::LIST_KEYS;
@@ -11,9 +11,9 @@ use rv_text::{Span, push_text, text_of_spans};
 use rvtest_cli::HelpArgs;
 use std::alloc::{AllocError, Global};
 
-/// Tells the keys of a list, which are the only topic.
-pub(crate) fn tell_topic(alloc: Global, asked: HelpArgs<'_>) -> Result<Found, Stop>
-    ensures told { IfOk result (λ found. IsTopicTold asked.entry.topic.now found.text.items found.status) }
+/// Returns the keys of a list, the only such topic.
+pub(crate) fn topic_help(alloc: Global, asked: HelpArgs<'_>) -> Result<Found, Stop>
+    ensures told { IfOk result (λ found. IsTopicPrinted asked.entry.topic.now found.text.items found.status) }
     ensures stopped { IfErr result (IsNoTopicStop asked.entry.topic.now) }
 {
     if asked.topic != "list" {

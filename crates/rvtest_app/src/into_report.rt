@@ -1,9 +1,9 @@
-//! The rows of a run that are put into the whole report of their list.
+//! Merging the rows of a run into the whole report of their list.
 
 ghost use Rattle.std.specs.Prelude.{◌≡◌, ◌<◌, length, vec_len};
 ghost use Rattle.std.specs.List.{All};
 ghost use Rattle.rv_command.specs.Texts.{optional_text};
-ghost use Rattle.rvtest_app.specs.IntoReports.{rows_put, run_report_path, uses_run_stdout};
+ghost use Rattle.rvtest_app.specs.IntoReports.{merged_rows, run_report_path, uses_run_stdout};
 
 use crate::chosen_rows::ChosenRows;
 use crate::outlets::is_stdout_at;
@@ -12,16 +12,16 @@ use rv_report::Shard;
 use rv_rows::Row;
 use rvtest_cli::RunArgs;
 
-/// What a run's report has beside the run's rows.
+/// What the report of a run has besides the run's rows.
 #[derive(Drop)]
 pub(crate) struct ReportFrame {
-    /// The shard whose jobs these are of.
+    /// The shard whose jobs these are.
     pub(crate) shard: Option<Shard>,
-    /// The rows of the whole report into which these are put: one of each job of the list.
+    /// The rows of the whole report into which these are merged: one for each job of the list.
     pub(crate) old: Option<Rows>,
 }
 
-/// The rows of chosen jobs, and those of the whole report into which they are put.
+/// The rows of chosen jobs, and those of the whole report into which they are merged.
 #[derive(Drop)]
 pub(crate) struct IntoRows<'a> {
     pub(crate) chosen: ChosenRows<'a>,
@@ -30,23 +30,23 @@ pub(crate) struct IntoRows<'a> {
 }
 
 impl<'a> IntoRows<'a> {
-    /// All rows, with those of the chosen jobs in their places. Takes no memory.
+    /// Returns all rows, with those of the chosen jobs at their indices. Allocates no memory.
     pub(crate) fn into_whole_rows(self) -> Rows
-        ensures { result ≡ rows_put self.entry.chosen.places.now self.entry.chosen.rows self.entry.old }
+        ensures { result ≡ merged_rows self.entry.chosen.places.now self.entry.chosen.rows self.entry.old }
     {
         let IntoRows { chosen, old, .. } = self;
         let ChosenRows { places, rows, .. } = chosen;
         let mut whole = old.into_vec();
-        put_rows_at(&mut whole, places, rows.into_vec());
+        replace_rows_at(&mut whole, places, rows.into_vec());
         Rows::new(whole)
     }
 }
 
-// Puts rows at places, in the place of those that stand there.
-fn put_rows_at(whole: &mut Vec<Row>, places: &[usize], rows: Vec<Row>)
+// Replaces the rows at `places` by `rows`.
+fn replace_rows_at(whole: &mut Vec<Row>, places: &[usize], rows: Vec<Row>)
     requires within { All (λ place. place < vec_len whole.old) places.now }
     requires counted { length places.now ≡ vec_len rows }
-    ensures { whole.new.items ≡ rows_put places.now rows.items whole.old.items }
+    ensures { whole.new.items ≡ merged_rows places.now rows.items whole.old.items }
 {
     let mut at = 0;
     for row in rows {
@@ -55,7 +55,7 @@ fn put_rows_at(whole: &mut Vec<Row>, places: &[usize], rows: Vec<Row>)
     }
 }
 
-/// Where the report of a run goes.
+/// Returns the path to which the report of a run is written.
 pub(crate) fn run_report_path<'a>(asked: &RunArgs<'a>) -> Option<&'a str>
     ensures { optional_text result ≡ run_report_path asked.now }
 {

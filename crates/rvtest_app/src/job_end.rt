@@ -1,4 +1,4 @@
-//! What gdb is told of a job at the end of its run.
+//! What gdb is shown of a job at the end of its run.
 
 ghost use Rattle.std.specs.Prelude.{◌≡◌, ◌<◌, IfOk, is_ok, length, slice_index_or, true};
 ghost use Rattle.rv_history.specs.Places.{IsReached};
@@ -16,7 +16,7 @@ use rv_rows::{Row, row_at, row_from};
 use rv_session::EndText;
 use std::alloc::{AllocError, Global};
 
-/// The job at a place of a plan, which is not refused, and what was noted of the plan's paths.
+/// The job at an index of a plan, which is not refused, and the notes about the plan's paths.
 #[derive(Drop)]
 pub(crate) struct JobEnd {
     pub(crate) plan: Plan,
@@ -53,13 +53,13 @@ impl EndText for JobEnd {
     }
 }
 
-// The row of the job, whose machine stands behind so many steps of its run.
+// Returns the row of the job, given its machine after `steps` steps of the run.
 fn row_behind(alloc: Global, job: &JobEnd, steps: u32, machine: &Machine) -> Result<Row, AllocError>
     requires { IsReached (job_start job.now.plan job.now.place) steps (state_of machine.now) }
     ensures { IfOk result (λ row. (d : AJob) → row
         ≡ row_of job.now.plan (slice_index_or job.now.plan.jobs job.now.place d)) }
 {
-    // No session stands behind its budget; there the machine would be of no use.
+    // No session runs past the job's budget; the machine would be of no use there.
     if job.plan.job(job.place).budget < steps {
         return row_at(alloc, &job.plan, job.place);
     }

@@ -1,4 +1,4 @@
-//! The suite and the class of a list's jobs in JUnit's XML.
+//! The suite and the class of a list's jobs in JUnit XML.
 
 ghost use Rattle.std.specs.Prelude.{◌≡◌};
 ghost use Rattle.rv_command.specs.Texts.{optional_text};
@@ -6,7 +6,7 @@ ghost use Rattle.rvtest_app.specs.JunitTexts.{junit_class, suite_name};
 
 use std::path::Path;
 
-/// The name of the suite: the one that is asked for, else by the path of a file.
+/// Returns the suite name: the requested one, else one derived from the path of a file.
 pub(crate) fn suite_name<'a>(asked: Option<&'a str>, path: &'a str) -> &'a str
     ensures { result.now ≡ suite_name (optional_text asked.entry) path.entry.now }
 {
@@ -16,7 +16,7 @@ pub(crate) fn suite_name<'a>(asked: Option<&'a str>, path: &'a str) -> &'a str
     }
 }
 
-/// The name of a file without its folders and its ending, as the class of its jobs.
+/// Returns the file name without its directories and its extension, used as the class of its jobs.
 pub(crate) fn junit_class(path: &str) -> &str
     ensures { result.now ≡ junit_class path.now }
 {

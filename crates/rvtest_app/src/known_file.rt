@@ -1,4 +1,4 @@
-//! The file with the names of jobs that are known to fail.
+//! The file that names the known failures.
 
 ghost use Rattle.std.specs.Prelude.{◌≡◌, ◌++◌, IfErr, IfOk, OnOk};
 ghost use Rattle.rv_command.specs.Texts.{optional_text};
@@ -15,7 +15,7 @@ use rv_text::{Span, push_spans, push_text};
 use rvtest_cli::RunArgs;
 use std::alloc::{AllocError, Global};
 
-/// The known failures among the jobs of a list, where words name a file.
+/// Reads the known failures among the jobs of a list, if the arguments name a file.
 pub(crate) fn requested_known_jobs<D: Inputs>(
     inputs: &D,
     alloc: Global,

@@ -1,4 +1,4 @@
-//! Laws, with nothing to run.
+//! Laws; there is nothing to run.
 
 ghost use Rattle.std.specs.Prelude.{◌≡◌, [], List};
 ghost use Rattle.rv_accept_text.specs.Told.{changed_count};
@@ -7,12 +7,12 @@ ghost use Rattle.rv_report.specs.declared.row.Row.{Row};
 ghost use Rattle.rvtest_app.specs.Accepts.{written_files};
 ghost use Rattle.rvtest_app.specs.ReportSummary.{AreSortedBySteps, rows_by_steps};
 
-/// Of a report's rows those with the most steps stand first, each row once, and rows of equal steps in their order.
+/// The rows of a report are sorted by descending steps, each row once, and rows with equal steps keep their order.
 pub fn rows_by_steps_are_sorted()
     ensures { (rows : List Row) → AreSortedBySteps rows (rows_by_steps rows) }
 {}
 
-/// Where `accept` tells no change, it writes no file.
+/// If `accept` reports no change, it writes no file.
 pub fn nothing_is_written_where_nothing_changes()
     ensures { (told : AcceptSummary) → changed_count told ≡ 0 → written_files told ≡ [] }
 {}

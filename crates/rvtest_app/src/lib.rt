@@ -1,9 +1,8 @@
-//! The program `rvtest` as a library: words are answered over files that are read and written, sinks, threads and a clock.
+//! The program `rvtest` as a library: it responds to arguments, given files to read and write, sinks, threads and a clock.
 //!
-//! [`run_rvtest`] gives the status: 0 where all is well, 1 where a job failed, 2 where words, a list or a report are
-//! refused, 3 where the system failed, 141 where the reader of standard output closed it. What a command finds goes to
-//! standard output, and messages to standard error.
-//! What goes to each and to which file is said by definitions (`specs/`), of the words and of what stands at the paths that are read.
+//! [`run_rvtest`] returns the exit status: 0 if all is well, 1 if a job failed, 2 if the arguments, a list or a report are rejected, 3 if
+//! the system failed, and 141 if the reader of standard output closed it. What a command finds goes to standard output, and messages go to
+//! standard error. The definitions in `specs/` say what goes to each stream and file, given the arguments and the files that are read.
 #![tactic(auto)]
 
 mod accept;

@@ -4,7 +4,7 @@ ghost use Rattle.std.specs.Prelude.{◌≡◌, ◌⊎◌, ◌≤◌, ◌<◌, �
 ghost use Rattle.std.specs.List.{All};
 ghost use Rattle.rvtest_app.specs.CommandStops.{IsListStop, IsNoChoiceStop};
 ghost use Rattle.rvtest_app.specs.Commands.{failure_rule};
-ghost use Rattle.rvtest_app.specs.Lists.{AreListedOf, AreListedAt, IsListPut, name_line, name_lines};
+ghost use Rattle.rvtest_app.specs.Lists.{AreListedOf, AreListedAt, IsListWritten, name_line, name_lines};
 ghost use Rattle.rvtest_app.specs.Runs.{places_of_marks};
 ghost use Rattle.rvtest_app.specs.CommandOutputs.{outputs_of};
 
@@ -19,21 +19,21 @@ use rv_text::push_text;
 use rvtest_cli::{ChoosingCommand, RunArgs};
 use std::alloc::{AllocError, Global};
 
-// The names of chosen jobs, one a line, and what is said of the choice.
+// The names of chosen jobs, one per line, and the notes about the choice.
 #[derive(Drop)]
 struct ListedJobs {
     names: Vec<u8>,
     notes: Vec<u8>,
 }
 
-/// Puts the names of the jobs that a run of these words would run, and before that what is said of the choice. The status is 0.
+/// Writes the notes about the choice, and then the names of the jobs that a run with these arguments would run. The status is 0.
 pub(crate) fn list_chosen_jobs<D: Inputs, F: Outputs + Drop, O: Sink + Drop, E: Sink + Drop>(
     inputs: &D,
     alloc: Global,
     asked: &RunArgs<'_>,
     to: &mut Destinations<F, O, E>,
 ) -> Result<u8, Stop>
-    ensures put { IfOk result (λ status. IsListPut (D.contents inputs.now) asked.now status
+    ensures put { IfOk result (λ status. IsListWritten (D.contents inputs.now) asked.now status
         (outputs_of F.placed O.taken E.taken E.failed to.old) (outputs_of F.placed O.taken E.taken E.failed to.new)) }
     ensures low { IfOk result (λ status. status ≤ 1) }
     ensures stopped { IfErr result (λ why. (why ≡ Stop.WriteFailed)
@@ -45,7 +45,7 @@ pub(crate) fn list_chosen_jobs<D: Inputs, F: Outputs + Drop, O: Sink + Drop, E: 
     Ok(DONE)
 }
 
-// The jobs that words choose of the list at the path that they name.
+// Chooses jobs of the list at the path in the arguments.
 fn chosen_jobs<D: Inputs>(
     inputs: &D,
     alloc: Global,
@@ -59,7 +59,7 @@ fn chosen_jobs<D: Inputs>(
     chosen_jobs_of_text(inputs, alloc, asked, text.as_slice())
 }
 
-// The same of the list's text.
+// Chooses jobs of the list's text.
 fn chosen_jobs_of_text<D: Inputs>(
     inputs: &D,
     alloc: Global,
@@ -96,7 +96,7 @@ fn marked_name_lines(alloc: Global, jobs: &[Job], marks: &[bool]) -> Result<Vec<
     Ok(names)
 }
 
-// Appends the names of the jobs at some places, one a line.
+// Appends the names of the jobs at some indices, one per line.
 fn push_name_lines(names: &mut Vec<u8>, jobs: &[Job], places: &[usize]) -> Result<(), AllocError>
     requires { All (λ place. place < length jobs.now) places.now }
     ensures { OnOk result (names.new.items ≡ names.old.items ++ name_lines jobs.now places.now) }

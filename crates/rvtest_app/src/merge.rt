@@ -36,7 +36,7 @@ use rv_text::{Span, text_of_spans};
 use rvtest_cli::MergeArgs;
 use std::alloc::{AllocError, Global};
 
-// The rows of a whole list, with the line that counts them and their status.
+// The rows of a whole list, with their summary line and their status.
 #[derive(Drop)]
 struct Merged {
     rows: Rows,
@@ -44,7 +44,7 @@ struct Merged {
     status: u8,
 }
 
-/// Makes the whole report of the parts of one run. The status is 1 where a job of it failed.
+/// Merges the shards of one run into the whole report. The status is 1 if a job of the run failed.
 pub(crate) fn merge_reports<D: Inputs, F: Outputs + Drop, O: Sink + Drop, E: Sink + Drop>(
     inputs: &D,
     alloc: Global,
@@ -57,7 +57,7 @@ pub(crate) fn merge_reports<D: Inputs, F: Outputs + Drop, O: Sink + Drop, E: Sin
     ensures undone { OnErr result (IsUndoneMergeAt (D.contents inputs.now) asked.now
         (F.placed to.old.files) (F.placed to.new.files)) }
     ensures stopped { IfErr result (IsMergeStop (D.contents inputs.now) asked.now) }
-    // The parts stay.
+    // The shards are not overwritten.
     ensures kept { IsPlacedApart (AreMergeFilesApart asked.now) (F.placed to.old.files) (F.placed to.new.files) }
 {
     refuse_merge_overwrites(&to.files, alloc, asked)?;
@@ -68,7 +68,7 @@ pub(crate) fn merge_reports<D: Inputs, F: Outputs + Drop, O: Sink + Drop, E: Sin
     Ok(status)
 }
 
-// Refuses a file that would replace or remove a part.
+// Rejects a file that would replace or remove a shard.
 fn refuse_merge_overwrites<F: Outputs>(
     files: &F,
     alloc: Global,
@@ -86,7 +86,7 @@ fn refuse_merge_overwrites<F: Outputs>(
     refuse_overwrite(files, alloc, "--junit", asked.junit, &read)
 }
 
-// Standard output has the report where nothing else is asked for.
+// Returns the path of the merged report, which goes to standard output if nothing else is requested.
 fn merged_report_path<'a>(asked: &MergeArgs<'a>) -> Option<&'a str>
     ensures { optional_text result ≡ merged_report_path (optional_text asked.now.report)
         (optional_text asked.now.junit) }
@@ -98,7 +98,7 @@ fn merged_report_path<'a>(asked: &MergeArgs<'a>) -> Option<&'a str>
     }
 }
 
-// The rows of the list whose parts the texts are, with their last line and their status.
+// Returns the rows of the list whose shards have these texts, with their last line and their status.
 fn merge_part_texts(alloc: Global, asked: &MergeArgs<'_>, texts: &[Vec<u8>]) -> Result<Merged, Stop>
     ensures parts { IfOk result
         (λ merged. AreParts merged.rows (map (λ text. text.items) texts.now)) }
@@ -117,7 +117,7 @@ fn merge_part_texts(alloc: Global, asked: &MergeArgs<'_>, texts: &[Vec<u8>]) -> 
     Ok(Merged { rows, line, status })
 }
 
-// The rows of the list whose parts the texts are.
+// Returns the rows of the list whose shards have these texts.
 fn rows_of_part_texts(alloc: Global, asked: &MergeArgs<'_>, texts: &[Vec<u8>]) -> Result<Rows, Stop>
     ensures parts { IfOk result (λ rows. AreParts rows (map (λ text. text.items) texts.now)) }
     ensures few { IfOk result (λ rows. length rows ≤ most_jobs) }
@@ -130,7 +130,7 @@ fn rows_of_part_texts(alloc: Global, asked: &MergeArgs<'_>, texts: &[Vec<u8>]) -
     }
 }
 
-// What the parts' files have.
+// Reads the files of the shards.
 fn read_part_texts<D: Inputs>(
     inputs: &D,
     alloc: Global,
@@ -166,7 +166,7 @@ fn text_slices(alloc: Global, texts: &[Vec<u8>]) -> Result<Vec<&[u8]>, AllocErro
     Ok(slices)
 }
 
-// Puts the last line, and the files that are asked for.
+// Writes the last line and the requested files.
 fn put_merged<F: Outputs + Drop, O: Sink + Drop, E: Sink + Drop>(
     alloc: Global,
     asked: &MergeArgs<'_>,
@@ -197,7 +197,7 @@ fn put_merged<F: Outputs + Drop, O: Sink + Drop, E: Sink + Drop>(
     }
 }
 
-// The name of the suite: the one that is asked for, else by the report's path, if one is given.
+// Returns the suite name: the requested one, else one derived from the report's path, if one is given.
 fn merged_suite<'a>(asked: &MergeArgs<'a>) -> &'a str
     ensures { result.now ≡ merged_suite (optional_text asked.now.suite) (optional_text asked.now.report) }
 {
@@ -207,7 +207,7 @@ fn merged_suite<'a>(asked: &MergeArgs<'a>) -> &'a str
     }
 }
 
-// Why the parts are not those of one run.
+// Returns why these are not the shards of one run.
 fn merge_error_stop(
     alloc: Global,
     asked: &MergeArgs<'_>,
@@ -258,21 +258,21 @@ fn part_path<'a>(asked: &MergeArgs<'a>, at: usize) -> &'a str
     }
 }
 
-// The text of a part.
+// Returns the text of a shard.
 fn part_text<'a>(texts: &[&'a [u8]], at: usize) -> &'a [u8]
     ensures { result.now ≡ nth_text (bytes_of_texts texts.now) at }
 {
     if at < texts.len() { texts[at] } else { &[] }
 }
 
-// A part's path and text.
+// The path and text of a shard.
 #[derive(Clone, Copy)]
 struct Part<'a> {
     path: &'a str,
     text: &'a [u8],
 }
 
-// What is wrong with a part.
+// Returns what is wrong with a shard.
 fn part_flaw_message(
     alloc: Global,
     asked: &MergeArgs<'_>,
@@ -323,7 +323,7 @@ fn part_flaw_message(
     }
 }
 
-// That it is of another run than the first part.
+// Returns the message that a shard belongs to another run than the first one.
 fn other_run_message(
     alloc: Global,
     asked: &MergeArgs<'_>,
@@ -335,7 +335,7 @@ fn other_run_message(
     two_parts_message(alloc, path, what, part_path(asked, 0), "\n")
 }
 
-// What one part is beside another.
+// Returns the message that one shard conflicts with another.
 fn two_parts_message<'a>(
     alloc: Global,
     path: &'a str,

@@ -1,4 +1,4 @@
-//! What is said where the image of every job is missing: where paths are taken from.
+//! What is reported if the image of every job is missing: the directory that paths are resolved against.
 
 ghost use Rattle.std.specs.Prelude.{◌≡◌, ◌++◌, IfOk, OnOk, option_map};
 ghost use Rattle.rv_command.specs.Texts.{optional_text};
@@ -13,8 +13,8 @@ use rv_text::{Span, push_spans, push_text};
 use std::alloc::{AllocError, Global};
 use std::io::ErrorKind;
 
-/// What `run` says of a plan of which so many jobs run, and whose paths are taken from a folder where one is given; nothing where an
-/// image is there, or where not all jobs run.
+/// Returns what `run` reports for a plan of which `count` jobs run and whose paths are resolved against `root` if given: empty if some
+/// image exists or if not all jobs run.
 pub(crate) fn missing_images_note(
     alloc: Global,
     plan: &Plan,
@@ -33,7 +33,7 @@ pub(crate) fn missing_images_note(
     Ok(note)
 }
 
-/// Appends what `check` says of a plan; nothing where an image is there.
+/// Appends what `check` reports for a plan; does nothing if some image exists.
 pub(crate) fn push_missing_images_line(
     told: &mut Vec<u8>,
     plan: &Plan,
@@ -79,7 +79,7 @@ fn are_images_missing(plan: &Plan, unread: &[UnreadPath]) -> bool
     all
 }
 
-// Whether the image of a job is missing, and its path is one that is taken from a folder.
+// Whether the job's image is missing and its path is resolved against a directory.
 fn is_image_missing(job: &Job, unread: &[UnreadPath]) -> bool
     ensures { result ≡ is_image_missing unread.now job.now }
 {
@@ -87,7 +87,7 @@ fn is_image_missing(job: &Job, unread: &[UnreadPath]) -> bool
     !path.as_bytes().starts_with(b"/") && is_noted_missing(unread_note(unread, path))
 }
 
-// The first that was noted of a path.
+// Returns the first note about a path.
 fn unread_note<'a>(unread: &'a [UnreadPath], path: &str) -> Option<&'a UnreadPath>
     ensures { option_map (λ one. one.now) result ≡ unread_note unread.now path.now }
 {

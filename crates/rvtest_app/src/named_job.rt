@@ -1,4 +1,4 @@
-//! The job of a name, in a list's text.
+//! Finding a job by name in the text of a list.
 
 ghost use Rattle.std.specs.Prelude.{◌≡◌, ◌<◌, IfErr, IfOk, IfSome, Ok, length, position};
 ghost use Rattle.std.specs.Str.{bytes_eq};
@@ -11,14 +11,14 @@ use rv_command::{Stop, parse_list};
 use rv_jobs::{Job, JobList};
 use std::alloc::Global;
 
-/// The jobs of a list, and the place of one of them.
+/// The jobs of a list, and the index of one of them.
 #[derive(Drop)]
 pub(crate) struct NamedJob {
     pub(crate) jobs: JobList,
     pub(crate) place: usize,
 }
 
-/// The jobs of the text of the list at a path, and the place of the first of a name.
+/// Parses the text of the list at a path, and finds the first job of a name.
 pub(crate) fn find_named_job(
     alloc: Global,
     list: &str,

@@ -1,4 +1,4 @@
-//! Where texts of rows go: a report, and JUnit's XML.
+//! Where the texts of rows go: a report, and JUnit XML.
 
 ghost use Rattle.std.specs.Prelude.{◌≡◌, [], Some, false, IfErr, IfOk, IsErr, IsOk, IsSomeAnd, MatchResult, OnErr, OnOk};
 ghost use Rattle.std.specs.Io.KnownBytes.{Appends};
@@ -7,8 +7,8 @@ ghost use Rattle.rv_command.specs.Texts.{optional_text};
 ghost use Rattle.rv_expect.specs.Judgement.{judging_of};
 ghost use Rattle.rvtest_app.specs.Outlets.{HasTaken, IsPutInto, file_path_at, has_no_failure, is_out, is_stdout, is_stdout_at};
 ghost use Rattle.rvtest_app.specs.Outlets.{outlet_path, stdout_part, uses_stdout};
-ghost use Rattle.rvtest_app.specs.PutStops.{IsEitherFileStop, IsTextStop, IsUnopenedStop, IsUnwrittenStop, IsWriteErrorStop, IsWriteStop};
-ghost use Rattle.rvtest_app.specs.PutStops.{stop_of_write_error};
+ghost use Rattle.rvtest_app.specs.WriteStops.{IsEitherFileStop, IsTextStop, IsUnopenedStop, IsUnwrittenStop, IsWriteErrorStop, IsWriteStop};
+ghost use Rattle.rvtest_app.specs.WriteStops.{stop_of_write_error};
 ghost use Rattle.rv_junit.specs.Junit.{junit_text};
 ghost use Rattle.rv_stream.specs.Streams.{row_text_list};
 ghost use Rattle.rvtest_app.specs.ReportTexts.{report_rest_of, report_text_of};
@@ -21,7 +21,7 @@ use rv_rows::{RowReporter, Sink, WriteError};
 use std::alloc::Global;
 use std::io::ErrorKind;
 
-/// A file that is written, and the path by which messages name it.
+/// A file that is being written, and the path by which messages name it.
 #[derive(Drop)]
 pub(crate) struct OpenFile<'a, P: Drop, W: Drop> {
     pub(crate) path: &'a str,
@@ -29,23 +29,23 @@ pub(crate) struct OpenFile<'a, P: Drop, W: Drop> {
     pub(crate) sink: W,
 }
 
-/// Where a text of rows goes.
+/// The destination of a text of rows.
 #[derive(Drop)]
 pub(crate) enum Outlet<'a, P: Drop, W: Drop> {
     Nowhere,
-    /// To standard output.
+    /// Standard output.
     Out,
     File(OpenFile<'a, P, W>),
 }
 
-/// Where the report goes, and JUnit's XML.
+/// The destinations of the report and of the JUnit XML.
 #[derive(Drop)]
 pub(crate) struct Outlets<'a, P: Drop, W: Drop> {
     pub(crate) report: Outlet<'a, P, W>,
     pub(crate) junit: Outlet<'a, P, W>,
 }
 
-/// Opens both, or neither is left.
+/// Opens both; after an error, neither is left open.
 pub(crate) fn open_outlets<'a, F: Outputs>(
     files: &mut F,
     alloc: Global,
@@ -72,7 +72,7 @@ pub(crate) fn open_outlets<'a, F: Outputs>(
     }
 }
 
-/// A new file for the path, but where there is none; `-` is standard output.
+/// Opens a new file for the path, if there is one; `-` is standard output.
 pub(crate) fn open_outlet<'a, F: Outputs>(
     files: &mut F,
     alloc: Global,
@@ -91,14 +91,14 @@ pub(crate) fn open_outlet<'a, F: Outputs>(
     }
 }
 
-/// Whether a path stands for standard output.
+/// Whether the path represents standard output.
 pub(crate) fn is_stdout(path: &str) -> bool
     ensures { result ≡ is_stdout path.now }
 {
     path == "-"
 }
 
-/// Whether a path is given that stands for standard output.
+/// Whether a path is given that represents standard output.
 pub(crate) fn is_stdout_at(path: Option<&str>) -> bool
     ensures { result ≡ is_stdout_at (optional_text path.entry) }
 {
@@ -141,7 +141,7 @@ impl<'a, P: Drop, W: Sink + LastError + Drop> Outlet<'a, P, W> {
         matches!(self, Outlet::Out)
     }
 
-    /// Why the last put that failed did, of its file; of no file, nothing in particular.
+    /// Returns the reason for the last failed write to the file; it has no meaning if there is no file.
     pub(crate) fn last_error(&self) -> ErrorKind {
         match self {
             Outlet::File(file) => file.sink.last_error(),
@@ -149,7 +149,7 @@ impl<'a, P: Drop, W: Sink + LastError + Drop> Outlet<'a, P, W> {
         }
     }
 
-    /// Puts a report. A file that took the rows as they came takes the rest alone.
+    /// Writes a report. To a file that received the rows as they came, only the rest is written.
     pub(crate) fn put_report<O: Sink>(
         &mut self,
         alloc: Global,
@@ -176,7 +176,7 @@ impl<'a, P: Drop, W: Sink + LastError + Drop> Outlet<'a, P, W> {
         }
     }
 
-    /// Puts rows as JUnit's XML, each with the lines that are told of it.
+    /// Writes rows as JUnit XML, each with the lines that are reported for it.
     pub(crate) fn put_junit<T: RowReporter, O: Sink>(
         &mut self,
         alloc: Global,
@@ -206,7 +206,7 @@ impl<'a, P: Drop, W: Sink + LastError + Drop> Outlet<'a, P, W> {
     }
 }
 
-// What a text that was written to standard output came to.
+// Returns the result of writing a text to standard output.
 fn stdout_result(written: Result<(), WriteError>) -> Result<(), Stop>
     ensures went { MatchResult written (λ _. IsOk result) (λ _. IsErr result) }
     ensures stopped { IfErr result (λ why. MatchResult written (λ _. ⊥) (λ error. why ≡ stop_of_write_error error)) }
@@ -218,7 +218,7 @@ fn stdout_result(written: Result<(), WriteError>) -> Result<(), Stop>
     }
 }
 
-// What a text that was written to a file came to.
+// Returns the result of writing a text to a file.
 fn file_result(
     alloc: Global,
     path: &str,
@@ -236,7 +236,7 @@ fn file_result(
     }
 }
 
-/// The system did not take all that was written to the file for a path, for a reason.
+/// Returns the error that the system did not accept all that was written to the file for a path.
 pub(crate) fn unwritten_stop(alloc: Global, path: &str, reason: ErrorKind) -> Stop
     ensures { IsUnwrittenStop path.now result }
 {
@@ -249,7 +249,7 @@ fn write_stop(alloc: Global, path: &str, reason: ErrorKind) -> Stop
     Stop::of_failure(path_message(alloc, path, write_error_text(reason)))
 }
 
-/// Neither file is to be there.
+/// Abandons both files, so that neither is created.
 pub(crate) fn abandon_outlets<F: Outputs>(files: &mut F, outlets: Outlets<'_, F::Place, F::File>)
     ensures { F.placed files.new ≡ F.placed files.old }
 {
@@ -258,7 +258,7 @@ pub(crate) fn abandon_outlets<F: Outputs>(files: &mut F, outlets: Outlets<'_, F:
     abandon_outlet(files, report);
 }
 
-/// The file of an outlet, if it has one, is not to be there.
+/// Abandons the file of an outlet, if it has one, so that it is not created.
 pub(crate) fn abandon_outlet<F: Outputs>(files: &mut F, outlet: Outlet<'_, F::Place, F::File>)
     ensures { F.placed files.new ≡ F.placed files.old }
 {

@@ -1,11 +1,11 @@
-//! Files of a command that would replace what the command reads.
+//! Files of a command that would overwrite its inputs.
 
 ghost use Rattle.std.specs.Prelude.{◌≡◌, ◌++◌, ◌<◌, ◌∷◌, [], ℕ, List, None, IfErr, IfOk, IfSome, OnOk, false, length, map};
 ghost use Rattle.std.specs.List.{list_any};
 ghost use Rattle.std.specs.Path.{path_buf_bytes};
 ghost use Rattle.rv_command.specs.Texts.{optional_text};
 ghost use Rattle.rv_files.specs.UnreadPaths.{resolved_path};
-ghost use Rattle.rvtest_app.specs.Overwrites.{AreFilesOf, IsApart, IsOptionStop, IsOverwriteStop, IsOverwriteTold, IsUnread, is_among, job_file_text, overwrite_head, overwrite_message, read_path_text, read_paths, role_text};
+ghost use Rattle.rvtest_app.specs.Overwrites.{AreFilesOf, IsApart, IsOptionStop, IsOverwriteStop, IsOverwriteReported, IsUnread, is_among, job_file_text, overwrite_head, overwrite_message, read_path_text, read_paths, role_text};
 ghost use Rattle.rvtest_app.specs.Outlets.{is_stdout};
 
 use crate::outlets::is_stdout;
@@ -16,7 +16,7 @@ use rv_files::{Outputs, resolved_path};
 use rv_text::{Span, push_spans, push_text, text_of_spans};
 use std::alloc::{AllocError, Global};
 
-/// Looks the files up.
+/// Looks up the identities of the files.
 pub(crate) fn look_up_files<'a, F: Outputs>(
     files: &F,
     alloc: Global,
@@ -43,7 +43,7 @@ fn file_identities<F: Outputs>(
     Ok(found)
 }
 
-/// Refuses the file of an option, if it has one, that would replace or remove one that is read.
+/// Rejects the file of an option, if it has one, if it would replace or remove an input.
 pub(crate) fn refuse_overwrite<F: Outputs>(
     files: &F,
     alloc: Global,
@@ -61,7 +61,7 @@ pub(crate) fn refuse_overwrite<F: Outputs>(
     }
 }
 
-/// Refuses the file at a path that would replace or remove one that is read.
+/// Rejects the file at a path if it would replace or remove an input.
 pub(crate) fn refuse_file<F: Outputs>(
     files: &F,
     alloc: Global,
@@ -84,7 +84,7 @@ pub(crate) fn refuse_file<F: Outputs>(
 }
 
 impl<'a> ReadFiles<'a> {
-    /// The first that is one of some files.
+    /// Returns the index of the first input that is one of `files`.
     pub(crate) fn first_of(&self, files: &[Text]) -> Option<usize>
         ensures within { IfSome result (λ at. at < length self.now.identities.items) }
         ensures none { result ≡ None → list_any (is_among files.now) self.now.identities.items ≡ false }
@@ -98,21 +98,21 @@ impl<'a> ReadFiles<'a> {
     }
 }
 
-/// Whether a file is one of some files, by what the system knows each by.
+/// Whether a file is one of some files, by the identity that the system gives each.
 pub(crate) fn is_among(files: &[Text], identity: &Text) -> bool
     ensures { result ≡ is_among files.now identity.now }
 {
     files.iter().any(|file| file.as_str() == identity.as_str())
 }
 
-/// That a file would overwrite one that is read.
+/// Returns the error that a file would overwrite an input.
 pub(crate) fn overwrite_stop<'a>(
     alloc: Global,
     option: &'a str,
     path: &'a str,
     read: &ReadPath<'_>,
 ) -> Stop
-    ensures { IsOverwriteTold option.entry.now path.entry.now result }
+    ensures { IsOverwriteReported option.entry.now path.entry.now result }
 {
     Stop::of_refusal(overwrite_message(alloc, option, path, read))
 }
@@ -184,7 +184,7 @@ fn push_read_path(text: &mut Vec<u8>, path: &str) -> Result<(), AllocError>
     )
 }
 
-/// Appends a file that is read, whose path is taken from a folder if one is given.
+/// Appends an input, whose path is resolved against `folder` if given.
 pub(crate) fn push_read<'a>(
     alloc: Global,
     read: &mut Vec<ReadPath<'a>>,
@@ -199,7 +199,7 @@ pub(crate) fn push_read<'a>(
     Ok(())
 }
 
-/// The files at some paths, each of which a word of the usage stands for.
+/// Returns the inputs at some paths, each of which a placeholder of the usage represents.
 pub(crate) fn read_paths_of_words<'a>(
     alloc: Global,
     paths: &[&str],

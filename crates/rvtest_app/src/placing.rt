@@ -1,16 +1,16 @@
-//! Files that are handed to the disk, and then put in their places.
+//! Syncing files to disk, and then committing them.
 
 ghost use Rattle.std.specs.Prelude.{◌≡◌, ◌⊎◌, IfErr, IfOk, OnErr, OnOk};
 ghost use Rattle.rvtest_app.specs.Outlets.{AreFilesCommitted, AreFilesPartlyCommitted, both_files, files_of, has_no_failure};
 ghost use Rattle.rvtest_app.specs.Outlets.{outlet_path, synced_files, synced_path};
-ghost use Rattle.rvtest_app.specs.PutStops.{IsUnplacedStop};
+ghost use Rattle.rvtest_app.specs.WriteStops.{IsUnplacedStop};
 
 use crate::outlets::{OpenFile, Outlet, Outlets, abandon_outlet};
 use rv_command::{Stop, file_error_stop};
 use rv_files::Outputs;
 use std::alloc::Global;
 
-/// A file that the disk has, and the path by which messages name it.
+/// A file that is synced to disk, and the path by which messages name it.
 #[derive(Drop)]
 pub(crate) struct SyncedFile<'a, P: Drop, S: Drop> {
     path: &'a str,
@@ -18,15 +18,14 @@ pub(crate) struct SyncedFile<'a, P: Drop, S: Drop> {
     file: S,
 }
 
-/// The files of outlets, as far as they have some.
+/// The synced files of outlets, if they have any.
 #[derive(Drop)]
 struct SyncedFiles<'a, P: Drop, S: Drop> {
     junit: Option<SyncedFile<'a, P, S>>,
     report: Option<SyncedFile<'a, P, S>>,
 }
 
-/// Hands the files to the disk, and then puts both in their places, JUnit's first. Neither is there where the disk does not
-/// take them both.
+/// Syncs both files to disk, and then moves both to their paths, the JUnit file first. If either cannot be synced, neither is created.
 pub(crate) fn commit_outlets<F: Outputs>(
     files: &mut F,
     alloc: Global,
@@ -46,7 +45,7 @@ pub(crate) fn commit_outlets<F: Outputs>(
     place_both(files, alloc, junit, report)
 }
 
-// Hands the files to the disk. Neither is there where the disk does not take them both.
+// Syncs both files to disk. If either cannot be synced, neither is created.
 fn sync_outlets<'a, F: Outputs>(
     files: &mut F,
     alloc: Global,
@@ -114,6 +113,7 @@ fn abandon_synced<F: Outputs>(files: &mut F, synced: Option<SyncedFile<'_, F::Pl
     }
 }
 
+// Moves both files to their paths, one after the other; if the first move fails, the second file is abandoned.
 fn place_both<F: Outputs>(
     files: &mut F,
     alloc: Global,
@@ -137,6 +137,7 @@ fn place_both<F: Outputs>(
     }
 }
 
+// Moves a synced file to its path, if there is one.
 fn place_synced<F: Outputs>(
     files: &mut F,
     alloc: Global,

@@ -1,4 +1,4 @@
-//! The jobs that are to run: asked for, marked in a list, and then at places of a plan.
+//! The jobs to run: requested, selected in a list, and then at indices of a plan.
 
 ghost use Rattle.std.specs.Prelude.{◌≡◌, ◌≤◌, length, take};
 ghost use Rattle.std.specs.Option.{ForSome};
@@ -14,32 +14,32 @@ use rv_jobs::JobList;
 use rv_kept_lines::{LinesSpec, RecordedLines};
 use std::sync::Mutex;
 
-/// The jobs of a list, with a mark for each that words ask for.
+/// The jobs of a list, and the selection of those that are requested.
 #[derive(Drop)]
 pub(crate) struct RequestedJobs {
     pub(crate) jobs: JobList,
-    /// None where no job is to run.
+    /// `None` if no job is to run.
     pub(crate) marks: Option<Vec<bool>>,
     pub(crate) frame: ReportFrame,
-    /// What is said of the choice.
+    /// The notes about the choice.
     pub(crate) notes: Vec<u8>,
     ghost counted: { ForSome marks (λ marks. length marks.items ≡ length jobs) },
     ghost whole: { ForSome frame.old (λ rows. length rows ≡ length jobs) },
 }
 
-/// The jobs of a list, with a mark for each that is to run.
+/// The jobs of a list, and the selection of those to run.
 #[derive(Drop)]
 pub(crate) struct SelectedJobs {
     pub(crate) jobs: JobList,
     pub(crate) marks: Vec<bool>,
     pub(crate) frame: ReportFrame,
-    /// The jobs that are known to fail, where words name a file of them.
+    /// The known failures, if the arguments name a file of them.
     pub(crate) known: Option<KnownJobs>,
     ghost counted: { length marks.items ≡ length jobs },
     ghost whole: { ForSome frame.old (λ rows. length rows ≡ length jobs) },
 }
 
-/// The jobs at some places of a plan, how they are told, and the lines that are kept of those that failed.
+/// The jobs at some indices of a plan, how they are reported, and the recorded lines of those that failed.
 #[derive(Drop)]
 pub(crate) struct PlannedRun<'a, J: LinesSpec> {
     pub(crate) reporter: &'a TextReporter<'a>,
@@ -51,7 +51,7 @@ pub(crate) struct PlannedRun<'a, J: LinesSpec> {
 }
 
 impl<'a, J: LinesSpec> PlannedRun<'a, J> {
-    /// The first so many of the jobs.
+    /// Returns the first `count` jobs.
     pub(crate) fn first_jobs(&self, count: usize) -> PlannedRun<'a, J>
         requires { count ≤ length self.now.places.now }
         ensures places { result.places.now ≡ take count self.now.places.now }

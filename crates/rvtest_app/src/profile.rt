@@ -2,7 +2,7 @@
 
 ghost use Rattle.std.specs.Prelude.{◌≡◌, ◌⊎◌, ◌≤◌, IfErr, IfOk};
 ghost use Rattle.rvtest_app.specs.ProfileStops.{IsProfileStop};
-ghost use Rattle.rvtest_app.specs.Profiles.{IsProfilePut, profile_format};
+ghost use Rattle.rvtest_app.specs.Profiles.{IsProfileWritten, profile_format};
 ghost use Rattle.rvtest_app.specs.CommandOutputs.{outputs_of};
 
 use crate::destinations::Destinations;
@@ -16,7 +16,7 @@ use rvtest_cli::{ChoosingCommand, ProfileArgs};
 use std::sync::Wait;
 use std::thread::Threads;
 
-/// Shows in which functions the steps of the jobs that are asked for were: by a run of them, or by a table of counts. The status is 0.
+/// Shows in which functions the requested jobs spent their steps: from a run of them, or from a table of counts. The status is 0.
 pub(crate) fn profile_requested_jobs<
     R: Threads + Wait + Sync,
     D: Inputs,
@@ -28,7 +28,7 @@ pub(crate) fn profile_requested_jobs<
     asked: &ProfileArgs<'_>,
     to: &mut Destinations<F, O, E>,
 ) -> Result<u8, Stop>
-    ensures put { IfOk result (λ status. IsProfilePut (D.contents host.now.inputs.now) asked.now status
+    ensures put { IfOk result (λ status. IsProfileWritten (D.contents host.now.inputs.now) asked.now status
         (outputs_of F.placed O.taken E.taken E.failed to.old) (outputs_of F.placed O.taken E.taken E.failed to.new)) }
     ensures low { IfOk result (λ status. status ≤ 1) }
     ensures stopped { IfErr result (λ why. (why ≡ Stop.WriteFailed)

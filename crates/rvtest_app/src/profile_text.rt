@@ -1,4 +1,4 @@
-//! What `profile` shows by a table, and refuses.
+//! What `profile` shows for a table, and which tables it rejects.
 
 ghost use Rattle.std.specs.Prelude.{◌≡◌, ◌⊎◌, IfErr, IfOk};
 ghost use Rattle.rv_count_tables.specs.Table.{IsTable};
@@ -13,7 +13,7 @@ use rv_profile::{ProfileFormat, image_past_64_bits, profile_text};
 use rv_text::{Span, text_of_spans};
 use std::alloc::{AllocError, Global};
 
-/// What is shown of images by the stacks of a table, unless they are too many: then it is told where the stacks are from.
+/// Returns the profile of the images, from the stacks of a table; if the counts are too great, the error says where the stacks come from.
 pub(crate) fn text_of_profile(
     alloc: Global,
     source: &str,

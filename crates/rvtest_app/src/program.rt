@@ -1,14 +1,14 @@
-//! The whole program, over files, sinks and terminals.
+//! The whole program, given files, sinks and terminals.
 
 ghost use Rattle.std.specs.Prelude.{◌≡◌, ◌⊎◌, ◌≤◌, ℕ, List, Option, Ok, Err, IfErr, IfOk, MatchResult, false, map};
 ghost use Rattle.std.specs.IoError.{error_kind};
-ghost use Rattle.rv_command.specs.Messages.{IsMessagePut};
+ghost use Rattle.rv_command.specs.Messages.{IsMessageWritten};
 ghost use Rattle.rv_terminal.specs.ColorSinks.{IsOutInPart};
 ghost use Rattle.rvtest_app.specs.Answers.{IsAnswered, IsDone, IsDoneInColors};
 ghost use Rattle.rvtest_app.specs.Colors.{requested_colors};
 ghost use Rattle.rvtest_app.specs.CommandStops.{IsCommandStop, IsStopFor};
 ghost use Rattle.rvtest_app.specs.CommandOutputs.{outputs_of};
-ghost use Rattle.rvtest_app.specs.ToldStops.{IsStopReported, unreadable_words_message, unreadable_words_status};
+ghost use Rattle.rvtest_app.specs.ReportedStops.{IsStopReported, unreadable_words_message, unreadable_words_status};
 
 use crate::accept::accept_runs;
 use crate::check::check_list;
@@ -22,7 +22,7 @@ use crate::explain::explain_named_job;
 use crate::findings::put_findings;
 use crate::gdb::show_job_to_gdb;
 use crate::help::answer_words_error;
-use crate::help_topic::tell_topic;
+use crate::help_topic::topic_help;
 use crate::host::Host;
 use crate::list::list_chosen_jobs;
 use crate::merge::merge_reports;
@@ -42,7 +42,7 @@ use std::sync::Wait;
 use std::thread::Threads;
 use std::time::Clock;
 
-/// Answers words, the first of which is the program's name, with the status of the program.
+/// Responds to the arguments, the first of which is the program's name, and returns the exit status.
 pub fn run_rvtest<
     'a,
     R: Threads + Wait + Sync + Clock,
@@ -63,12 +63,12 @@ pub fn run_rvtest<
 where
     F::File: Send,
     ensures low { O.closed result.0.out ≡ false → result.1 ≤ 3 }
-    // A status of 0 or 1 says that all went out, to standard output in the colours that are asked for.
+    // A status of 0 or 1 means that everything was written, to standard output in the requested colours.
     ensures answered { result.1 ≤ 1 → IsAnswered (D.contents host.now.inputs.now) (I.remaining input.old)
         terminals.is_out_terminal terminals.is_out_colored (map T.text words.entry.now) result.1
         (outputs_of F.placed O.taken E.taken E.failed to) (outputs_of F.placed O.taken E.taken E.failed result.0) }
-    // Any other status says that the command ended before its work was done, and that this was told last; but a reader that closed
-    // standard output is told nothing.
+    // Any other status means that the command stopped before its work was done and that its last output says so, except when the reader
+    // closed standard output.
     ensures ended { IsAnswered (D.contents host.now.inputs.now) (I.remaining input.old)
         terminals.is_out_terminal terminals.is_out_colored (map T.text words.entry.now) result.1
         (outputs_of F.placed O.taken E.taken E.failed to) (outputs_of F.placed O.taken E.taken E.failed result.0)
@@ -126,7 +126,7 @@ where
     }
 }
 
-// Does what words ask for, with results in their colours on standard output.
+// Runs the requested command, with coloured results on standard output.
 fn run_in_colors<
     J: Results + Send + Sync,
     R: Threads + Wait + Sync + Clock,
@@ -152,7 +152,7 @@ where
         terminals.is_out_terminal terminals.is_out_colored asked.entry status
         (outputs_of F.placed O.taken E.taken E.failed to) (outputs_of F.placed O.taken E.taken E.failed result.0)) }
     ensures stopped { IfErr result.1 (IsCommandStop (D.contents host.now.inputs.now) terminals.is_out_terminal asked.entry) }
-    // Whatever comes of it, standard output took results in their colours, and behind them at most the first bytes of a mark.
+    // Whatever the result, standard output received coloured results, followed at most by the first bytes of an escape sequence.
     ensures shown { (plain : Option (List ℕ)) × IsOutInPart (requested_colors asked.entry terminals.is_out_colored)
         (O.taken to.out) plain (O.taken result.0.out) }
 {
@@ -167,7 +167,7 @@ where
     (to, whole_answer(answer, whole))
 }
 
-// Nothing is done where results went out in part.
+// Turns a success into an error if the coloured results were not written completely.
 fn whole_answer(answer: Result<u8, Stop>, whole: Result<(), SinkFailed>) -> Result<u8, Stop>
     ensures { MatchResult answer
         (λ status. MatchResult whole (λ _. result ≡ Ok status) (λ _. result ≡ Err Stop.WriteFailed))
@@ -179,7 +179,7 @@ fn whole_answer(answer: Result<u8, Stop>, whole: Result<(), SinkFailed>) -> Resu
     }
 }
 
-// Does what words ask for.
+// Runs the requested command.
 fn run_subcommand<
     R: Threads + Wait + Sync + Clock,
     D: Inputs,
@@ -201,7 +201,7 @@ where
     ensures done { IfOk result.1 (λ status. IsDone (D.contents host.now.inputs.now) (I.remaining input.old)
         terminals.is_out_terminal asked.entry status
         (outputs_of F.placed O.taken E.taken E.failed to) (outputs_of F.placed O.taken E.taken E.failed result.0)) }
-    // A command that could not have been stopped by a failed put put nothing.
+    // A command that a failed write could not have stopped wrote nothing.
     ensures untouched { IfOk result.1 (λ _.
         IsCommandStop (D.contents host.now.inputs.now) terminals.is_out_terminal asked.entry Stop.WriteFailed
         ⊎ (result.0.out ≡ to.out)) }
@@ -227,16 +227,16 @@ where
         Asked::Counts(asked) => put_sum_of_tables(inputs, alloc, &asked, &mut to),
         Asked::Cover(asked) => cover_requested_jobs(host, &asked, &mut to),
         Asked::Profile(asked) => profile_requested_jobs(host, &asked, &mut to),
-        Asked::Help(asked) => put_findings(&mut to.out, tell_topic(alloc, asked)),
+        Asked::Help(asked) => put_findings(&mut to.out, topic_help(alloc, asked)),
     };
     (to, answer)
 }
 
-/// The status of words that the process doesn't give: words that aren't UTF-8 are refused.
+/// Returns the status for arguments that the process cannot provide: arguments that are not UTF-8 are rejected.
 pub fn refuse_unreadable_words<E: Sink>(error: &io::Error, errors: &mut E) -> u8
     ensures low { result ≤ 3 }
     ensures status { result ≡ unreadable_words_status (error_kind error.now) }
-    ensures told { IsMessagePut (E.taken errors.old) (E.taken errors.new) (E.failed errors.old) (E.failed errors.new)
+    ensures told { IsMessageWritten (E.taken errors.old) (E.taken errors.new) (E.failed errors.old) (E.failed errors.new)
         (unreadable_words_message (error_kind error.now)) }
 {
     match error.kind() {

@@ -1,11 +1,11 @@
-//! What a command puts: what it shows, and the two files.
+//! What a command writes: the text that it shows, and the two files.
 
 ghost use Rattle.std.specs.Prelude.{◌≡◌, ◌++◌, [], ℕ, List, Option, IfErr, OnErr, OnOk, Some};
 ghost use Rattle.std.specs.Io.KnownBytes.{Appends};
 ghost use Rattle.rvtest_app.specs.Outlets.{AreFilesCommitted, AreFilesPartlyCommitted, HasTaken, IsPutInto, file_at, has_no_failure};
 ghost use Rattle.rvtest_app.specs.Outlets.{outlet_path, stdout_at, stdout_part};
 ghost use Rattle.rvtest_app.specs.Puts.{IsShown, junit_of};
-ghost use Rattle.rvtest_app.specs.PutStops.{IsPutStop};
+ghost use Rattle.rvtest_app.specs.WriteStops.{IsPutStop};
 ghost use Rattle.rvtest_app.specs.ReportTexts.{report_rest_of, report_text_of};
 ghost use Rattle.rvtest_app.specs.CommandOutputs.{outputs_of};
 
@@ -19,7 +19,7 @@ use rv_junit::IndexedRows;
 use rv_rows::{RowReporter, Sink};
 use std::alloc::Global;
 
-/// Puts what a command shows: to standard error where a file goes to standard output, else there.
+/// Writes what a command shows: to standard output, or to standard error if a file goes to standard output.
 pub(crate) fn put_shown<F: Outputs + Drop, O: Sink + Drop, E: Sink + Drop>(
     to: &mut Destinations<F, O, E>,
     text: &[u8],
@@ -37,8 +37,8 @@ pub(crate) fn put_shown<F: Outputs + Drop, O: Sink + Drop, E: Sink + Drop>(
     put_results(&mut to.out, text)
 }
 
-/// Puts both files, or of the report the rest, and then puts them in their places, JUnit's first. After an error neither is there, but where the second could
-/// not be put in its place.
+/// Writes both files, or the rest of the report, and then moves them to their paths, the JUnit file first. After an error neither is
+/// created, unless only the second could not be moved to its path.
 pub(crate) fn put_files<F: Outputs + Drop, O: Sink + Drop, E: Sink + Drop, T: RowReporter>(
     alloc: Global,
     to: &mut Destinations<F, O, E>,

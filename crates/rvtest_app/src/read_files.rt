@@ -1,4 +1,4 @@
-//! Files that a command reads, to be compared with those that it writes.
+//! The inputs of a command, to be compared with the files that it writes.
 
 ghost use Rattle.std.specs.Prelude.{◌≡◌, length};
 
@@ -15,13 +15,13 @@ pub(crate) struct ReadPath<'a> {
 /// What such a file is to the command.
 #[derive(Clone, Copy)]
 pub(crate) enum ReadRole<'a> {
-    /// The one that a word of the usage stands for: `LIST`, `--known`.
+    /// The file that a placeholder of the usage represents: `LIST`, `--known`.
     Word(&'a str),
-    /// The one that the key `key` of the job `job` names.
+    /// The file that the key `key` of the job `job` names.
     JobFile { key: &'a str, job: &'a str },
 }
 
-/// Files that a command reads, with what the system knows each by.
+/// The files that a command reads, with the identity that the system gives each.
 #[derive(Drop)]
 pub(crate) struct ReadFiles<'a> {
     pub(crate) paths: Vec<ReadPath<'a>>,

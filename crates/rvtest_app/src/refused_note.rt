@@ -1,4 +1,4 @@
-//! What `cover` and `profile` tell of jobs that are refused.
+//! What `cover` and `profile` report about refused jobs.
 
 ghost use Rattle.std.specs.Prelude.{◌≡◌, ◌<◌, ◌++◌, IfOk, OnOk, length, slice_index_or};
 ghost use Rattle.rv_fleet.specs.Choices.{AreJobIndices};
@@ -16,7 +16,8 @@ use rv_rows::{refusal_at, row_at};
 use rvtest_cli::RunArgs;
 use std::alloc::{AllocError, Global};
 
-/// Where paths are taken from, if every image is missing, and the lines of the jobs at some places that are refused.
+/// Returns a note with the directory that paths are resolved against, if every image is missing, and the lines of the refused jobs among
+/// those at some indices.
 pub(crate) fn refused_note(
     alloc: Global,
     asked: &RunArgs<'_>,
@@ -39,7 +40,7 @@ pub(crate) fn refused_note(
     Ok(note)
 }
 
-// Appends the lines of the jobs at some places that are refused.
+// Appends the lines of the refused jobs among those at some indices.
 fn push_refused_lines(
     alloc: Global,
     reporter: &TextReporter<'_>,
@@ -56,7 +57,7 @@ fn push_refused_lines(
     Ok(())
 }
 
-// Appends the line of the job at a place, if it is refused.
+// Appends the line of the job at an index, if it is refused.
 #[tactic(auto, unfolding(crate::specs::RefusedNotes::refused_line))]
 fn push_refused_line(
     alloc: Global,

@@ -1,4 +1,4 @@
-//! What a report says of a row, told as the row comes.
+//! The report text of a row, reported as the row comes.
 
 ghost use Rattle.rv_report.specs.Report.{row_text};
 
@@ -6,7 +6,7 @@ use rv_report::push_row;
 use rv_rows::{Row, RowReporter};
 use std::alloc::{AllocError, Global};
 
-/// Tells of a row what a report says of it.
+/// Reports each row as a report has it.
 #[derive(Clone, Copy)]
 pub(crate) struct ReportRowReporter;
 

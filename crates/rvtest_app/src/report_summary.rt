@@ -13,8 +13,8 @@ use rv_rows::Row;
 use rv_text::{Span, push_spans, push_text};
 use std::alloc::{AllocError, Global};
 
-/// Appends what is shown of a report's rows: the line of each that failed, the counts of all, and the jobs with the most
-/// steps, of which those of equal steps stand in their order.
+/// Appends what is shown of a report's rows: the line of each failed one, the counts of all, and the jobs with the most steps, where jobs
+/// with equal steps keep their order.
 #[tactic(auto, unfolding(crate::specs::ReportSummary::summary_text))]
 pub fn push_summary(
     alloc: Global,

@@ -1,12 +1,12 @@
-//! The texts of reports: of all rows of a list, or of those of chosen jobs, which may be put into a whole report.
+//! The texts of reports: of all rows of a list, or of those of chosen jobs, which may be merged into a whole report.
 
 ghost use Rattle.std.specs.Prelude.{◌≡◌, IfErr, OnErr, OnOk, length};
 ghost use Rattle.std.specs.Option.{ForSome};
 ghost use Rattle.std.specs.Io.KnownBytes.{Appends};
-ghost use Rattle.rv_lists.specs.Counts.{HasRisen};
+ghost use Rattle.rv_lists.specs.Counts.{HasIncreased};
 ghost use Rattle.rv_lists.specs.Sinks.{AppendsBeginning};
 ghost use Rattle.rv_report.specs.Report.{report_text};
-ghost use Rattle.rvtest_app.specs.IntoReports.{rows_put, run_report_rest, run_report_text};
+ghost use Rattle.rvtest_app.specs.IntoReports.{merged_rows, run_report_rest, run_report_text};
 ghost use Rattle.rvtest_app.specs.ReportTexts.{report_rest_of, report_rows, report_text_of};
 
 use crate::chosen_rows::ChosenRows;
@@ -17,19 +17,19 @@ use rv_report::Shard;
 use rv_rows::{Row, Sink, WriteError};
 use std::alloc::Global;
 
-/// What a report is of.
+/// What a report covers.
 #[derive(Drop)]
 pub(crate) enum ReportText<'a> {
     /// All rows of a list.
     Whole(Rows),
-    /// The rows of chosen jobs, those of a shard where they were chosen by one. To a file they go as they come.
+    /// The rows of chosen jobs, or of a shard if they were chosen by one. They are written to a file as they come.
     Chosen(ChosenRows<'a>, Option<Shard>),
-    /// The rows of chosen jobs, among those of a whole report.
+    /// The rows of chosen jobs, merged into those of a whole report.
     Into(IntoRows<'a>),
 }
 
 impl<'a> ReportText<'a> {
-    /// The rows that are new.
+    /// Returns the new rows.
     pub(crate) fn rows(&self) -> &[Row]
         ensures { result.now ≡ report_rows self.now }
     {
@@ -40,7 +40,7 @@ impl<'a> ReportText<'a> {
         }
     }
 
-    /// Writes the report. After an error a beginning of it is out.
+    /// Writes the report. After an error, a prefix of it has been written.
     pub(crate) fn write<W: Sink>(self, alloc: Global, out: &mut W) -> Result<(), WriteError>
         ensures all { OnOk result
             (Appends (W.taken out.old) (W.taken out.new) (report_text_of self.entry)) }
@@ -48,7 +48,7 @@ impl<'a> ReportText<'a> {
         ensures part { OnErr result
             (AppendsBeginning (W.taken out.old) (W.taken out.new) (report_text_of self.entry)) }
         ensures failed { IfErr result (λ error. error ≡ WriteError.Failed
-            → HasRisen (W.failed out.old) (W.failed out.new)) }
+            → HasIncreased (W.failed out.old) (W.failed out.new)) }
     {
         match self {
             ReportText::Whole(rows) => write_report(alloc, &Report { rows }, out),
@@ -57,8 +57,7 @@ impl<'a> ReportText<'a> {
         }
     }
 
-    /// Writes what is left of the report where those of its rows that go out as they come are out. After an error a beginning
-    /// of that is out.
+    /// Writes the rest of the report, after the rows that are written as they come. After an error, a prefix of the rest has been written.
     pub(crate) fn write_rest<W: Sink>(self, alloc: Global, out: &mut W) -> Result<(), WriteError>
         ensures all { OnOk result
             (Appends (W.taken out.old) (W.taken out.new) (report_rest_of self.entry)) }
@@ -66,7 +65,7 @@ impl<'a> ReportText<'a> {
         ensures part { OnErr result
             (AppendsBeginning (W.taken out.old) (W.taken out.new) (report_rest_of self.entry)) }
         ensures failed { IfErr result (λ error. error ≡ WriteError.Failed
-            → HasRisen (W.failed out.old) (W.failed out.new)) }
+            → HasIncreased (W.failed out.old) (W.failed out.new)) }
     {
         match self {
             ReportText::Whole(rows) => write_report(alloc, &Report { rows }, out),
@@ -76,25 +75,25 @@ impl<'a> ReportText<'a> {
     }
 }
 
-// Writes the whole report into which rows are put.
+// Writes the whole report into which rows are merged.
 fn write_whole_report<W: Sink>(
     alloc: Global,
     into: IntoRows<'_>,
     out: &mut W,
 ) -> Result<(), WriteError>
     ensures all { OnOk result (Appends (W.taken out.old) (W.taken out.new)
-        (report_text (rows_put into.entry.chosen.places.now into.entry.chosen.rows into.entry.old))) }
+        (report_text (merged_rows into.entry.chosen.places.now into.entry.chosen.rows into.entry.old))) }
     ensures counted { OnOk result (W.failed out.new ≡ W.failed out.old) }
     ensures part { OnErr result (AppendsBeginning (W.taken out.old) (W.taken out.new)
-        (report_text (rows_put into.entry.chosen.places.now into.entry.chosen.rows into.entry.old))) }
+        (report_text (merged_rows into.entry.chosen.places.now into.entry.chosen.rows into.entry.old))) }
     ensures failed { IfErr result (λ error. error ≡ WriteError.Failed
-        → HasRisen (W.failed out.old) (W.failed out.new)) }
+        → HasIncreased (W.failed out.old) (W.failed out.new)) }
 {
     let rows = into.into_whole_rows();
     write_report(alloc, &Report { rows }, out)
 }
 
-/// The report of rows: the whole one into which they are put, if there is one, else theirs alone.
+/// Returns the report of the rows: the whole one into which they are merged, if there is one, else a report of these rows alone.
 pub(crate) fn framed_report(chosen: ChosenRows<'_>, frame: ReportFrame) -> ReportText<'_>
     requires { ForSome frame.old (λ rows. length rows ≡ chosen.jobs) }
     ensures text { report_text_of result

@@ -1,4 +1,4 @@
-//! The jobs that a run is asked for, and the rows that its report has already.
+//! The requested jobs of a run, and the rows that its report has already.
 
 ghost use Rattle.std.specs.Prelude.{◌≡◌, ◌≤◌, ◌<◌, [], None, Option, Some, IfErr, IfOk, length, option_map};
 ghost use Rattle.std.specs.Option.{ForSome};
@@ -26,7 +26,7 @@ use rv_report::Shard;
 use rvtest_cli::ChoosingCommand;
 
 impl<'x, R, D: Inputs> ListRun<'x, R, D> {
-    /// The jobs of the list, with marks for those that are to run. A refusal of words shows the usage of the command.
+    /// Returns the jobs of the list, and the selection of those to run. If the arguments are rejected, the usage of the command is shown.
     pub(crate) fn requested_jobs(&self, command: ChoosingCommand) -> Result<RequestedJobs, Stop>
         requires { self.now.rule ≡ failure_rule self.now.asked.now.lenient }
         ensures asked { IfOk result (λ requested. AreRequestedJobs (D.contents self.now.host.now.inputs.now)
@@ -51,7 +51,7 @@ impl<'x, R, D: Inputs> ListRun<'x, R, D> {
         }
     }
 
-    // The rows of the whole report of the jobs into which those of the run are put, if one is named.
+    // Returns the rows of the whole report into which those of the run are merged, if one is named.
     fn old_rows(&self, jobs: &[Job]) -> Result<Option<Rows>, Stop>
         ensures old { IfOk result (AreOldRows (D.contents self.now.host.now.inputs.now) self.now.asked.now jobs.now) }
         ensures counted { IfOk result (λ old. ForSome old (λ rows. length rows ≡ length jobs.now)) }

@@ -5,7 +5,7 @@ ghost use Rattle.std.specs.Io.KnownBytes.{Appends};
 ghost use Rattle.std.specs.List.{All};
 ghost use Rattle.rv_lists.specs.Limits.{most_jobs};
 ghost use Rattle.rv_lists.specs.Sinks.{AppendsBeginning};
-ghost use Rattle.rv_lists.specs.Counts.{HasRisen};
+ghost use Rattle.rv_lists.specs.Counts.{HasIncreased};
 ghost use Rattle.rvtest_app.specs.RunOutput.{chosen_last_line, chosen_report_text, job_numbers, part_text};
 
 use crate::chosen_rows::ChosenRows;
@@ -13,8 +13,8 @@ use rv_fleet::{Report, Sink, WriteError, put_all, write_report};
 use rv_report::{Extent, Numbers, SavedReport, Shard, push_extent_line, write_saved_report};
 use std::alloc::{AllocError, Global};
 
-/// Appends the report of the rows of chosen jobs: that of a shard, where these are its jobs; else the whole report where they
-/// are all, else that of a choice. After an error a beginning of it is out.
+/// Writes the report of the rows of chosen jobs: that of a shard, if these are its jobs; else the whole report if they are all; else that
+/// of a choice. After an error, a prefix of it has been written.
 pub(crate) fn write_chosen_report<W: Sink>(
     alloc: Global,
     chosen: ChosenRows<'_>,
@@ -27,7 +27,7 @@ pub(crate) fn write_chosen_report<W: Sink>(
     ensures part { OnErr result (AppendsBeginning (W.taken out.old) (W.taken out.new)
         (chosen_report_text chosen.entry.jobs chosen.entry.places.now shard chosen.entry.rows)) }
     ensures failed { IfErr result (λ error. error ≡ WriteError.Failed
-        → HasRisen (W.failed out.old) (W.failed out.new)) }
+        → HasIncreased (W.failed out.old) (W.failed out.new)) }
 {
     let extent = match shard {
         Some(shard) => Extent::Shard(shard),
@@ -39,7 +39,7 @@ pub(crate) fn write_chosen_report<W: Sink>(
     write_part_report(alloc, extent, chosen, out)
 }
 
-/// Appends the last line of that report. After an error a beginning of it is out.
+/// Writes the last line of that report. After an error, a prefix of it has been written.
 pub(crate) fn write_last_line<W: Sink>(
     alloc: Global,
     chosen: ChosenRows<'_>,
@@ -52,7 +52,7 @@ pub(crate) fn write_last_line<W: Sink>(
     ensures part { OnErr result (AppendsBeginning (W.taken out.old) (W.taken out.new)
         (chosen_last_line chosen.entry.jobs chosen.entry.places.now shard chosen.entry.rows)) }
     ensures failed { IfErr result (λ error. error ≡ WriteError.Failed
-        → HasRisen (W.failed out.old) (W.failed out.new)) }
+        → HasIncreased (W.failed out.old) (W.failed out.new)) }
 {
     let extent = match shard {
         Some(shard) => Extent::Shard(shard),
@@ -65,7 +65,7 @@ pub(crate) fn write_last_line<W: Sink>(
     Ok(())
 }
 
-// The report of a part of a list.
+// Writes the report of a part of a list.
 fn write_part_report<W: Sink>(
     alloc: Global,
     extent: Extent,
@@ -78,7 +78,7 @@ fn write_part_report<W: Sink>(
     ensures part { OnErr result (AppendsBeginning (W.taken out.old) (W.taken out.new)
         (part_text extent chosen.entry.places.now chosen.entry.rows)) }
     ensures failed { IfErr result (λ error. error ≡ WriteError.Failed
-        → HasRisen (W.failed out.old) (W.failed out.new)) }
+        → HasIncreased (W.failed out.old) (W.failed out.new)) }
 {
     let report = SavedReport {
         extent,
@@ -88,7 +88,7 @@ fn write_part_report<W: Sink>(
     write_saved_report(alloc, &report, out)
 }
 
-// The numbers of the jobs at some places, from 1.
+// Returns the numbers of the jobs at some indices, counted from 1.
 fn job_numbers(alloc: Global, places: &[usize]) -> Result<Vec<u32>, AllocError>
     requires { All (λ place. place < most_jobs) places.now }
     ensures { IfOk result (λ numbers. numbers.items ≡ job_numbers places.now) }

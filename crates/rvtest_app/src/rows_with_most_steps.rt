@@ -7,11 +7,11 @@ ghost use Rattle.rvtest_app.specs.ReportSummary.{rows_with_most_steps, inserted_
 use rv_rows::Row;
 use std::alloc::{AllocError, Global};
 
-/// How many rows are shown of those with the most steps.
+/// The number of rows shown among those with the most steps.
 pub const MOST_SHOWN: usize = 10;
 
-/// The rows with the most steps, the most first, and of equal ones in their order: [`MOST_SHOWN`] or, where there are
-/// fewer, all.
+/// Returns the rows with the most steps in descending order, where rows with equal steps keep their order: [`MOST_SHOWN`] of them or, if
+/// there are fewer, all.
 pub(crate) fn rows_with_most_steps(alloc: Global, rows: &[Row]) -> Result<Vec<&Row>, AllocError>
     ensures { IfOk result (λ most. map (λ row. row.now) most.items ≡ rows_with_most_steps rows.now) }
 {
@@ -24,7 +24,7 @@ pub(crate) fn rows_with_most_steps(alloc: Global, rows: &[Row]) -> Result<Vec<&R
     Ok(most)
 }
 
-// Puts a row before the first that has no more steps, and takes away what there is then no room for.
+// Inserts a row before the first that does not have more steps, and drops the last row if there are then too many.
 fn insert_by_steps<'a>(most: &mut Vec<&'a Row>, row: &'a Row) -> Result<(), AllocError>
     requires { length most.old.items ≤ MOST_SHOWN }
     ensures rows { OnOk result (map (λ row. row.now) most.new.items
@@ -40,7 +40,7 @@ fn insert_by_steps<'a>(most: &mut Vec<&'a Row>, row: &'a Row) -> Result<(), Allo
     Ok(())
 }
 
-// How many rows in front have more steps.
+// Returns the number of leading rows that have more steps.
 fn rank_by_steps(most: &[&Row], steps: u32) -> usize
     ensures place { result ≡ prefix_len (λ row. nat_lt steps row.now.steps) most.now }
     ensures within { result ≤ length most.now }

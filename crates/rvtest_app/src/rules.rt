@@ -1,4 +1,4 @@
-//! Which rows are failures, and the status of rows.
+//! Which rows are failures, and the status for rows.
 
 ghost use Rattle.std.specs.Prelude.{◌≡◌, ◌≤◌};
 ghost use Rattle.rv_expect.specs.Judgement.{judging_of};
@@ -9,7 +9,7 @@ use rv_command::{DONE, SOME_FAIL};
 use rv_expect::{Judge, Rule};
 use rv_rows::Row;
 
-/// The rule that words ask for.
+/// Returns the rule by which jobs fail, with or without `--lenient`.
 pub(crate) fn failure_rule(is_lenient: bool) -> Rule
     ensures { result ≡ failure_rule is_lenient }
 {
@@ -20,14 +20,14 @@ pub(crate) fn failure_rule(is_lenient: bool) -> Rule
     }
 }
 
-/// How the rows of a report are counted, by the rule that words ask for: no job is known to fail.
+/// Returns how the rows of a report are counted, with or without `--lenient`: no job is known to fail.
 pub(crate) fn report_judge<'a>(is_lenient: bool) -> Judge<'a>
     ensures { judging_of result ≡ report_judging is_lenient }
 {
     Judge::by_rule(failure_rule(is_lenient))
 }
 
-/// [`DONE`] where a job passed, else [`SOME_FAIL`].
+/// Returns [`DONE`] if a job passed, else [`SOME_FAIL`].
 pub(crate) fn passing_status(passed: bool) -> u8
     ensures value { result ≡ passing_status passed }
     ensures low { result ≤ 1 }
@@ -35,7 +35,7 @@ pub(crate) fn passing_status(passed: bool) -> u8
     if passed { DONE } else { SOME_FAIL }
 }
 
-/// [`SOME_FAIL`] where some row counts as a failure, else [`DONE`].
+/// Returns [`SOME_FAIL`] if some row counts as a failure, else [`DONE`].
 pub(crate) fn rows_status(judge: &Judge<'_>, rows: &[Row]) -> u8
     ensures value { result ≡ rows_status (judging_of judge.now) rows.now }
     ensures low { result ≤ 1 }

@@ -32,16 +32,16 @@ use std::sync::Wait;
 use std::thread::Threads;
 use std::time::Clock;
 
-/// A run of a list that words ask for.
+/// A requested run of a list.
 #[derive(Drop)]
 pub(crate) struct ListRun<'x, R, D> {
     pub(crate) host: &'x Host<'x, R, D>,
     pub(crate) asked: &'x RunArgs<'x>,
-    /// Which rows are failures.
+    /// The rule by which rows are failures.
     pub(crate) rule: Rule,
 }
 
-/// Runs the jobs that are asked for, shows them, and writes their report. The status is 1 where one of them failed.
+/// Runs the requested jobs, shows them, and writes their report. The status is 1 if one of them failed.
 pub(crate) fn run_requested_jobs<
     R: Threads + Wait + Sync + Clock,
     D: Inputs,
@@ -65,7 +65,7 @@ where
     ensures untouched { IfOk result.1 (λ _. AreJobsToRun (D.contents host.now.inputs.now) asked.now
         ⊎ (result.0.out ≡ to.out)) }
     ensures stopped { IfErr result.1 (IsRunStop (D.contents host.now.inputs.now) asked.now) }
-    // What the run reads stays.
+    // The inputs of the run are not overwritten.
     ensures kept { AreRunInputsKept (D.contents host.now.inputs.now) asked.now (F.placed to.files) (F.placed result.0.files) }
 {
     let run = ListRun {
@@ -100,15 +100,15 @@ where
                 frame,
                 known,
             };
-            run.run_marked_jobs(marked, to, terminals)
+            run.run_selected_jobs(marked, to, terminals)
         }
         None => (to, Ok(DONE)),
     }
 }
 
 impl<'x, R: Threads + Wait + Sync + Clock, D: Inputs> ListRun<'x, R, D> {
-    // Runs the jobs that are marked, once the files that they need are read. A budget that is asked for is that of every job.
-    fn run_marked_jobs<
+    // Runs the selected jobs, after reading the files that they need. A requested budget applies to every job.
+    fn run_selected_jobs<
         F: Outputs + Drop,
         O: Sink + Drop + Send,
         E: Sink + Drop + Send,
@@ -177,7 +177,7 @@ impl<'x, R: Threads + Wait + Sync + Clock, D: Inputs> ListRun<'x, R, D> {
     }
 }
 
-/// The plan of the jobs at some places.
+/// Gathers the plan of the jobs at some indices.
 pub(crate) fn gather_jobs_at<S: Store>(
     alloc: Global,
     jobs: JobList,

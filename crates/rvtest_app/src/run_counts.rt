@@ -5,8 +5,8 @@ ghost use Rattle.std.specs.List.Sorted.{IsStrictlyIncreasing};
 ghost use Rattle.rv_files.specs.Placed.{CommittedFile};
 ghost use Rattle.rv_fleet.specs.Choices.{AreJobIndices};
 ghost use Rattle.rvtest_app.specs.Outlets.{HasTaken, outlet_path};
-ghost use Rattle.rvtest_app.specs.Runs.{AreCountsPut, IsCountsTable, IsCountsText};
-ghost use Rattle.rvtest_app.specs.CommandOutputs.{outputs_of, where_told};
+ghost use Rattle.rvtest_app.specs.Runs.{AreCountsWritten, IsCountsTable, IsCountsText};
+ghost use Rattle.rvtest_app.specs.CommandOutputs.{outputs_of, with_placed_if_reported};
 ghost use Rattle.rvtest_app.specs.StackStops.{IsCountsPutStop, IsUncountedRunStop};
 
 use crate::counts::sum_error_stop;
@@ -28,7 +28,7 @@ use std::thread::Threads;
 use std::time::Clock;
 
 impl<'x, R: Threads + Wait + Sync + Clock, D: Inputs> ListRun<'x, R, D> {
-    /// Runs the jobs at some places once more, and puts how often each of their instructions began, where that is asked for.
+    /// Runs the jobs at some indices once more, and writes how often each of their instructions was executed, if that is requested.
     pub(crate) fn put_counts<F: Outputs + Drop, O: Sink + Drop, E: Sink + Drop>(
         &self,
         plan: &Plan,
@@ -42,8 +42,8 @@ impl<'x, R: Threads + Wait + Sync + Clock, D: Inputs> ListRun<'x, R, D> {
             × HasTaken F.pending_path F.File.taken F.File.failed None path [] outlet }
         ensures counted { (path : Option (List ℕ)) (earlier : Option (List CommittedFile))
             → HasTaken F.pending_path F.File.taken F.File.failed earlier path [] outlet.entry
-            → OnOk result (AreCountsPut self.now.asked.now.stacks path plan.now places.now
-            (where_told earlier (outputs_of F.placed O.taken E.taken E.failed to.old))
+            → OnOk result (AreCountsWritten self.now.asked.now.stacks path plan.now places.now
+            (with_placed_if_reported earlier (outputs_of F.placed O.taken E.taken E.failed to.old))
             (outputs_of F.placed O.taken E.taken E.failed to.new)) }
         ensures asked { (path : Option (List ℕ)) (earlier : Option (List CommittedFile))
             → HasTaken F.pending_path F.File.taken F.File.failed earlier path [] outlet.entry
@@ -63,7 +63,7 @@ impl<'x, R: Threads + Wait + Sync + Clock, D: Inputs> ListRun<'x, R, D> {
         }
     }
 
-    // The text of the table of their counts, with their stacks where those are asked for.
+    // Returns the text of the table of their counts, with their stacks if requested.
     fn counts_text(&self, plan: &Plan, places: &[usize]) -> Result<String, Stop>
         requires within { AreJobIndices plan.now places.now }
         requires rising { IsStrictlyIncreasing places.now }

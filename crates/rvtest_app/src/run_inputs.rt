@@ -1,4 +1,4 @@
-//! What a run reads, beside the files that it writes.
+//! The inputs of a run other than the files that it writes.
 
 ghost use Rattle.std.specs.Prelude.{◌≡◌, ◌++◌, ◌∷◌, [], IfErr, IfOk, IfSome, OnOk};
 ghost use Rattle.rv_command.specs.Texts.{optional_text};
@@ -14,8 +14,8 @@ use rv_jobs::Job;
 use rvtest_cli::RunArgs;
 use std::alloc::{AllocError, Global};
 
-/// Refuses the files of a run that would replace or remove something that it reads: its list, the known failures, a file of a
-/// job of the list, whether it runs or not; and, but for the report that `--into` replaces, a report.
+/// Rejects files of a run that would replace or remove an input: its list, the known failures, a file of any job of the list, whether it
+/// runs or not, or a report other than the one that `--into` replaces.
 pub(crate) fn refuse_run_overwrites<F: Outputs>(
     files: &F,
     alloc: Global,
@@ -33,7 +33,7 @@ pub(crate) fn refuse_run_overwrites<F: Outputs>(
     refuse_report_overwrites(files, alloc, asked)
 }
 
-// But for the report that `--into` replaces, no file of a run replaces a report that it reads.
+// Rejects files of a run that would overwrite a report that it reads, except the one that `--into` replaces.
 fn refuse_report_overwrites<F: Outputs>(
     files: &F,
     alloc: Global,
@@ -96,7 +96,7 @@ pub(crate) fn push_image_path<'a>(
     push_read(alloc, read, root, job.image.as_str(), role)
 }
 
-/// Appends the golden files of a job: the signature's, and then the console's.
+/// Appends the golden files of a job: first the signature's, then the console's.
 pub(crate) fn push_golden_paths<'a>(
     alloc: Global,
     read: &mut Vec<ReadPath<'a>>,
@@ -133,7 +133,7 @@ fn console_file(job: &Job) -> Option<&str>
     }
 }
 
-/// The report whose failed jobs are chosen.
+/// Returns the report whose failed jobs are chosen.
 pub(crate) fn failed_of_run<'a>(
     alloc: Global,
     asked: &RunArgs<'_>,

@@ -1,4 +1,4 @@
-//! A run into the files that are asked for.
+//! Running jobs into the requested files.
 
 ghost use Rattle.std.specs.Prelude.{◌≡◌, ◌⊎◌, ◌≤◌, ◌++◌, [], ℕ, List, None, Option, Some, IfErr, IfOk, OnErr, OnOk, length};
 ghost use Rattle.std.specs.Io.KnownBytes.{Appends};
@@ -9,15 +9,15 @@ ghost use Rattle.rv_fleet.specs.Choices.{AreJobIndices};
 ghost use Rattle.rv_job_text.specs.RowReporter.{row_lines_at, reporter_of};
 ghost use Rattle.rv_rows.specs.declared_row.Row.{Row as ARow};
 ghost use Rattle.rvtest_app.specs.FailureLines.{failure_lines};
-ghost use Rattle.rvtest_app.specs.IntoReports.{rows_ahead, run_report_text, uses_run_stdout};
+ghost use Rattle.rvtest_app.specs.IntoReports.{streamed_rows, run_report_text, uses_run_stdout};
 ghost use Rattle.rvtest_app.specs.Outlets.{AreFilesCommitted, AreFilesPartlyCommitted, HasTaken, IsPutInto, file_at, has_no_failure};
 ghost use Rattle.rvtest_app.specs.Outlets.{outlet_path, stdout_at};
 ghost use Rattle.rvtest_app.specs.Puts.{IsShown};
-ghost use Rattle.rvtest_app.specs.PutStops.{IsPutStop};
+ghost use Rattle.rvtest_app.specs.WriteStops.{IsPutStop};
 ghost use Rattle.rvtest_app.specs.RowsFiles.{IsOutletOfRows};
 ghost use Rattle.rvtest_app.specs.RunOutput.{rows_status, run_output_text};
 ghost use Rattle.rvtest_app.specs.RunStops.{IsRowsPutStop, IsRowsStop, IsRunPutStop};
-ghost use Rattle.rvtest_app.specs.Runs.{AreRunFilesPlacedInPart, IsCountedRunPut, IsRunPut, junit_file, run_junit, run_rows};
+ghost use Rattle.rvtest_app.specs.Runs.{AreRunFilesPlacedInPart, IsCountedRunWritten, IsRunWritten, junit_file, run_junit, run_rows};
 ghost use Rattle.rvtest_app.specs.CommandOutputs.{outputs_of};
 
 use crate::chosen_rows::ChosenRows;
@@ -48,7 +48,7 @@ use std::thread::Threads;
 use std::time::Clock;
 
 impl<'x, R: Threads + Wait + Sync + Clock, D: Inputs> ListRun<'x, R, D> {
-    /// Runs the jobs at some places of a plan. All files are opened before the first of them runs.
+    /// Runs the jobs at some indices of a plan. All files are opened before the first job runs.
     pub(crate) fn run_planned_jobs<
         J: LinesSpec + Send + Sync,
         F: Outputs + Drop,
@@ -71,7 +71,7 @@ impl<'x, R: Threads + Wait + Sync + Clock, D: Inputs> ListRun<'x, R, D> {
         requires whole { ForSome frame.old (λ rows. length rows ≡ length reporter.now.plan.now.jobs) }
         ensures status { IfOk result.1 (λ status. status ≡ rows_status (judging_of reporter.now.judge) (run_rows
             self.now.asked.now.stop_after (judging_of reporter.now.judge) reporter.now.plan.now places.now)) }
-        ensures outputs_of { OnOk result.1 (IsCountedRunPut self.now.asked.now (reporter_of reporter.now) places.now frame.shard frame.old
+        ensures outputs_of { OnOk result.1 (IsCountedRunWritten self.now.asked.now (reporter_of reporter.now) places.now frame.shard frame.old
             (run_rows self.now.asked.now.stop_after (judging_of reporter.now.judge) reporter.now.plan.now places.now)
             (outputs_of F.placed O.taken E.taken E.failed to) (outputs_of F.placed O.taken E.taken E.failed result.0)) }
         ensures part { (rows : List ARow) → rows ≡ run_rows self.now.asked.now.stop_after (judging_of reporter.now.judge)
@@ -101,7 +101,7 @@ impl<'x, R: Threads + Wait + Sync + Clock, D: Inputs> ListRun<'x, R, D> {
         }
     }
 
-    // Runs them, and puts what is shown of them, their report and JUnit's file; and says how many of them were run.
+    // Runs the jobs, writes what is shown of them, their report and the JUnit file, and returns how many of them were run.
     fn run_into_files<
         J: LinesSpec + Send + Sync,
         F: Outputs + Drop,
@@ -127,7 +127,7 @@ impl<'x, R: Threads + Wait + Sync + Clock, D: Inputs> ListRun<'x, R, D> {
         ensures few { OnOk result.2 (result.1 ≤ length places.now) }
         ensures status { IfOk result.2 (λ status. status ≡ rows_status (judging_of reporter.now.judge) (run_rows
             self.now.asked.now.stop_after (judging_of reporter.now.judge) reporter.now.plan.now places.now)) }
-        ensures outputs_of { OnOk result.2 (IsRunPut self.now.asked.now (reporter_of reporter.now) places.now frame.shard frame.old
+        ensures outputs_of { OnOk result.2 (IsRunWritten self.now.asked.now (reporter_of reporter.now) places.now frame.shard frame.old
             (run_rows self.now.asked.now.stop_after (judging_of reporter.now.judge) reporter.now.plan.now places.now)
             (outputs_of F.placed O.taken E.taken E.failed to) (outputs_of F.placed O.taken E.taken E.failed result.0)) }
         ensures part { (rows : List ARow) → rows ≡ run_rows self.now.asked.now.stop_after (judging_of reporter.now.judge)
@@ -165,8 +165,8 @@ impl<'x, R: Threads + Wait + Sync + Clock, D: Inputs> ListRun<'x, R, D> {
         }
     }
 
-    // Runs the jobs at some places, and shows them. What the report says of each goes to the report's file as it comes, but
-    // where their rows are put into another report.
+    // Runs the jobs at some indices, and shows them. The report text of each goes to the report's file as it comes, unless the rows are
+    // merged into another report.
     fn run_into_outlets<
         'o,
         J: LinesSpec + Send + Sync,
@@ -198,7 +198,7 @@ impl<'x, R: Threads + Wait + Sync + Clock, D: Inputs> ListRun<'x, R, D> {
             (judging_of planned.now.reporter.now.judge) planned.now.reporter.now.plan.now planned.now.places.now))
             (outputs_of F.placed O.taken E.taken E.failed to) (outputs_of F.placed O.taken E.taken E.failed result.0)) }
         ensures report { OnOk result.2 (IsPutInto F.File.taken F.File.failed outlets.entry.report result.1.report
-            (rows_ahead frame.now.old planned.now.places.now (run_rows self.now.asked.now.stop_after
+            (streamed_rows frame.now.old planned.now.places.now (run_rows self.now.asked.now.stop_after
             (judging_of planned.now.reporter.now.judge) planned.now.reporter.now.plan.now planned.now.places.now))) }
         ensures report_path { outlet_path result.1.report ≡ outlet_path outlets.entry.report }
         ensures junit { result.1.junit ≡ outlets.entry.junit }
@@ -231,7 +231,7 @@ impl<'x, R: Threads + Wait + Sync + Clock, D: Inputs> ListRun<'x, R, D> {
         }
     }
 
-    // Puts the two files of the rows of the jobs at some places, and gives the status of the rows.
+    // Writes the two files of the rows of the jobs at some indices, and returns the status of the rows.
     fn put_run_files<J: LinesSpec, F: Outputs + Drop, O: Sink + Drop, E: Sink + Drop>(
         &self,
         planned: &PlannedRun<'_, J>,
@@ -248,7 +248,7 @@ impl<'x, R: Threads + Wait + Sync + Clock, D: Inputs> ListRun<'x, R, D> {
         ensures errors { to.new.errors ≡ to.old.errors }
         ensures put { (report_path junit_path : Option (List ℕ))
             → HasTaken F.pending_path F.File.taken F.File.failed (F.placed to.old.files) report_path
-            (rows_ahead frame.old planned.now.places.now rows) outlets.entry.report
+            (streamed_rows frame.old planned.now.places.now rows) outlets.entry.report
             → HasTaken F.pending_path F.File.taken F.File.failed (F.placed to.old.files) junit_path [] outlets.entry.junit
             → OnOk result (Appends (O.taken to.old.out) (O.taken to.new.out)
             (stdout_at junit_path (run_junit self.now.asked.now (reporter_of planned.now.reporter.now)
@@ -256,7 +256,7 @@ impl<'x, R: Threads + Wait + Sync + Clock, D: Inputs> ListRun<'x, R, D> {
             (length planned.now.reporter.now.plan.now.jobs) planned.now.places.now frame.shard rows))) }
         ensures placed { (report_path junit_path : Option (List ℕ))
             → HasTaken F.pending_path F.File.taken F.File.failed (F.placed to.old.files) report_path
-            (rows_ahead frame.old planned.now.places.now rows) outlets.entry.report
+            (streamed_rows frame.old planned.now.places.now rows) outlets.entry.report
             → HasTaken F.pending_path F.File.taken F.File.failed (F.placed to.old.files) junit_path [] outlets.entry.junit
             → OnOk result (AreFilesCommitted (F.placed to.old.files) (F.placed to.new.files)
             (Some (file_at junit_path (run_junit self.now.asked.now (reporter_of planned.now.reporter.now)
@@ -297,7 +297,7 @@ impl<'x, R: Threads + Wait + Sync + Clock, D: Inputs> ListRun<'x, R, D> {
     }
 }
 
-// The outlet of the file that took the rows.
+// Returns the outlet of the file that received the rows.
 fn outlet_of_rows<'o, P: Drop, V: Drop>(file: Option<RowsFile<(&'o str, P), V>>) -> Outlet<'o, P, V>
     ensures { IsOutletOfRows file.entry result }
 {

@@ -29,16 +29,16 @@ use std::io::ErrorKind;
 use std::sync::Wait;
 use std::thread::Threads;
 
-/// The file that takes what the report says of each row as the row comes, and what names it.
+/// The file that receives the report text of each row as the row comes, and what names it.
 #[derive(Drop)]
 pub(crate) struct RowsFile<N: Drop, V: Drop> {
     pub(crate) name: N,
     pub(crate) sink: V,
 }
 
-/// Runs a batch up to the failure that ends it, if one does, and sends what is told of each of these jobs in list order; and then the
-/// last line. What the report says of each goes to the file, if there is one. Both come back: with the rows they took all of that and no
-/// put failed, and with an error a beginning.
+/// Runs a batch up to the failure that stops it, if one does, and writes what is reported for each of these jobs in list order, followed by
+/// the last line. The report text of each goes to the file, if there is one. Both sinks are returned: on success they received all of that
+/// and no write failed; after an error they received a prefix.
 pub(crate) fn put_run_output<
     R: Threads + Wait + Sync,
     T: RowReporter + Sync,
@@ -79,7 +79,7 @@ pub(crate) fn put_run_output<
     }
 }
 
-// Sends what is told of each job, without the last line, and what the report says of each to the file, if there is one.
+// Writes what is reported for each job, without the last line, and the report text of each to the file, if there is one.
 fn stream_with_file<
     R: Threads + Wait + Sync,
     T: RowReporter + Sync,
@@ -125,7 +125,7 @@ fn stream_with_file<
     }
 }
 
-// Sends the line that counts the rows, and the jobs that have none.
+// Writes the line that counts the rows and the jobs without a row.
 fn put_totals_line<W: Sink>(
     alloc: Global,
     judge: &Judge<'_>,
@@ -148,7 +148,7 @@ fn put_totals_line<W: Sink>(
     }
 }
 
-/// What a run came to, where the rows of its report go to the file for a path, whose last write that failed did so for a reason.
+/// Returns the result of a run whose rows are also written to the file for a path; `reason` is that of the file's last failed write.
 pub(crate) fn rows_beside_file(
     alloc: Global,
     path: &str,
@@ -164,7 +164,7 @@ pub(crate) fn rows_beside_file(
     }
 }
 
-/// What a run came to whose report has no file that takes its rows.
+/// Returns the result of a run whose report has no file that receives its rows.
 pub(crate) fn rows_without_file(ran: Result<Rows, BothError>) -> Result<Rows, Stop>
     ensures rows { IfOk result (λ rows. ran ≡ Ok rows) }
     ensures stopped { IfErr result IsStreamStop }
@@ -175,7 +175,7 @@ pub(crate) fn rows_without_file(ran: Result<Rows, BothError>) -> Result<Rows, St
     }
 }
 
-// Why a run ends that stopped on its way, where the rows of its report go to the file for a path.
+// Returns why a run stopped before its end, if the rows of its report are written to the file for a path.
 fn stop_of_both(alloc: Global, path: &str, reason: ErrorKind, error: BothError) -> Stop
     ensures { IsBothStop path.now error result }
 {
@@ -186,7 +186,7 @@ fn stop_of_both(alloc: Global, path: &str, reason: ErrorKind, error: BothError) 
     }
 }
 
-// Why a run ends that stopped on its way.
+// Returns why a run stopped before its end.
 fn stop_of_stream(error: StreamError) -> Stop
     ensures { result ≡ stop_of_stream error }
 {

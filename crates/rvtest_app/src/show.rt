@@ -6,7 +6,7 @@ ghost use Rattle.rv_command.specs.Texts.{optional_text};
 ghost use Rattle.rv_report.specs.Report.{report_text};
 ghost use Rattle.rvtest_app.specs.CommandStops.{IsShowStop};
 ghost use Rattle.rvtest_app.specs.Puts.{WentOut};
-ghost use Rattle.rvtest_app.specs.PutStops.{IsOutputStop};
+ghost use Rattle.rvtest_app.specs.WriteStops.{IsOutputStop};
 ghost use Rattle.rvtest_app.specs.Commands.{report_judging};
 ghost use Rattle.rvtest_app.specs.RunOutput.{rows_status};
 ghost use Rattle.rvtest_app.specs.ReportSummary.{summary_text};
@@ -40,7 +40,7 @@ struct SummarizedReport {
     status: u8,
 }
 
-/// Shows what failed in a report, its counts and the jobs with the most steps. The status is 1 where a job failed.
+/// Shows what failed in a report, its counts and the jobs with the most steps. The status is 1 if a job failed.
 pub(crate) fn show_report<D: Inputs, F: Outputs + Drop, O: Sink + Drop, E: Sink + Drop>(
     inputs: &D,
     alloc: Global,
@@ -53,7 +53,7 @@ pub(crate) fn show_report<D: Inputs, F: Outputs + Drop, O: Sink + Drop, E: Sink 
     ensures undone { OnErr result (IsUndoneShowAt (D.contents inputs.now) asked.entry
         (F.placed to.old.files) (F.placed to.new.files)) }
     ensures stopped { IfErr result (IsShowStop (D.contents inputs.now) asked.entry) }
-    // The report stays.
+    // The report is not overwritten.
     ensures kept { IsPlacedApart (IsShowFileApart asked.entry) (F.placed to.old.files) (F.placed to.new.files) }
 {
     refuse_show_overwrite(&to.files, alloc, &asked)?;
@@ -70,7 +70,7 @@ pub(crate) fn show_report<D: Inputs, F: Outputs + Drop, O: Sink + Drop, E: Sink 
     Ok(status)
 }
 
-// Refuses a JUnit file that would replace or remove the report.
+// Rejects a JUnit file that would replace or remove the report.
 fn refuse_show_overwrite<F: Outputs>(
     files: &F,
     alloc: Global,
@@ -87,7 +87,7 @@ fn refuse_show_overwrite<F: Outputs>(
     refuse_overwrite(files, alloc, "--junit", asked.junit, &read)
 }
 
-// A report with its summary and its status.
+// Summarizes a report, and returns it with its status.
 fn summarize_report(
     alloc: Global,
     asked: ShowArgs<'_>,
@@ -111,7 +111,7 @@ fn summarize_report(
     })
 }
 
-// Puts the summary, and the rows as JUnit's XML where that is asked for.
+// Writes the summary and, if requested, the rows as JUnit XML.
 fn put_summarized_report<F: Outputs + Drop, O: Sink + Drop, E: Sink + Drop>(
     alloc: Global,
     asked: ShowArgs<'_>,

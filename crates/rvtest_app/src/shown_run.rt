@@ -1,4 +1,4 @@
-//! A run, shown on one of the two standard streams.
+//! A run that is shown on one of the two standard streams.
 
 ghost use Rattle.std.specs.Prelude.{◌≡◌, ◌≤◌, ℕ, None, Option, Some, IfOk, OnOk, true, length};
 ghost use Rattle.std.specs.Io.KnownBytes.{Appends};
@@ -41,7 +41,7 @@ struct ShownOn<W: Drop> {
 }
 
 impl<'x, R: Threads + Wait + Sync + Clock, D: Inputs> ListRun<'x, R, D> {
-    /// Runs the jobs at some places, and shows them: on standard error where a file goes to standard output.
+    /// Runs the jobs at some indices, and shows them: on standard output, or on standard error if a file goes to standard output.
     pub(crate) fn run_and_show<
         J: LinesSpec + Send + Sync,
         N: Drop,
@@ -95,7 +95,7 @@ impl<'x, R: Threads + Wait + Sync + Clock, D: Inputs> ListRun<'x, R, D> {
         }
     }
 
-    // The same on one of the streams, and how far the run is on standard error.
+    // Runs the jobs and shows them on one of the streams, with the progress on standard error.
     fn run_and_show_on<
         J: LinesSpec + Send + Sync,
         N: Drop,
@@ -145,7 +145,7 @@ impl<'x, R: Threads + Wait + Sync + Clock, D: Inputs> ListRun<'x, R, D> {
         (stream, file, ran)
     }
 
-    // The line that counts the jobs at some places.
+    // Returns the progress line for the jobs at some indices.
     fn run_progress<'m, J: LinesSpec, P: Write + Drop>(
         &self,
         planned: &PlannedRun<'m, J>,
@@ -169,7 +169,7 @@ impl<'x, R: Threads + Wait + Sync + Clock, D: Inputs> ListRun<'x, R, D> {
         )
     }
 
-    // Where the lines of jobs that fail are kept: they are shown, and told to JUnit's file too.
+    // Returns where the lines of failed jobs are recorded, if they are needed again for the JUnit file after they are shown.
     fn lines_to_keep<'m, J: LinesSpec>(
         &self,
         planned: &PlannedRun<'m, J>,

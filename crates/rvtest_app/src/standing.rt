@@ -1,4 +1,5 @@
-//! How the jobs stand that `accept` runs: whether `run` passes them, and whether they differ from the jobs that they name.
+//! The verdicts on the jobs that `accept` runs: whether `run` passes them, and whether they differ from the jobs that they are compared
+//! with.
 
 ghost use Rattle.std.specs.Prelude.{◌≡◌, ◌++◌, ◌∷◌, [], IfOk, OnOk, option_map, slice_get};
 ghost use Rattle.std.specs.List.{list_any};
@@ -8,7 +9,7 @@ ghost use Rattle.rv_expect.specs.Comparisons.{sides_of};
 ghost use Rattle.rv_expect.specs.RowReporter.{is_same};
 ghost use Rattle.rv_files.specs.UnreadPaths.{resolved_path};
 ghost use Rattle.rvtest_app.specs.Standings.{AreCandidates, IsCandidateAt, IsGoldenText, IsStanding, IsWholeText, compared_row, is_marked, is_none_unmet, path_to_read};
-ghost use Rattle.rvtest_app.specs.Standings.{sides_over, standing_by, standing_of};
+ghost use Rattle.rvtest_app.specs.Standings.{sides_over, standing_by, verdict_of_sides};
 
 use crate::accepted_files::place_of_path;
 use rv_accept::{Acceptance, Candidate, CurrentVerdict, console_path, is_accepted_end};
@@ -22,17 +23,17 @@ use std::alloc::{AllocError, Global};
 /// What runs without expectations are compared with.
 #[derive(Drop)]
 pub(crate) struct CurrentFiles<'x, D> {
-    /// Golden files as they are.
+    /// The golden files as they are.
     pub inputs: &'x D,
     pub alloc: Global,
-    /// The folder from which the paths of golden files are taken.
+    /// The directory against which the paths of golden files are resolved.
     pub folder: Option<&'x str>,
     /// The row of each job of the list that was run.
     pub rows: &'x [Option<Row>],
 }
 
 impl<'x, D: Inputs> CurrentFiles<'x, D> {
-    /// The jobs of the list, of which some are chosen, and how each stands.
+    /// Returns the jobs of the list, some of which are chosen, with the verdict on each.
     pub(crate) fn candidates(
         &self,
         jobs: &[Job],
@@ -50,7 +51,7 @@ impl<'x, D: Inputs> CurrentFiles<'x, D> {
         Ok(candidates)
     }
 
-    // The job at a place of the list, and how it stands; one that was not run does not pass.
+    // Returns the job at an index of the list, with the verdict on it; a job that was not run does not pass.
     fn candidate_at(
         &self,
         place: usize,
@@ -82,18 +83,18 @@ impl<'x, D: Inputs> CurrentFiles<'x, D> {
     {
         let console = self.golden_text(path_to_read(job, row, console_path(job)))?;
         let signature = self.golden_text(path_to_read(job, row, signature_path(job)))?;
-        self.standing_over(job, row, text_of(&console), text_of(&signature))
+        self.verdict_over(job, row, text_of(&console), text_of(&signature))
     }
 
-    // How a job stands over what was read of its golden files.
-    fn standing_over<'r>(
+    // Returns the verdict on a job, given what was read of its golden files.
+    fn verdict_over<'r>(
         &self,
         job: &'r Job,
         row: &'r Row,
         console: Option<&'r [u8]>,
         signature: Option<&'r [u8]>,
     ) -> Result<CurrentVerdict, AllocError>
-        ensures { IfOk result (λ standing. standing ≡ standing_of (sides_over self.now.rows.now job.now row.now
+        ensures { IfOk result (λ standing. standing ≡ verdict_of_sides (sides_over self.now.rows.now job.now row.now
             (option_map (λ bytes. bytes.now) console.entry) (option_map (λ bytes. bytes.now) signature.entry))) }
     {
         let comparison = Comparison {
@@ -107,7 +108,7 @@ impl<'x, D: Inputs> CurrentFiles<'x, D> {
         Ok(standing_by(did_run(row.ending), unmet.as_slice()))
     }
 
-    // The row of the job that one names by `same_as`, if it names one.
+    // Returns the row of the job that `same_as` names, if it names one.
     fn compared_row(&self, job: &Job) -> Option<&Row>
         ensures { option_map (λ row. row.now) result ≡ compared_row self.now.rows.now job.now.same_as }
     {
@@ -117,14 +118,14 @@ impl<'x, D: Inputs> CurrentFiles<'x, D> {
         }
     }
 
-    // The row of the job at a place, where it was run.
+    // Returns the row of the job at an index, if it was run.
     fn row_at(&self, place: usize) -> Option<&Row>
         ensures { option_map (λ row. row.now) result ≡ row_or_none (slice_get self.now.rows.now place) }
     {
         row_if_run(self.rows.get(place))
     }
 
-    // What a golden file holds, where one is named.
+    // Reads a golden file, if one is named.
     fn golden_text(&self, path: Option<&str>) -> Result<Option<Vec<u8>>, AllocError>
         ensures { IfOk result (λ text. IsGoldenText (D.contents self.now.inputs.now) (optional_text self.now.folder)
             (option_map (λ path. path.now) path.entry) (option_map (λ bytes. bytes.items) text)) }
@@ -143,7 +144,7 @@ impl<'x, D: Inputs> CurrentFiles<'x, D> {
         self.text_at(place.as_str())
     }
 
-    // What stands at a place; nothing where it was not read, as `run` reads no expectation there.
+    // Reads the file at a path; returns `None` if it cannot be read, as `run` reads no expectation there.
     fn text_at(&self, place: &str) -> Result<Option<Vec<u8>>, AllocError>
         ensures { IfOk result (λ text. IsWholeText (D.contents self.now.inputs.now) place.now
             (option_map (λ bytes. bytes.items) text)) }
@@ -173,7 +174,8 @@ fn is_marked(marks: &[bool], place: usize) -> bool
     }
 }
 
-// The path of a golden file, where what it holds may let the job pass: one that ended as is expected is accepted whatever it holds.
+// Returns the path of a golden file if its contents decide whether the job passes: a job that ended as expected is accepted whatever they
+// are.
 fn path_to_read<'a>(job: &Job, row: &Row, path: Option<&'a str>) -> Option<&'a str>
     ensures { option_map (λ path. path.now) result
         ≡ path_to_read job.now row.now (option_map (λ path. path.now) path.entry) }
@@ -212,7 +214,7 @@ fn row_if_run(row: Option<&Option<Row>>) -> Option<&Row>
     }
 }
 
-// How a job stands by whether it ran, and the expectations that its run does not meet.
+// Returns the verdict on a job, given whether it ran and its unmet expectations.
 fn standing_by(ran: bool, unmet: &[Unmet]) -> CurrentVerdict
     ensures { result ≡ standing_by ran unmet.now }
 {
@@ -240,7 +242,7 @@ fn is_any_difference(unmet: &[Unmet]) -> bool
     unmet.iter().any(|one| is_difference(*one))
 }
 
-// Whether an expectation is to be the same as another job.
+// Whether the expectation is that two jobs have the same result.
 fn is_difference(unmet: Unmet) -> bool
     ensures { result ≡ is_same unmet }
 {

@@ -1,4 +1,4 @@
-//! What `cover` and `profile` have in common: jobs run or have been counted, and something of their images is shown.
+//! What `cover` and `profile` have in common: jobs run or have been counted, and a view of their images is shown.
 
 ghost use Rattle.std.specs.Prelude.{◌≡◌, ◌⊎◌, ◌≤◌, IfErr, IfOk, length};
 ghost use Rattle.std.specs.List.Sorted.{IsStrictlyIncreasing};
@@ -8,7 +8,7 @@ ghost use Rattle.rv_fleet.specs.Choices.{AreJobIndices};
 ghost use Rattle.rvtest_app.specs.Runs.{places_of_marks};
 ghost use Rattle.rvtest_app.specs.CommandOutputs.{outputs_of};
 ghost use Rattle.rvtest_app.specs.ViewStops.{IsTextlessStop, IsUnshownStop, IsUnviewedStop, IsViewStop, counts_source};
-ghost use Rattle.rvtest_app.specs.Views.{IsViewOfPlaces, IsViewOfPlan, IsViewPut, IsViewText};
+ghost use Rattle.rvtest_app.specs.Views.{IsViewOfPlaces, IsViewOfPlan, IsViewWritten, IsViewText};
 
 use crate::destinations::Destinations;
 use crate::host::Host;
@@ -28,19 +28,19 @@ use rvtest_cli::{ChoosingCommand, RunArgs};
 use std::sync::Wait;
 use std::thread::Threads;
 
-/// What is shown of images by a table of counts.
+/// A view of images, made from a table of counts.
 #[derive(Clone, Copy)]
 pub(crate) enum View {
-    /// What of them ran.
+    /// The instructions that were executed.
     Cover {
-        /// Whether it is written for tools.
+        /// Whether it is CSV, for tools.
         csv: bool,
     },
-    /// In which functions steps were.
+    /// The functions in which steps were spent.
     Profile(ProfileFormat),
 }
 
-/// A view of the images of the jobs that words ask for.
+/// A view of the images of the requested jobs.
 #[derive(Drop)]
 pub(crate) struct JobsView<'x, R, D> {
     pub(crate) host: &'x Host<'x, R, D>,
@@ -49,13 +49,14 @@ pub(crate) struct JobsView<'x, R, D> {
 }
 
 impl<'x, R: Threads + Wait + Sync, D: Inputs> JobsView<'x, R, D> {
-    /// Shows it, by a run of the jobs or by a table of counts. The status is 0. A refusal of words shows the usage of the command.
+    /// Writes the view, from a run of the jobs or from a table of counts. The status is 0. If the arguments are rejected, the usage of the
+    /// command is shown.
     pub(crate) fn put<F: Outputs + Drop, O: Sink + Drop, E: Sink + Drop>(
         &self,
         command: ChoosingCommand,
         to: &mut Destinations<F, O, E>,
     ) -> Result<u8, Stop>
-        ensures put { IfOk result (λ status. IsViewPut (D.contents self.now.host.now.inputs.now) self.now.asked.now
+        ensures put { IfOk result (λ status. IsViewWritten (D.contents self.now.host.now.inputs.now) self.now.asked.now
             self.now.view status
             (outputs_of F.placed O.taken E.taken E.failed to.old) (outputs_of F.placed O.taken E.taken E.failed to.new)) }
         ensures low { IfOk result (λ status. status ≤ 1) }
@@ -76,7 +77,7 @@ impl<'x, R: Threads + Wait + Sync, D: Inputs> JobsView<'x, R, D> {
         }
     }
 
-    // The same of the jobs that are marked.
+    // Writes the view of the selected jobs.
     fn put_of_marked<F: Outputs + Drop, O: Sink + Drop, E: Sink + Drop>(
         &self,
         jobs: JobList,
@@ -102,7 +103,7 @@ impl<'x, R: Threads + Wait + Sync, D: Inputs> JobsView<'x, R, D> {
         Ok(DONE)
     }
 
-    // What is shown of the images of the jobs at some places of a plan.
+    // Returns the view of the images of the jobs at some indices of a plan.
     fn text_of_places(&self, plan: &Plan, places: &[usize]) -> Result<Vec<u8>, Stop>
         requires within { AreJobIndices plan.now places.now }
         requires rising { IsStrictlyIncreasing places.now }
@@ -120,7 +121,7 @@ impl<'x, R: Threads + Wait + Sync, D: Inputs> JobsView<'x, R, D> {
 }
 
 impl<'x, R, D> JobsView<'x, R, D> {
-    // What is shown of images by a table.
+    // Returns the view of images that a table gives.
     fn text_of_table(&self, table: &CountTable, images: &[ImageFile<'_>]) -> Result<Vec<u8>, Stop>
         requires { IsTable table.now }
         ensures shown { IfOk result (λ text. IsViewText self.now.view table.now (images_of_files images.now) text.items) }
@@ -137,7 +138,7 @@ impl<'x, R, D> JobsView<'x, R, D> {
     }
 }
 
-// Where counts come from: the table that words name, or the list.
+// Returns where counts come from: the table in the arguments, else the list.
 fn counts_source<'a>(asked: &RunArgs<'a>) -> &'a str
     ensures { result.now ≡ counts_source asked.now }
 {

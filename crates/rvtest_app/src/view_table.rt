@@ -1,4 +1,4 @@
-//! The counts by which something is shown of the images of jobs: those of a run of the jobs, or those of a table that words name.
+//! The counts for a view of the images of jobs: those of a run of the jobs, or those of a table in the arguments.
 
 ghost use Rattle.std.specs.Prelude.{◌≡◌, IfErr, IfOk, None};
 ghost use Rattle.std.specs.List.Sorted.{IsStrictlyIncreasing};
@@ -32,7 +32,7 @@ use std::sync::Wait;
 use std::thread::Threads;
 
 impl<'x, R: Threads + Wait + Sync, D: Inputs> JobsView<'x, R, D> {
-    /// The counts of a run of the jobs at some places, whose images these are; or those of the table that words name.
+    /// Returns the counts of a run of the jobs at some indices, whose images are `images`, or those of the table in the arguments.
     pub(crate) fn table_for_images(
         &self,
         plan: &Plan,
@@ -53,7 +53,7 @@ impl<'x, R: Threads + Wait + Sync, D: Inputs> JobsView<'x, R, D> {
         }
     }
 
-    // The counts of a run of the jobs at some places.
+    // Returns the counts of a run of the jobs at some indices.
     fn count_jobs(&self, plan: &Plan, places: &[usize]) -> Result<CountTable, Stop>
         requires within { AreJobIndices plan.now places.now }
         requires rising { IsStrictlyIncreasing places.now }
@@ -66,7 +66,7 @@ impl<'x, R: Threads + Wait + Sync, D: Inputs> JobsView<'x, R, D> {
         }
     }
 
-    // The table at a path, which has what is shown, and no counts of other images than these at their paths.
+    // Reads the table at a path, which must have the counts to be shown, and no counts of images other than these at their paths.
     fn read_fit_table(&self, path: &str, images: &[ImageFile<'_>]) -> Result<CountTable, Stop>
         ensures table { IfOk result (IsFitTableAt (D.contents self.now.host.now.inputs.now) self.now.view path.now
             (images_of_files images.now)) }
@@ -83,7 +83,7 @@ impl<'x, R: Threads + Wait + Sync, D: Inputs> JobsView<'x, R, D> {
     }
 }
 
-// How often the instructions of the jobs at some places ran.
+// Counts how often the instructions of the jobs at some indices were executed.
 fn counts_of_jobs<R: Threads + Wait + Sync, D>(
     host: &Host<'_, R, D>,
     asked: &RunArgs<'_>,
@@ -98,7 +98,7 @@ fn counts_of_jobs<R: Threads + Wait + Sync, D>(
     count_batch(&crew, &Batch::new(plan, places))
 }
 
-// The counts of the jobs at some places, with their stacks.
+// Returns the counts of the jobs at some indices, with their stacks.
 fn counts_with_stacks_of_jobs<R: Threads + Wait + Sync, D>(
     host: &Host<'_, R, D>,
     asked: &RunArgs<'_>,
@@ -117,7 +117,7 @@ fn counts_with_stacks_of_jobs<R: Threads + Wait + Sync, D>(
     }
 }
 
-// The table at a path, which has no counts of other images than these at their paths.
+// Reads the table at a path, which must have no counts of images other than these at their paths.
 fn read_table_for_images<D: Inputs>(
     inputs: &D,
     alloc: Global,
@@ -136,7 +136,7 @@ fn read_table_for_images<D: Inputs>(
     }
 }
 
-// Whether a table has what is shown.
+// Whether a table has the counts that the view shows.
 fn has_counts_for(view: View, table: &CountTable) -> bool
     ensures { result ≡ has_counts_for view table.now }
 {

@@ -1,11 +1,11 @@
-//! The files of all rows of a report, of which no more is known than their text.
+//! The files of a whole report whose rows are known only by their text.
 
 ghost use Rattle.std.specs.Prelude.{◌≡◌, ◌++◌, [], ℕ, List, Option, IfErr, OnErr, OnOk, Some};
 ghost use Rattle.std.specs.Io.KnownBytes.{Appends};
 ghost use Rattle.rv_expect.specs.Judgement.{judging_of};
 ghost use Rattle.rv_report.specs.Report.{report_text};
 ghost use Rattle.rvtest_app.specs.Outlets.{AreFilesCommitted, AreFilesPartlyCommitted, HasTaken, file_at, has_no_failure, outlet_path, stdout_at};
-ghost use Rattle.rvtest_app.specs.PutStops.{IsPutStop};
+ghost use Rattle.rvtest_app.specs.WriteStops.{IsPutStop};
 ghost use Rattle.rvtest_app.specs.JunitTexts.{failures_junit};
 
 use crate::destinations::Destinations;
@@ -21,7 +21,7 @@ use rv_junit::Suite;
 use rv_rows::Sink;
 use std::alloc::Global;
 
-/// Puts the report of rows, and their JUnit file, and puts both in their places.
+/// Writes the report of the rows and their JUnit file, and moves both to their paths.
 pub(crate) fn put_whole_files<F: Outputs + Drop, O: Sink + Drop, E: Sink + Drop>(
     alloc: Global,
     to: &mut Destinations<F, O, E>,

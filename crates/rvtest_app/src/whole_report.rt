@@ -1,4 +1,4 @@
-//! The whole report of a list, which a run puts its rows into.
+//! The whole report of a list into which a run merges its rows.
 
 ghost use Rattle.std.specs.Prelude.{◌≡◌, ◌≤◌, IfErr, IfOk, IfSome, None, length};
 ghost use Rattle.rv_lists.specs.Limits.{most_jobs};
@@ -16,18 +16,18 @@ use rv_rows::Row;
 use rv_text::{Span, text_of_spans};
 use std::alloc::{AllocError, Global};
 
-/// What keeps a report from being the whole one of a list.
+/// Why a report is not the whole report of a list.
 #[derive(Clone, Copy)]
 pub(crate) enum NotWhole<'a> {
-    /// It has so many rows of a list of so many jobs.
+    /// It has this many rows of a list of this many jobs.
     Part(usize, u32),
-    /// It has so many rows, and the list another number of jobs.
+    /// It has this many rows, and the list a different number of jobs.
     Count(usize, usize),
     /// It has another job.
     Name(OtherName<'a>),
 }
 
-/// The number of a job, from 1, its name in a report, and that in a list.
+/// The number of a job, counted from 1, its name in the report, and its name in the list.
 #[derive(Clone, Copy)]
 pub(crate) struct OtherName<'a> {
     pub(crate) number: usize,
@@ -37,7 +37,7 @@ pub(crate) struct OtherName<'a> {
 
 const WANTED: &str = ": --into expects a report of the whole list\n";
 
-/// The rows of the report at a path, which has one of each job of the list at another, in their order.
+/// Reads the rows of the report at a path, which must have one for each job of the list at the other path, in list order.
 pub(crate) fn read_whole_report<D: Inputs>(
     inputs: &D,
     alloc: Global,
@@ -56,7 +56,7 @@ pub(crate) fn read_whole_report<D: Inputs>(
     }
 }
 
-// What keeps a report from being the whole one of the jobs of a list.
+// Returns why a report is not the whole report of the jobs of a list, if it is not.
 fn not_whole<'a>(report: &'a SavedReport, jobs: &'a [Job]) -> Option<NotWhole<'a>>
     requires few { length report.now.rows ≤ most_jobs }
     ensures whole { result ≡ None → IsWholeReport jobs.now report.now }
@@ -75,7 +75,7 @@ fn not_whole<'a>(report: &'a SavedReport, jobs: &'a [Job]) -> Option<NotWhole<'a
     }
 }
 
-// How many jobs the list has of which a report has a part.
+// Returns the number of jobs in the list of which the report covers a part.
 fn jobs_beside_part(extent: &Extent) -> Option<u32>
     ensures { result ≡ jobs_beside_part extent.now }
 {
@@ -86,7 +86,7 @@ fn jobs_beside_part(extent: &Extent) -> Option<u32>
     }
 }
 
-// The first row that has another name than the job at its place.
+// Returns the first row whose name differs from that of the job at its index.
 fn first_other_name<'a>(rows: &'a [Row], jobs: &'a [Job]) -> Option<OtherName<'a>>
     requires { length rows.now ≡ length jobs.now }
     ensures same { result ≡ None → row_names rows.now ≡ job_names jobs.now }
@@ -105,7 +105,7 @@ fn first_other_name<'a>(rows: &'a [Row], jobs: &'a [Job]) -> Option<OtherName<'a
     None
 }
 
-// What is told of such a report at a path, of the list at another.
+// Returns the message that the report at a path is not the whole report of the list at the other path.
 fn not_whole_refusal<'a>(
     alloc: Global,
     path: &'a str,

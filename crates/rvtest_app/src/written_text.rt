@@ -3,10 +3,10 @@
 ghost use Rattle.std.specs.Prelude.{◌≡◌, ◌⊎◌, ◌∷◌, [], ℕ, List, None, Option, IfErr, IfSome, OnErr, OnOk, Some, true};
 ghost use Rattle.rv_command.specs.Texts.{optional_text};
 ghost use Rattle.rv_files.specs.Placed.{CommittedFile, placed_file};
-ghost use Rattle.rvtest_app.specs.AcceptStops.{IsUnmadeStop};
+ghost use Rattle.rvtest_app.specs.AcceptStops.{IsFileNotCreatedStop};
 ghost use Rattle.rvtest_app.specs.Outlets.{AreFilesCommitted, HasTaken, is_stdout, outlet_path};
-ghost use Rattle.rvtest_app.specs.PutStops.{IsFileStop};
-ghost use Rattle.rvtest_app.specs.CommandOutputs.{outputs_of, where_told};
+ghost use Rattle.rvtest_app.specs.WriteStops.{IsFileStop};
+ghost use Rattle.rvtest_app.specs.CommandOutputs.{outputs_of, with_placed_if_reported};
 ghost use Rattle.rvtest_app.specs.WrittenTexts.{IsUnwrittenAtStop, IsWrittenAt, written_path};
 
 use crate::destinations::Destinations;
@@ -16,7 +16,7 @@ use rv_files::{LastError, Outputs};
 use rv_rows::{Sink, put_all};
 use std::alloc::Global;
 
-/// Writes a text to the file at a path; to standard output where there is none, or where it is `-`.
+/// Writes a text to the file at a path, or to standard output if there is no path or it is `-`.
 pub(crate) fn write_text<F: Outputs + Drop, O: Sink + Drop, E: Sink + Drop>(
     alloc: Global,
     to: &mut Destinations<F, O, E>,
@@ -53,7 +53,7 @@ fn write_text_at<F: Outputs + Drop, O: Sink + Drop, E: Sink + Drop>(
     }
 }
 
-/// Writes a whole file, which is there when all its bytes are, and is as it was after an error.
+/// Writes a file completely: it appears only when all bytes are written, and is unchanged after an error.
 pub(crate) fn write_file<F: Outputs>(
     files: &mut F,
     alloc: Global,
@@ -63,7 +63,7 @@ pub(crate) fn write_file<F: Outputs>(
     ensures placed { OnOk result (AreFilesCommitted (F.placed files.old) (F.placed files.new)
         (Some (placed_file path.now bytes.now ∷ []))) }
     ensures same { OnErr result (F.placed files.new ≡ F.placed files.old) }
-    ensures stopped { IfErr result (IsUnmadeStop path.now) }
+    ensures stopped { IfErr result (IsFileNotCreatedStop path.now) }
 {
     match files.create(alloc, path) {
         Ok((place, sink)) => finish_file(files, alloc, OpenFile { path, place, sink }, bytes),
@@ -71,7 +71,7 @@ pub(crate) fn write_file<F: Outputs>(
     }
 }
 
-/// Writes all bytes of an open file, and puts it in its place; after an error it is not there.
+/// Writes all bytes to an open file, and moves it to its path; after an error it is not created.
 pub(crate) fn finish_file<F: Outputs>(
     files: &mut F,
     alloc: Global,
@@ -84,7 +84,7 @@ pub(crate) fn finish_file<F: Outputs>(
         → OnOk result (AreFilesCommitted (F.placed files.old) (F.placed files.new)
         (Some (placed_file file.entry.path.now bytes.now ∷ []))) }
     ensures same { OnErr result (F.placed files.new ≡ F.placed files.old) }
-    ensures stopped { IfErr result (IsUnmadeStop file.entry.path.now) }
+    ensures stopped { IfErr result (IsFileNotCreatedStop file.entry.path.now) }
 {
     let OpenFile {
         path,
@@ -109,7 +109,7 @@ pub(crate) fn finish_file<F: Outputs>(
     }
 }
 
-/// Puts a text into an outlet that is open and took none, and its file in its place; after an error it is not there.
+/// Writes a text to an open, still empty outlet, and moves its file to its path; after an error it is not created.
 pub(crate) fn put_into_outlet<F: Outputs + Drop, O: Sink + Drop, E: Sink + Drop>(
     alloc: Global,
     to: &mut Destinations<F, O, E>,
@@ -119,7 +119,7 @@ pub(crate) fn put_into_outlet<F: Outputs + Drop, O: Sink + Drop, E: Sink + Drop>
     requires { (path : Option (List ℕ)) × HasTaken F.pending_path F.File.taken F.File.failed None path [] outlet }
     ensures written { (path : Option (List ℕ)) (earlier : Option (List CommittedFile))
         → HasTaken F.pending_path F.File.taken F.File.failed earlier path [] outlet.entry → OnOk result (IsWrittenAt path bytes.now
-        (where_told earlier (outputs_of F.placed O.taken E.taken E.failed to.old))
+        (with_placed_if_reported earlier (outputs_of F.placed O.taken E.taken E.failed to.old))
         (outputs_of F.placed O.taken E.taken E.failed to.new)) }
     ensures errors { to.new.errors ≡ to.old.errors }
     ensures same { OnErr result (F.placed to.new.files ≡ F.placed to.old.files) }

@@ -16,7 +16,7 @@ use Rattle.clap.specs.declared.parser.matches.ArgMatches.{ArgMatches}
 use Rattle.clap.specs.declared.parser.matches.ArgMatches.TheViews.{out-SubCommand}
 use Rattle.clap.specs.declared.parser.matches.SubCommand.{SubCommand}
 use Rattle.rvtest_cli.specs.RvtestCommand.{test_app}
-use Rattle.rvtest_cli.specs.RvtestWords.{FailsByMisuse, IsMisuseTold, matched_misuse, misuse_kinds, words_fault_kinds, words_misuse}
+use Rattle.rvtest_cli.specs.RvtestWords.{FailsByMisuse, IsMisuseReported, matched_misuse, misuse_kinds, words_fault_kinds, words_misuse}
 use Rattle.rvtest_cli.specs.WordsErrors.{FailsByKinds, IsToldOf, IsToldOfKind}
 use Rattle.rvtest_cli.specs.declared.refusals.Misuse.{Misuse}
 use Rattle.rvtest_cli.specs.declared.words_error.WordsError.{WordsError}
@@ -58,7 +58,7 @@ told_of kinds met (error.Told fault text) has is =
     ⊎_elim (λ memory. absurd (is.1 memory)) (λ among. subst (λ k. IsAmong k kinds) (sym is.0) among) has
 
 -- where there is none of any kind, memory was wanting
-pub none_told : (misuse : Option Misuse) (told : WordsError) → IsToldOf [] told → IsMisuseTold misuse told
+pub none_told : (misuse : Option Misuse) (told : WordsError) → IsToldOf [] told → IsMisuseReported misuse told
 none_told misuse error.OutOfMemory is = tt
 none_told misuse (error.Told fault text) is = absurd is
 
@@ -69,9 +69,9 @@ of_memory (Ok x) kinds fails = absurd fails
 of_memory (Err e) kinds fails = subst (IsToldOf kinds) (sym fails) tt
 
 pub no_misuse : {T : Type 0} (r : Result T WordsError) (misuse : Option Misuse) → IsErrAnd r (λ e. e ≡ error.OutOfMemory)
-    → IfErr r (IsMisuseTold misuse)
+    → IfErr r (IsMisuseReported misuse)
 no_misuse (Ok x) misuse fails = absurd fails
-no_misuse (Err e) misuse fails = subst (IsMisuseTold misuse) (sym fails) tt
+no_misuse (Err e) misuse fails = subst (IsMisuseReported misuse) (sym fails) tt
 
 -- options that do not go together are a fault of their kind
 pub kinds_of_misuse : {T : Type 0} (misuse : Option Misuse) (r : Result T WordsError) → FailsByMisuse misuse r
@@ -82,6 +82,6 @@ kinds_of_misuse None (Err (error.Told fault text)) fails = absurd fails
 kinds_of_misuse (Some misuse) (Err (error.Told fault text)) fails = subst (IsAmong fault) (sym fails.0) (inl refl)
 
 pub told_where_failed : {T : Type 0} (misuse : Option Misuse) (r : Result T WordsError) → FailsByMisuse misuse r
-    → IfErr r (IsMisuseTold misuse)
+    → IfErr r (IsMisuseReported misuse)
 told_where_failed misuse (Ok x) fails = tt
 told_where_failed misuse (Err e) fails = fails

@@ -1,4 +1,4 @@
--- The command line of rvtest: the rules that `clap` reads words by.
+-- The command line of rvtest: the rules by which `clap` parses arguments.
 use Rattle.std.specs.Prelude.{ℕ, ℤ, true, List, [], ◌∷◌, Option, Some, None, codes, fold, map, pos}
 use Rattle.std.specs.Borrow.{Bor}
 use Rattle.clap.specs.Words.{App, Rule, Text, new_app, new_rule, with_rule, with_subcommand}
@@ -13,11 +13,11 @@ use Rattle.rvtest_cli.specs.declared.command.Subcommand.{Subcommand}
 use Rattle.rv_cli.specs.CommandBuilder.{option_rule, word_rule}
 use Rattle.rv_cli.specs.RvfleetCommand.{group_rule}
 
--- the same argument, of which each use adds a value
+-- the argument, made repeatable: each use adds a value
 abbrev pub repeated_rule : Rule → Rule
 repeated_rule rule = record rule { action = Some Append }
 
--- an option with a number from one to another, and what it has where it is not given
+-- an option with a number in a range, and its default values
 abbrev pub number_rule : Text → ℤ → ℤ → List (Bor Text) → Rule
 number_rule name least most usual = record (option_rule name) {
   parser = Some (value_parser.Signed least most);
@@ -32,7 +32,7 @@ file_rule name = record (option_rule name) { parser = Some value_parser.NonEmpty
 abbrev pub flag_rule : Text → Rule
 flag_rule name = record (new_rule name) { long = Some name; action = Some SetTrue }
 
--- the same argument, which a letter is short for, if one is
+-- the argument with a short letter, if there is one
 abbrev pub with_letter : Rule → Option ℕ → Rule
 with_letter rule None = rule
 with_letter rule (Some letter) = record rule { short = Some letter }
@@ -47,11 +47,11 @@ letter_of_quiet = 113
 abbrev pub letter_of_verbose : ℕ
 letter_of_verbose = 118
 
--- the most of the last instructions that are shown
+-- the greatest number of last instructions that can be shown
 abbrev pub most_last_instructions : ℕ
 most_last_instructions = 100000
 
--- a word that stands for itself, as [NAME], and may be absent
+-- an optional positional argument, such as [NAME]
 abbrev pub optional_word_rule : Text → Rule
 optional_word_rule name = record (new_rule name) { value_names = 1 }
 
@@ -72,7 +72,7 @@ argument_rule argument.Group = group_rule
 abbrev pub parts_rule : Rule
 parts_rule = repeated_rule (word_rule (codes "part"))
 
--- --only <NAME>, which may come again
+-- --only <NAME>, repeatable
 abbrev pub only_rule : Rule
 only_rule = repeated_rule (option_rule (codes "only"))
 
@@ -92,30 +92,30 @@ quiet_rule = with_letter (flag_rule (codes "quiet")) (Some letter_of_quiet)
 abbrev pub last_rule : Rule
 last_rule = number_rule (codes "last") (pos 0) (pos most_last_instructions) []
 
--- the same, and 16 where it is not given
+-- --last <N>, by default 16
 abbrev pub explain_last_rule : Rule
 explain_last_rule = record last_rule { defaults = codes "16" ∷ [] }
 
--- --budget <N>, in place of each job's own
+-- --budget <N>, which overrides each job's own
 abbrev pub job_budget_rule : Rule
 job_budget_rule = number_rule (codes "budget") (pos 1) (pos most_budget) []
 
--- --memory <N>, of megabytes
+-- --memory <N>, in megabytes
 abbrev pub memory_rule : Rule
 memory_rule = number_rule (codes "memory") (pos 64) (pos 4096) []
 
--- a command with an argument more, and with several in their order
+-- a command with one more argument, and with several in order
 abbrev pub with_argument : App → Argument → App
 with_argument app argument = with_rule app (argument_rule argument)
 
 abbrev pub with_arguments : App → List Argument → App
 with_arguments = fold with_argument
 
--- a command as the table states it
+-- the rule of a command in the table
 abbrev pub subcommand_app : Subcommand → App
 subcommand_app stated = with_arguments (new_app stated.name.now) stated.arguments.now
 
--- a command with one of the table below it, and with several in their order
+-- a command with one of the table's commands as a subcommand, and with several in order
 abbrev pub with_table_command : App → Subcommand → App
 with_table_command app stated = with_subcommand app (subcommand_app stated).top
 
@@ -174,7 +174,7 @@ with_into app = with_rule app (file_rule (codes "into"))
 abbrev pub with_results : App → App
 with_results app = with_color (with_rule (with_rule (with_rule app verbose_rule) quiet_rule) last_rule)
 
--- a command over a list
+-- a command with a list
 abbrev pub app_of_list : Text → App
 app_of_list name = with_rule (new_app name) (word_rule (codes "list"))
 
@@ -203,7 +203,7 @@ abbrev pub cover_app : App
 cover_app = with_rule (with_rule (with_threads (with_rule (with_rule (with_choice (app_of_list (codes "cover")))
     (option_rule (codes "shard"))) (flag_rule (codes "lenient")))) (option_rule (codes "counts"))) (flag_rule (codes "csv"))
 
--- the most functions of an image that may be asked for
+-- the greatest number of functions of an image that can be requested
 abbrev pub most_functions : ℕ
 most_functions = 1000000
 
@@ -214,7 +214,7 @@ profile_app = with_rule (with_rule (with_rule (with_threads (with_rule (with_rul
     (optional_word_rule (codes "name")))) (option_rule (codes "shard"))) (flag_rule (codes "lenient")))) (option_rule (codes "counts")))
     (number_rule (codes "top") (pos 1) (pos most_functions) [])) (flag_rule (codes "csv"))
 
--- the commands whose words choose jobs
+-- the commands that choose jobs
 abbrev pub choosing_app : ChoosingCommand → App
 choosing_app choosing.Run = test_run_app
 choosing_app choosing.List = list_app
@@ -244,7 +244,7 @@ check_app = with_rule (app_of_list (codes "check")) (option_rule (codes "root"))
 abbrev pub merge_app : App
 merge_app = with_files (with_rule (new_app (codes "merge")) parts_rule)
 
--- the most percent by which a job may be asked to be slower
+-- the greatest percentage for `--slower`
 abbrev pub most_slower : ℕ
 most_slower = 1000
 
@@ -262,7 +262,7 @@ show_app = with_color (with_junit (with_partial (with_rule (new_app (codes "show
 abbrev pub counts_app : App
 counts_app = with_rule (with_rule (new_app (codes "counts")) (repeated_rule (word_rule (codes "table")))) (file_rule (codes "out"))
 
--- a subcommand is required, the help of `clap` is none of them, and there is a version
+-- a subcommand is required, `clap`'s own `help` is not one of them, and there is a version
 abbrev pub test_top_app : App
 test_top_app = let app = new_app (codes "rvtest") in
     record app {
@@ -273,7 +273,7 @@ test_top_app = let app = new_app (codes "rvtest") in
       };
     }
 
--- the commands over lists, and then those that read reports
+-- the commands that run lists, and then those that read reports
 abbrev pub with_runs : App → App
 with_runs app = with_subcommand (with_subcommand (with_subcommand app test_run_app.top) list_app.top) explain_app.top
 

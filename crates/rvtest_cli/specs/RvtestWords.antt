@@ -1,4 +1,4 @@
--- What words ask rvtest for, and of which kinds their faults are.
+-- What arguments request of rvtest, and which kinds of errors they have.
 use Rattle.std.specs.Prelude.{◌≡◌, ◌≤◌, ◌&&◌, ◌||◌, ℕ, Bool, not, List, [], ◌∷◌, Option}
 use Rattle.std.specs.Prelude.{Some, None, IfOk, IfSome, MatchResult, Result, map, false, string_bytes}
 use Rattle.std.specs.Prelude.{codes, option_map, option_and_then}
@@ -31,7 +31,7 @@ use Rattle.std.specs.Borrow.{Bor}
 
 -- ---- what words ask for
 
--- the jobs of a list that are to run, and how
+-- the jobs of a list to run, and how
 pub record RunWords : Type 0 where
   pub list : Text
   pub only : List Text
@@ -59,7 +59,7 @@ pub record RunWords : Type 0 where
   pub last : Option ℕ
   pub color : Option Text
 
--- the job of a list whose end is to be explained
+-- the job of a list whose end is explained
 pub record ExplainWords : Type 0 where
   pub list : Text
   pub name : Text
@@ -68,7 +68,7 @@ pub record ExplainWords : Type 0 where
   pub root : Option Text
   pub color : Option Text
 
--- the parts whose whole report is to be made
+-- the shards to merge into a whole report
 pub record MergeWords : Type 0 where
   pub parts : List Text
   pub report : Option Text
@@ -76,7 +76,7 @@ pub record MergeWords : Type 0 where
   pub suite : Option Text
   pub lenient : Bool
 
--- a report that is to be shown, with the path of a JUnit file, by the lenient rule or the strict one
+-- a report to show, with the path of a JUnit file, by the lenient or the strict rule
 pub record ShowWords : Type 0 where
   pub report : Text
   pub partial : Bool
@@ -85,7 +85,7 @@ pub record ShowWords : Type 0 where
   pub lenient : Bool
   pub color : Option Text
 
--- two reports that are to be compared
+-- two reports to compare
 pub record DiffWords : Type 0 where
   pub old : Text
   pub new : Text
@@ -94,36 +94,37 @@ pub record DiffWords : Type 0 where
   pub slower : Option ℕ
   pub color : Option Text
 
--- jobs of a list whose runs are accepted: those of which another exit code is accepted too, or another kind of fault, where words ask
--- for that; what changes is told alone where words ask for that; golden files may be anywhere where words ask for that
+-- jobs of a list whose runs are accepted: with `ends`, also those with another exit code or another kind of fault; with `check`, changes
+-- are only reported; with `outside`, golden files may be anywhere
 pub record AcceptWords : Type 0 where
   pub run : RunWords
   pub ends : Bool
   pub check : Bool
   pub outside : Bool
 
--- tables of counts that are to be added up, with the path of the sum
+-- tables of counts to add up, with the path of the sum
 pub record CountsWords : Type 0 where
   pub tables : List Text
   pub out : Option Text
 
--- jobs of a list of whose images it is shown what ran, for tools where words ask for that; the counts of a run are the path of a table
--- that is read in place of one
+-- jobs of a list whose images' coverage is shown, optionally as CSV; the counts path of the run is that of a table that is read instead of
+-- running the jobs
 pub record CoverWords : Type 0 where
   pub run : RunWords
   pub csv : Bool
 
--- jobs of a list in whose images it is shown where their steps were, in so many functions, for tools where words ask for that; the counts
--- of a run are the path of a table that is read in place of one
+-- jobs of a list whose steps in their images are shown, for a number of functions, optionally as CSV; the counts path of the run is that of
+-- a table that is read instead of running the jobs
 pub record ProfileWords : Type 0 where
   pub run : RunWords
   pub top : Option ℕ
   pub csv : Bool
 
--- to run jobs; to say which jobs a run of these words would run; to explain one; to write the console of one, or to show its run to
--- gdb within some megabytes, whose paths are taken from a folder; to say all that is wrong with a list, whose paths are taken from a
--- folder; to accept what runs came to; to merge parts; to compare two reports, with their steps or without, or by which jobs are slower; to show one; to add up tables of counts; to
--- show what of images ran; to show where in images steps were; to tell of something that is no command
+-- to run jobs; to list which jobs a run with these arguments would run; to explain a job; to print the console of a job, or to debug its
+-- run with gdb within some megabytes, with paths resolved against a directory; to check a list, with paths resolved against a directory; to
+-- accept the results of runs; to merge shards; to compare two reports, with or without their steps, or by which jobs are slower; to show a
+-- report; to add up tables of counts; to show the coverage of images; to show the profile of images; to show the help for a topic that is
+-- not a command
 pub data Words : Type 0 where
   run : RunWords → Words
   names : RunWords → Words
@@ -140,12 +141,12 @@ pub data Words : Type 0 where
   profile : ProfileWords → Words
   help : Text → Words
 
--- the budget that each job takes in place of its own
+-- the budget that overrides each job's own
 abbrev pub requested_budget : List Row → Option ℕ
 requested_budget rows = number_value (codes "budget") 1 most_budget rows
 
--- what the values of `run` ask for, of a list, in pieces of so many jobs; those of `list`, `accept`, `cover` and
--- `profile` are without the values that it has no option for
+-- the request of `run`, with its values, for a list, in chunks of a number of jobs; those of `list`, `accept`, `cover` and `profile` lack
+-- the values that these have no option for
 unfoldable pub run_words : Text → ℕ → List Row → RunWords
 run_words list group rows = record {
   list = list;
@@ -271,7 +272,7 @@ abbrev pub cover_request : List Row → Option Words
 cover_request rows = option_and_then (λ list. option_map (cover_words list rows)
     (number_value (codes "group") 1 most_group rows)) (first_of (codes "list") rows)
 
--- the job that is named, or those that are chosen by their exact names
+-- the named job, or the jobs chosen by their exact names
 abbrev pub named_or_only : List Row → List Text
 named_or_only rows = if is_option_given (codes "name") rows then argument_values (codes "name") rows else argument_values (codes "only") rows
 
@@ -292,7 +293,7 @@ profile_request rows = option_and_then (λ list. option_map (profile_words list 
 abbrev pub help_request : List Row → Option Words
 help_request rows = option_map help (first_of (codes "topic") rows)
 
--- what a subcommand with these values asks for
+-- the request of a subcommand with these values
 abbrev pub subcommand_words : Text → List Row → Option Words
 subcommand_words name rows = if bytes_eq name (codes "run") then test_run_request rows
     else if bytes_eq name (codes "list") then list_request rows
@@ -310,17 +311,17 @@ subcommand_words name rows = if bytes_eq name (codes "run") then test_run_reques
     else if bytes_eq name (codes "help") then help_request rows
     else None
 
--- what a subcommand that was met asks for, with its values
+-- the request of the matched subcommand, with its values
 abbrev pub matched_words : Option (Text × List Row) → Option Words
 matched_words = option_and_then (λ found. subcommand_words found.0 found.1)
 
--- what words ask for: the subcommand and the values are the matches that `clap` defines for them
+-- the request of the arguments: the subcommand and the values are the matches that `clap` defines for them
 abbrev pub words_request : List Text → Option Words
 words_request words = matched_words (subcommand_of test_app words)
 
 -- ---- what is wrong with words
 
--- colours are always shown, never, or where standard output is a terminal
+-- whether the word for colours is one of: always, never, or only if standard output is a terminal
 abbrev pub is_color_word : Text → Bool
 is_color_word word = bytes_eq word (codes "always") || (bytes_eq word (codes "never") || bytes_eq word (codes "auto"))
 
@@ -330,90 +331,90 @@ is_color_unknown rows = option_map_or (λ word. not (is_color_word word)) (first
 abbrev pub color_misuse : List Row → Option Misuse
 color_misuse rows = if is_color_unknown rows then Some misuse.UnknownColor else None
 
--- the report goes to a path
+-- whether the report is written to the path
 abbrev pub is_report_path : Text → List Row → Bool
 is_report_path path rows = option_map_or (bytes_eq path) (first_of (codes "report") rows) false
 
--- the rows go into the report at the path
+-- whether the rows are merged into the report at the path
 abbrev pub is_into_path : Text → List Row → Bool
 is_into_path path rows = option_map_or (bytes_eq path) (first_of (codes "into") rows) false
 
--- JUnit's XML goes to a path
+-- whether the JUnit XML is written to the path
 abbrev pub is_junit_path : Text → List Row → Bool
 is_junit_path path rows = option_map_or (bytes_eq path) (first_of (codes "junit") rows) false
 
--- the report that chooses the jobs stands at a path
+-- whether the report that chooses the jobs is at the path
 abbrev pub is_failed_path : Text → List Row → Bool
 is_failed_path path rows = option_map_or (bytes_eq path) (first_of (codes "failed") rows) false
 
--- the table of counts goes where a report or JUnit's XML goes, be that a file or standard output, or where the report stands that
--- chooses the jobs
-abbrev pub are_counts_put_over : List Row → Bool
-are_counts_put_over rows = option_map_or (λ path. is_report_path path rows || (is_into_path path rows
+-- whether the table of counts would be written to the same file or stream as a report or the JUnit XML, or over the report that chooses the
+-- jobs
+abbrev pub are_counts_overwriting : List Row → Bool
+are_counts_overwriting rows = option_map_or (λ path. is_report_path path rows || (is_into_path path rows
     || (is_junit_path path rows || is_failed_path path rows))) (first_of (codes "counts") rows) false
 
--- stacks are to stand in a table that is not asked for
+-- whether stacks are requested without a table of counts
 abbrev pub are_stacks_alone : List Row → Bool
 are_stacks_alone rows = is_flag_set (codes "stacks") rows && not (is_option_given (codes "counts") rows)
 
--- jobs are chosen by their names or by a report, or left out
+-- whether jobs are chosen or excluded, by their names or by a report
 abbrev pub is_choice_given : List Row → Bool
 is_choice_given rows = is_option_given (codes "only") rows
     || (is_option_given (codes "match") rows
     || (is_option_given (codes "exclude") rows || is_option_given (codes "failed") rows))
 
--- a report that may be cut off is none that chooses jobs
+-- whether a truncated report is allowed without one that chooses jobs
 abbrev pub is_partial_alone : List Row → Bool
 is_partial_alone rows = is_flag_set (codes "partial") rows && not (is_option_given (codes "failed") rows)
 
--- a report goes out: of the rows of the run alone, or of a whole list, into which they are put
+-- whether a report is written: of the rows of the run alone, or of a whole list into which they are merged
 abbrev pub is_report_given : List Row → Bool
 is_report_given rows = is_option_given (codes "report") rows || is_option_given (codes "into") rows
 
--- rows go out that others take as the list's: in a report, in JUnit's XML, or as a shard's
+-- whether rows are written that others take as the list's: in a report, in JUnit XML, or as a shard
 abbrev pub are_rows_kept : List Row → Bool
 are_rows_kept rows = is_report_given rows
     || (is_option_given (codes "junit") rows || is_option_given (codes "shard") rows)
 
--- rows are put into a report, and go out beside it, as a report of their own or as a shard's
-abbrev pub are_rows_put_twice : List Row → Bool
-are_rows_put_twice rows = is_option_given (codes "into") rows
+-- whether rows are merged into a report and also written as a report of their own or as a shard
+abbrev pub are_rows_written_twice : List Row → Bool
+are_rows_written_twice rows = is_option_given (codes "into") rows
     && (is_option_given (codes "report") rows || is_option_given (codes "shard") rows)
 
--- rows are put into standard output, from which no report is read
-abbrev pub is_stdout_put_into : List Row → Bool
-is_stdout_put_into rows = is_into_path (codes "-") rows
+-- whether rows are merged into standard output, from which no report can be read
+abbrev pub is_merged_into_stdout : List Row → Bool
+is_merged_into_stdout rows = is_into_path (codes "-") rows
 
--- the report that chooses the jobs would be written over by theirs alone
+-- whether the report that chooses the jobs would be overwritten by their rows alone
 abbrev pub is_choice_overwritten : List Row → Bool
 is_choice_overwritten rows = option_map_or (λ path. is_report_path path rows) (first_of (codes "failed") rows) false
 
--- the suite of JUnit's XML has no name
+-- whether the name of the JUnit suite is empty
 abbrev pub is_suite_nameless : List Row → Bool
 is_suite_nameless rows = option_map_or (λ name. bytes_eq name []) (first_of (codes "suite") rows) false
 
--- a suite is of JUnit's XML, and has a name
+-- a suite name requires JUnit XML, and is not empty
 abbrev pub suite_misuse : List Row → Option Misuse
 suite_misuse rows = if is_option_given (codes "suite") rows && not (is_option_given (codes "junit") rows)
     then Some misuse.SuiteAlone
     else if is_suite_nameless rows then Some misuse.NamelessSuite
     else None
 
--- JUnit's XML goes where a report goes, be that a file or standard output; or its suite is not as it may be
+-- the JUnit XML is written to the same file or stream as a report, or its suite name is invalid
 abbrev pub files_misuse : List Row → Option Misuse
 files_misuse rows =
     if option_map_or (λ path. is_report_path path rows) (first_of (codes "junit") rows) false then Some misuse.OneFile
     else if option_map_or (λ path. is_into_path path rows) (first_of (codes "junit") rows) false
     then Some misuse.IntoOneFile else suite_misuse rows
 
--- what is wrong with words that choose jobs
+-- what is wrong with the options that choose jobs
 abbrev pub choice_misuse : List Row → Option Misuse
 choice_misuse rows = if is_partial_alone rows then Some misuse.PartialAlone else None
 
--- the first of the rules that options of `run` break: --verbose and --quiet do not stand beside
--- one another, nor a shard beside a choice, nor a budget beside what makes rows that a list is known by, nor an end behind a failure
--- beside a shard, nor a report of the rows beside one that they are put into, which is a file; a stamp is a shard's; a report that
--- chooses jobs keeps its other rows, and may be cut off; stacks stand in a table of counts; the files are not one, and a suite is JUnit's
+-- the first rule that options of `run` break: `--verbose` and `--quiet` cannot be combined, nor can a shard and a choice, a budget and an
+-- output of rows that represent a list, stopping after a failure and a shard, or a report of the rows and a report into which they are
+-- merged, which must be a file; a stamp requires a shard; a report that chooses jobs keeps its other rows, and may be truncated; stacks
+-- require a table of counts; the files must differ, and a suite requires JUnit XML
 abbrev pub run_misuse : List Row → Option Misuse
 run_misuse rows = if is_flag_set (codes "verbose") rows && is_flag_set (codes "quiet") rows
     then Some misuse.VerboseAndQuiet
@@ -423,34 +424,35 @@ run_misuse rows = if is_flag_set (codes "verbose") rows && is_flag_set (codes "q
     else if is_option_given (codes "budget") rows && are_rows_kept rows then Some misuse.BudgetAndRows
     else if is_option_given (codes "stop-after") rows && is_option_given (codes "shard") rows
     then Some misuse.StopAfterAndShard
-    else if are_rows_put_twice rows then Some misuse.IntoAndReport
-    else if is_stdout_put_into rows then Some misuse.IntoStdout
+    else if are_rows_written_twice rows then Some misuse.IntoAndReport
+    else if is_merged_into_stdout rows then Some misuse.IntoStdout
     else if is_choice_overwritten rows then Some misuse.FailedIsReport
     else if is_partial_alone rows then Some misuse.PartialAlone
     else if is_color_unknown rows then Some misuse.UnknownColor
     else if are_stacks_alone rows then Some misuse.StacksAlone
-    else if are_counts_put_over rows then Some misuse.CountsOneFile
+    else if are_counts_overwriting rows then Some misuse.CountsOneFile
     else files_misuse rows
 
--- of `cover`: a shard does not stand beside a choice, and a report that may be cut off chooses jobs
+-- the first rule that options of `cover` break: a shard and a choice cannot be combined, and allowing a truncated report requires one that
+-- chooses jobs
 abbrev pub cover_misuse : List Row → Option Misuse
 cover_misuse rows = if is_option_given (codes "shard") rows && is_choice_given rows then Some misuse.ShardAndChoice
     else choice_misuse rows
 
--- one job is named, and jobs are chosen in another way
+-- whether a job is named and jobs are also chosen by options
 abbrev pub is_name_beside_choice : List Row → Bool
 is_name_beside_choice rows = is_option_given (codes "name") rows && (is_choice_given rows || is_option_given (codes "shard") rows)
 
--- of `profile`: a name does not stand beside a choice, and else as of `cover`
+-- the first rule that options of `profile` break: a name and a choice cannot be combined, and the rules of `cover`
 abbrev pub profile_misuse : List Row → Option Misuse
 profile_misuse rows = if is_name_beside_choice rows then Some misuse.NameAndChoice else cover_misuse rows
 
--- steps are compared exactly, or by which jobs are slower
+-- steps are compared exactly or by which jobs are slower, not both
 abbrev pub diff_misuse : List Row → Option Misuse
 diff_misuse rows = if is_flag_set (codes "steps") rows && is_option_given (codes "slower") rows
     then Some misuse.StepsAndSlower else color_misuse rows
 
--- a suite of JUnit's XML that is not as it may be, or colours
+-- an invalid suite name of the JUnit XML, or an invalid word for colours
 abbrev pub show_misuse : List Row → Option Misuse
 show_misuse rows = if is_color_unknown rows then Some misuse.UnknownColor else suite_misuse rows
 
@@ -465,7 +467,7 @@ misuse_kinds (Some misuse.UnknownColor) = kind.InvalidValue ∷ []
 misuse_kinds (Some misuse.IntoStdout) = kind.InvalidValue ∷ []
 misuse_kinds (Some _) = kind.ArgumentConflict ∷ []
 
--- what is said of options that do not go together: which two, as the help writes them
+-- the two options that cannot be combined, as the help writes them
 abbrev pub misuse_text : Misuse → Text
 misuse_text misuse.VerboseAndQuiet = codes "the argument '--verbose' cannot be used with '--quiet'"
 misuse_text misuse.ShardAndChoice =
@@ -496,7 +498,7 @@ misuse_text misuse.IntoOneFile =
 misuse_text misuse.CountsOneFile =
     codes "the argument '--counts <FILE>' cannot name the same file as '--report <FILE>', '--into <FILE>', '--junit <FILE>' or '--failed <REPORT>'"
 
--- which options of a subcommand with these values do not go together, if any
+-- which options of a subcommand with these values cannot be combined, if any
 abbrev pub subcommand_misuse : Text → List Row → Option Misuse
 subcommand_misuse name rows = if bytes_eq name (codes "run") then run_misuse rows
     else if bytes_eq name (codes "list") then choice_misuse rows
@@ -509,32 +511,32 @@ subcommand_misuse name rows = if bytes_eq name (codes "run") then run_misuse row
     else if bytes_eq name (codes "explain") then color_misuse rows
     else None
 
--- of the subcommand that was met
+-- which options of the matched subcommand cannot be combined, if any
 abbrev pub matched_misuse : Option (Text × List Row) → Option Misuse
 matched_misuse = option_and_then (λ met. subcommand_misuse met.0 met.1)
 
--- of words in which `clap` finds no fault
+-- which options cannot be combined, in arguments in which `clap` finds no error
 abbrev pub words_misuse : List Text → Option Misuse
 words_misuse words = matched_misuse (subcommand_of test_app words)
 
--- the faults of words: those that `clap` finds, else options that do not go together
+-- the kinds of errors in arguments: those that `clap` finds, else options that cannot be combined
 abbrev pub words_fault_kinds : List Text → Kinds
 words_fault_kinds words = or_else (fault_of test_app words) (misuse_kinds (words_misuse words))
 
--- memory was wanting, or it is told which options do not go together
-abbrev pub IsMisuseTold : Option Misuse → WordsError → Type 0
-IsMisuseTold misuse error.OutOfMemory = Unit {0}
-IsMisuseTold None (error.Told fault text) = ⊥
-IsMisuseTold (Some misuse) (error.Told fault text) =
+-- out of memory, or the error says which options cannot be combined
+abbrev pub IsMisuseReported : Option Misuse → WordsError → Type 0
+IsMisuseReported misuse error.OutOfMemory = Unit {0}
+IsMisuseReported None (error.Told fault text) = ⊥
+IsMisuseReported (Some misuse) (error.Told fault text) =
     (misuse_kinds (Some misuse) ≡ fault ∷ []) × IsUsageText (misuse_text misuse) (string_bytes text)
 
--- words fail by that, or for want of memory, and else there is nothing of the kind
+-- the arguments fail because options cannot be combined or memory runs out; otherwise no options conflict
 abbrev pub FailsByMisuse : {T : Type 0} → Option Misuse → Result T WordsError → Type 0
-FailsByMisuse misuse result = MatchResult result (λ _. misuse ≡ None) (IsMisuseTold misuse)
+FailsByMisuse misuse result = MatchResult result (λ _. misuse ≡ None) (IsMisuseReported misuse)
 
 -- ---- the program's own value of what is asked for
 
--- the text behind a reference, where there is one
+-- the text that a reference points to, if there is one
 abbrev pub borrowed_text : Option (Bor Text) → Option Text
 borrowed_text text = option_map (λ t. t.now) text
 
@@ -662,10 +664,10 @@ IsAskedInRange (asked.Explain value) = (value.last ≤ most_last_instructions) �
 IsAskedInRange (asked.Diff value) = IfSome value.slower (λ percent. percent ≤ most_slower)
 IsAskedInRange _ = Unit {0}
 
--- what is asked for is what these words are, with numbers in their ranges
-abbrev pub AsksFor : Option Words → Option Asked → Type 0
-AsksFor words asked = (option_map asked_words asked ≡ words) × IfSome asked IsAskedInRange
+-- the parsed request matches these words, with numbers in their ranges
+abbrev pub IsRequestFor : Option Words → Option Asked → Type 0
+IsRequestFor words asked = (option_map asked_words asked ≡ words) × IfSome asked IsAskedInRange
 
--- and else it is told which options do not go together, or memory was wanting
+-- the parsed request matches the words; otherwise the error says which options cannot be combined, or memory ran out
 abbrev pub ReadsRequest : Option Words → Option Misuse → Result (Option Asked) WordsError → Type 0
-ReadsRequest words misuse result = IfOk result (AsksFor words) × FailsByMisuse misuse result
+ReadsRequest words misuse result = IfOk result (IsRequestFor words) × FailsByMisuse misuse result

@@ -1,4 +1,4 @@
-//! The words of `accept`.
+//! The arguments of `accept`.
 
 ghost use Rattle.std.specs.Prelude.{None};
 ghost use Rattle.clap.specs.Words.{found_of, rows_of};
@@ -7,7 +7,7 @@ ghost use Rattle.rvtest_cli.specs.RvtestWords.{ReadsRequest, accept_request, cho
 use crate::command::accept_command;
 use crate::refusals::choice_misuse;
 use crate::requests::Asked;
-use crate::run::{RunArgs, run_asked};
+use crate::run::{RunArgs, run_args};
 use crate::words_error::WordsError;
 use clap::ArgMatches;
 use rv_base::limits::MOST_GROUP;
@@ -17,17 +17,17 @@ use std::alloc::Global;
 /// The jobs of a list whose runs are accepted, and how.
 #[derive(Drop)]
 pub struct AcceptArgs<'a> {
-    /// The jobs, and how they run. What `accept` has no option for is as in a run without options.
+    /// The jobs, and how they run. Values that `accept` has no option for are as in a run without options.
     pub run: RunArgs<'a>,
-    /// Whether another exit code, or another kind of fault, is accepted too.
+    /// Whether another exit code or another kind of fault is accepted, too.
     pub ends: bool,
-    /// Whether changes are told alone, and nothing is written.
+    /// Whether changes are only reported, and nothing is written.
     pub check: bool,
-    /// Whether golden files outside of the list's directory, or of the one that paths are taken from, are written too.
+    /// Whether golden files outside of the list's directory, or of the root, are written, too.
     pub outside: bool,
 }
 
-/// What the values of `accept` ask for, or which rule its options break.
+/// Returns the request of `accept` with these values, or the rule that its options break.
 pub(crate) fn accept_request<'a>(
     alloc: Global,
     values: &ArgMatches<'a>,
@@ -53,7 +53,7 @@ fn valid_accept_request<'a>(
     let Some(group) = number_value(values, "group", 1, MOST_GROUP) else {
         return Ok(None);
     };
-    let run = run_asked(alloc, values, list, group)?;
+    let run = run_args(alloc, values, list, group)?;
     Ok(Some(Asked::Accept(AcceptArgs {
         run,
         ends: is_flag_set(values, "ends"),

@@ -12,34 +12,33 @@ use rv_cli::arguments::{group_argument, option_argument, word_argument};
 use rv_cli::command_builder::{Built, with_argument};
 use std::alloc::Global;
 
-/// The least and the greatest number that an option takes.
+/// The least and the greatest number that an option accepts.
 #[derive(Clone, Copy)]
 pub(crate) struct Bounds {
     pub(crate) least: i64,
     pub(crate) most: i64,
 }
 
-/// An argument of a command: its name, what a value is called in the usage where it is any text, and its help.
+/// An argument of a command: its name, the name of its value in the usage if it is any text, and its help.
 #[derive(Clone, Copy)]
 pub(crate) enum Argument<'a> {
-    /// A word that stands for itself.
+    /// A required positional argument.
     Word(&'a str, &'a str, &'a str),
-    /// Such a word, which may be absent.
+    /// An optional positional argument.
     OptionalWord(&'a str, &'a str, &'a str),
-    /// One such word or more.
+    /// One or more positional arguments.
     Words(&'a str, &'a str, &'a str),
     /// An option with a value.
     Option(&'a str, &'a str, &'a str),
     /// An option with the path of a file, which is not empty.
     File(&'a str, &'a str),
-    /// An option with a value, that may come again for more.
+    /// A repeatable option with a value.
     Again(&'a str, &'a str, &'a str),
-    /// An option without a value, and the letter that is short for it, if one is.
+    /// An option without a value, and its short letter, if it has one.
     Flag(&'a str, Option<char>, &'a str),
-    /// An option with a number, the letter that is short for it, if one is, and the number that it has where it is not given, if it
-    /// has one.
+    /// An option with a number, its short letter, if it has one, and its default, if it has one.
     Number(&'a str, Option<char>, &'a str, Bounds, &'a [&'a str]),
-    /// How many jobs a thread takes at once.
+    /// The number of jobs in a chunk, which a thread takes at once.
     Group,
 }
 
@@ -71,7 +70,7 @@ impl<'a> Argument<'a> {
     }
 }
 
-/// A command with these arguments more, in their order.
+/// Adds the arguments to a command, in order.
 pub(crate) fn with_arguments<'a>(
     alloc: Global,
     command: Built<'a>,
@@ -87,7 +86,7 @@ pub(crate) fn with_arguments<'a>(
     command
 }
 
-// The same argument, which a letter is short for, if one is.
+// Adds a short letter to an argument, if there is one.
 fn with_letter<'a>(argument: Arg<'a>, letter: Option<char>) -> Arg<'a>
     ensures rule { rule_of result ≡ with_letter (rule_of argument.entry) letter }
     ensures local { result.global ≡ argument.entry.global }

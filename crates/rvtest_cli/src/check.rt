@@ -1,24 +1,24 @@
-//! The words of `check`.
+//! The arguments of `check`.
 
 ghost use Rattle.clap.specs.Words.{found_of, rows_of};
-ghost use Rattle.rvtest_cli.specs.RvtestWords.{AsksFor, check_request};
+ghost use Rattle.rvtest_cli.specs.RvtestWords.{IsRequestFor, check_request};
 
 use crate::requests::Asked;
 use clap::ArgMatches;
 use rv_cli::values::text_value;
 
-/// The list of which all that is wrong is to be said.
+/// The list to check.
 #[derive(Clone, Copy)]
 pub struct CheckArgs<'a> {
-    /// Path of the job list.
+    /// The path of the job list.
     pub list: &'a str,
-    /// The folder from which the paths in the list are taken.
+    /// The directory against which the paths in the list are resolved.
     pub root: Option<&'a str>,
 }
 
-/// What the values of `check` ask for.
+/// Returns the request of `check` with these values.
 pub(crate) fn check_request<'a>(values: &ArgMatches<'a>) -> Option<Asked<'a>>
-    ensures { AsksFor (check_request (rows_of (found_of values.now))) result }
+    ensures { IsRequestFor (check_request (rows_of (found_of values.now))) result }
 {
     let list = text_value(values, "list")?;
     let root = text_value(values, "root");

@@ -13,17 +13,17 @@ use clap::Command;
 use rv_cli::command_builder::{Built, with_subcommand};
 use std::alloc::{AllocError, Global};
 
-/// A command of `rvtest`, as the table states it.
+/// A command of `rvtest`, as the table has it.
 #[derive(Clone, Copy)]
 pub(crate) struct Subcommand<'a> {
     pub(crate) name: &'a str,
     pub(crate) about: &'a str,
-    /// What its help ends with: examples and statuses.
+    /// The end of its help: examples and statuses.
     pub(crate) after: &'a str,
     pub(crate) arguments: &'a [Argument<'a>],
 }
 
-/// The whole command.
+/// Returns the whole command.
 pub(crate) fn test_command<'a>(alloc: Global) -> Result<Command<'a>, AllocError>
     ensures { IfOk result (λ command. app_of command ≡ test_app) }
 {
@@ -42,7 +42,7 @@ fn top_command<'a>(alloc: Global) -> Built<'a>
         .bin_name("rvtest")
 }
 
-// A command with these below it more, in their order.
+// Adds the subcommands to a command, in order.
 fn with_subcommands<'a>(alloc: Global, command: Built<'a>, stated: &[Subcommand<'a>]) -> Built<'a>
     ensures { (app : App) → HasApp app command.entry
         → HasApp (with_subcommands app stated.now) result }
@@ -61,7 +61,7 @@ fn subcommand_of_table<'a>(alloc: Global, stated: &Subcommand<'a>) -> Built<'a>
     with_arguments(alloc, command, stated.arguments)
 }
 
-// Its usage begins with the program's name and its own.
+// Returns the command without arguments; its usage begins with the program's name and its own.
 fn bare_command<'a>(alloc: Global, stated: &Subcommand<'a>) -> Built<'a>
     ensures app { IsBuilt (new_app stated.now.name.now) result }
     ensures usage { HasUsageOf (codes "rvtest " ++ stated.now.name.now) result }
@@ -84,7 +84,7 @@ fn usage_text(alloc: Global, name: &str) -> Result<String, AllocError>
     Ok(usage)
 }
 
-/// A command whose words choose jobs of a list.
+/// A command that chooses jobs of a list.
 #[derive(Clone, Copy)]
 pub enum ChoosingCommand {
     Run,
@@ -95,7 +95,7 @@ pub enum ChoosingCommand {
 }
 
 impl ChoosingCommand {
-    /// The command, whose usage a refusal of its words shows.
+    /// Returns the command, whose usage is shown if its arguments are rejected.
     pub fn command<'a>(self, alloc: Global) -> Result<Command<'a>, AllocError>
         ensures { IfOk result (λ command.
             (app_of command ≡ choosing_app self) × ((out-Command command).has_globals ≡ false)) }
@@ -110,7 +110,7 @@ impl ChoosingCommand {
     }
 }
 
-/// The command `rvtest list`, whose usage a refusal of its words shows.
+/// Returns the command `rvtest list`, whose usage is shown if its arguments are rejected.
 pub(crate) fn list_command<'a>(alloc: Global) -> Result<Command<'a>, AllocError>
     ensures { IfOk result (λ command.
         (app_of command ≡ list_app) × ((out-Command command).has_globals ≡ false)) }
@@ -118,7 +118,7 @@ pub(crate) fn list_command<'a>(alloc: Global) -> Result<Command<'a>, AllocError>
     subcommand_of_table(alloc, &LIST)
 }
 
-/// The command `rvtest accept`, whose usage a refusal of its words shows.
+/// Returns the command `rvtest accept`, whose usage is shown if its arguments are rejected.
 pub(crate) fn accept_command<'a>(alloc: Global) -> Result<Command<'a>, AllocError>
     ensures { IfOk result (λ command.
         (app_of command ≡ accept_app) × ((out-Command command).has_globals ≡ false)) }
@@ -126,7 +126,7 @@ pub(crate) fn accept_command<'a>(alloc: Global) -> Result<Command<'a>, AllocErro
     subcommand_of_table(alloc, &ACCEPT)
 }
 
-/// The command `rvtest cover`, whose usage a refusal of its words shows.
+/// Returns the command `rvtest cover`, whose usage is shown if its arguments are rejected.
 pub(crate) fn cover_command<'a>(alloc: Global) -> Result<Command<'a>, AllocError>
     ensures { IfOk result (λ command.
         (app_of command ≡ cover_app) × ((out-Command command).has_globals ≡ false)) }
@@ -134,7 +134,7 @@ pub(crate) fn cover_command<'a>(alloc: Global) -> Result<Command<'a>, AllocError
     subcommand_of_table(alloc, &COVER)
 }
 
-/// The command `rvtest profile`, whose usage a refusal of its words shows.
+/// Returns the command `rvtest profile`, whose usage is shown if its arguments are rejected.
 pub(crate) fn profile_command<'a>(alloc: Global) -> Result<Command<'a>, AllocError>
     ensures { IfOk result (λ command.
         (app_of command ≡ profile_app) × ((out-Command command).has_globals ≡ false)) }
@@ -142,7 +142,7 @@ pub(crate) fn profile_command<'a>(alloc: Global) -> Result<Command<'a>, AllocErr
     subcommand_of_table(alloc, &PROFILE)
 }
 
-/// The command `rvtest run`, whose usage a refusal of its words shows.
+/// Returns the command `rvtest run`, whose usage is shown if its arguments are rejected.
 pub(crate) fn run_command<'a>(alloc: Global) -> Result<Command<'a>, AllocError>
     ensures { IfOk result (λ command.
         (app_of command ≡ test_run_app) × ((out-Command command).has_globals ≡ false)) }
@@ -150,7 +150,7 @@ pub(crate) fn run_command<'a>(alloc: Global) -> Result<Command<'a>, AllocError>
     subcommand_of_table(alloc, &RUN)
 }
 
-/// The command `rvtest diff`, whose usage a refusal of its words shows.
+/// Returns the command `rvtest diff`, whose usage is shown if its arguments are rejected.
 pub(crate) fn diff_command<'a>(alloc: Global) -> Result<Command<'a>, AllocError>
     ensures { IfOk result (λ command.
         (app_of command ≡ diff_app) × ((out-Command command).has_globals ≡ false)) }
@@ -158,7 +158,7 @@ pub(crate) fn diff_command<'a>(alloc: Global) -> Result<Command<'a>, AllocError>
     subcommand_of_table(alloc, &DIFF)
 }
 
-/// The command `rvtest merge`, whose usage a refusal of its words shows.
+/// Returns the command `rvtest merge`, whose usage is shown if its arguments are rejected.
 pub fn merge_command<'a>(alloc: Global) -> Result<Command<'a>, AllocError>
     ensures { IfOk result (λ command.
         (app_of command ≡ merge_app) × ((out-Command command).has_globals ≡ false)) }
@@ -166,7 +166,7 @@ pub fn merge_command<'a>(alloc: Global) -> Result<Command<'a>, AllocError>
     subcommand_of_table(alloc, &MERGE)
 }
 
-/// The command `rvtest show`, whose usage a refusal of its words shows.
+/// Returns the command `rvtest show`, whose usage is shown if its arguments are rejected.
 pub(crate) fn show_command<'a>(alloc: Global) -> Result<Command<'a>, AllocError>
     ensures { IfOk result (λ command.
         (app_of command ≡ show_app) × ((out-Command command).has_globals ≡ false)) }
@@ -174,7 +174,7 @@ pub(crate) fn show_command<'a>(alloc: Global) -> Result<Command<'a>, AllocError>
     subcommand_of_table(alloc, &SHOW)
 }
 
-/// The command `rvtest explain`, whose usage a refusal of its words shows.
+/// Returns the command `rvtest explain`, whose usage is shown if its arguments are rejected.
 pub(crate) fn explain_command<'a>(alloc: Global) -> Result<Command<'a>, AllocError>
     ensures { IfOk result (λ command.
         (app_of command ≡ explain_app) × ((out-Command command).has_globals ≡ false)) }

@@ -1,26 +1,26 @@
-//! The words of `console`.
+//! The arguments of `console`.
 
 ghost use Rattle.clap.specs.Words.{found_of, rows_of};
-ghost use Rattle.rvtest_cli.specs.RvtestWords.{AsksFor, console_request};
+ghost use Rattle.rvtest_cli.specs.RvtestWords.{IsRequestFor, console_request};
 
 use crate::requests::Asked;
 use clap::ArgMatches;
 use rv_cli::values::text_value;
 
-/// The job whose console is asked for.
+/// The job whose console is requested.
 #[derive(Clone, Copy)]
 pub struct ConsoleArgs<'a> {
-    /// Path of the job list.
+    /// The path of the job list.
     pub list: &'a str,
     /// The job's name.
     pub name: &'a str,
-    /// The folder from which the paths in the list are taken.
+    /// The directory against which the paths in the list are resolved.
     pub root: Option<&'a str>,
 }
 
-/// What the values of `console` ask for.
+/// Returns the request of `console` with these values.
 pub(crate) fn console_request<'a>(values: &ArgMatches<'a>) -> Option<Asked<'a>>
-    ensures { AsksFor (console_request (rows_of (found_of values.now))) result }
+    ensures { IsRequestFor (console_request (rows_of (found_of values.now))) result }
 {
     let list = text_value(values, "list")?;
     let name = text_value(values, "name")?;

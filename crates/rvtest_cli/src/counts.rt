@@ -1,4 +1,4 @@
-//! The words of `counts`.
+//! The arguments of `counts`.
 
 ghost use Rattle.std.specs.Prelude.{None, Some};
 ghost use Rattle.clap.specs.Words.{found_of, rows_of};
@@ -10,16 +10,16 @@ use clap::ArgMatches;
 use rv_cli::values::{argument_values, text_value};
 use std::alloc::Global;
 
-/// The tables of counts that are to be added up.
+/// The tables of counts to add up.
 #[derive(Drop)]
 pub struct CountsArgs<'a> {
-    /// Paths of the tables.
+    /// The paths of the tables.
     pub tables: Vec<&'a str>,
-    /// Path of the sum that is written; absent, or `-`: standard output.
+    /// The path of the sum; `None` or `-` for standard output.
     pub out: Option<&'a str>,
 }
 
-/// What the values of `counts` ask for.
+/// Returns the request of `counts` with these values.
 pub(crate) fn counts_request<'a>(
     alloc: Global,
     values: &ArgMatches<'a>,

@@ -1,4 +1,4 @@
-//! The words of `cover`.
+//! The arguments of `cover`.
 
 ghost use Rattle.std.specs.Prelude.{◌≡◌, None};
 ghost use Rattle.clap.specs.Words.{found_of, rows_of};
@@ -7,24 +7,24 @@ ghost use Rattle.rvtest_cli.specs.RvtestWords.{ReadsRequest, cover_misuse, cover
 use crate::command::cover_command;
 use crate::refusals::{Misuse, choice_misuse};
 use crate::requests::Asked;
-use crate::run::{RunArgs, is_choice_given, run_asked};
+use crate::run::{RunArgs, is_choice_given, run_args};
 use crate::words_error::WordsError;
 use clap::ArgMatches;
 use rv_base::limits::MOST_GROUP;
 use rv_cli::values::{is_flag_set, is_option_given, number_value, text_value};
 use std::alloc::Global;
 
-/// The jobs of a list of whose images it is shown what ran, and how.
+/// The jobs of a list whose images' coverage is shown, and how.
 #[derive(Drop)]
 pub struct CoverArgs<'a> {
-    /// The jobs, and how they run; where there are counts, they are the path of a table that is read in place of a run. What `cover`
-    /// has no option for is as in a run without options.
+    /// The jobs, and how they run; if there is a counts path, it is that of a table that is read instead of running the jobs. Values that
+    /// `cover` has no option for are as in a run without options.
     pub run: RunArgs<'a>,
-    /// Whether it is written for tools.
+    /// Whether the output is CSV, for tools.
     pub csv: bool,
 }
 
-/// What the values of `cover` ask for, or which rule its options break.
+/// Returns the request of `cover` with these values, or the rule that its options break.
 pub(crate) fn cover_request<'a>(
     alloc: Global,
     values: &ArgMatches<'a>,
@@ -50,12 +50,12 @@ fn valid_cover_request<'a>(
     let Some(group) = number_value(values, "group", 1, MOST_GROUP) else {
         return Ok(None);
     };
-    let run = run_asked(alloc, values, list, group)?;
+    let run = run_args(alloc, values, list, group)?;
     let csv = is_flag_set(values, "csv");
     Ok(Some(Asked::Cover(CoverArgs { run, csv })))
 }
 
-/// The first rule that the options of `cover` break.
+/// Returns the first rule that the options of `cover` break.
 pub(crate) fn cover_misuse(values: &ArgMatches<'_>) -> Option<Misuse>
     ensures { result ≡ cover_misuse (rows_of (found_of values.now)) }
 {

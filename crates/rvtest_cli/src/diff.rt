@@ -1,8 +1,8 @@
-//! The words of `diff`.
+//! The arguments of `diff`.
 
 ghost use Rattle.std.specs.Prelude.{◌≡◌};
 ghost use Rattle.clap.specs.Words.{found_of, rows_of};
-ghost use Rattle.rvtest_cli.specs.RvtestWords.{AsksFor, ReadsRequest, diff_misuse, diff_request};
+ghost use Rattle.rvtest_cli.specs.RvtestWords.{IsRequestFor, ReadsRequest, diff_misuse, diff_request};
 
 use crate::command::diff_command;
 use crate::refusals::{Misuse, color_misuse};
@@ -12,24 +12,24 @@ use clap::ArgMatches;
 use rv_cli::values::{is_flag_set, is_option_given, number_value, text_value};
 use std::alloc::Global;
 
-/// Two reports that are to be compared.
+/// Two reports to compare.
 #[derive(Clone, Copy)]
 pub struct DiffArgs<'a> {
-    /// Path of the report that is compared with.
+    /// The path of the old report.
     pub old: &'a str,
-    /// Path of the report that is compared.
+    /// The path of the new report.
     pub new: &'a str,
-    /// Whether a report may be cut off.
+    /// Whether a report may be truncated.
     pub partial: bool,
-    /// Whether steps count too, and the places and values of faults.
+    /// Whether steps count too, and the locations and values of faults.
     pub steps: bool,
-    /// Whether a job counts too that takes over so many percent more steps, up to 1,000.
+    /// Whether a job that takes over this many percent more steps, up to 1,000, counts too.
     pub slower: Option<u32>,
-    /// Whether results have colours: `always`, `never` or `auto`; absent: `auto`.
+    /// When results are coloured: `always`, `never` or `auto`; `None` means `auto`.
     pub color: Option<&'a str>,
 }
 
-/// What the values of `diff` ask for, or which rule its options break.
+/// Returns the request of `diff` with these values, or the rule that its options break.
 pub(crate) fn diff_request<'a>(
     alloc: Global,
     values: &ArgMatches<'a>,
@@ -44,7 +44,7 @@ pub(crate) fn diff_request<'a>(
 }
 
 fn valid_diff_request<'a>(values: &ArgMatches<'a>) -> Option<Asked<'a>>
-    ensures { AsksFor (diff_request (rows_of (found_of values.now))) result }
+    ensures { IsRequestFor (diff_request (rows_of (found_of values.now))) result }
 {
     let old = text_value(values, "old")?;
     let new = text_value(values, "new")?;
@@ -62,7 +62,7 @@ fn valid_diff_request<'a>(values: &ArgMatches<'a>) -> Option<Asked<'a>>
     }))
 }
 
-// Steps are compared exactly, or by which jobs are slower.
+// Steps are compared exactly or by which jobs are slower, not both.
 fn diff_misuse(values: &ArgMatches<'_>) -> Option<Misuse>
     ensures { result ≡ diff_misuse (rows_of (found_of values.now)) }
 {

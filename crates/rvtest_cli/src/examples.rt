@@ -1,4 +1,4 @@
-//! What the help of each command of `rvtest` ends with: calls as they are typed, and what its status says.
+//! The end of the help of each command of `rvtest`: sample calls as they are typed, and what the exit status means.
 
 pub(crate) const RUN: &str = "\
 Examples:

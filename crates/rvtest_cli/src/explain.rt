@@ -1,7 +1,7 @@
-//! The words of `explain`.
+//! The arguments of `explain`.
 
 ghost use Rattle.clap.specs.Words.{found_of, rows_of};
-ghost use Rattle.rvtest_cli.specs.RvtestWords.{AsksFor, ReadsRequest, color_misuse, explain_request};
+ghost use Rattle.rvtest_cli.specs.RvtestWords.{IsRequestFor, ReadsRequest, color_misuse, explain_request};
 
 use crate::command::explain_command;
 use crate::refusals::color_misuse;
@@ -12,24 +12,24 @@ use rv_base::limits::MOST_BUDGET;
 use rv_cli::values::{number_value, text_value};
 use std::alloc::Global;
 
-/// The job whose end is to be explained.
+/// The job whose end is explained.
 #[derive(Clone, Copy)]
 pub struct ExplainArgs<'a> {
-    /// Path of the job list.
+    /// The path of the job list.
     pub list: &'a str,
     /// The job's name.
     pub name: &'a str,
-    /// How many of its last instructions are shown, up to 100,000.
+    /// The number of its last instructions that are shown, up to 100,000.
     pub last: u32,
-    /// The steps that each job of the list has at most, in place of its own: from 1 to 1,000,000,000.
+    /// The budget that overrides that of each job in the list: from 1 to 1,000,000,000 steps.
     pub budget: Option<u32>,
-    /// The folder from which the paths in the list are taken.
+    /// The directory against which the paths in the list are resolved.
     pub root: Option<&'a str>,
-    /// Whether results have colours: `always`, `never` or `auto`; absent: `auto`.
+    /// When results are coloured: `always`, `never` or `auto`; `None` means `auto`.
     pub color: Option<&'a str>,
 }
 
-/// What the values of `explain` ask for, or which rule its options break.
+/// Returns the request of `explain` with these values, or the rule that its options break.
 pub(crate) fn explain_request<'a>(
     alloc: Global,
     values: &ArgMatches<'a>,
@@ -44,7 +44,7 @@ pub(crate) fn explain_request<'a>(
 }
 
 fn valid_explain_request<'a>(values: &ArgMatches<'a>) -> Option<Asked<'a>>
-    ensures { AsksFor (explain_request (rows_of (found_of values.now))) result }
+    ensures { IsRequestFor (explain_request (rows_of (found_of values.now))) result }
 {
     let list = text_value(values, "list")?;
     let name = text_value(values, "name")?;

@@ -1,28 +1,28 @@
-//! The words of `gdb`.
+//! The arguments of `gdb`.
 
 ghost use Rattle.clap.specs.Words.{found_of, rows_of};
-ghost use Rattle.rvtest_cli.specs.RvtestWords.{AsksFor, gdb_request};
+ghost use Rattle.rvtest_cli.specs.RvtestWords.{IsRequestFor, gdb_request};
 
 use crate::requests::Asked;
 use clap::ArgMatches;
 use rv_cli::values::{number_value, text_value};
 
-/// The job whose run is to be shown to gdb.
+/// The job whose run is debugged with gdb.
 #[derive(Clone, Copy)]
 pub struct GdbArgs<'a> {
-    /// Path of the job list.
+    /// The path of the job list.
     pub list: &'a str,
     /// The job's name.
     pub name: &'a str,
-    /// The folder from which the paths in the list are taken.
+    /// The directory against which the paths in the list are resolved.
     pub root: Option<&'a str>,
-    /// How many megabytes the session takes at most, from 64 to 4,096.
+    /// The most megabytes that the session may use, from 64 to 4,096.
     pub memory: Option<u32>,
 }
 
-/// What the values of `gdb` ask for.
+/// Returns the request of `gdb` with these values.
 pub(crate) fn gdb_request<'a>(values: &ArgMatches<'a>) -> Option<Asked<'a>>
-    ensures { AsksFor (gdb_request (rows_of (found_of values.now))) result }
+    ensures { IsRequestFor (gdb_request (rows_of (found_of values.now))) result }
 {
     let list = text_value(values, "list")?;
     let name = text_value(values, "name")?;

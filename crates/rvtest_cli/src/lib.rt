@@ -1,7 +1,7 @@
-//! The command line of `rvtest`: what a person asks for, read by `clap`.
+//! The command line of `rvtest`: the requests of a person, parsed by `clap`.
 //!
-//! [`read_words`] parses the words of a process. Its error has the form of `clap`'s own; help and the version are errors, too.
-//! [`usage_error`] makes such an error for a fault that `clap` does not find, as a bad regular expression.
+//! [`read_words`] parses the arguments of a process. Its error has the form of `clap`'s own; requests for help and the version are errors,
+//! too. [`usage_error`] makes such an error for a problem that `clap` does not find, such as an invalid regular expression.
 #![tactic(auto)]
 
 mod accept;

@@ -1,4 +1,4 @@
-//! The words of `list`.
+//! The arguments of `list`.
 
 ghost use Rattle.std.specs.Prelude.{None};
 ghost use Rattle.clap.specs.Words.{found_of, rows_of};
@@ -7,13 +7,13 @@ ghost use Rattle.rvtest_cli.specs.RvtestWords.{ReadsRequest, choice_misuse, list
 use crate::command::list_command;
 use crate::refusals::choice_misuse;
 use crate::requests::Asked;
-use crate::run::run_asked;
+use crate::run::run_args;
 use crate::words_error::WordsError;
 use clap::ArgMatches;
 use rv_cli::values::text_value;
 use std::alloc::Global;
 
-/// What the values of `list` ask for, or which rule its options break.
+/// Returns the request of `list` with these values, or the rule that its options break.
 pub(crate) fn list_request<'a>(
     alloc: Global,
     values: &ArgMatches<'a>,
@@ -36,5 +36,5 @@ fn valid_list_request<'a>(
     let Some(list) = text_value(values, "list") else {
         return Ok(None);
     };
-    Ok(Some(Asked::List(run_asked(alloc, values, list, 1)?)))
+    Ok(Some(Asked::List(run_args(alloc, values, list, 1)?)))
 }

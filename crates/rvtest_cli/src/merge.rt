@@ -1,4 +1,4 @@
-//! The words of `merge`.
+//! The arguments of `merge`.
 
 ghost use Rattle.std.specs.Prelude.{None, Some};
 ghost use Rattle.clap.specs.Words.{found_of, rows_of};
@@ -12,22 +12,22 @@ use clap::ArgMatches;
 use rv_cli::values::{argument_values, is_flag_set, text_value};
 use std::alloc::Global;
 
-/// The parts of one run whose whole report is to be made.
+/// The shards of one run to merge into a whole report.
 #[derive(Drop)]
 pub struct MergeArgs<'a> {
-    /// Paths of the parts.
+    /// The paths of the shards.
     pub parts: Vec<&'a str>,
-    /// Path of the report that is written; `-` is standard output.
+    /// The path of the report; `-` is standard output.
     pub report: Option<&'a str>,
-    /// Path of the JUnit file that is written; `-` is standard output.
+    /// The path of the JUnit file; `-` is standard output.
     pub junit: Option<&'a str>,
-    /// The name of JUnit's suite; absent: by the report's path.
+    /// The name of the JUnit suite; `None` derives it from the report's path.
     pub suite: Option<&'a str>,
-    /// Whether a failed verdict alone is a failure.
+    /// Whether only a failed verdict is a failure.
     pub lenient: bool,
 }
 
-/// What the values of `merge` ask for, or which rule its options break.
+/// Returns the request of `merge` with these values, or the rule that its options break.
 pub(crate) fn merge_request<'a>(
     alloc: Global,
     values: &ArgMatches<'a>,

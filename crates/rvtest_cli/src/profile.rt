@@ -1,4 +1,4 @@
-//! The words of `profile`.
+//! The arguments of `profile`.
 
 ghost use Rattle.std.specs.Prelude.{◌≡◌, ◌≤◌, IfOk, None, map};
 ghost use Rattle.clap.specs.Words.{found_of, rows_of};
@@ -10,29 +10,29 @@ use crate::command::profile_command;
 use crate::cover::cover_misuse;
 use crate::refusals::Misuse;
 use crate::requests::Asked;
-use crate::run::{RunArgs, is_choice_given, run_asked};
+use crate::run::{RunArgs, is_choice_given, run_args};
 use crate::words_error::WordsError;
 use clap::ArgMatches;
 use rv_base::limits::MOST_GROUP;
 use rv_cli::values::{argument_values, is_flag_set, is_option_given, number_value, text_value};
 use std::alloc::{AllocError, Global};
 
-/// How many functions of an image can be asked for at most.
+/// The greatest number of functions of an image that can be requested.
 pub(crate) const MOST_FUNCTIONS: u32 = 1_000_000;
 
-/// The jobs of a list in whose images it is shown where their steps were, and how.
+/// The jobs of a list whose profile is shown, and how.
 #[derive(Drop)]
 pub struct ProfileArgs<'a> {
-    /// The jobs, of which a name may be one, and how they run; where there are counts, they are the path of a table that is read in place
-    /// of a run. What `profile` has no option for is as in a run without options.
+    /// The jobs, or the one that is named, and how they run; if there is a counts path, it is that of a table that is read instead of
+    /// running the jobs. Values that `profile` has no option for are as in a run without options.
     pub run: RunArgs<'a>,
-    /// How many functions of each image are shown, from 1 to 1,000,000; absent: all.
+    /// The number of functions of each image that are shown, from 1 to 1,000,000; `None` for all.
     pub top: Option<u32>,
-    /// Whether it is written for tools.
+    /// Whether the output is CSV, for tools.
     pub csv: bool,
 }
 
-/// What the values of `profile` ask for, or which rule its options break.
+/// Returns the request of `profile` with these values, or the rule that its options break.
 pub(crate) fn profile_request<'a>(
     alloc: Global,
     values: &ArgMatches<'a>,
@@ -64,7 +64,7 @@ fn valid_profile_request<'a>(
     Ok(Some(Asked::Profile(ProfileArgs { run, top, csv })))
 }
 
-// What is asked of a list as of `run`, with the job that is named.
+// Returns the request of `run` for a list, with the job that is named.
 fn named_run<'a>(
     alloc: Global,
     values: &ArgMatches<'a>,
@@ -75,13 +75,13 @@ fn named_run<'a>(
     ensures { IfOk result (λ asked. (run_asked_words asked ≡ named_run_words list.entry.now group (rows_of (found_of values.now)))
         × IsRunAskedInRange asked) }
 {
-    let mut run = run_asked(alloc, values, list, group)?;
+    let mut run = run_args(alloc, values, list, group)?;
     let only = named_or_only(alloc, values)?;
     run.only = only;
     Ok(run)
 }
 
-// The job that is named, or those that `--only` chooses.
+// Returns the job that is named, or those that `--only` chooses.
 fn named_or_only<'a>(alloc: Global, values: &ArgMatches<'a>) -> Result<Vec<&'a str>, AllocError>
     ensures { IfOk result (λ names. map (λ name. name.now) names.items
         ≡ named_or_only (rows_of (found_of values.now))) }
@@ -93,7 +93,7 @@ fn named_or_only<'a>(alloc: Global, values: &ArgMatches<'a>) -> Result<Vec<&'a s
     }
 }
 
-// The first rule that the options of `profile` break.
+// Returns the first rule that the options of `profile` break.
 fn profile_misuse(values: &ArgMatches<'_>) -> Option<Misuse>
     ensures { result ≡ profile_misuse (rows_of (found_of values.now)) }
 {
@@ -104,7 +104,7 @@ fn profile_misuse(values: &ArgMatches<'_>) -> Option<Misuse>
     }
 }
 
-// Whether one job is named, and jobs are chosen in another way.
+// Whether a job is named and jobs are also chosen by options.
 fn is_name_beside_choice(values: &ArgMatches<'_>) -> bool
     ensures { result ≡ is_name_beside_choice (rows_of (found_of values.now)) }
 {

@@ -1,8 +1,8 @@
-//! Refusals of words in which `clap` finds no fault.
+//! Errors in arguments in which `clap` finds none.
 
 ghost use Rattle.std.specs.Prelude.{◌≡◌, [], ◌∷◌, Some};
 ghost use Rattle.clap.specs.Words.{found_of, rows_of};
-ghost use Rattle.rvtest_cli.specs.RvtestWords.{IsMisuseTold, choice_misuse, color_misuse, files_misuse, is_color_unknown, is_color_word, is_into_path, is_partial_alone};
+ghost use Rattle.rvtest_cli.specs.RvtestWords.{IsMisuseReported, choice_misuse, color_misuse, files_misuse, is_color_unknown, is_color_word, is_into_path, is_partial_alone};
 ghost use Rattle.rvtest_cli.specs.RvtestWords.{is_failed_path, is_junit_path, is_report_path, is_suite_nameless};
 ghost use Rattle.rvtest_cli.specs.RvtestWords.{misuse_kinds, misuse_text, show_misuse, suite_misuse};
 
@@ -12,55 +12,55 @@ use clap::{ArgMatches, Command};
 use rv_cli::values::{is_flag_set, is_option_given, text_value};
 use std::alloc::{AllocError, Global};
 
-/// Options that do not go together.
+/// Options that cannot be combined.
 #[derive(Clone, Copy)]
 pub(crate) enum Misuse {
-    /// `--verbose` beside `--quiet`.
+    /// `--verbose` with `--quiet`.
     VerboseAndQuiet,
-    /// A shard beside a choice of jobs.
+    /// A shard with a choice of jobs.
     ShardAndChoice,
-    /// One job beside a choice of jobs or a shard.
+    /// A named job with a choice of jobs or a shard.
     NameAndChoice,
     /// A stamp without a shard.
     StampAlone,
-    /// Another budget than the list's beside a report, JUnit's XML or a shard.
+    /// A budget other than the list's with a report, JUnit XML or a shard.
     BudgetAndRows,
-    /// An end behind a failure beside a shard, whose part has all its rows.
+    /// Stopping after a failure with a shard, which must have all its rows.
     StopAfterAndShard,
-    /// Rows that are put into a report, beside a report of their own or a shard's.
+    /// Rows that are merged into a report, with a report of their own or a shard.
     IntoAndReport,
-    /// Rows that are put into standard output.
+    /// Rows that are merged into standard output.
     IntoStdout,
-    /// A report of the rows at the path of the one that chooses them.
+    /// A report of the rows at the path of the report that chooses them.
     FailedIsReport,
-    /// A report that may be cut off, of which no job is chosen.
+    /// A truncated report is allowed, but no report chooses jobs.
     PartialAlone,
-    /// Steps compared exactly, and by which jobs are slower.
+    /// Comparing steps exactly, and by which jobs are slower.
     StepsAndSlower,
     /// Stacks without a table of counts.
     StacksAlone,
-    /// A suite without JUnit's XML.
+    /// A suite without JUnit XML.
     SuiteAlone,
     /// A suite whose name is empty.
     NamelessSuite,
-    /// A word for colours that is none.
+    /// An unknown word for colours.
     UnknownColor,
-    /// A report and JUnit's XML that go to one file.
+    /// A report and JUnit XML with the same destination.
     OneFile,
-    /// Rows that are put into a report, and JUnit's XML, that go to one file.
+    /// A report into which rows are merged and JUnit XML with the same path.
     IntoOneFile,
-    /// Counts that go to the file of a report, of JUnit's XML, or of the report that chooses the jobs.
+    /// Counts with the same destination as a report or JUnit XML, or as the report that chooses the jobs.
     CountsOneFile,
 }
 
 impl Misuse {
-    /// The error that says so, with the usage of the command.
+    /// Returns the error that says so, with the usage of the command.
     pub(crate) fn misuse_error(
         self,
         alloc: Global,
         command: Result<Command<'_>, AllocError>,
     ) -> WordsError
-        ensures { IsMisuseTold (Some self) result }
+        ensures { IsMisuseReported (Some self) result }
     {
         usage_error(alloc, command, self.misuse_error_kind(), self.misuse_text())
     }
@@ -148,7 +148,7 @@ impl Misuse {
     }
 }
 
-/// What is wrong with words that choose jobs.
+/// Returns what is wrong with the options that choose jobs.
 pub(crate) fn choice_misuse(values: &ArgMatches<'_>) -> Option<Misuse>
     ensures { result ≡ choice_misuse (rows_of (found_of values.now)) }
 {
@@ -159,14 +159,14 @@ pub(crate) fn choice_misuse(values: &ArgMatches<'_>) -> Option<Misuse>
     }
 }
 
-/// Whether a report may be cut off that is none.
+/// Whether a truncated report is allowed without one that chooses jobs.
 pub(crate) fn is_partial_alone(values: &ArgMatches<'_>) -> bool
     ensures { result ≡ is_partial_alone (rows_of (found_of values.now)) }
 {
     is_flag_set(values, "partial") && !is_option_given(values, "failed")
 }
 
-/// A report and JUnit's XML may not go to one file, and a suite is of JUnit's XML.
+/// Rejects a report and JUnit XML with the same destination, and a suite without JUnit XML.
 pub(crate) fn files_misuse(values: &ArgMatches<'_>) -> Option<Misuse>
     ensures { result ≡ files_misuse (rows_of (found_of values.now)) }
 {
@@ -177,7 +177,7 @@ pub(crate) fn files_misuse(values: &ArgMatches<'_>) -> Option<Misuse>
     }
 }
 
-/// What is wrong with the words of `show`.
+/// Returns what is wrong with the options of `show`.
 pub(crate) fn show_misuse(values: &ArgMatches<'_>) -> Option<Misuse>
     ensures { result ≡ show_misuse (rows_of (found_of values.now)) }
 {
@@ -188,7 +188,7 @@ pub(crate) fn show_misuse(values: &ArgMatches<'_>) -> Option<Misuse>
     }
 }
 
-/// A word for colours is one of three.
+/// Rejects a word for colours that is not one of the three.
 pub(crate) fn color_misuse(values: &ArgMatches<'_>) -> Option<Misuse>
     ensures { result ≡ color_misuse (rows_of (found_of values.now)) }
 {
@@ -214,7 +214,7 @@ fn is_color_word(word: &str) -> bool
     word == "always" || word == "never" || word == "auto"
 }
 
-/// A suite is of JUnit's XML, and has a name.
+/// Rejects a suite without JUnit XML or with an empty name.
 pub(crate) fn suite_misuse(values: &ArgMatches<'_>) -> Option<Misuse>
     ensures { result ≡ suite_misuse (rows_of (found_of values.now)) }
 {
@@ -236,7 +236,7 @@ fn is_suite_nameless(values: &ArgMatches<'_>) -> bool
     }
 }
 
-/// Whether the report goes to a path.
+/// Whether the report is written to the path.
 pub(crate) fn is_report_path(values: &ArgMatches<'_>, path: &str) -> bool
     ensures { result ≡ is_report_path path.now (rows_of (found_of values.now)) }
 {
@@ -246,7 +246,7 @@ pub(crate) fn is_report_path(values: &ArgMatches<'_>, path: &str) -> bool
     }
 }
 
-/// Whether the rows go into the report at a path.
+/// Whether the rows are merged into the report at the path.
 pub(crate) fn is_into_path(values: &ArgMatches<'_>, path: &str) -> bool
     ensures { result ≡ is_into_path path.now (rows_of (found_of values.now)) }
 {
@@ -256,7 +256,7 @@ pub(crate) fn is_into_path(values: &ArgMatches<'_>, path: &str) -> bool
     }
 }
 
-/// Whether the report that chooses the jobs stands at a path.
+/// Whether the report that chooses the jobs is at the path.
 pub(crate) fn is_failed_path(values: &ArgMatches<'_>, path: &str) -> bool
     ensures { result ≡ is_failed_path path.now (rows_of (found_of values.now)) }
 {
@@ -266,7 +266,7 @@ pub(crate) fn is_failed_path(values: &ArgMatches<'_>, path: &str) -> bool
     }
 }
 
-/// Whether JUnit's XML goes to a path.
+/// Whether the JUnit XML is written to the path.
 pub(crate) fn is_junit_path(values: &ArgMatches<'_>, path: &str) -> bool
     ensures { result ≡ is_junit_path path.now (rows_of (found_of values.now)) }
 {

@@ -1,9 +1,9 @@
-//! What words ask `rvtest` for: a command with its values.
+//! The requests that arguments make of `rvtest`: a command with its values.
 
 ghost use Rattle.std.specs.Prelude.{◌≡◌, [], IfErr, IfOk, IfSome, map, option_map};
 ghost use Rattle.clap.specs.Words.{fault_of, found_of, rows_of, subcommand_rows_of};
 ghost use Rattle.rvtest_cli.specs.RvtestCommand.{test_app};
-ghost use Rattle.rvtest_cli.specs.RvtestWords.{IsAskedInRange, IsMisuseTold, ReadsRequest, matched_misuse, subcommand_misuse};
+ghost use Rattle.rvtest_cli.specs.RvtestWords.{IsAskedInRange, IsMisuseReported, ReadsRequest, matched_misuse, subcommand_misuse};
 ghost use Rattle.rvtest_cli.specs.RvtestWords.{asked_words, matched_words, subcommand_words, words_fault_kinds, words_misuse, words_request};
 ghost use Rattle.rvtest_cli.specs.WordsErrors.{FailsByKinds};
 
@@ -27,55 +27,55 @@ use clap::ArgMatches;
 use std::alloc::Global;
 use std::convert::AsStr;
 
-/// What words ask for.
+/// A request that arguments make.
 #[derive(Drop)]
 pub enum Asked<'a> {
-    /// To run jobs of a list.
+    /// Run jobs of a list.
     Run(RunArgs<'a>),
-    /// To say which jobs a run of these words would run. What `list` has no option for is as in a run without options.
+    /// List which jobs a run with these arguments would run. Values that `list` has no option for are as in a run without options.
     List(RunArgs<'a>),
-    /// To run one job, and to show how it ended and came there.
+    /// Run one job, and show how it ended and how it got there.
     Explain(ExplainArgs<'a>),
-    /// To run one job, and to write its console.
+    /// Run one job, and print its console.
     Console(ConsoleArgs<'a>),
-    /// To show the run of one job to gdb.
+    /// Debug the run of one job with gdb.
     Gdb(GdbArgs<'a>),
-    /// To say all that is wrong with a list, and to run nothing.
+    /// Report everything that is wrong with a list, without running anything.
     Check(CheckArgs<'a>),
-    /// To make what runs came to what is expected of them.
+    /// Make the actual results of runs the expected ones.
     Accept(AcceptArgs<'a>),
-    /// To make the whole report of the parts of one run.
+    /// Merge the shards of one run into a whole report.
     Merge(MergeArgs<'a>),
-    /// To say in which jobs two reports differ.
+    /// Show which jobs differ between two reports.
     Diff(DiffArgs<'a>),
-    /// To show what failed in a report.
+    /// Show what failed in a report.
     Show(ShowArgs<'a>),
-    /// To add up tables of counts.
+    /// Add up tables of counts.
     Counts(CountsArgs<'a>),
-    /// To show what of the images of jobs ran.
+    /// Show the coverage of the images of jobs.
     Cover(CoverArgs<'a>),
-    /// To show in which functions the steps of jobs were.
+    /// Show in which functions jobs spent their steps.
     Profile(ProfileArgs<'a>),
-    /// To tell of something that is no command.
+    /// Show the help for a topic that is not a command.
     Help(HelpArgs<'a>),
 }
 
-/// Reads words, the first of which is the program's name. `None` stands where words ask for nothing. An error is `clap`'s
-/// own, but for options that do not go together. Help and the version are errors, too: of the kinds DisplayHelp and DisplayVersion.
+/// Parses the arguments, the first of which is the program's name. Returns `None` if they request nothing. An error is `clap`'s own, except
+/// for options that cannot be combined. Requests for help and the version are errors, too: of the kinds `DisplayHelp` and `DisplayVersion`.
 pub fn read_words<'a, T: AsStr>(
     alloc: Global,
     words: &'a [T],
 ) -> Result<Option<Asked<'a>>, WordsError>
-    // What is read is what the words ask for.
+    // The result is the request that the arguments make.
     ensures value { IfOk result
         (λ asked. option_map asked_words asked ≡ words_request (map T.text words.entry.now)) }
     // Each number is within the range of its argument.
     ensures within { IfOk result (λ asked. IfSome asked IsAskedInRange) }
-    // Any words fail by a fault that is found in them, or for want of memory, and else have none.
+    // Arguments fail because of an error that is found in them or because memory runs out; otherwise they have no error.
     ensures kinds { FailsByKinds (words_fault_kinds (map T.text words.entry.now)) result }
-    // Where `clap` finds none, it is told which options do not go together.
+    // If `clap` finds no error, the message says which options cannot be combined.
     ensures misused { fault_of test_app (map T.text words.entry.now) ≡ []
-        → IfErr result (IsMisuseTold (words_misuse (map T.text words.entry.now))) }
+        → IfErr result (IsMisuseReported (words_misuse (map T.text words.entry.now))) }
 {
     let command = test_command(alloc)?;
     match command.try_get_matches_from(words) {

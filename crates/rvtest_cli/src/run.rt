@@ -1,9 +1,9 @@
-//! The words of `run`.
+//! The arguments of `run`.
 
 ghost use Rattle.std.specs.Prelude.{◌≡◌, ◌≤◌, IfOk, None};
 ghost use Rattle.clap.specs.Words.{found_of, rows_of};
 ghost use Rattle.rv_base.specs.Limits.{most_group};
-ghost use Rattle.rvtest_cli.specs.RvtestWords.{IsRunAskedInRange, ReadsRequest, are_counts_put_over, are_rows_kept, are_rows_put_twice, are_stacks_alone, is_choice_given, is_choice_overwritten, is_report_given, is_stdout_put_into, run_asked_words};
+ghost use Rattle.rvtest_cli.specs.RvtestWords.{IsRunAskedInRange, ReadsRequest, are_counts_overwriting, are_rows_kept, are_rows_written_twice, are_stacks_alone, is_choice_given, is_choice_overwritten, is_report_given, is_merged_into_stdout, run_asked_words};
 ghost use Rattle.rvtest_cli.specs.RvtestWords.{run_misuse, test_run_request, run_words};
 
 use crate::command::run_command;
@@ -18,62 +18,62 @@ use rv_base::limits::{MOST_BUDGET, MOST_GROUP, MOST_JOBS, MOST_WORKERS};
 use rv_cli::values::{argument_values, is_flag_set, is_option_given, number_value, text_value};
 use std::alloc::{AllocError, Global};
 
-/// The jobs of a list that are to run, and how.
+/// The jobs of a list to run, and how.
 #[derive(Drop)]
 pub struct RunArgs<'a> {
-    /// Path of the job list.
+    /// The path of the job list.
     pub list: &'a str,
-    /// The exact names of jobs that are chosen.
+    /// The exact names of the chosen jobs.
     pub only: Vec<&'a str>,
-    /// A regular expression: jobs in whose names it is found are chosen.
+    /// A regular expression: jobs whose names it matches are chosen.
     pub pattern: Option<&'a str>,
-    /// A regular expression: jobs in whose names it is found are left out.
+    /// A regular expression: jobs whose names it matches are left out.
     pub exclude: Option<&'a str>,
-    /// Path of a report: jobs that failed in it are chosen.
+    /// The path of a report: jobs that failed in it are chosen.
     pub failed: Option<&'a str>,
-    /// Whether that report may be cut off.
+    /// Whether that report may be truncated.
     pub partial: bool,
-    /// Which part of the list is to run, as `K/N`.
+    /// The shard of the list to run, as `K/N`.
     pub shard: Option<&'a str>,
-    /// Which run the part is of.
+    /// The stamp of the run that the shard belongs to.
     pub stamp: Option<&'a str>,
-    /// Threads, from 1 to 64; absent: as many as there are processors.
+    /// The number of threads, from 1 to 64; `None` for the number of processors.
     pub workers: Option<u32>,
-    /// Jobs that a thread takes at once, from 1 to 4,096.
+    /// The number of jobs in a chunk, which a thread takes at once, from 1 to 4,096.
     pub group: u32,
-    /// The steps that each job of the list has at most, in place of its own: from 1 to 1,000,000,000.
+    /// The budget that overrides that of each job in the list: from 1 to 1,000,000,000 steps.
     pub budget: Option<u32>,
-    /// The folder from which the paths in the list are taken.
+    /// The directory against which the paths in the list are resolved.
     pub root: Option<&'a str>,
-    /// Path of a whole report into which the rows are put.
+    /// The path of a whole report into which the rows are merged.
     pub into: Option<&'a str>,
-    /// Path of the report that is written; `-` is standard output.
+    /// The path of the report; `-` is standard output.
     pub report: Option<&'a str>,
-    /// Path of the JUnit file that is written; `-` is standard output.
+    /// The path of the JUnit file; `-` is standard output.
     pub junit: Option<&'a str>,
-    /// The name of JUnit's suite; absent: by the list's file.
+    /// The name of the JUnit suite; `None` derives it from the path of the list.
     pub suite: Option<&'a str>,
-    /// Whether a failed verdict alone is a failure.
+    /// Whether only a failed verdict is a failure.
     pub lenient: bool,
-    /// Path of the table of counts that is written; `-` is standard output.
+    /// The path of the table of counts; `-` is standard output.
     pub counts: Option<&'a str>,
-    /// Whether that table has stacks, too.
+    /// Whether the table has stacks, too.
     pub stacks: bool,
-    /// Path of a file with the names of jobs that are known to fail.
+    /// The path of the file that names the known failures.
     pub known: Option<&'a str>,
-    /// The number of the failure that ends the run, from 1 to 4,096.
+    /// The number of the failure that stops the run, from 1 to 4,096.
     pub stop_after: Option<u32>,
-    /// Whether jobs that pass have a line too.
+    /// Whether passing jobs have a line, too.
     pub verbose: bool,
-    /// Whether the last line alone is shown.
+    /// Whether only the last line is shown.
     pub quiet: bool,
-    /// How many of the last instructions of a failed job are shown, up to 100,000.
+    /// The number of last instructions of a failed job that are shown, up to 100,000.
     pub last: Option<u32>,
-    /// Whether results have colours: `always`, `never` or `auto`; absent: `auto`.
+    /// When results are coloured: `always`, `never` or `auto`; `None` means `auto`.
     pub color: Option<&'a str>,
 }
 
-/// What the values of `run` ask for, or which rule its options break.
+/// Returns the request of `run` with these values, or the rule that its options break.
 pub(crate) fn test_run_request<'a>(
     alloc: Global,
     values: &ArgMatches<'a>,
@@ -99,12 +99,12 @@ fn valid_run_request<'a>(
     let Some(group) = number_value(values, "group", 1, MOST_GROUP) else {
         return Ok(None);
     };
-    Ok(Some(Asked::Run(run_asked(alloc, values, list, group)?)))
+    Ok(Some(Asked::Run(run_args(alloc, values, list, group)?)))
 }
 
-/// What values ask for, of a list, in pieces of so many jobs.
+/// Returns the request with these values, for a list, in chunks of `group` jobs.
 #[tactic(auto, unfolding(crate::specs::RvtestWords::run_words))]
-pub(crate) fn run_asked<'a>(
+pub(crate) fn run_args<'a>(
     alloc: Global,
     values: &ArgMatches<'a>,
     list: &'a str,
@@ -143,7 +143,7 @@ pub(crate) fn run_asked<'a>(
     })
 }
 
-// The first rule that the options of `run` break.
+// Returns the first rule that the options of `run` break.
 fn run_misuse(values: &ArgMatches<'_>) -> Option<Misuse>
     ensures { result ≡ run_misuse (rows_of (found_of values.now)) }
 {
@@ -157,9 +157,9 @@ fn run_misuse(values: &ArgMatches<'_>) -> Option<Misuse>
         Some(Misuse::BudgetAndRows)
     } else if is_option_given(values, "stop-after") && is_option_given(values, "shard") {
         Some(Misuse::StopAfterAndShard)
-    } else if are_rows_put_twice(values) {
+    } else if are_rows_written_twice(values) {
         Some(Misuse::IntoAndReport)
-    } else if is_stdout_put_into(values) {
+    } else if is_merged_into_stdout(values) {
         Some(Misuse::IntoStdout)
     } else if is_choice_overwritten(values) {
         Some(Misuse::FailedIsReport)
@@ -169,43 +169,43 @@ fn run_misuse(values: &ArgMatches<'_>) -> Option<Misuse>
         Some(Misuse::UnknownColor)
     } else if are_stacks_alone(values) {
         Some(Misuse::StacksAlone)
-    } else if are_counts_put_over(values) {
+    } else if are_counts_overwriting(values) {
         Some(Misuse::CountsOneFile)
     } else {
         files_misuse(values)
     }
 }
 
-// Whether rows go out that others take as the list's.
+// Whether rows are written that others take as the list's.
 fn are_rows_kept(values: &ArgMatches<'_>) -> bool
     ensures { result ≡ are_rows_kept (rows_of (found_of values.now)) }
 {
     is_report_given(values) || is_option_given(values, "junit") || is_option_given(values, "shard")
 }
 
-// Whether a report goes out, of the rows alone or of a whole list.
+// Whether a report is written, of the rows alone or of a whole list.
 fn is_report_given(values: &ArgMatches<'_>) -> bool
     ensures { result ≡ is_report_given (rows_of (found_of values.now)) }
 {
     is_option_given(values, "report") || is_option_given(values, "into")
 }
 
-// Whether rows that are put into a report would go out beside it.
-fn are_rows_put_twice(values: &ArgMatches<'_>) -> bool
-    ensures { result ≡ are_rows_put_twice (rows_of (found_of values.now)) }
+// Whether rows are merged into a report and also written on their own.
+fn are_rows_written_twice(values: &ArgMatches<'_>) -> bool
+    ensures { result ≡ are_rows_written_twice (rows_of (found_of values.now)) }
 {
     is_option_given(values, "into")
         && (is_option_given(values, "report") || is_option_given(values, "shard"))
 }
 
-// Whether rows are put into standard output, from which no report is read.
-fn is_stdout_put_into(values: &ArgMatches<'_>) -> bool
-    ensures { result ≡ is_stdout_put_into (rows_of (found_of values.now)) }
+// Whether rows are merged into standard output, from which no report can be read.
+fn is_merged_into_stdout(values: &ArgMatches<'_>) -> bool
+    ensures { result ≡ is_merged_into_stdout (rows_of (found_of values.now)) }
 {
     is_into_path(values, "-")
 }
 
-// Whether the report that chooses the jobs would be written over by theirs alone.
+// Whether the report that chooses the jobs would be overwritten by their rows alone.
 fn is_choice_overwritten(values: &ArgMatches<'_>) -> bool
     ensures { result ≡ is_choice_overwritten (rows_of (found_of values.now)) }
 {
@@ -215,16 +215,16 @@ fn is_choice_overwritten(values: &ArgMatches<'_>) -> bool
     }
 }
 
-// Whether stacks are to stand in a table that is not asked for.
+// Whether stacks are requested without a table of counts.
 fn are_stacks_alone(values: &ArgMatches<'_>) -> bool
     ensures { result ≡ are_stacks_alone (rows_of (found_of values.now)) }
 {
     is_flag_set(values, "stacks") && !is_option_given(values, "counts")
 }
 
-// Whether the table of counts goes where a report or JUnit's XML goes, or the report stands that chooses the jobs.
-fn are_counts_put_over(values: &ArgMatches<'_>) -> bool
-    ensures { result ≡ are_counts_put_over (rows_of (found_of values.now)) }
+// Whether the table of counts has the same destination as a report or the JUnit XML, or would overwrite the report that chooses the jobs.
+fn are_counts_overwriting(values: &ArgMatches<'_>) -> bool
+    ensures { result ≡ are_counts_overwriting (rows_of (found_of values.now)) }
 {
     match text_value(values, "counts") {
         Some(path) => {
@@ -237,7 +237,7 @@ fn are_counts_put_over(values: &ArgMatches<'_>) -> bool
     }
 }
 
-/// Whether jobs are chosen by their names or by a report, or left out.
+/// Whether jobs are chosen or left out, by their names or by a report.
 pub(crate) fn is_choice_given(values: &ArgMatches<'_>) -> bool
     ensures { result ≡ is_choice_given (rows_of (found_of values.now)) }
 {

@@ -1,7 +1,7 @@
-//! The words of `show`.
+//! The arguments of `show`.
 
 ghost use Rattle.clap.specs.Words.{found_of, rows_of};
-ghost use Rattle.rvtest_cli.specs.RvtestWords.{AsksFor, ReadsRequest, show_misuse, show_request};
+ghost use Rattle.rvtest_cli.specs.RvtestWords.{IsRequestFor, ReadsRequest, show_misuse, show_request};
 
 use crate::command::show_command;
 use crate::refusals::show_misuse;
@@ -11,24 +11,24 @@ use clap::ArgMatches;
 use rv_cli::values::{is_flag_set, text_value};
 use std::alloc::Global;
 
-/// A report that is to be shown.
+/// A report to show.
 #[derive(Clone, Copy)]
 pub struct ShowArgs<'a> {
-    /// Path of the report.
+    /// The path of the report.
     pub report: &'a str,
-    /// Whether the report may be cut off.
+    /// Whether the report may be truncated.
     pub partial: bool,
-    /// Path of the JUnit file that is written; `-` is standard output.
+    /// The path of the JUnit file; `-` is standard output.
     pub junit: Option<&'a str>,
-    /// The name of JUnit's suite; absent: by the report's path.
+    /// The name of the JUnit suite; `None` derives it from the report's path.
     pub suite: Option<&'a str>,
-    /// Whether a failed verdict alone is a failure.
+    /// Whether only a failed verdict is a failure.
     pub lenient: bool,
-    /// Whether results have colours: `always`, `never` or `auto`; absent: `auto`.
+    /// When results are coloured: `always`, `never` or `auto`; `None` means `auto`.
     pub color: Option<&'a str>,
 }
 
-/// What the values of `show` ask for, or which rule its options break.
+/// Returns the request of `show` with these values, or the rule that its options break.
 pub(crate) fn show_request<'a>(
     alloc: Global,
     values: &ArgMatches<'a>,
@@ -43,7 +43,7 @@ pub(crate) fn show_request<'a>(
 }
 
 fn valid_show_request<'a>(values: &ArgMatches<'a>) -> Option<Asked<'a>>
-    ensures { AsksFor (show_request (rows_of (found_of values.now))) result }
+    ensures { IsRequestFor (show_request (rows_of (found_of values.now))) result }
 {
     let report = text_value(values, "report")?;
     let partial = is_flag_set(values, "partial");

@@ -6,7 +6,7 @@ use crate::examples;
 use crate::profile::MOST_FUNCTIONS;
 use rv_base::limits::{MOST_BUDGET, MOST_JOBS, MOST_WORKERS};
 
-/// The commands of `rvtest`, in the order in which help names them.
+/// The commands of `rvtest`, in the order in which the help lists them.
 pub(crate) const COMMANDS: [Subcommand<'static>; 14] = [
     RUN, LIST, EXPLAIN, CONSOLE, GDB, CHECK, ACCEPT, MERGE, DIFF, SHOW, COUNTS, COVER, PROFILE,
     HELP,

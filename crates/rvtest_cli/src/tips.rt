@@ -1,15 +1,15 @@
 //! Tips in the errors of `clap`.
 //!
-//! `clap` says how a word that it does not know is passed as a value, which no command takes, and names an option that is a little
-//! like it, though another was meant.
+//! `clap` explains how an unknown word is passed as a value, which no command accepts, and suggests an option that is only slightly similar
+//! when another was meant.
 
 use clap::Error;
 use rv_text::push_printable_text;
 use std::alloc::{AllocError, Global};
 use strsim::levenshtein;
 
-/// The text of an error. Of its tips only that remains which names an option of which at most a third of the letters differ from
-/// what was written. Help and the version are as `clap` writes them.
+/// Returns the text of an error. Only a tip that suggests an option is kept, and only if at most a third of that option's letters differ
+/// from what was written. The help and the version are as `clap` writes them.
 pub(crate) fn error_text(alloc: Global, error: &Error) -> Result<String, AllocError> {
     let told = error.to_string(alloc)?;
     if error.use_stderr() {
@@ -19,7 +19,7 @@ pub(crate) fn error_text(alloc: Global, error: &Error) -> Result<String, AllocEr
     }
 }
 
-// A text without the tips that lead astray. A word in it may be of any characters, so each line is printed as a text from a file is.
+// Returns the text without misleading tips. A word in it may contain any characters, so each line is printed like a text from a file.
 fn text_without_tips(alloc: Global, told: &str) -> Result<String, AllocError> {
     let written = refused_option(told);
     let mut text = Vec::new(alloc);
@@ -36,7 +36,7 @@ fn text_without_tips(alloc: Global, told: &str) -> Result<String, AllocError> {
     Ok(String::from_utf8(text).unwrap_or(String::new(alloc)))
 }
 
-// The option that is refused, without its dashes; empty where none is.
+// Returns the rejected option without its dashes; empty if there is none.
 fn refused_option(told: &str) -> &str {
     match told.split_once("'--") {
         Some((_, behind)) => match behind.split_once("' found") {
@@ -47,7 +47,7 @@ fn refused_option(told: &str) -> &str {
     }
 }
 
-// Whether a line is a tip that leads astray.
+// Whether a line is a misleading tip.
 fn is_tip_wrong(alloc: Global, written: &str, line: &str) -> Result<bool, AllocError> {
     if line.starts_with("  tip: to pass '") {
         return Ok(true);

@@ -1,4 +1,4 @@
-//! Why words ask for nothing.
+//! Why arguments make no request.
 
 ghost use Rattle.std.specs.Prelude.{◌≡◌, IfOk, string_bytes};
 ghost use Rattle.clap.specs.Words.{kind_of};
@@ -9,17 +9,17 @@ use clap::error::ErrorKind;
 use clap::{Command, Error};
 use std::alloc::{AllocError, Global};
 
-/// Why words ask for nothing: what is wrong with them, or that they ask for help or the version.
+/// Why arguments make no request: what is wrong with them, or that they request the help or the version.
 #[derive(Drop)]
 pub enum WordsError {
     /// Memory ran out.
     OutOfMemory,
-    /// A fault of this kind, or help or the version, with the text that is shown.
+    /// An error of this kind, or the help or the version, with the text to show.
     Told(ErrorKind, String),
 }
 
 impl WordsError {
-    /// What an error of `clap` comes to: its own text, without tips that lead astray. No contract of `clap` knows its texts.
+    /// Converts an error of `clap`: to its own text, without misleading tips. No contract of `clap` describes its texts.
     pub(crate) fn of_clap(alloc: Global, error: &Error) -> WordsError
         ensures { IsToldOfKind (kind_of error.now) result }
     {
@@ -43,8 +43,8 @@ impl From<AllocError> for WordsError {
     }
 }
 
-/// A fault that `clap` does not find, told in the form of its own: `error: ` and what is wrong, the usage of the command, and where
-/// help is. What is wrong has no line feed at its end.
+/// Makes an error for a problem that `clap` does not find, in the form of `clap`'s own: `error: ` and what is wrong, the usage of the
+/// command, and where to find help. `what` does not end with a line feed.
 pub fn usage_error(
     alloc: Global,
     command: Result<Command<'_>, AllocError>,
@@ -81,12 +81,12 @@ fn usage_error_text(alloc: Global, what: &str, usage: &str) -> Result<String, Al
     Ok(text)
 }
 
-// How the command is used, as `clap` writes it.
+// Returns the usage of the command, as `clap` writes it.
 fn usage_of(command: Result<Command<'_>, AllocError>) -> Result<String, AllocError> {
     match command {
         Ok(mut command) => {
             let usage = command.render_usage();
-            // At the end of the block each of its fields would be dropped, which is proved in twice the time.
+            // Dropping each of its fields at the end of the block would take twice the time to prove.
             drop(command);
             usage
         }

@@ -1,25 +1,25 @@
-//! Bytes that are written as hexadecimal digits.
+//! Bytes written as hexadecimal digits.
 
 use hex::FromHexError;
 use std::alloc::{AllocError, Global};
 use thiserror::Error;
 
-/// Why a text stands for no bytes.
+/// Why a text does not represent bytes.
 #[derive(Clone, Copy, Debug, Error, PartialEq, Eq)]
 pub enum BadSample {
     /// There are no digits, or an odd number of them.
     #[error("bad digits")]
     Digits,
-    /// A number that stands for a place or a count is none.
+    /// An offset or a count is not a number.
     #[error("bad count")]
     Count,
-    /// A change reaches past the file.
+    /// A change extends beyond the file.
     #[error("bad place")]
     Place,
     /// No sample has the name.
     #[error("bad name")]
     Name,
-    /// A growth was refused.
+    /// An allocation failed.
     #[error("out of memory")]
     OutOfMemory,
 }
@@ -39,11 +39,11 @@ impl From<FromHexError> for BadSample {
     }
 }
 
-// Ends a run by the exit call, with the code in x10: 93 into x17, and ECALL.
+// Ends a run with the exit call, with the code in x10: 93 into x17, and ECALL.
 const EXIT: [u8; 8] = [0x93, 0x08, 0xd0, 0x05, 0x73, 0x00, 0x00, 0x00];
 
-/// The bytes of numbers that spaces part, each little-endian, as words of eight digits and halfwords of
-/// four. `0001*3` is three times 0001, and `X` the two instructions of the exit call.
+/// Returns the bytes of numbers that are separated by spaces, each little-endian, as words of eight digits and halfwords of four. `0001*3`
+/// is 0001 three times, and `X` is the two instructions of the exit call.
 pub fn numbers(alloc: Global, text: &str) -> Result<Vec<u8>, BadSample> {
     let mut bytes = Vec::new(alloc);
     for number in text.split(' ') {
@@ -69,7 +69,7 @@ fn push_number(alloc: Global, bytes: &mut Vec<u8>, number: &str) -> Result<(), B
     Ok(())
 }
 
-/// The bytes of a file that is written in groups of digits, in their order.
+/// Returns the bytes of a file that is written as groups of digits, in order.
 pub fn file_bytes(alloc: Global, text: &str) -> Result<Vec<u8>, BadSample> {
     let mut bytes = Vec::new(alloc);
     for group in text.split(' ') {

@@ -1,19 +1,19 @@
-//! Image files by a line of words: a sample, with other bytes where a word says so.
+//! Image files described by a line of words: a sample, with the changes that the words describe.
 
 use crate::digits::{BadSample, file_bytes, numbers};
 use crate::images::{ONE_SEGMENT, SIGNATURE, TWO_SEGMENTS};
 use std::alloc::Global;
 
-// Where the one segment's bytes begin, and where its sizes in the file and in memory stand.
+// The offset of the only segment's bytes, and the offsets of its sizes in the file and in memory.
 const CODE: usize = 84;
 
 const FILE_SIZE: usize = 68;
 
 const MEMORY_SIZE: usize = 72;
 
-/// The bytes of a file: `one` or `two` segments, or `sign` for the image with a signature, then changes:
-/// `24=90000000` puts the number at byte 24, little-endian, and `51` keeps the first 51 bytes. With `code` numbers
-/// follow, which are the file bytes of the one segment.
+/// Returns the bytes of a file: `one` or `two` segments, or `sign` for the image with a signature, then changes: `24=90000000` writes the
+/// number at byte 24, little-endian, and `51` keeps the first 51 bytes. After `code` come numbers, which are the file bytes of the only
+/// segment.
 pub fn file(alloc: Global, text: &str) -> Result<Vec<u8>, BadSample> {
     let (name, rest) = text.split_once(' ').unwrap_or((text, ""));
     match name {
@@ -25,7 +25,7 @@ pub fn file(alloc: Global, text: &str) -> Result<Vec<u8>, BadSample> {
     }
 }
 
-// The file of one segment with these numbers as its bytes.
+// Returns the file of one segment with these numbers as its bytes.
 fn program(alloc: Global, text: &str) -> Result<Vec<u8>, BadSample> {
     let code = numbers(alloc, text)?;
     let Ok(size) = u32::try_from(code.len()) else {
@@ -38,7 +38,7 @@ fn program(alloc: Global, text: &str) -> Result<Vec<u8>, BadSample> {
     Ok(bytes)
 }
 
-// A file with changes, as `file` tells them.
+// Returns a file with changes, in the form that `file` describes.
 fn changed(alloc: Global, file: &[u8], changes: &str) -> Result<Vec<u8>, BadSample> {
     let mut bytes = file.to_vec(alloc)?;
     for change in changes.split(' ') {
@@ -59,7 +59,7 @@ fn count(text: &str) -> Result<usize, BadSample> {
     }
 }
 
-// Puts a field in place of the bytes from one on.
+// Overwrites the bytes from `at` on with a field.
 fn set(bytes: &mut Vec<u8>, at: usize, field: &[u8]) -> Result<(), BadSample> {
     for (place, byte) in field.iter().enumerate() {
         match bytes.get_mut(at.saturating_add(place)) {

@@ -1,19 +1,19 @@
-//! Lines of tables: their cells, which bars part.
+//! Lines of tables: their cells are separated by bars.
 
 use std::num::ParseIntError;
 use std::test::Fail;
 
-/// The cell of a line with this number, from 0, without the spaces around it; nothing where there are not so many.
+/// Returns the cell of a line with this index, from 0, without the spaces around it; empty if there are fewer cells.
 pub fn cell_of(line: &str, place: usize) -> &str {
     line.split('|').nth(place).unwrap_or("").trim()
 }
 
-/// The number of these hexadecimal digits.
+/// Parses a number of hexadecimal digits.
 pub fn hex_of(text: &str) -> Result<u32, ParseIntError> {
     u32::from_str_radix(text, 16)
 }
 
-/// Fails where an answer isn't the wanted one, and says of which row.
+/// Fails if the actual result is not the expected one, and names the row.
 pub fn agree(row: &str, answer: &str, wanted: &str) -> Result<(), Fail> {
     if answer == wanted {
         Ok(())
@@ -22,7 +22,7 @@ pub fn agree(row: &str, answer: &str, wanted: &str) -> Result<(), Fail> {
     }
 }
 
-/// Fails where a table hasn't so many lines.
+/// Fails if a table does not have this many lines.
 pub fn has_lines(rows: &str, count: usize) -> Result<(), Fail> {
     if rows.lines().count() == count {
         Ok(())

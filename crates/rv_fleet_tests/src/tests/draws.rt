@@ -9,7 +9,7 @@ use std::test::Fail;
 use std::thread;
 use std::thread::Threads;
 
-// Two passes of one, where a place is free.
+// Splits a pass in two, if a slot is free.
 pub(super) fn halves(claims: &Claims, pass: Pass) -> Option<(Pass, Pass)>
     requires { pass.draw ≡ claims.now }
     ensures first { IfSome result (λ passes. passes.0.draw ≡ claims.now) }
@@ -21,7 +21,7 @@ pub(super) fn halves(claims: &Claims, pass: Pass) -> Option<(Pass, Pass)>
     }
 }
 
-// What a pass answers: whether it has ended, where the ask has a mark, else its next draw.
+// Appends the response of a pass: whether it has ended, if the request has a question mark, else its next draw.
 fn push_answer(
     text: &mut String,
     claims: &Claims,
@@ -59,7 +59,7 @@ fn push_answers(
     Ok(())
 }
 
-// The same of two passes, of which the second is asked by `q`.
+// Appends the responses of two passes, the second of which is asked by `q`.
 fn push_answers_of_both(
     text: &mut String,
     claims: &Claims,
@@ -82,7 +82,7 @@ fn push_answers_of_both(
     Ok(())
 }
 
-// One pass of two: they are joined, meet and are joined, or meet and the second is dropped.
+// Makes one pass of two: they are joined, meet and are joined, or meet and the second is dropped.
 fn one_of(claims: &Claims, first: Pass, second: Pass, end: &str) -> Pass
     requires first { first.draw ≡ claims.now }
     requires second { second.draw ≡ claims.now }
@@ -115,7 +115,7 @@ fn split(
     Ok(one_of(claims, first, second, end))
 }
 
-// Splits and joins a pass until no place is free.
+// Splits and joins a pass until no slot is free.
 fn fill(text: &mut String, claims: &Claims, mut pass: Pass) -> Result<Pass, AllocError>
     requires { pass.draw ≡ claims.now }
     ensures { IfOk result (λ pass. pass.draw ≡ claims.now) }
@@ -143,7 +143,7 @@ fn between(text: &mut String, claims: &Claims, pass: Pass, line: &str) -> Result
     }
 }
 
-// What the passes of a line answer, and the pass that is left.
+// Appends the responses of the passes of a line, and returns the remaining pass.
 fn push_all(text: &mut String, claims: &Claims, mut pass: Pass, line: &str) -> Result<Pass, Fail>
     requires { pass.draw ≡ claims.now }
     ensures { IfOk result (λ pass. pass.draw ≡ claims.now) }
@@ -154,7 +154,7 @@ fn push_all(text: &mut String, claims: &Claims, mut pass: Pass, line: &str) -> R
     Ok(pass)
 }
 
-// What the passes of a shared draw answer, of at most 4,096 pieces.
+// Returns the responses of the passes of a shared draw of at most 4,096 chunks.
 pub(super) fn told(alloc: Global, line: &str) -> Result<String, Fail> {
     let (claims, pass) = Claims::new(alloc, number_in(line, 1).min(4096))?;
     let mut text = String::new(alloc);
@@ -164,10 +164,10 @@ pub(super) fn told(alloc: Global, line: &str) -> Result<String, Fail> {
     Ok(text)
 }
 
-// label | pieces | asks of the first pass | of the two that it is split into, p and q | how they become one |
-// asks of that one | the answers, and whether it holds every place at the end. `p?` asks whether a pass has ended. A
-// pass that has ended is split as any other: the new one has a place of its own and no draws, and ends by its own
-// draw. 64 places are given, and a further split gives its pass back.
+// label | chunks | requests to the first pass | to the two that it is split into, p and q | how they become one | requests to that one |
+// the responses, and whether it holds every slot at the end. `p?` asks whether a pass has ended. A pass that has ended can be split like
+// any other: the new one has a slot of its own and no draws, and ends with its own draw. There are 64 slots, and a further split returns
+// the pass.
 pub(super) const DRAWS: &str = "\
 two passes draw three pieces | 3 | | p q p p? q p | join | p? p | 0 1 2 false none none true none true
 no piece ends the first pass | 0 | p p? | | alone | | none true true
@@ -178,8 +178,7 @@ places run out | 1 | p | | fill | p? p | 0 63 splits false none true";
 
 const PIECES: u64 = 1000;
 
-/// Takes until none is left: the pass, and what was drawn. Here and below there is no answer where memory or a place is
-/// lacking.
+/// Draws until none is left, and returns the pass and what was drawn. Here and below, the result is `None` if memory or a slot is missing.
 fn take_all(alloc: Global, claims: &Claims, mut pass: Pass) -> Option<(Pass, Vec<u64>)>
     requires { pass.draw ≡ claims.now }
     ensures { IfSome result (λ taken. taken.0.draw ≡ claims.now) }
@@ -196,7 +195,7 @@ fn take_all(alloc: Global, claims: &Claims, mut pass: Pass) -> Option<(Pass, Vec
     Some((pass, numbers))
 }
 
-// One pass of two, and what both drew.
+// Makes one pass of two, and returns it with what both drew.
 fn both_taken(
     claims: &Claims,
     one: Option<(Pass, Vec<u64>)>,
@@ -214,7 +213,7 @@ fn both_taken(
     Some((claims.join(first, second), numbers))
 }
 
-/// The same in two threads, joined.
+/// Draws in two threads, which are joined.
 fn take_all_in_two<R: Threads + Sync>(
     rt: &R,
     alloc: Global,
@@ -239,7 +238,7 @@ fn take_all_in_two<R: Threads + Sync>(
     both_taken(claims, one, other)
 }
 
-// The same in four.
+// Draws in four threads.
 fn take_all_in_four<R: Threads + Sync>(
     rt: &R,
     alloc: Global,
@@ -264,7 +263,7 @@ fn take_all_in_four<R: Threads + Sync>(
     both_taken(claims, one, other)
 }
 
-// Whether each number below their count is there once.
+// Whether each number below their count occurs once.
 fn are_each_once(mut numbers: Vec<u64>) -> bool {
     if numbers.sort().is_err() {
         return false;
@@ -277,7 +276,7 @@ fn are_each_once(mut numbers: Vec<u64>) -> bool {
     true
 }
 
-// label | how many numbers four threads draw; whether each is there once, the passes ended, and hold every place
+// label | how many numbers four threads draw; whether each occurs once, the passes ended, and they hold every slot
 pub(super) const FOUR_THREADS: &str = "four threads | 1000 true true true";
 
 pub(super) fn told_of_four<R: Threads + Sync>(rt: &R, alloc: Global) -> Result<String, Fail> {

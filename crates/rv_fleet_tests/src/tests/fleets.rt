@@ -1,4 +1,4 @@
-//! Fleets of small jobs, and runs of a choice of them, behind a gate that shows which pieces were under way at the same time.
+//! Fleets of small jobs, and runs of a choice of them, with a gate that shows which chunks ran at the same time.
 ghost use Rattle.std.specs.List.Sorted.{IsStrictlyIncreasing};
 ghost use Rattle.rv_fleet.specs.Choices.{AreJobIndices};
 
@@ -13,7 +13,7 @@ use std::test::Fail;
 use std::thread::Threads;
 
 // label | budgets | a choice of the jobs | workers | group | what runs them: a fleet runs all, a batch the choice, without a gate | the
-// pieces that are held | and that are awaited | the rows, how often each piece entered, and whether one waited in vain
+// chunks that are held | and how many are awaited | the rows, how often each chunk entered, and whether one waited in vain
 pub(super) const RUNS: &str = "\
 the first waits for the second | 3 3 | xx | 2 | 1 | fleet | 1 | 2 | \
     j0 Exit(5) 2, j1 Exit(5) 2, entered 11, late false

@@ -1,4 +1,4 @@
-//! A gate that notes what passes it.
+//! A gate that records what passes it.
 use super::number_in;
 use rv_fleet::Gate;
 use std::alloc::AllocError;
@@ -7,11 +7,11 @@ use std::thread;
 
 const TURNS: u64 = 100_000_000;
 
-// What an entry of each of the first pieces counts: each piece has a digit of its own, the first the last one.
+// What an entry of each of the first chunks counts: each chunk has its own decimal digit, the first chunk the last one.
 const DIGITS: [u64; 4] = [1, 10, 100, 1000];
 
-/// Counts the entries of each of four pieces. The first `held` pieces wait until as many have entered as are `awaited`, and `late` is set
-/// where one waits in vain.
+/// Counts the entries of each of four chunks. The first `held` chunks wait until as many have entered as are `awaited`, and `late` is set
+/// if one waits in vain.
 #[derive(Drop)]
 pub(super) struct NotingGate {
     held: u64,
@@ -23,7 +23,7 @@ pub(super) struct NotingGate {
 }
 
 impl NotingGate {
-    /// The gate of a line: how many pieces are held, and how many are awaited.
+    /// Returns the gate of a line: how many chunks are held, and how many are awaited.
     pub(super) fn of(line: &str) -> NotingGate {
         NotingGate {
             held: number_in(line, 6),
@@ -35,14 +35,14 @@ impl NotingGate {
         }
     }
 
-    /// How often each piece entered, and whether one waited in vain.
+    /// Appends how often each chunk entered, and whether one waited in vain.
     pub(super) fn push_notes(&self, text: &mut String) -> Result<(), AllocError> {
         let entries = self.entries.load(Ordering::SeqCst);
         let late = self.late.load(Ordering::SeqCst);
         write!(text, " entered {entries}, late {late}")
     }
 
-    /// The numbers of the pieces, counted from 1, as they entered one after another.
+    /// Returns the numbers of the chunks, counted from 1, in the order in which they entered.
     pub(super) fn order(&self) -> u64 {
         self.order.load(Ordering::SeqCst)
     }

@@ -13,7 +13,7 @@ fn words_of(alloc: Global, count: usize) -> Result<Words, AllocError> {
     Ok(Words::new(vec![in alloc; 0u32; count]?))
 }
 
-// An outcome whose console has so many bytes, or, behind a `w`, whose signature has so many words.
+// Returns an outcome whose console has this many bytes or, after a `w`, whose signature has this many words.
 fn outcome_of(alloc: Global, size: &str) -> Result<Outcome, Fail> {
     let (size, signature) = match size.strip_prefix('w') {
         Some(count) => (0, Some(words_of(alloc, count.parse::<usize>()?)?)),
@@ -27,7 +27,7 @@ fn outcome_of(alloc: Global, size: &str) -> Result<Outcome, Fail> {
     })
 }
 
-// Keeps an outcome of a size where there is room for it.
+// Keeps an outcome of a size if there is room for it.
 fn keep(alloc: Global, recent: &mut Recent, place: usize, size: &str) -> Result<(), Fail> {
     let outcome = outcome_of(alloc, size)?;
     if recent.make_room(outcome.size()) {
@@ -36,7 +36,7 @@ fn keep(alloc: Global, recent: &mut Recent, place: usize, size: &str) -> Result<
     Ok(())
 }
 
-// The places below a number whose outcomes are kept.
+// Returns the indices below a number whose outcomes are kept.
 fn kept(alloc: Global, recent: &Recent, places: usize) -> Result<String, Fail> {
     let mut found = String::new(alloc);
     for place in 0..places {
@@ -47,7 +47,7 @@ fn kept(alloc: Global, recent: &Recent, places: usize) -> Result<String, Fail> {
     Ok(found)
 }
 
-// Which are kept of outcomes of some sizes, the first of the job at place 0 and so on.
+// Returns which outcomes of some sizes are kept, the first for the job at index 0 and so on.
 pub(super) fn told(alloc: Global, line: &str) -> Result<String, Fail> {
     let sizes = cell_of(line, 1);
     let mut recent = Recent::new(alloc);
@@ -57,7 +57,7 @@ pub(super) fn told(alloc: Global, line: &str) -> Result<String, Fail> {
     kept(alloc, &recent, sizes.split(' ').count())
 }
 
-// label | sizes | places
+// label | sizes | indices
 pub(super) const KEPT: &str = "\
 few | 1 2 3 | 0 1 2
 one more than the most | 1 1 1 1 1 1 1 1 1 | 1 2 3 4 5 6 7 8
@@ -69,7 +69,7 @@ too great | 1 64001 2 | 0 2
 a signature of all the room | 1 w16000 | 1
 a signature of a word more | 1 w16001 2 | 0 2";
 
-// Two jobs with a signature, of 16,000 words and of one more, and behind each a job that is compared with it.
+// Two jobs with a signature, of 16,000 words and of one more, each followed by a job that is compared with it.
 const NAMING: &str = "\
 [[job]]
 name = 'j0'
@@ -93,7 +93,7 @@ budget = 100
 same_as = 'j2'
 ";
 
-// Makes the row of the job at a place. Whether the outcome of the job before it, which is run for its sake, is kept.
+// Makes the row of the job at an index, and returns whether the outcome of the job before it, which is run for the comparison, is kept.
 fn keeps_named(alloc: Global, plan: &Plan, place: usize) -> Result<bool, Fail>
     requires { place < length plan.now.jobs }
 {
@@ -110,8 +110,8 @@ fn is_named_kept(alloc: Global, place: usize) -> Result<bool, Fail> {
     keeps_named(alloc, &plan, place)
 }
 
-// label | the place of a job of `NAMING` | whether the outcome of the job that it names is kept: the signature of a run
-// counts before its words are copied
+// label | the index of a job of `NAMING` | whether the outcome of the job that it names is kept: the signature of a run counts before its
+// words are copied
 pub(super) const NAMED: &str = "\
 16,000 words | 1 | true
 one more | 3 | false";

@@ -1,4 +1,4 @@
-//! Streams of small jobs: which jobs, by how many workers, which put fails, and what went out.
+//! Streams of small jobs: which jobs, with how many workers, which writes fail, and the output.
 ghost use Rattle.std.specs.Prelude.{None};
 
 use super::{chosen, crew_of, number_in};
@@ -12,7 +12,7 @@ use std::sync::atomic::{AtomicU64, Ordering};
 use std::test::Fail;
 use std::thread::Threads;
 
-/// Tells the name of each row of two steps or more, and nothing of others; and counts the rows that it is asked for.
+/// Reports the name of each row of two or more steps, and nothing for others; counts the rows that it is asked for.
 #[derive(Drop)]
 struct Names<'a> {
     asked: &'a AtomicU64,
@@ -39,8 +39,8 @@ impl<'a> RowReporter for Names<'a> {
     }
 }
 
-/// A sink over memory, which takes so many bytes a put, fails at one put, counted from 1, and notes at each put how
-/// many rows were asked for until then.
+/// A sink over memory that accepts a limited number of bytes per write, fails at one write, counted from 1, and records at each write how
+/// many rows had been requested.
 #[derive(Drop)]
 struct NotingSink<'a> {
     bytes: Vec<u8>,
@@ -88,7 +88,7 @@ impl<'a> Sink for NotingSink<'a> {
     }
 }
 
-// label | the jobs' budgets | a choice of them | workers | group | what goes out
+// label | the jobs' budgets | a choice of them | workers | group | the output
 const STREAMS: &str = "\
 a worker | 3 3 1 3 | xx.x | 1 | 1 | j0;j1;j3;
 four | 3 3 1 3 | xx.x | 4 | 1 | j0;j1;j3;
@@ -102,8 +102,8 @@ no job | 3 3 | .. | 4 | 1 |
 the last job | 3 3 1 3 | ...x | 4 | 1 | j3;
 one behind the other | 3 3 3 3 3 3 3 3 | xxxxxxxx | 4 | 1 | j0;j1;j2;j3;j4;j5;j6;j7;";
 
-// label | budgets | choice | workers | group | the put that fails, or 0 | what went out; how many rows were asked for
-// at each put, and in all; and how the call ended
+// label | budgets | choice | workers | group | the write that fails, or 0 | the output; how many rows were requested at each write, and in
+// all; and how the call ended
 pub(super) const PUTS: &str = "\
 each text at once | 3 3 3 | xxx | 1 | 1 | 0 | j0;j1;j2; at 1 2 3 of 3: 3 rows
 pieces of two | 3 3 3 | xxx | 1 | 2 | 0 | j0;j1;j2; at 2 3 of 3: 3 rows
@@ -115,14 +115,14 @@ the second, and no job is run behind it | 3 3 3 3 | xxxx | 1 | 1 | 2 | j0; at 1 
 the last | 3 3 | xx | 1 | 1 | 2 | j0; at 1 2 of 2: write failed
 the only one | 3 3 | xx | 1 | 2 | 1 | at 2 of 2: write failed";
 
-// What went out, and how many rows were asked for at each put, and in all.
+// Appends the output, and how many rows were requested at each write, and in all.
 fn push_out(text: &mut String, out: &NotingSink<'_>) -> Result<(), AllocError> {
     let sent = std::str::from_utf8(out.bytes.as_slice()).unwrap_or("no text");
     let (notes, asked) = (out.notes.as_str(), out.asked.load(Ordering::SeqCst));
     write!(text, "{sent} at{notes} of {asked}: ")
 }
 
-// How the call ended.
+// Appends how the call ended.
 fn push_end(text: &mut String, ran: &Result<Rows, StreamError>) -> Result<(), AllocError> {
     match ran {
         Ok(rows) => {
@@ -144,7 +144,7 @@ fn text_of(
     Ok(text)
 }
 
-// What comes of streaming the jobs of a line into puts of so many bytes, of which one may fail.
+// Returns the result of streaming the jobs of a line into writes of at most `most` bytes, one of which may fail.
 fn told<R: Threads + Wait + Sync>(
     rt: &R,
     alloc: Global,
@@ -167,7 +167,7 @@ fn told<R: Threads + Wait + Sync>(
     text_of(alloc, &out, &ran)
 }
 
-// The same of a line that names the put that fails.
+// Returns the result for a line that names the write that fails.
 pub(super) fn told_of_put<R: Threads + Wait + Sync>(
     rt: &R,
     alloc: Global,
@@ -176,13 +176,13 @@ pub(super) fn told_of_put<R: Threads + Wait + Sync>(
     told(rt, alloc, line, usize::MAX, number_in(line, 5))
 }
 
-// Whether so many bytes of a whole went out, and the call failed where these aren't all.
+// Whether `sent` bytes of the whole output were written, and the call failed if these are not all.
 fn is_cut(told: &str, whole: &str, sent: usize) -> bool {
     let (out, notes) = told.split_once(" at").unwrap_or(("", ""));
     whole.get(..sent) == Some(out) && notes.ends_with("write failed") == (sent < whole.len())
 }
 
-// A put takes one byte, and one put fails: then the bytes before it are out, and no other.
+// Checks that if each write accepts one byte and one write fails, exactly the bytes before it are written.
 fn check_puts<R: Threads + Wait + Sync>(rt: &R, alloc: Global, line: &str) -> Result<(), Fail> {
     let whole = cell_of(line, 5);
     for sent in 0..whole.len() + 1 {

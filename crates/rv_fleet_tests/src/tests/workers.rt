@@ -1,4 +1,4 @@
-//! Workers by themselves: which pieces they make, and what their gate notes.
+//! Single workers: which chunks they make, and what their gate records.
 ghost use Rattle.std.specs.Prelude.{◌≡◌, ◌<◌, ◌≤◌, IfOk};
 ghost use Rattle.rv_fleet.specs.Pieces.{pieces_of};
 
@@ -13,7 +13,7 @@ use std::test::Fail;
 use std::thread;
 use std::thread::Threads;
 
-/// How many pieces a plan has.
+/// Returns the number of chunks of a plan.
 fn piece_count(plan: &Plan, group: u32) -> u64
     requires { 0 < group }
     ensures { result ≡ pieces_of plan.now group }
@@ -21,7 +21,7 @@ fn piece_count(plan: &Plan, group: u32) -> u64
     plan.jobs().div_ceil(group as usize) as u64
 }
 
-/// The pieces that a pass draws, and the pass.
+/// Returns the pass, and the chunks that it draws.
 fn work_alone(
     alloc: Global,
     claims: &Claims,
@@ -39,7 +39,7 @@ fn work_alone(
     Ok((pass, pieces))
 }
 
-/// The pieces that two passes draw in two threads, and the passes in one.
+/// Returns the chunks that two passes draw in two threads, and the passes joined.
 fn work_in_two<R: Threads>(
     rt: &R,
     alloc: Global,
@@ -97,7 +97,7 @@ fn worked<R: Threads>(
     work_in_two(rt, alloc, claims, pass, plan, group, gate)
 }
 
-/// The pieces that the workers made, and whether they ended and held all places.
+/// The chunks that the workers made, and whether they ended and held all slots.
 #[derive(Drop)]
 struct PiecesMade {
     pieces: Vec<Piece>,
@@ -128,7 +128,7 @@ fn made<R: Threads>(
     })
 }
 
-// The piece at this place, in the order in which one worker drew them, or by number where two did.
+// Appends the chunk at an index, in the order in which one worker drew them, or by number if two did.
 fn push_piece(
     text: &mut String,
     pieces: &[Piece],
@@ -145,7 +145,7 @@ fn push_piece(
     Ok(())
 }
 
-// How many pieces there are, and the rows of each.
+// Appends the number of chunks, and the rows of each.
 fn push_pieces(text: &mut String, pieces: &[Piece], alone: bool) -> Result<(), AllocError> {
     let count = pieces.len();
     write!(text, "{count} pieces")?;
@@ -177,8 +177,8 @@ pub(super) fn told<R: Threads>(rt: &R, alloc: Global, line: &str) -> Result<Stri
     text_of(alloc, &made, crew_of(line).0 == 1, &gate)
 }
 
-// label | budgets | | workers, one or two | group | | the pieces that are held | and that are awaited | the pieces, whether the workers
-// ended and held all places at the end, in which order one worker's pieces entered, and what the gate notes: each piece's number once
+// label | budgets | | workers, one or two | group | | the chunks that are held | and how many are awaited | the chunks, whether the workers
+// ended and held all slots at the end, in which order one worker's chunks entered, and what the gate records: each chunk's number once
 pub(super) const WORKERS: &str = "\
 two workers | 3 3 3 3 | | 2 | 1 | | 1 | 2 | 4 pieces 0: j0 Exit(5) 2, 1: j1 Exit(5) 2, \
     2: j2 Exit(5) 2, 3: j3 Exit(5) 2, true true 0 entered 1111, late false

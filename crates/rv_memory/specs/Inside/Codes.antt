@@ -1,6 +1,5 @@
--- How the prover stores what callers see of a bus: a type that may be the value of a struct is
--- stored by a type that is known to it, here pairs in pairs, and comes back as it was. No fact
--- about buses stands here.
+-- How the prover stores the contents of a bus: a type that is the value of a struct is stored through a type that the prover knows, here
+-- nested pairs, and is recovered unchanged. This file has no facts about buses.
 use Rattle.std.specs.Prelude.{◌≡◌, ℕ, Bool, true, false, List, refl}
 use Rattle.std.specs.Ordering.{nat_cmp}
 use Rattle.std.specs.FinMap as fin
@@ -11,39 +10,39 @@ use Rattle.rv_memory.specs.declared.access.Misaligned.{Misaligned as Choice}
 use Rattle.rv_memory.specs.declared.access.Misaligned.TheVariants.{Fault, Allow}
 use Rattle.rv_memory.specs.Bus.{Contents}
 
--- a region as its base, its size and whether it may be written
+-- a region as its base, its size and whether it is writable
 abbrev pub region_code : Coded Region
 region_code =
     code_by (ℕ × (ℕ × Bool)) (coded× coded_ℕ (coded× coded_ℕ coded_bool))
     (λ r. (r.base, (r.size, r.writable)))
     (λ p. record { base = p.0; size = p.1.0; writable = p.1.1 }) (λ _. refl)
 
--- a choice as a truth value: whether it allows misaligned accesses
+-- a choice as a Boolean: whether it allows misaligned accesses
 abbrev pub allows : Choice → Bool
 allows Fault = false
 allows Allow = true
 
--- the choice again
+-- the choice recovered from the Boolean
 abbrev pub choice_of : Bool → Choice
 choice_of false = Fault
 choice_of true = Allow
 
--- it is the one that was stored
-abbrev pub choice_again : (m : Choice) → choice_of (allows m) ≡ m
-choice_again Fault = refl
-choice_again Allow = refl
+-- recovering a choice returns the one that was stored
+abbrev pub choice_round_trips : (m : Choice) → choice_of (allows m) ≡ m
+choice_round_trips Fault = refl
+choice_round_trips Allow = refl
 
--- so a choice is stored
+-- the encoding of a choice
 abbrev pub choice_code : Coded Choice
-choice_code = code_by Bool coded_bool allows choice_of choice_again
+choice_code = code_by Bool coded_bool allows choice_of choice_round_trips
 
--- the parts of contents, in their order
+-- the fields of contents, in order
 abbrev pub Parts : Type 0
 Parts =
     List Region
     × (fin.FinMap nat_cmp ℕ × (set.FinSet nat_cmp × (List ℕ × (List ℕ × Choice))))
 
--- so they are stored
+-- the encoding of the fields
 abbrev pub parts_code : Coded Parts
 parts_code =
     coded× (coded_list region_code)
@@ -51,7 +50,7 @@ parts_code =
     (coded× (set.code coded_ℕ)
     (coded× (coded_list coded_ℕ) (coded× (coded_list coded_ℕ) choice_code))))
 
--- contents as their parts
+-- contents encoded as their fields
 abbrev pub contents_code : Coded Contents
 contents_code =
     code_by Parts parts_code

@@ -2,12 +2,12 @@ use Rattle.std.proofs.Common.{◌≡◌, ◌∙◌, ap, map, option_map, rules, 
 use Rattle.std.proofs.lemmas.Result.{err_from_is_err_and}
 use Rattle.clap.specs.Words.{fault_of, is_simple_and_free, takes}
 use Rattle.rv_cli.proofs.Asking.{some_asked}
-use Rattle.rv_cli.specs.RvfleetCommand.{are_words_taken, request_of}
+use Rattle.rv_cli.specs.RvfleetCommand.{are_arguments_accepted, request_of}
 use Rattle.rv_cli.specs.RvfleetRequests.{request}
 use Rattle.rv_cli.proofs.rvfleet.read_words.Goals as goal
 
 pub returns-in_err-matches-clause-taken : goal.returns-in_err-matches-clause-taken
-unfolding are_words_taken
+unfolding are_arguments_accepted
 returns-in_err-matches-clause-taken g c =
     let error = err_from_is_err_and c.from_residual-in_err-matches.result c.from_residual-in_err-matches.ensures.1 in
     rw (error.1, error.2)

@@ -10,24 +10,24 @@ no_entry = record { address = 0; begun = 0; taken = 0 }
 
 pub returns-then-counts-place : goal.returns-then-counts-place
 returns-then-counts-place c =
-    let place : IsPlaceOf c.args.address c.args.counts.now c.place_of_address-place.result = record {
-      within = c.place_of_address-place.ensures.within;
-      lower = c.place_of_address-place.ensures.lower;
-      higher = c.place_of_address-place.ensures.higher;
+    let place : IsPlaceOf c.args.address c.args.counts.now c.index_of_address-place.result = record {
+      within = c.index_of_address-place.ensures.within;
+      lower = c.index_of_address-place.ensures.lower;
+      higher = c.index_of_address-place.ensures.higher;
     } in
-    let those = those_at c.args.address 0 c.args.counts.now c.place_of_address-place.result no_entry c.requires place
+    let those = those_at c.args.address 0 c.args.counts.now c.index_of_address-place.result no_entry c.requires place
     c.if-place-counts.true c.if-counts-place.true in
     λ i. record { address = c.if-counts-place.true i; begun = sym those.0 i; taken = sym those.1 i }
 
 pub returns : goal.returns
 returns c =
-    let place : IsPlaceOf c.args.address c.args.counts.now c.place_of_address-place.result = record {
-      within = c.place_of_address-place.ensures.within;
-      lower = c.place_of_address-place.ensures.lower;
-      higher = c.place_of_address-place.ensures.higher;
+    let place : IsPlaceOf c.args.address c.args.counts.now c.index_of_address-place.result = record {
+      within = c.index_of_address-place.ensures.within;
+      lower = c.index_of_address-place.ensures.lower;
+      higher = c.index_of_address-place.ensures.higher;
     } in
     let cs = c.args.counts.now in
-    let n = c.place_of_address-place.result in
+    let n = c.index_of_address-place.result in
     let above : (d : AddressCounts) → n < length cs → c.args.address < (get_or cs n d).address =
     elim c.else-place-counts.branch [
       | else-place-counts-via-then-place-counts+else-counts-place w ↦ λ d l.

@@ -10,11 +10,11 @@ no_entry = record { address = 0; begun = 0; taken = 0 }
 pub returns-then-place-counts : goal.returns-then-place-counts
 returns-then-place-counts c =
     let cs = c.args.counts.now in
-    let n = c.place_of_address-place.result in
+    let n = c.index_of_address-place.result in
     let place : IsPlaceOf c.args.from cs n = record {
-      within = c.place_of_address-place.ensures.within;
-      lower = c.place_of_address-place.ensures.lower;
-      higher = c.place_of_address-place.ensures.higher;
+      within = c.index_of_address-place.ensures.within;
+      lower = c.index_of_address-place.ensures.lower;
+      higher = c.index_of_address-place.ensures.higher;
     } in
     ap (λ at. ltb at c.args.behind) c.from.ensures
     ∙ sym (any_within c.args.from c.args.behind 0 cs n no_entry c.requires place
@@ -23,11 +23,11 @@ returns-then-place-counts c =
 pub returns-else-place-counts : goal.returns-else-place-counts
 returns-else-place-counts c =
     let cs = c.args.counts.now in
-    let n = c.place_of_address-place.result in
+    let n = c.index_of_address-place.result in
     let place : IsPlaceOf c.args.from cs n = record {
-      within = c.place_of_address-place.ensures.within;
-      lower = c.place_of_address-place.ensures.lower;
-      higher = c.place_of_address-place.ensures.higher;
+      within = c.index_of_address-place.ensures.within;
+      lower = c.index_of_address-place.ensures.lower;
+      higher = c.index_of_address-place.ensures.higher;
     } in
     le-ltb n (length cs) c.if-place-counts.false
     ∙ sym (any_within c.args.from c.args.behind 0 cs n no_entry c.requires place

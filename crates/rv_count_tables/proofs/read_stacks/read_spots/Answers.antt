@@ -8,7 +8,7 @@ use Rattle.rv_count_tables.proofs.ReadingLines.{further_within}
 use Rattle.rv_count_tables.proofs.ReadingStacks.{SpotsSoFar, all_spots, no_spots_so_far, one_spot, spot_is_long}
 use Rattle.rv_count_tables.proofs.read_stacks.read_spots.Goals as goal
 use Rattle.rv_call_tree.specs.declared.spot.Spot.{Spot}
-use Rattle.rv_call_tree.specs.Trees.{path_behind, StandsBehind}
+use Rattle.rv_call_tree.specs.Trees.{path_after, FollowsInPreorder}
 
 pub lines-init : goal.lines-init
 lines-init c = subst (λ (ss : List Spot). SpotsSoFar c.args.text.now ss c.new-names.result c.new-front.result.items 0) (sym c.new-spots.ensures.items)
@@ -33,14 +33,14 @@ lines-preserved c =
     let read = c.in-Some.read in
     let w = c.whole_line-line.ensures ∙ ap whole_line c.tail_from.ensures in
     let fits = rw c.in-Some.is at c.in_ok-read.ensures.spot (drop c.lines.length text) w in
-    let stands = subst (λ (path : List ℕ). StandsBehind path read.spot) c.as_slice.ensures.value
+    let stands = subst (λ (path : List ℕ). FollowsInPreorder path read.spot) c.as_slice.ensures.value
     (rw c.in-Some.is at c.in_ok-read.ensures.stands) in
     let agrees : AgreesWith read.name (name_of read.spot.function names) = rw c.in-Some.is at c.in_ok-read.ensures.agrees in
     let line = rw c.in-Some.is at c.in_ok-read.ensures.line in
     let m = c.lines.length + length c.whole_line-line.result.now in
     let more = one_spot text c.lines.spots.items names front c.lines.length m read c.lines.invariant fits stands agrees
     (sym w ∙ line) (ap (λ (s : List ℕ). c.lines.length + length s) w) in
-    let path : c.push_item.new.items.items ≡ path_behind front read.spot = c.in_ok-push_item-in-Some.ensures
+    let path : c.push_item.new.items.items ≡ path_after front read.spot = c.in_ok-push_item-in-Some.ensures
     ∙ ap (λ (p : List ℕ). p ++ read.spot.function ∷ []) c.truncate.ensures.items in
     let known : c.add.new.self ≡ with_name (function_name read) names = c.in_ok-add-in-Some.ensures
     ∙ ap (λ (n : FunctionName). with_name n names) c.function_name.ensures in

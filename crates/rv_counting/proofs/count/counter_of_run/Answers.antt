@@ -22,8 +22,8 @@ steps-preserved-then-block-eq0 c =
     let some = c.steps-test.true in
     let sum : n - left + 1 ≡ n - (left - 1) = omega (arith, w, some) in record {
       within = omega (arith, w);
-      counting = subst (λ k. IsCounting n k start (state_of c.step_anew.new.machine) c.step_anew.new.self) sum
-          (c.in_ok-step_anew.ensures.counted.goes_on c.if-not-branch.false n (n - left) start (omega (arith, w, some)) c.steps.invariant.counting);
+      counting = subst (λ k. IsCounting n k start (state_of c.step_uncached.new.machine) c.step_uncached.new.self) sum
+          (c.in_ok-step_uncached.ensures.counted.goes_on c.if-not-branch.false n (n - left) start (omega (arith, w, some)) c.steps.invariant.counting);
     }
 
 pub steps-preserved : goal.steps-preserved

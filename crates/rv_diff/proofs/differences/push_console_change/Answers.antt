@@ -2,7 +2,7 @@ use Rattle.std.proofs.Common.{◌≡◌, ◌∙◌, ap, codes, drop, false, sym,
 use Rattle.std.specs.Fmt.{decimal}
 use Rattle.rv_diff.specs.Change.{have_same_console}
 use Rattle.rv_text.specs.Printable.{printable_value}
-use Rattle.rv_diff.specs.Differences.{console_words, first_differing_place}
+use Rattle.rv_diff.specs.Differences.{console_words, first_differing_index}
 use Rattle.rv_diff.proofs.Told.{byte_told, told}
 use Rattle.rv_diff.proofs.differences.push_console_change.Goals as goal
 
@@ -11,8 +11,8 @@ unfolding console_words
 returns-in-Some c =
     let place = c.in-Some.place in
     let differ : have_same_console c.args.old.now c.args.new.now ≡ false = sym c.have_same_console.ensures ∙ c.if-have_same_console.false in
-    let first : first_differing_place c.args.old.now.console c.args.new.now.console ≡ Some place =
-    (λ i. first_differing_place (sym c.as_slice-before.ensures i) (sym c.as_slice-after.ensures i))
+    let first : first_differing_index c.args.old.now.console c.args.new.now.console ≡ Some place =
+    (λ i. first_differing_index (sym c.as_slice-before.ensures i) (sym c.as_slice-after.ensures i))
     ∙ sym c.first_differing_byte.ensures ∙ c.in-Some.is in
     rw (
       differ,

@@ -4,19 +4,19 @@ use Rattle.rv_elf.proofs.image.read_image.Goals as goal
 
 pub returns-clause-value : goal.returns-clause-value
 returns-clause-value c =
-    rw (header_passed c.args.isa c.args.file.now c.in_ok-check_header.ensures.value) c.read_image_behind_header.ensures
+    rw (header_passed c.args.isa c.args.file.now c.in_ok-check_header.ensures.value) c.read_image_after_header.ensures
 
 pub returns-clause-of_bytes : goal.returns-clause-of_bytes
-returns-clause-of_bytes c = read_is c.args.isa c.args.file.now c.read_image_behind_header.result
-    (header_passed c.args.isa c.args.file.now c.in_ok-check_header.ensures.value) c.read_image_behind_header.ensures
+returns-clause-of_bytes c = read_is c.args.isa c.args.file.now c.read_image_after_header.result
+    (header_passed c.args.isa c.args.file.now c.in_ok-check_header.ensures.value) c.read_image_after_header.ensures
 
 pub returns-clause-even : goal.returns-clause-even
-returns-clause-even c = read_even c.args.isa c.args.file.now c.read_image_behind_header.result
-    (header_passed c.args.isa c.args.file.now c.in_ok-check_header.ensures.value) c.read_image_behind_header.ensures
+returns-clause-even c = read_even c.args.isa c.args.file.now c.read_image_after_header.result
+    (header_passed c.args.isa c.args.file.now c.in_ok-check_header.ensures.value) c.read_image_after_header.ensures
 
 pub returns-clause-aligned : goal.returns-clause-aligned
-returns-clause-aligned c = read_aligned c.args.isa c.args.file.now c.read_image_behind_header.result
-    (header_passed c.args.isa c.args.file.now c.in_ok-check_header.ensures.value) c.read_image_behind_header.ensures
+returns-clause-aligned c = read_aligned c.args.isa c.args.file.now c.read_image_after_header.result
+    (header_passed c.args.isa c.args.file.now c.in_ok-check_header.ensures.value) c.read_image_after_header.ensures
 
 pub returns-in_err-check_header-clause-value : goal.returns-in_err-check_header-clause-value
 returns-in_err-check_header-clause-value c =

@@ -1,10 +1,10 @@
 use Rattle.std.proofs.Common.{◌≡◌, take}
-use Rattle.rv_elf.specs.Loading.{opening_memory}
+use Rattle.rv_elf.specs.Loading.{initial_memory}
 use Rattle.rv_elf.proofs.loading.load.Given as goal
 
 abbrev pub invariant-loop-segment : goal.invariant-loop-segment
 invariant-loop-segment l =
     l.bus ≡ record l.fn.bus {
-      memory = opening_memory l.fn.bus.regions
+      memory = initial_memory l.fn.bus.regions
           (take l.segment-index l.fn.image.segments) l.fn.file l.fn.at;
     }

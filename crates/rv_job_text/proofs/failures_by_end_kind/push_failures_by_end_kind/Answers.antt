@@ -21,8 +21,8 @@ loop-place-preserved c =
     let how = end_kind_at place in
     let texts = failure_texts_below count place in
     let text = decimal (count how) ++ codes " " ++ end_kind_name how in
-    let counted = c.failure_count_of_end_kind-count.ensures ∙ ap count c.from_place-kind.ensures in
-    let named = ap end_kind_name c.from_place-kind.ensures in
+    let counted = c.failure_count_of_end_kind-count.ensures ∙ ap count c.from_index-kind.ensures in
+    let named = ap end_kind_name c.from_index-kind.ensures in
     elim c.if-count-gt0.branch [
       | then-count-gt0+in_ok-push_failure_count w ↦
           let more = failure_texts_below-some count place (omega (arith, counted, w.if-count-gt0.true)) in

@@ -11,16 +11,16 @@ returns-in_err-push_suite_begin-clause-part g c =
     let error = err_from_is_err_and c.from_residual.result c.from_residual.ensures.1 in
     rw error.1 (nothing_out _ _)
 
-pub returns-in_err-put_row_texts-clause-part : goal.returns-in_err-put_row_texts-clause-part
-returns-in_err-put_row_texts-clause-part g c =
+pub returns-in_err-write_row_texts-clause-part : goal.returns-in_err-write_row_texts-clause-part
+returns-in_err-write_row_texts-clause-part g c =
     let class = c.args.suite.now.name.now in
     let judging = judging_of c.args.suite.now.judge in
     let rows = c.args.rows.now.rows.now in
     let begun = ap (λ v. v.items) c.into_bytes-text.ensures.value ∙ c.in_ok-push_suite_begin.ensures
     ∙ ap (λ xs. xs ++ suite_begin_text class judging rows) c.new-begin.ensures.bytes in
-    let error = err_from_is_err_and c.from_residual-in_err-put_row_texts.result
-    c.from_residual-in_err-put_row_texts.ensures.1 in
-    rw error.1 (beginning_of_longer _ _ _ suite_end_text _ c.in_err-put_row_texts.ensures.part
+    let error = err_from_is_err_and c.from_residual-in_err-write_row_texts.result
+    c.from_residual-in_err-write_row_texts.ensures.1 in
+    rw error.1 (beginning_of_longer _ _ _ suite_end_text _ c.in_err-write_row_texts.ensures.part
     (junit_begun class judging (g.T.RowReporter.line c.args.reporter.now) c.args.rows.now.places.now rows
     c.into_bytes-text.result.items begun))
 
@@ -33,7 +33,7 @@ returns-in_err-push_text-clause-part g c =
     ∙ ap (λ xs. xs ++ suite_begin_text class judging rows) c.new-begin.ensures.bytes in
     let error = err_from_is_err_and c.from_residual-in_err-push_text.result
     c.from_residual-in_err-push_text.ensures.1 in
-    rw error.1 (stopped_under_way _ _ _ _ suite_end_text _ c.in_ok-put_row_texts.ensures.under_way
+    rw error.1 (stopped_under_way _ _ _ _ suite_end_text _ c.in_ok-write_row_texts.ensures.under_way
     (junit_begun class judging (g.T.RowReporter.line c.args.reporter.now) c.args.rows.now.places.now rows
     c.into_bytes-text.result.items begun))
 
@@ -46,7 +46,7 @@ returns-in_err-put_all-clause-part g c =
     ∙ ap (λ xs. xs ++ suite_begin_text class judging rows) c.new-begin.ensures.bytes in
     let error = err_from_is_err_and c.from_residual-in_err-put_all.result
     c.from_residual-in_err-put_all.ensures.1 in
-    rw error.1 (failed_under_way _ _ _ _ suite_end_text _ _ _ c.in_ok-put_row_texts.ensures.under_way
+    rw error.1 (failed_under_way _ _ _ _ suite_end_text _ _ _ c.in_ok-write_row_texts.ensures.under_way
     c.in_ok-push_text.ensures (rw c.as_slice.ensures.value at c.in_err-put_all.ensures.part)
     (junit_begun class judging (g.T.RowReporter.line c.args.reporter.now) c.args.rows.now.places.now rows
     c.into_bytes-text.result.items begun))
@@ -60,5 +60,5 @@ returns-clause-appended g c =
     ∙ ap (λ xs. xs ++ suite_begin_text class judging rows) c.new-begin.ensures.bytes in
     rw (junit_begun class judging (g.T.RowReporter.line c.args.reporter.now) c.args.rows.now.places.now rows
     c.into_bytes-text.result.items begun)
-    (ended_under_way _ _ _ _ suite_end_text _ _ c.in_ok-put_row_texts.ensures.under_way
+    (ended_under_way _ _ _ _ suite_end_text _ _ c.in_ok-write_row_texts.ensures.under_way
     c.in_ok-push_text.ensures (rw c.as_slice.ensures.value at c.in_ok-put_all.ensures.appended))

@@ -48,8 +48,8 @@ index_mut-requires c =
     p.shard p.numbers p.rows c.requires.text c.in_default.ensures in
     omega (arith, w.0, w.1, g.sources.ok.0)
 
-pub put_rows_in_slots-requires-clause-numbers : goal.put_rows_in_slots-requires-clause-numbers
-put_rows_in_slots-requires-clause-numbers c =
+pub fill_slots-requires-clause-numbers : goal.fill_slots-requires-clause-numbers
+fill_slots-requires-clause-numbers c =
     let g = c.args.gathered.now in
     let p = c.args.part in
     let within = number_within (bytes_of_texts c.args.texts.now) c.args.at g.first g.sources.items g.slots.items
@@ -66,7 +66,7 @@ returns-in-None-clause-added c =
     let more = holds_more (bytes_of_texts c.args.texts.now) c.args.at g.first g.sources.items g.slots.items c.requires.holds
     p.shard p.numbers p.rows c.requires.text c.in_default.ensures none in
     let rows = c.into_vec-rows.result.items in
-    let is = c.put_rows_in_slots.ensures ∙ ap (λ (ns : List ℕ). filled_slots ns rows g.slots.items) c.as_slice.ensures
+    let is = c.fill_slots.ensures ∙ ap (λ (ns : List ℕ). filled_slots ns rows g.slots.items) c.as_slice.ensures
     ∙ ap (λ (rs : List Row). filled_slots p.numbers rs g.slots.items) c.into_vec-rows.ensures in
     subst (λ (slots : List (Option Row)). Holds (bytes_of_texts c.args.texts.now) (c.args.at + 1) g.first
     (slice_set g.sources.items (p.shard.number - 1) (Some c.args.at)) slots) (sym is) more

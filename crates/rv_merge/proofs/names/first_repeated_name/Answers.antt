@@ -7,7 +7,7 @@ use Rattle.std.specs.Ordering.{nat_cmp}
 use Rattle.std.proofs.lemmas.List.{length-map, length-take-le}
 use Rattle.std.proofs.lemmas.Map.Text.{btree_map_updates_str}
 use Rattle.std.proofs.lemmas.Option.{slice_get_read}
-use Rattle.rv_jobs.specs.Names.{place_in}
+use Rattle.rv_jobs.specs.Names.{index_in}
 use Rattle.rv_base.proofs.Public.{places_more}
 use Rattle.rv_report.specs.declared.row.Row.{Row}
 use Rattle.rv_report.specs.Saved.{are_new, row_names}
@@ -15,7 +15,7 @@ use Rattle.rv_merge.proofs.Named.{fresh_end, fresh_later, names_on, nowhere}
 use Rattle.rv_merge.proofs.names.first_repeated_name.Goals as goal
 
 pub loop-at-init : goal.loop-at-init
-unfolding place_in
+unfolding index_in
 loop-at-init c = record {
   rest = refl;
   places = λ t. rw c.new-places.ensures.empty refl;
@@ -29,7 +29,7 @@ returns-then-contains_key-clause-twice c =
       row = c.index-rows-at.result;
       at = slice_get_read c.args.rows.now (length c.args.rows.now) at c.index-rows-at.result refl (omega arith)
           c.index-rows-at.is;
-      twice = ap (λ (n : List ℕ). is_some (place_in (row_names (take at c.args.rows.now)) n)) (sym c.as_str-name.ensures)
+      twice = ap (λ (n : List ℕ). is_some (index_in (row_names (take at c.args.rows.now)) n)) (sym c.as_str-name.ensures)
           ∙ ap is_some (sym (c.loop-at.invariant.places name)) ∙ sym c.contains_key.ensures ∙ c.if-contains_key.true;
     }
 
@@ -41,7 +41,7 @@ loop-at-preserved c =
     let name = c.as_str-name.result.now in
     let earlier = row_names (take at rows) in
     let is = c.as_str-name.ensures ∙ ap (λ r. r.name) c.index-rows-at.is in
-    let fresh : is_some (place_in earlier name) ≡ false =
+    let fresh : is_some (index_in earlier name) ≡ false =
     ap is_some (sym (c.loop-at.invariant.places name)) ∙ sym c.contains_key.ensures ∙ c.if-contains_key.false in
     let grown = names_on rows at row name (omega arith) is in
     let step = fresh_later earlier rows at row name (omega arith) is fresh in
@@ -55,7 +55,7 @@ loop-at-preserved c =
           (λ q. get_by (λ k. slice_cmp nat_cmp q k.now) c.insert.new.self) earlier (row_names (take (at + 1) rows)) name
           at
           (btree_map_updates_str name c.loop-at.places c.insert.new.self (Some at) c.in_ok-insert.ensures.updates) long
-          c.loop-at.invariant.places (nowhere (place_in earlier name) fresh) grown t;
+          c.loop-at.invariant.places (nowhere (index_in earlier name) fresh) grown t;
     }
 
 pub returns-clause-twice : goal.returns-clause-twice

@@ -5,7 +5,7 @@ use Rattle.std.specs.BTreeMap.{get_by}
 use Rattle.std.specs.Cmp.Lexicographic.{slice_cmp}
 use Rattle.std.specs.Ordering.{nat_cmp}
 use Rattle.std.proofs.lemmas.Map.Text.{btree_map_updates_str}
-use Rattle.rv_base.specs.Names.{place_in}
+use Rattle.rv_base.specs.Names.{index_in}
 use Rattle.rv_base.proofs.Public.{places_more}
 use Rattle.rv_report.specs.LenientReport.{count_before_repeated_name}
 use Rattle.rv_report.specs.Saved.{row_names}
@@ -14,7 +14,7 @@ use Rattle.rv_report.proofs.FieldLoops.{new_here, new_later, new_end, names_on, 
 use Rattle.rv_report.proofs.names.count_before_repeated_name.Goals as goal
 
 pub loop-at-init : goal.loop-at-init
-unfolding place_in
+unfolding index_in
 loop-at-init c = record {
   rest = omega arith;
   places = λ t. rw c.new-places.ensures.empty refl;
@@ -26,7 +26,7 @@ returns-then-contains_key c =
     let at = c.loop-at.at in
     let name = c.as_str-name.result.now in
     let earlier = row_names (take at rows) in
-    let there : is_some (place_in earlier name) ≡ true =
+    let there : is_some (index_in earlier name) ≡ true =
     ap is_some (sym (c.loop-at.invariant.places name)) ∙ sym c.contains_key.ensures ∙ c.if-contains_key.true in
     omega (
       arith,
@@ -43,7 +43,7 @@ loop-at-preserved c =
     let name = c.as_str-name.result.now in
     let earlier = row_names (take at rows) in
     let is = c.as_str-name.ensures ∙ ap (λ r. r.name) c.index-rows-at.is in
-    let fresh : is_some (place_in earlier name) ≡ false =
+    let fresh : is_some (index_in earlier name) ≡ false =
     ap is_some (sym (c.loop-at.invariant.places name)) ∙ sym c.contains_key.ensures ∙ c.if-contains_key.false in
     let grown = names_on rows at row name (omega arith) is in
     let step = new_later earlier rows at row name (omega arith) is fresh in
@@ -57,7 +57,7 @@ loop-at-preserved c =
           (λ q. get_by (λ k. slice_cmp nat_cmp q k.now) c.insert.new.self) earlier (row_names (take (at + 1) rows)) name
           at
           (btree_map_updates_str name c.loop-at.places c.insert.new.self (Some at) c.in_ok-insert.ensures.updates) long
-          c.loop-at.invariant.places (nowhere (place_in earlier name) fresh) grown t;
+          c.loop-at.invariant.places (nowhere (index_in earlier name) fresh) grown t;
     }
 
 pub returns : goal.returns

@@ -1,7 +1,7 @@
 use Rattle.std.proofs.Common.{inl, inr, refl}
 use Rattle.std.proofs.KnownBytes.{Appends-trans}
 use Rattle.std.proofs.lemmas.Result.{err_from_is_err_and}
-use Rattle.rvtest_app.specs.AcceptStops.{IsUncheckedStop, IsUnmadeStop, IsUnputStop}
+use Rattle.rvtest_app.specs.AcceptStops.{IsUncheckedStop, IsFileNotCreatedStop, IsFileNotWrittenStop}
 use Rattle.rvtest_app.proofs.AcceptStops.{files_stop}
 use Rattle.rvtest_app.proofs.accept.put_accepted.Goals as goal
 
@@ -47,7 +47,7 @@ returns-in_err-write_accepted_files-clause-stopped g c =
     rw (is.1, is.2)
     (inr (inr (
       c.if-asked.false,
-      files_stop IsUnmadeStop (IsUnputStop (g.D.Inputs.contents c.args.host.now.inputs.now))
+      files_stop IsFileNotCreatedStop (IsFileNotWrittenStop (g.D.Inputs.contents c.args.host.now.inputs.now))
           c.args.list.now.path.now c.args.outcomes.now.files.items _ (λ path made. inl made)
           (rw c.as_slice-3.ensures.value at c.in_err-write_accepted_files.ensures.stopped),
     )))
@@ -60,7 +60,7 @@ returns-in_err-check_written_files-clause-stopped g c =
     (inr (inr (
       c.if-asked.false,
       files_stop (IsUncheckedStop (g.D.Inputs.contents c.args.host.now.inputs.now))
-          (IsUnputStop (g.D.Inputs.contents c.args.host.now.inputs.now)) c.args.list.now.path.now c.args.outcomes.now.files.items _
+          (IsFileNotWrittenStop (g.D.Inputs.contents c.args.host.now.inputs.now)) c.args.list.now.path.now c.args.outcomes.now.files.items _
           (λ path checked. inr checked)
           (rw c.as_slice-3.ensures.value at c.in_err-check_written_files.ensures),
     )))
@@ -73,7 +73,7 @@ returns-in_err-check_unchanged_files-clause-stopped g c =
     (inr (inr (
       c.if-asked.false,
       files_stop (IsUncheckedStop (g.D.Inputs.contents c.args.host.now.inputs.now))
-          (IsUnputStop (g.D.Inputs.contents c.args.host.now.inputs.now)) c.args.list.now.path.now c.args.outcomes.now.files.items _
+          (IsFileNotWrittenStop (g.D.Inputs.contents c.args.host.now.inputs.now)) c.args.list.now.path.now c.args.outcomes.now.files.items _
           (λ path checked. inr checked)
           (rw c.as_slice-3.ensures.value at c.in_err-check_unchanged_files.ensures),
     )))

@@ -1,4 +1,4 @@
-use Rattle.rvtest_app.proofs.PutStops.{unplaced}
+use Rattle.rvtest_app.proofs.WriteStops.{unplaced}
 use Rattle.rvtest_app.proofs.placing.sync_outlet.Goals as goal
 
 pub returns-in-Err-clause-stopped : goal.returns-in-Err-clause-stopped

@@ -41,7 +41,7 @@ returns-clause-stopped g c = elim c.match-asked.branch [
   | in-Profile w ↦ rw (w.answer-is, w.in-Profile.is) w.profile_requested_jobs-answer.ensures.stopped
   | in-Help w ↦
       rw (w.answer-is, w.in-Help.is)
-      (put_or_found w.tell_topic.result _ _ w.tell_topic.ensures.stopped
+      (put_or_found w.topic_help.result _ _ w.topic_help.ensures.stopped
       w.put_findings-answer-in-Help.ensures.stopped)
 ]
 
@@ -53,7 +53,7 @@ returns-clause-untouched g c = elim c.match-asked.branch [
   | in-Console w ↦ rw (w.answer-is, w.in-Console.is) (IfOk-from w.put_job_console-answer.result _ (inl (inl refl)))
   | in-Gdb w ↦
       rw (w.answer-is, w.in-Gdb.is)
-      (IfOk-map w.show_job_to_gdb-answer.result _ _ (λ status done. inl (inr (done.spoken, (cause.Unput, refl))))
+      (IfOk-map w.show_job_to_gdb-answer.result _ _ (λ status done. inl (inr (done.spoken, (cause.ReplyWriteFailed, refl))))
       w.show_job_to_gdb-answer.ensures.answered)
   | in-Accept w ↦
       rw (w.answer-is, w.in-Accept.is)

@@ -1,4 +1,4 @@
-use Rattle.rvtest_app.proofs.PutStops.{put_of_unplaced}
+use Rattle.rvtest_app.proofs.WriteStops.{put_of_unplaced}
 use Rattle.rvtest_app.proofs.PutTexts.{both_placed, first_placed}
 use Rattle.rvtest_app.proofs.Results.{OnErr-map, OnOk-map}
 use Rattle.rvtest_app.proofs.puts.put_files.Goals as goal

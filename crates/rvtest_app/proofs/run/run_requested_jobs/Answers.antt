@@ -19,8 +19,8 @@ returns-in-Some-clause-undone g c =
       failures = c.in-Ok-requested_known_jobs.known;
       known_to_fail = rw c.as_slice.ensures.value at c.in-Ok-requested_known_jobs.ensures.known;
     } in
-    OnErr-map c.run_marked_jobs.result.1 _ _ (⊎_elim inl (λ alone. inr (record { found = found; alone = alone })))
-    c.run_marked_jobs.ensures.undone
+    OnErr-map c.run_selected_jobs.result.1 _ _ (⊎_elim inl (λ alone. inr (record { found = found; alone = alone })))
+    c.run_selected_jobs.ensures.undone
 
 pub returns-in-Some-clause-stopped : goal.returns-in-Some-clause-stopped
 returns-in-Some-clause-stopped g c =
@@ -34,4 +34,4 @@ returns-in-Some-clause-stopped g c =
       failures = c.in-Ok-requested_known_jobs.known;
       known_to_fail = rw c.as_slice.ensures.value at c.in-Ok-requested_known_jobs.ensures.known;
     } in
-    IfErr-map c.run_marked_jobs.result.1 _ _ (λ why put. inr (inr (inr (found, put)))) c.run_marked_jobs.ensures.stopped
+    IfErr-map c.run_selected_jobs.result.1 _ _ (λ why put. inr (inr (inr (found, put)))) c.run_selected_jobs.ensures.stopped

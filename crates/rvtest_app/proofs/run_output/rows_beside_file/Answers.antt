@@ -1,4 +1,4 @@
-use Rattle.rvtest_app.proofs.PutStops.{rows_of_both}
+use Rattle.rvtest_app.proofs.WriteStops.{rows_of_both}
 use Rattle.rvtest_app.proofs.run_output.rows_beside_file.Goals as goal
 
 pub returns-in-Err-clause-stopped : goal.returns-in-Err-clause-stopped

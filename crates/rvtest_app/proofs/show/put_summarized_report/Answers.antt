@@ -1,6 +1,6 @@
 use Rattle.std.proofs.Common.{◌∙◌, None, ap}
 use Rattle.rv_command.specs.Texts.{optional_text}
-use Rattle.rvtest_app.proofs.PutStops.{output_of_put}
+use Rattle.rvtest_app.proofs.WriteStops.{output_of_put}
 use Rattle.rvtest_app.proofs.PutTexts.{out_told}
 use Rattle.rvtest_app.proofs.Results.{OnOk-both}
 use Rattle.rvtest_app.specs.CommandOutputs.{outputs_of}

@@ -11,6 +11,6 @@ returns c = rw (← c.self.view_is) (λ before.
     let place = c.self.inside.place in
     let few = within_budget c.self.inside.budget start in
     let one_more : c.min-steps.result ≡ place + 1 = omega arith in
-    set_off_in c.first_set_off.result c.args.stops.now (state_of c.self.inside.machine) (state_of c.in_ok-ahead.ahead)
+    set_off_in c.first_triggered.result c.args.stops.now (state_of c.self.inside.machine) (state_of c.in_ok-ahead.ahead)
     (state_after place start) (state_after (place + 1) start) c.self.invariant.0.same
-    (c.in_ok-ahead.ensures ∙ ap (λ (k : ℕ). state_after k start) one_more) c.first_set_off.ensures)
+    (c.in_ok-ahead.ensures ∙ ap (λ (k : ℕ). state_after k start) one_more) c.first_triggered.ensures)

@@ -5,7 +5,7 @@ use Rattle.std.specs.HashMap.{get_by}
 use Rattle.std.specs.Str.{bytes_eq}
 use denote.Ref.{Bor}
 use Rattle.rv_jobs.specs.declared.answers.Answer.{Answer}
-use Rattle.rv_base.specs.Names.{place_in}
+use Rattle.rv_base.specs.Names.{index_in}
 use Rattle.rv_jobs.specs.Plans.{paths_of, with_path, answers_with}
 use Rattle.rv_jobs.specs.AnswersInside.{paths_in}
 use Rattle.rv_base.proofs.Public.{places_more, places_back}
@@ -30,7 +30,7 @@ invariant_of-asked g c =
 
 pub returns-in-Some-clause-place : goal.returns-in-Some-clause-place
 returns-in-Some-clause-place g c =
-    ap (λ l. place_in l c.args.path.now)
+    ap (λ l. index_in l c.args.path.now)
     (paths-with (paths_in c.self.inside) c.self.inside.answers.items c.self.invariant.even)
     ∙ sym (c.self.invariant.places c.args.path.now) ∙ sym c.in_ok-place.ensures.old ∙ c.in-Some.is
 

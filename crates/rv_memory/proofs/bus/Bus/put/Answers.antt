@@ -1,7 +1,7 @@
 use Rattle.std.proofs.Common.{◌≡◌, ◌∙◌, ap, sym, subst, arith, length, ℕ, List}
 use Rattle.rv_memory.specs.declared.map.Region.{Region}
 use Rattle.std.proofs.lemmas.List.{with_items_is}
-use Rattle.rv_memory.specs.Inside.Places.{IsPlace}
+use Rattle.rv_memory.specs.Inside.Places.{IsStoredAt}
 use Rattle.rv_memory.specs.Inside.View.{memory_of, stored_of, written_at, marked_at}
 use Rattle.rv_memory.specs.Bus.{Contents, size_of}
 use Rattle.rv_memory.specs.Inside.Bus.{contents_of}
@@ -43,7 +43,7 @@ returns c =
     let d = contents_of s in
     let at = c.args.place.at in
     let w = c.args.width in
-    let place = subst (λ (x : Contents). IsPlace x.regions c.args.addr (size_of w) at c.args.place.writable)
+    let place = subst (λ (x : Contents). IsStoredAt x.regions c.args.addr (size_of w) at c.args.place.writable)
     (sym c.self.view_is) c.requires in
     let bytes = with_items_is s.bytes c.write_value.new.bytes
     (omega (arith, c.write_value.auto.bytes, c.deref_mut.ensures.len)) ∙ c.write_value.ensures

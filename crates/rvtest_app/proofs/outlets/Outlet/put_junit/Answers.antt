@@ -1,4 +1,4 @@
-use Rattle.rvtest_app.proofs.PutStops.{file_text_stop, stdout_stop}
+use Rattle.rvtest_app.proofs.WriteStops.{file_text_stop, stdout_stop}
 use Rattle.rvtest_app.proofs.outlets.Outlet.put_junit.Goals as goal
 
 pub returns-in-Out-clause-stopped : goal.returns-in-Out-clause-stopped

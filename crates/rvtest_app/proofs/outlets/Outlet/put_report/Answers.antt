@@ -1,4 +1,4 @@
-use Rattle.rvtest_app.proofs.PutStops.{file_text_stop, stdout_stop}
+use Rattle.rvtest_app.proofs.WriteStops.{file_text_stop, stdout_stop}
 use Rattle.rvtest_app.proofs.PutTexts.{appends_nothing, begins_nothing}
 use Rattle.rvtest_app.proofs.Results.{OnOk-from, OnErr-from}
 use Rattle.rvtest_app.proofs.outlets.Outlet.put_report.Goals as goal

@@ -1,7 +1,7 @@
 use Rattle.std.proofs.Common.{◌∙◌, ◌++◌, ap}
 use Rattle.rv_expect.specs.Judgement.{judging_of}
 use Rattle.rv_job_text.specs.RowReporter.{row_lines_at, reporter_of}
-use Rattle.rvtest_app.specs.IntoReports.{rows_ahead, run_report_rest, run_report_text}
+use Rattle.rvtest_app.specs.IntoReports.{streamed_rows, run_report_rest, run_report_text}
 use Rattle.rvtest_app.proofs.ChosenTexts.{run_report_split}
 use Rattle.rvtest_app.proofs.PutTexts.{out_same, part_same, placed_same, same_junit}
 use Rattle.rvtest_app.proofs.Results.{OnErr-from}
@@ -10,7 +10,7 @@ use Rattle.rvtest_app.proofs.run.ListRun.put_run_files.Goals as goal
 pub returns-clause-put : goal.returns-clause-put
 returns-clause-put g c = λ report_path junit_path report junit.
     let planned = c.args.planned.now in
-    let ahead = rows_ahead c.args.frame.old planned.places.now c.args.rows in
+    let ahead = streamed_rows c.args.frame.old planned.places.now c.args.rows in
     out_same _ _ junit_path report_path _ _ _ _
     (rw c.framed_report.ensures.rows at (c.in_ok-put_files.ensures.put ahead report_path junit_path report junit))
     (same_junit _ _ (judging_of planned.reporter.now.judge) _ _ planned.places.now c.args.rows
@@ -22,7 +22,7 @@ returns-clause-put g c = λ report_path junit_path report junit.
 pub returns-clause-placed : goal.returns-clause-placed
 returns-clause-placed g c = λ report_path junit_path report junit.
     let planned = c.args.planned.now in
-    let ahead = rows_ahead c.args.frame.old planned.places.now c.args.rows in
+    let ahead = streamed_rows c.args.frame.old planned.places.now c.args.rows in
     placed_same _ _ junit_path report_path _ _ _ _
     (rw c.framed_report.ensures.rows at (c.in_ok-put_files.ensures.placed ahead report_path junit_path report junit))
     (same_junit _ _ (judging_of planned.reporter.now.judge) _ _ planned.places.now c.args.rows

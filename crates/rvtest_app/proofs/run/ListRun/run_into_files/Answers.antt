@@ -4,7 +4,7 @@ use Rattle.rv_rows.specs.declared_row.Row.{Row}
 use Rattle.rv_command.specs.Texts.{optional_text}
 use Rattle.rv_expect.specs.Judgement.{judging_of}
 use Rattle.rvtest_app.proofs.ChosenTexts.{ahead_of_shown}
-use Rattle.rvtest_app.proofs.PutStops.{output_of_put}
+use Rattle.rvtest_app.proofs.WriteStops.{output_of_put}
 use Rattle.rvtest_app.proofs.PutTexts.{taken_more}
 use Rattle.rvtest_app.proofs.Results.{OnOk-both, OnOk-from}
 use Rattle.rvtest_app.proofs.StopLemmas.{IfErr-map}

@@ -4,7 +4,7 @@ use Rattle.rv_expect.specs.Judgement.{judging_of}
 use Rattle.rv_job_text.specs.RowReporter.{reporter_of}
 use Rattle.rvtest_app.proofs.CountedRuns.{part_of_counts, part_of_rows, run_put_where_told, unopened_counts, untold}
 use Rattle.rvtest_app.specs.Runs.{run_rows}
-use Rattle.rvtest_app.specs.CommandOutputs.{outputs_of, where_told}
+use Rattle.rvtest_app.specs.CommandOutputs.{outputs_of, with_placed_if_reported}
 use Rattle.rvtest_app.proofs.run.ListRun.run_planned_jobs.Goals as goal
 
 pub returns-in-Err-clause-stopped : goal.returns-in-Err-clause-stopped
@@ -35,7 +35,7 @@ returns-in-Ok-put_counts-clause-outputs_of g c =
     let put = rw c.in-Ok.ensures.same at (rw c.in-Ok-put.is at c.run_into_files-to.ensures.outputs_of) in
     let shown = rw c.in-Ok-put.is at c.run_into_files-to.ensures.shown in
     record {
-      middle = where_told before.placed after;
+      middle = with_placed_if_reported before.placed after;
       put = run_put_where_told asked (reporter_of reporter) c.args.places.now c.args.frame.shard c.args.frame.old rows before after put;
       counted = rw shown at (c.in-Ok-put_counts.ensures.counted (optional_text asked.counts) before.placed c.in-Ok.ensures.open);
     }

@@ -1,0 +1,10 @@
+use Rattle.std.proofs.Common.{sym}
+use Rattle.rv_machine.specs.Machine.{state_of}
+use Rattle.rv_history.specs.Accesses.{access_at}
+use Rattle.rv_history.proofs.Unstopped.{nothing_touched}
+use Rattle.rv_history.proofs.stops.Stops.access_hit.Goals as goal
+
+pub returns-then-have_no_access : goal.returns-then-have_no_access
+returns-then-have_no_access c =
+    sym (nothing_touched c.args.self.now (access_at (state_of c.args.machine.now))
+    (c.have_no_access.ensures.0 c.if-have_no_access.true))

@@ -1,0 +1,72 @@
+//! The watchpoints that a step triggers.
+
+ghost use Rattle.std.specs.Prelude.{◌≡◌, IfOk, option_map};
+ghost use Rattle.std.specs.List.{find};
+ghost use Rattle.rv_machine.specs.Machine.{state_of};
+ghost use Rattle.rv_history.specs.Accesses.{is_hit};
+ghost use Rattle.rv_history.specs.Stops.{first_hit, first_read, first_triggered, access_hit};
+
+use crate::access::{Access, access_at};
+use crate::stops::{Stops, Watch, WatchHit};
+use rv_machine::Machine;
+use std::alloc::{AllocError, Global};
+
+impl Stops {
+    /// Returns the watchpoint that the instruction at a machine's pc triggers by what it reads or writes, if any: the first for reads, else
+    /// the first for accesses.
+    pub(crate) fn access_hit(&self, machine: &Machine) -> Option<WatchHit>
+        ensures { result ≡ access_hit self.now (state_of machine.now) }
+    {
+        // An instruction is decoded only if it matters.
+        if self.have_no_access() {
+            return None;
+        }
+        let access = access_at(machine)?;
+        if let Some(address) = first_read(access, self.reads.as_slice()) {
+            return Some(WatchHit::Read(address));
+        }
+        let address = first_hit(access, self.accesses.as_slice())?;
+        Some(WatchHit::Access(address))
+    }
+
+    /// Returns the first watchpoint for changes whose bytes differ between two machines, the second of which is one step after the first;
+    /// else the one that the step triggers by an access.
+    pub(crate) fn first_triggered(
+        &self,
+        alloc: Global,
+        one: &Machine,
+        other: &Machine,
+    ) -> Result<Option<WatchHit>, AllocError>
+        ensures { IfOk result (λ found. found ≡ first_triggered self.now (state_of one.now) (state_of other.now)) }
+    {
+        match self.differing_watch(alloc, one.bus(), other.bus())? {
+            Some(address) => Ok(Some(WatchHit::Change(address))),
+            None => Ok(self.access_hit(one)),
+        }
+    }
+}
+
+// Returns the first of the watchpoints that an access hits, if it is a read.
+fn first_read(access: Access, watches: &[Watch]) -> Option<u32>
+    ensures { result ≡ first_read access watches.now }
+{
+    if access.is_read {
+        first_hit(access, watches)
+    } else {
+        None
+    }
+}
+
+// Returns the first of the watchpoints that an access hits.
+fn first_hit(access: Access, watches: &[Watch]) -> Option<u32>
+    ensures { result ≡ first_hit access watches.now }
+{
+    let watch = hit_watch(access, watches)?;
+    Some(watch.address)
+}
+
+fn hit_watch(access: Access, watches: &[Watch]) -> Option<&Watch>
+    ensures { option_map (λ watch. watch.now) result ≡ find (is_hit access) watches.now }
+{
+    watches.iter().find(|watch| access.is_hit(watch))
+}

@@ -1,5 +1,0 @@
-use Rattle.rv_job_text.proofs.FirstLines.{differ_first}
-use Rattle.rv_job_text.proofs.law.told_line_differs_first.Goals as goal
-
-pub returns : goal.returns
-returns c = differ_first

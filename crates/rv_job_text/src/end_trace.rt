@@ -1,0 +1,116 @@
+//! How a run reached its end.
+
+ghost use Rattle.std.specs.Prelude.{◌≡◌, ◌<◌, ◌++◌, IfOk, OnOk, length};
+ghost use Rattle.rv_hang.specs.BudgetUse.{IsBudgetUseIn};
+ghost use Rattle.rv_jobs.specs.declared_job.Job.{Job as AJob};
+ghost use Rattle.rv_trace.specs.Trace.{job_at};
+ghost use Rattle.rv_job_text.specs.BudgetUseLine.{IsUseOfRow};
+ghost use Rattle.rv_job_text.specs.RowReporter.{calls_lines, way_to_end_lines};
+
+use crate::job_file::JobFile;
+use crate::job_row::JobRow;
+use rv_calls::{calls_at_end, push_calls_text};
+use rv_hang::{BudgetUse, budget_use_of};
+use rv_jobs::Plan;
+use rv_rows::{Row, RowEnd};
+use rv_trace::{JobImage, push_trace, trace_job};
+use std::alloc::{AllocError, Global};
+
+/// Options for showing how a run reached its end.
+#[derive(Clone, Copy)]
+pub struct TraceOptions {
+    /// How many of its last instructions to show.
+    pub last: u32,
+    /// The analysis of a used-up budget.
+    pub budget_use: Option<BudgetUse>,
+}
+
+/// Analyses the run of the job at an index if its row states that it used up its budget, which takes the time of two more runs. A run with
+/// another end is not analysed.
+pub fn budget_use_at(
+    alloc: Global,
+    plan: &Plan,
+    place: usize,
+    row: &Row,
+) -> Result<Option<BudgetUse>, AllocError>
+    requires { place < length plan.now.jobs }
+    ensures { IfOk result (λ found. (d : AJob) → IsUseOfRow plan.now (job_at plan.now place d) row.now found) }
+{
+    match row.ending {
+        RowEnd::Budget => {
+            let file = &JobFile::read(alloc, plan, place)?;
+            JobRow {
+                plan,
+                place,
+                row,
+                file,
+            }
+            .used_budget(alloc)
+        }
+        RowEnd::Exit(_) | RowEnd::Fault(_, _, _) | RowEnd::Refused(_) => Ok(None),
+    }
+}
+
+impl<'a> JobRow<'a> {
+    /// Appends how the run reached its end, with its last `last` instructions. The job is run once more.
+    #[tactic(auto, unfolding(crate::specs::RowReporter::way_to_end_lines))]
+    pub(crate) fn push_end_trace(
+        &self,
+        alloc: Global,
+        last: u32,
+        text: &mut Vec<u8>,
+    ) -> Result<(), AllocError>
+        ensures { OnOk result ((d : AJob) → text.new.items ≡ text.old.items
+            ++ way_to_end_lines self.now.plan.now (job_at self.now.plan.now self.now.place d)
+            self.now.row.now last) }
+    {
+        let Some(elf) = self.file.elf_file() else {
+            return Ok(());
+        };
+        let job = JobImage {
+            plan: self.plan,
+            place: self.place,
+            image: elf.image,
+        };
+        match trace_job(alloc, &job, self.row.steps, last)? {
+            Some(trace) => push_trace(alloc, text, &elf, &trace, self.row.ending),
+            None => Ok(()),
+        }
+    }
+
+    /// Appends the calls that have not returned when the run ended, if there are any. The job is run once more, one instruction at a time.
+    #[tactic(auto, unfolding(crate::specs::RowReporter::calls_lines))]
+    pub(crate) fn push_calls(&self, alloc: Global, text: &mut Vec<u8>) -> Result<(), AllocError>
+        ensures { OnOk result ((d : AJob) → text.new.items ≡ text.old.items
+            ++ calls_lines self.now.plan.now (job_at self.now.plan.now self.now.place d)) }
+    {
+        let Some(elf) = self.file.elf_file() else {
+            return Ok(());
+        };
+        let job = JobImage {
+            plan: self.plan,
+            place: self.place,
+            image: elf.image,
+        };
+        match calls_at_end(alloc, &job)? {
+            Some(calls) => push_calls_text(alloc, text, &elf, &calls),
+            None => Ok(()),
+        }
+    }
+
+    // Analyses the run if it used up its budget after the row's number of steps.
+    fn used_budget(&self, alloc: Global) -> Result<Option<BudgetUse>, AllocError>
+        ensures { IfOk result (λ found. (d : AJob) → IsBudgetUseIn self.now.plan.now
+            (job_at self.now.plan.now self.now.place d) self.now.row.now.steps found) }
+    {
+        let Some(elf) = self.file.elf_file() else {
+            return Ok(None);
+        };
+        let job = JobImage {
+            plan: self.plan,
+            place: self.place,
+            image: elf.image,
+        };
+        budget_use_of(alloc, &job, self.row.steps)
+    }
+}

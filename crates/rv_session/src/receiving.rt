@@ -1,0 +1,196 @@
+//! Received bytes, and the packets to send.
+
+ghost use Rattle.std.specs.Prelude.{◌≡◌, ◌++◌, ◌∷◌, ◌&&◌, [], IfOk, None, OnOk, Some};
+ghost use Rattle.rv_gdb_protocol.specs.Sums.{framed};
+ghost use Rattle.rv_session.specs.Incoming.{IsAppended, IsByteFed, IsRespondedTo, IsTaken, acknowledgement, is_wrong, packets_of, printed_packet, printed_packets, printed_part, sent_again, with_sent};
+ghost use Rattle.rv_session.specs.Replies.{refused};
+ghost use Rattle.rv_session.specs.Sessions.{IsSameRun, MayAsk};
+ghost use Rattle.rv_gdb_protocol.specs.declared.request.Refusal.TheVariants as refusal;
+
+use crate::reply::Reply;
+use crate::session::Session;
+use rv_base::Bytes;
+use rv_gdb_protocol::{Incoming, Refusal, Sum, parse_request, push_frame, push_printed};
+use std::alloc::{AllocError, Global};
+
+/// The maximum number of output bytes in a packet, two digits each.
+const MOST_PRINTED: usize = 8184;
+
+impl Session {
+    /// Receives a byte from gdb and returns the bytes to send. If a move is requested then, [`Session::work`] makes it before another byte
+    /// is received. After an error the session must be abandoned.
+    pub fn receive(&mut self, alloc: Global, byte: u8) -> Result<Vec<u8>, AllocError>
+        requires { self.old.asked ≡ None }
+        ensures heard { IfOk result (λ out. IsByteFed self.old byte out.items self.new) }
+        ensures not_over { OnOk result (MayAsk self.new) }
+        ensures run { OnOk result (IsSameRun self.old self.new) }
+    {
+        let mut out = Vec::new(alloc);
+        self.receive_byte(alloc, &mut out, byte)?;
+        Ok(out)
+    }
+
+    // Appends what to send for a byte.
+    fn receive_byte(&mut self, alloc: Global, out: &mut Vec<u8>, byte: u8) -> Result<(), AllocError>
+        ensures { OnOk result (IsAppended out.old.items out.new.items
+            (λ told. IsByteFed self.old byte told self.new)) }
+    {
+        match self.reader.take(alloc, byte)? {
+            Some(heard) => self.respond(alloc, out, &heard),
+            None => Ok(()),
+        }
+    }
+
+    // Appends what to send for a received item. At Ctrl-C no move is in progress.
+    fn respond(
+        &mut self,
+        alloc: Global,
+        out: &mut Vec<u8>,
+        heard: &Incoming,
+    ) -> Result<(), AllocError>
+        ensures { OnOk result (IsAppended out.old.items out.new.items
+            (λ told. IsRespondedTo self.old (Some heard.now) told self.new)) }
+    {
+        if self.is_over {
+            return Ok(());
+        }
+        match heard {
+            Incoming::Interrupt => Ok(()),
+            Incoming::Arrived => Ok(()),
+            Incoming::Again => self.send_again(out),
+            Incoming::TooLong => self.refuse_long(alloc, out),
+            Incoming::Packet(body, sum) => {
+                if self.is_refused(*sum) {
+                    return ask_again(out);
+                }
+                self.take_body(alloc, out, body.as_slice())
+            }
+        }
+    }
+
+    // Sends the last packet again.
+    fn send_again(&self, out: &mut Vec<u8>) -> Result<(), AllocError>
+        ensures { OnOk result (out.new.items ≡ out.old.items ++ sent_again self.now) }
+    {
+        if self.acknowledges {
+            out.extend_from_slice(self.sent.as_slice())?;
+        }
+        Ok(())
+    }
+
+    fn refuse_long(&mut self, alloc: Global, out: &mut Vec<u8>) -> Result<(), AllocError>
+        ensures out { OnOk result (out.new.items
+            ≡ out.old.items ++ (acknowledgement self.old ++ packets_of (refused refusal.TooLong))) }
+        ensures next { OnOk result (self.new ≡ with_sent self.old (refused refusal.TooLong)) }
+    {
+        self.acknowledge(out)?;
+        let reply = Reply::refusing(alloc, Refusal::TooLong)?;
+        self.send(alloc, out, &reply)
+    }
+
+    // Whether to request a packet again. Without acknowledgements its checksum is not checked.
+    fn is_refused(&self, sum: Sum) -> bool
+        ensures { result ≡ (self.now.acknowledges && is_wrong sum) }
+    {
+        self.acknowledges && is_wrong(sum)
+    }
+
+    // Handles an acknowledged packet.
+    fn take_body(&mut self, alloc: Global, out: &mut Vec<u8>, body: &[u8]) -> Result<(), AllocError>
+        ensures { OnOk result (IsAppended out.old.items out.new.items
+            (λ told. IsTaken self.old body.now told self.new)) }
+    {
+        self.acknowledge(out)?;
+        let request = parse_request(alloc, body)?;
+        let reply = self.answer(alloc, &request)?;
+        self.send(alloc, out, &reply)
+    }
+
+    fn acknowledge(&self, out: &mut Vec<u8>) -> Result<(), AllocError>
+        ensures { OnOk result (out.new.items ≡ out.old.items ++ acknowledgement self.now) }
+    {
+        if self.acknowledges {
+            out.push(b'+')?;
+        }
+        Ok(())
+    }
+
+    // Appends a reply's packets, and keeps the last one.
+    pub(crate) fn send(
+        &mut self,
+        alloc: Global,
+        out: &mut Vec<u8>,
+        reply: &Reply,
+    ) -> Result<(), AllocError>
+        ensures out { OnOk result (out.new.items ≡ out.old.items ++ packets_of reply.now) }
+        ensures next { OnOk result (self.new ≡ with_sent self.old reply.now) }
+    {
+        push_printed_packets(alloc, out, reply.printed.as_slice())?;
+        push_printed_packets(alloc, out, reply.end_text.as_slice())?;
+        match &reply.body {
+            Some(body) => self.send_body(alloc, out, body.as_slice()),
+            None => Ok(()),
+        }
+    }
+
+    // Appends a body's packet, and keeps it.
+    fn send_body(&mut self, alloc: Global, out: &mut Vec<u8>, body: &[u8]) -> Result<(), AllocError>
+        ensures out { OnOk result (out.new.items ≡ out.old.items ++ framed body.now) }
+        ensures next { OnOk result (self.new ≡ record self.old { sent = framed body.now }) }
+    {
+        let mut packet = Vec::new(alloc);
+        push_frame(alloc, &mut packet, body)?;
+        out.extend_from_slice(packet.as_slice())?;
+        self.sent = Bytes::new(packet);
+        Ok(())
+    }
+}
+
+fn ask_again(out: &mut Vec<u8>) -> Result<(), AllocError>
+    ensures { OnOk result (out.new.items ≡ out.old.items ++ 45 ∷ []) }
+{
+    out.push(b'-')?;
+    Ok(())
+}
+
+fn is_wrong(sum: Sum) -> bool
+    ensures { result ≡ is_wrong sum }
+{
+    match sum {
+        Sum::Right => false,
+        Sum::Wrong => true,
+    }
+}
+
+#[tactic(auto, unfolding(crate::specs::Incoming::printed_packets))]
+fn push_printed_packets(alloc: Global, out: &mut Vec<u8>, printed: &[u8]) -> Result<(), AllocError>
+    ensures { OnOk result (out.new.items ≡ out.old.items ++ printed_packets printed.now) }
+{
+    let packets = (printed.len() + (MOST_PRINTED - 1)) / MOST_PRINTED;
+    for number in 0..packets {
+        push_printed_packet(alloc, out, printed, number)?;
+    }
+    Ok(())
+}
+
+// Appends the packet with this number.
+fn push_printed_packet(
+    alloc: Global,
+    out: &mut Vec<u8>,
+    printed: &[u8],
+    number: usize,
+) -> Result<(), AllocError>
+    ensures { OnOk result (out.new.items ≡ out.old.items ++ printed_packet printed.now number) }
+{
+    let mut body = Vec::new(alloc);
+    push_printed(alloc, &mut body, printed_part(printed, number))?;
+    push_frame(alloc, out, body.as_slice())
+}
+
+fn printed_part(printed: &[u8], number: usize) -> &[u8]
+    ensures { result.now ≡ printed_part printed.now number }
+{
+    let from = printed.len().min(number.saturating_mul(MOST_PRINTED));
+    let rest = &printed[from..];
+    &rest[..rest.len().min(MOST_PRINTED)]
+}

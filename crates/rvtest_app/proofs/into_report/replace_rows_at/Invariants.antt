@@ -1,0 +1,13 @@
+use Rattle.std.proofs.Common.{◌≡◌, ◌+◌, length, drop}
+use Rattle.std.specs.Prelude.{vec_len}
+use Rattle.std.specs.Vec.Iter.{into_iter_items, into_iter_len}
+use Rattle.rvtest_app.specs.IntoReports.{merged_rows}
+use Rattle.rvtest_app.proofs.into_report.replace_rows_at.Given as goal
+
+abbrev pub invariant-loop-row : goal.invariant-loop-row
+invariant-loop-row l = record {
+  put : merged_rows (drop l.at l.places) (into_iter_items l.row-iterator) l.whole.items
+      ≡ merged_rows l.places l.fn.rows.items l.initial.whole.items;
+  long : vec_len l.whole ≡ vec_len l.initial.whole;
+  left : l.at + into_iter_len l.row-iterator ≡ length l.places;
+}

@@ -1,0 +1,97 @@
+use Rattle.std.proofs.Common.{◌≡◌, ◌∙◌, ap, inl, inr, length, refl, ⊎_elim}
+use Rattle.std.specs.Borrow.{Bor}
+use Rattle.std.specs.Prelude.{option_map}
+use Rattle.rv_job_text.specs.RowReporter.{RowReporter}
+use Rattle.rv_expect.specs.declared.known_jobs.KnownJobs.{KnownJobs}
+use Rattle.rvtest_app.specs.Runs.{places_of_marks, run_judging, run_rows, run_reporter}
+use Rattle.rvtest_app.specs.CommandOutputs.{outputs_of}
+use Rattle.rvtest_app.proofs.RunTellings.{known_behind, same_part, same_rows, told_as_asked, told_by}
+use Rattle.rvtest_app.proofs.Results.{IfOk-beside, OnErr-map}
+use Rattle.rvtest_app.proofs.run.ListRun.run_selected_jobs.Goals as goal
+
+pub returns-clause-run : goal.returns-clause-run
+returns-clause-run g c =
+    let known = known_behind c.as_ref.result ∙ c.as_ref.ensures.value in
+    let found = c.in-Ok-gather_jobs_at.ensures in
+    let noted = rw (
+      c.as_slice-3.ensures.value,
+      c.in-Ok-missing_images_note.ensures,
+      c.as_slice-count.ensures.value,
+      c.in-Ok.ensures.value,
+      c.as_slice.ensures.value,
+    ) at c.put_message.ensures in
+    IfOk-beside c.run_planned_jobs.result.1 _ _ _
+    (λ status judged put. record {
+      plan = c.in-Ok-gather_jobs_at.plan;
+      unread = c.unread_paths-unread.result.now;
+      planned = record {
+        listed = found.jobs ∙ c.with_budget-jobs.ensures.jobs;
+        paths = rw (
+          c.as_slice-2.ensures.value,
+          c.in-Ok.ensures.value,
+          c.as_slice.ensures.value,
+          c.with_budget-jobs.ensures.jobs,
+        ) at found.paths;
+        kept = rw (c.new-store.ensures.inputs, c.new-store.ensures.folder) at found.kept;
+        noted = ap length c.unread_paths-unread.ensures ∙ rw c.new-store.ensures.nothing at found.faults;
+      };
+      rows = _;
+      shown = refl;
+      judged = judged;
+      middle = outputs_of g.F.Outputs.placed g.O.Sink.taken g.E.Sink.taken g.E.Sink.failed
+          (record c.args.to { errors = c.put_message.new.errors });
+      noted = (refl, noted, refl);
+      put = put;
+    })
+    (rw (c.as_slice-4.ensures.value, c.in-Ok.ensures.value, c.as_slice.ensures.value, c.requires, known)
+    at c.run_planned_jobs.ensures.status)
+    (rw (
+      c.as_slice-4.ensures.value,
+      c.in-Ok.ensures.value,
+      c.as_slice.ensures.value,
+      c.requires,
+      known,
+      c.requested_verbosity.ensures,
+    ) at c.run_planned_jobs.ensures.outputs_of)
+
+pub returns-clause-undone : goal.returns-clause-undone
+returns-clause-undone g c =
+    let asked = c.args.self.now.asked.now in
+    let plan = c.in-Ok-gather_jobs_at.plan in
+    let unread = c.unread_paths-unread.result.now in
+    let failures = c.args.marked.known in
+    let places = places_of_marks c.args.marked.marks.items in
+    let found = c.in-Ok-gather_jobs_at.ensures in
+    let behind = option_map (λ (jobs : Bor KnownJobs). jobs.now) c.as_ref.result in
+    let known : behind ≡ failures = known_behind c.as_ref.result ∙ c.as_ref.ensures.value in
+    let told = told_by asked behind plan unread c.args.self.now.rule c.requested_verbosity.result in
+    let told_is : told ≡ run_reporter asked failures plan unread =
+    told_as_asked asked failures behind plan unread c.args.self.now.rule c.requested_verbosity.result c.requires known
+    c.requested_verbosity.ensures in
+    let places_are : c.as_slice-4.result.now ≡ places =
+    rw (c.as_slice-4.ensures.value, c.in-Ok.ensures.value, c.as_slice.ensures.value) refl in
+    let rows = run_rows asked.stop_after (run_judging asked failures) plan places in
+    let rows_are = same_rows asked.stop_after told.judging (run_judging asked failures) plan c.as_slice-4.result.now places
+    (ap (λ (t : RowReporter). t.judging) told_is) places_are in
+    OnErr-map c.run_planned_jobs.result.1 _ _
+    (⊎_elim inl (λ part. inr (record {
+      plan = plan;
+      unread = unread;
+      planned = record {
+        listed = found.jobs ∙ c.with_budget-jobs.ensures.jobs;
+        paths = rw (
+          c.as_slice-2.ensures.value,
+          c.in-Ok.ensures.value,
+          c.as_slice.ensures.value,
+          c.with_budget-jobs.ensures.jobs,
+        ) at found.paths;
+        kept = rw (c.new-store.ensures.inputs, c.new-store.ensures.folder) at found.kept;
+        noted = ap length c.unread_paths-unread.ensures ∙ rw c.new-store.ensures.nothing at found.faults;
+      };
+      rows = rows;
+      shown = refl;
+      placed = same_part asked told (run_reporter asked failures plan unread) c.as_slice-4.result.now places
+          c.args.marked.frame.shard c.args.marked.frame.old rows (g.F.Outputs.placed c.args.to.files)
+          (g.F.Outputs.placed c.run_planned_jobs.result.0.files) told_is places_are part;
+    })))
+    (c.run_planned_jobs.ensures.part rows rows_are)
