@@ -14,7 +14,7 @@ use Rattle.rv_expect.specs.Problem.{is_error, is_failure}
 use Rattle.rv_junit.specs.Pieces.{attribute, number_attribute}
 use Rattle.rv_job_text.specs.TotalsLine.{known_count}
 use Rattle.rv_junit.specs.Junit.{judged_text, junit_text, output_text, skipped_attribute, steps_properties, suite_begin_text, suite_end_text}
-use Rattle.rv_junit.specs.Junit.{test_case_text, test_cases_text}
+use Rattle.rv_junit.specs.Junit.{case_text, test_case_text, test_cases_text}
 
 joined : (a b c d p o s m x y z : List ℕ)
     → ((a ++ (b ++ (c ++ (d ++ [])))) ++ p) ++ (o ++ (s ++ (m ++ (x ++ ((y ++ z) ++ [])))))
@@ -67,7 +67,7 @@ nothing_out a text = record { part = []; rest = text; whole = refl; appended = A
 module _ (class : List ℕ) (judging : Judging) (line : ℕ → Row → List ℕ) where
   -- what is told of rows where each is told as its case
   abbrev pub told_cases : List ℕ → List Row → List ℕ
-  told_cases places rows = joined_row_texts (λ place row. test_case_text class judging row (line place row)) places rows
+  told_cases places rows = joined_row_texts (case_text class judging line) places rows
 
   cases_told : (places : List ℕ) (rows : List Row) →
       test_cases_text class judging (row_text_list line places rows) rows ≡ told_cases places rows

@@ -1,3 +1,4 @@
+mod KnownLines
 pub mod Laws
 pub mod Cases
 pub mod Documents

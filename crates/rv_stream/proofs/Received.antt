@@ -125,6 +125,11 @@ seen_none has_seen line places none = record {
   each = λ k any lt. absurd (omega (arith, lt));
 }
 
+-- all rows were received, and kept
+pub record HasEnded (received : List ReportedRow → Type 0) (line : ℕ → Row → List ℕ) (places : List ℕ) (every kept : List Row) : Type 0 where
+  pub seen : HasSeenRows received line places every
+  pub kept_all : kept ≡ every
+
 module _ (line : ℕ → Row → List ℕ) (batch : Batch) (most : Option ℕ) (judging : Judging) (left : Option ℕ) (refused : Bool) (kept : List Row)
     (received : List ReportedRow → Type 0) (stops : Type 0)
     (first : (told : List ReportedRow) → received told → AreRowsUpToFailure most judging left refused kept (rows_of_reported told)) where
@@ -153,13 +158,8 @@ module _ (line : ℕ → Row → List ℕ) (batch : Batch) (most : Option ℕ) (
   has_begun (Ok Stop) run = begins run.0.count run.0.hears
   has_begun (Err error) run = begins run.count run.hears
 
-  -- or all of them, and they were kept
-  pub record HasEnded : Type 0 where
-    pub seen : HasSeenRows received line batch.places.now (rows_up_to most (fails judging) (batch_rows batch))
-    pub kept_all : kept ≡ rows_up_to most (fails judging) (batch_rows batch)
-
   pub has_ended : (flow : Flow) → IsRunDelivered (IsReportedRow line batch) (length batch.places.now) received stops (Ok flow)
-      → refused ≡ false → (flow ≡ Stop → left ≡ Some 0) → HasEnded
+      → refused ≡ false → (flow ≡ Stop → left ≡ Some 0) → HasEnded received line batch.places.now (rows_up_to most (fails judging) (batch_rows batch)) kept
   has_ended GoOn run there ends =
       let hears = run.0 in
       let told = hears.results in
@@ -193,7 +193,7 @@ module _ (line : ℕ → Row → List ℕ) (batch : Batch) (most : Option ℕ) (
 
   -- a run that ended well
   pub has_ended_well : (ran : Result Flow RunError) → IsRunDelivered (IsReportedRow line batch) (length batch.places.now) received stops ran
-      → is_ok ran ≡ true → refused ≡ false → (ran ≡ Ok Stop → left ≡ Some 0) → HasEnded
+      → is_ok ran ≡ true → refused ≡ false → (ran ≡ Ok Stop → left ≡ Some 0) → HasEnded received line batch.places.now (rows_up_to most (fails judging) (batch_rows batch)) kept
   has_ended_well (Ok flow) run ok there ends = has_ended flow run there (λ is. ends (ap Ok is))
   has_ended_well (Err error) run ok there ends = absurd (false≢true ok)
 

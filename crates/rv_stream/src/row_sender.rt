@@ -41,12 +41,12 @@ impl<'t, J: StreamSpec, T: RowReporter, W: Sink + Drop> RowSender<'t, J, T, W> {
     /// Sends what waits, and returns the sink: it took all of the text, or a beginning.
     pub fn finish(self) -> (W, Result<(), WriteError>)
         ensures all { (text : List ℕ)
-            → IsSent J.before (W.taken self.outbox.out) J.failures (W.failed self.outbox.out) self.outbox.failed self.outbox.unsent.items text
+            → IsSent J.before (W.taken self.entry.outbox.out) J.failures (W.failed self.entry.outbox.out) self.entry.outbox.failed self.entry.outbox.unsent.items text
             → OnOk result.1 (Appends J.before (W.taken result.0) text × (W.failed result.0 ≡ J.failures)) }
         ensures part { (text : List ℕ)
-            → IsSent J.before (W.taken self.outbox.out) J.failures (W.failed self.outbox.out) self.outbox.failed self.outbox.unsent.items text
+            → IsSent J.before (W.taken self.entry.outbox.out) J.failures (W.failed self.entry.outbox.out) self.entry.outbox.failed self.entry.outbox.unsent.items text
             → OnErr result.1 (AppendsBeginning J.before (W.taken result.0) text) }
-        ensures goes { OnOk result.1 (self.outbox.failed ≡ None) }
+        ensures goes { OnOk result.1 (self.entry.outbox.failed ≡ None) }
     {
         self.outbox.finish()
     }

@@ -15,7 +15,7 @@ use crate::outlets::{Outlets, abandon_outlets};
 use crate::placing::commit_outlets;
 use rv_command::{Stop, put_message, put_results};
 use rv_files::{LastError, Outputs};
-use rv_junit::IndexedRows;
+use rv_junit::Cases;
 use rv_rows::{RowReporter, Sink};
 use std::alloc::Global;
 
@@ -99,14 +99,15 @@ fn put_texts<P: Drop, W: Sink + LastError + Drop, O: Sink, T: RowReporter>(
         reporter,
         places,
         report,
+        texts,
         ..
     } = texts;
-    let rows = IndexedRows {
+    let cases = Cases {
+        reporter,
         places,
         rows: report.rows(),
+        texts,
     };
-    outlets
-        .junit
-        .put_junit(alloc, out, &suite, reporter, &rows)?;
+    outlets.junit.put_junit(alloc, out, &suite, &cases)?;
     outlets.report.put_report(alloc, out, report)
 }

@@ -5,8 +5,8 @@ use Rattle.rv_counting.specs.JobTables.{IsTableOfOne}
 use Rattle.rv_trace.specs.Trace.{job_at}
 use Rattle.rv_counting.proofs.places.count_batch.Given as goal
 
-abbrev pub ghosts-run_jobs-sum : goal.ghosts-run_jobs-sum
-ghosts-run_jobs-sum g a =
+abbrev pub ghosts-run_jobs : goal.ghosts-run_jobs
+ghosts-run_jobs g a =
     let batch = a.work.now.batch.now in record {
       is_result = λ number table. (d : Job) → IsTableOfOne batch.plan.now.answers
           (job_at batch.plan.now (slice_index_or batch.places.now number 0) d) table;

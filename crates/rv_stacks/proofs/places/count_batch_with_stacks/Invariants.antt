@@ -3,8 +3,8 @@ use Rattle.std.specs.Prelude.{slice_index_or}
 use Rattle.rv_stacks.specs.StackTables.{IsTableWithStacks}
 use Rattle.rv_stacks.proofs.places.count_batch_with_stacks.Given as goal
 
-abbrev pub ghosts-run_jobs-sum : goal.ghosts-run_jobs-sum
-ghosts-run_jobs-sum g a =
+abbrev pub ghosts-run_jobs : goal.ghosts-run_jobs
+ghosts-run_jobs g a =
     let batch = a.work.now.batch.now in record {
       is_result = λ number table. IsTableWithStacks batch.plan.now (slice_index_or batch.places.now number 0 ∷ []) table;
       jobs = length batch.places.now;
