@@ -1,3 +1,4 @@
+pub mod Public
 mod KnownLines
 pub mod Laws
 pub mod Cases

@@ -130,7 +130,7 @@ impl<'a, P: Drop, W: Drop> Outlet<'a, P, W> {
     /// Takes the sink out of the outlet, if it is a file.
     pub(crate) fn take_sink(self) -> (Outlet<'a, P, ()>, Option<W>)
         ensures parts { AreOutletParts result.0 result.1 self.entry }
-        ensures there { is_some result.1 ≡ is_file self.entry }
+        ensures there { is_some result.1 ≡ is_file result.0 }
     {
         match self {
             Outlet::Nowhere => (Outlet::Nowhere, None),
