@@ -10,7 +10,6 @@ pub mod Finding
 pub mod Evens
 pub mod Counting
 pub mod Counters
-pub mod BlockCache
 pub mod FetchedAgain
 pub mod RunCounts
 pub mod Lookups

@@ -13,7 +13,6 @@ use Rattle.rv_report.specs.declared.row.Refusal.{Refusal}
 use Rattle.rv_rows.specs.Rows.{start_in}
 use Rattle.rv_counting.proofs.Evens.{few_begin, none_at_odd}
 use Rattle.rv_counting.specs.declared.runs_counter.RunsCounter.{RunsCounter}
-use Rattle.rv_counting.specs.BlockCache.{HasSlots}
 use Rattle.rv_counting.specs.Counters.{counts_of, HasCountedOn}
 use Rattle.rv_counting.specs.Coverage.{once_if}
 use Rattle.rv_counting.specs.JobTables.{begun_from, taken_from, runs_by}
@@ -33,7 +32,7 @@ adds_none budget start c h none = subst (λ (o : Option State). AddsRun budget o
 
 module _ (budget g : ℕ) (s : State) (base : List AddressCounts) (old new : RunsCounter) (fits : budget < 2 ^ 32) (h : CanCountRuns old)
     (same : base ≡ counts_of old.counter) (early : g ≡ old.counter.codes.generation) (even : s.pc % 2 ≡ 0)
-    (counted : HasCountedOn base g budget s new.counter) (slots : HasSlots new.found) (one : new.runs ≡ old.runs + 1) where
+    (counted : HasCountedOn base g budget s new.counter) (one : new.runs ≡ old.runs + 1) where
   begun_more : (at : ℕ) → begun_at at (counts_of new.counter) ≡ begun_at at (counts_of old.counter) + begun_from at budget (Some s)
   begun_more at = counted.sums.begun at ∙ ap (λ cs. begun_at at cs + begun_from at budget (Some s)) same
 
@@ -43,7 +42,6 @@ module _ (budget g : ℕ) (s : State) (base : List AddressCounts) (old new : Run
       tallied = counted.sums.tallied;
       indexed = counted.indexed;
       codes = counted.codes;
-      slots = slots;
       few = λ at.
           let b = begun_more at in
           let f = h.few at in

@@ -2,7 +2,6 @@ pub mod Coverage
 pub mod Blocks
 pub mod Tallies
 pub mod Counters
-pub mod BlockCache
 pub mod JobTables
 pub mod RunCounts
 pub mod BatchPieces

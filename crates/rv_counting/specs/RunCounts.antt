@@ -8,7 +8,6 @@ use Rattle.rv_jobs.specs.declared_job.Job.{Job}
 use Rattle.rv_machine.specs.State.{State}
 use Rattle.rv_rows.specs.Rows.{start_in}
 use Rattle.rv_counting.specs.declared.runs_counter.RunsCounter.{RunsCounter}
-use Rattle.rv_counting.specs.BlockCache.{HasSlots}
 use Rattle.rv_counting.specs.Blocks.{HasKnownPlaces}
 use Rattle.rv_counting.specs.Counters.{counts_of}
 use Rattle.rv_counting.specs.Coverage.{once_if, EachTallied}
@@ -20,7 +19,6 @@ pub record CanCountRuns (c : RunsCounter) : Type 0 where
   pub tallied : EachTallied (counts_of c.counter)
   pub indexed : IsIndexed c.counter.tally
   pub codes : HasKnownPlaces c.counter.codes
-  pub slots : HasSlots c.found
   pub few : (at : ℕ) → begun_at at (counts_of c.counter) ≤ c.runs * 2 ^ 32
   pub even : (at : ℕ) → at % 2 ≡ 1 → begun_at at (counts_of c.counter) ≡ 0
   pub generations : c.counter.codes.generation ≤ 1 + c.runs * 2 ^ 32

@@ -11,7 +11,6 @@ mod block;
 mod count;
 mod count_work;
 mod counter;
-mod found;
 mod known;
 mod law;
 mod pieces;

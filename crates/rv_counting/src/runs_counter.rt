@@ -6,7 +6,6 @@ ghost use Rattle.rv_jobs.specs.declared.answers.Answer.{Answer};
 ghost use Rattle.rv_jobs.specs.declared_job.Job.{Job as AJob};
 ghost use Rattle.rv_machine.specs.Machine.{state_of};
 ghost use Rattle.rv_trace.specs.Trace.{job_at};
-ghost use Rattle.rv_counting.specs.BlockCache.{AreAllOld, HasSlots};
 ghost use Rattle.rv_counting.specs.Blocks.{AreRight};
 ghost use Rattle.rv_counting.specs.Counters.{counts_of, HasCountedOn};
 ghost use Rattle.rv_counting.specs.Coverage.{EachTallied};
@@ -14,17 +13,15 @@ ghost use Rattle.rv_counting.specs.RunCounts.{AddsJob, AddsRun, CanCountRuns, Ha
 ghost use Rattle.rv_counting.specs.Tallies.{IsIndexed};
 
 use crate::counter::Counter;
-use crate::found::FoundBlocks;
 use rv_machine::Machine;
 use rv_rows::{Spare, machine_at_reusing};
 use rv_trace::JobImage;
 use std::alloc::{AllocError, Global};
 
-/// The counts of some runs, and what the next run can use again: the instructions and blocks that are cached, and the indices of counts.
+/// The counts of some runs, and what the next run can use again: the decode cache and the indices of counts.
 #[derive(Drop)]
 pub(crate) struct RunsCounter {
     pub(crate) counter: Counter,
-    pub(crate) found: FoundBlocks,
     /// How many runs were counted.
     pub(crate) runs: u64,
 }
@@ -35,12 +32,7 @@ impl RunsCounter {
         ensures { IfOk result (λ counter. (answers : List Answer) → HasCountedJobs answers [] counter) }
     {
         let counter = Counter::new(alloc)?;
-        let found = FoundBlocks::new(alloc)?;
-        Ok(RunsCounter {
-            counter,
-            found,
-            runs: 0,
-        })
+        Ok(RunsCounter { counter, runs: 0 })
     }
 
     /// Counts the run of a job within its budget, unless the job is refused. Reuses the memory of the last run, and keeps that of this one.
@@ -75,8 +67,7 @@ impl RunsCounter {
         ensures { OnOk result (AddsRun budget (Some (state_of machine)) self.old self.new) }
     {
         self.counter.codes.fetch_again(machine.bus());
-        self.found.begin_round();
-        let machine = follow_run(&mut self.counter, &mut self.found, machine, budget)?;
+        let machine = follow_run(&mut self.counter, machine, budget)?;
         self.runs += 1;
         Ok(machine)
     }
@@ -85,7 +76,6 @@ impl RunsCounter {
 // Runs a machine and counts what it executed, in addition to earlier counts. Returns the machine after the run.
 fn follow_run(
     counter: &mut Counter,
-    found: &mut FoundBlocks,
     machine: Machine,
     budget: u32,
 ) -> Result<Machine, AllocError>
@@ -94,17 +84,13 @@ fn follow_run(
     requires indexed { IsIndexed counter.old.tally }
     requires right { AreRight counter.old.codes (state_of machine) }
     requires generations { counter.old.codes.generation < 2 ^ 61 }
-    requires slots { HasSlots found.old }
-    requires none { AreAllOld found.old }
-    ensures counted { OnOk result (HasCountedOn (counts_of counter.old) counter.old.codes.generation budget (state_of machine) counter.new) }
-    ensures slots { OnOk result (HasSlots found.new) }
+    ensures { OnOk result (HasCountedOn (counts_of counter.old) counter.old.codes.generation budget (state_of machine) counter.new) }
 {
     let mut machine = machine;
     let mut left = budget;
     'steps: while left > 0 {
-        let block = found.find(counter, &machine, left);
+        let block = counter.find_block(&machine, left);
         if block.steps == 0 {
-            found.begin_round();
             if !counter.step_uncached(&mut machine)?.completed {
                 return Ok(machine);
             }

@@ -12,7 +12,6 @@ returns c = λ answers.
         tallied = subst (λ (cs : List AddressCounts). EachTallied cs) (sym none) tt;
         indexed = c.in_ok-counter.ensures.indexed;
         codes = c.in_ok-counter.ensures.codes;
-        slots = c.in_ok-found.ensures.slots;
         few = λ at. let e = ap (begun_at at) none in omega (arith, e);
         even = λ at odd. ap (begun_at at) none;
         generations = (let f = c.in_ok-counter.ensures.first in omega (arith, f));
