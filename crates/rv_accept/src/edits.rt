@@ -3,7 +3,7 @@
 ghost use Rattle.std.specs.Prelude.{◌≡◌, IfOk, drop};
 ghost use Rattle.rv_accept.specs.Edits.{edited_from, piece};
 
-use rv_jobs::Bytes;
+use rv_rows::Bytes;
 use std::alloc::{AllocError, Global};
 
 /// The replacement for the bytes of a text from one offset up to, but not including, another.

@@ -5,7 +5,7 @@ ghost use Rattle.std.specs.List.{find};
 ghost use Rattle.rv_accept.specs.Fates.{outcome_of_golden_file, fate_of_first, fate_of_given_text, gives_another_text, is_of_left_job, is_text, names_file};
 
 use crate::claims::GoldenText;
-use rv_jobs::Bytes;
+use rv_rows::Bytes;
 use std::alloc::{AllocError, Global};
 
 /// The outcome for a golden file.

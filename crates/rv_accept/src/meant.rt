@@ -6,9 +6,7 @@ ghost use Rattle.rv_accept.specs.Meant.{meant_job, intended_jobs};
 ghost use Rattle.rv_accept.specs.Runs.{accepted_row, row_if_accepted};
 
 use crate::runs::JobRun;
-use rv_jobs::{Bytes, ExpectedConsole, ExpectedEnd, Job, Symbols, Text};
-use rv_memory::Region;
-use rv_rows::{Row, RowEnd};
+use rv_rows::{Bytes, ExpectedConsole, ExpectedEnd, Job, Region, Row, RowEnd, Symbols, Text};
 
 /// Whether `others` are the jobs that those of a list become when some are accepted, each with the values of its row.
 #[tactic(auto, unfolding(crate::specs::Meant::intended_jobs))]

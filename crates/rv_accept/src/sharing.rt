@@ -5,7 +5,7 @@ ghost use Rattle.rv_accept.specs.Sharing.{is_compared_with, is_file_of_marked, i
 ghost use Rattle.rv_accept.specs.Sharing.{marks_with_compared, names_golden_file, shares_with_marked, sharing_marks};
 
 use crate::claims::console_path;
-use rv_jobs::Job;
+use rv_rows::Job;
 use std::alloc::{AllocError, Global};
 
 /// Returns the selection of the jobs that run for the chosen ones: these, each that names a golden file of a chosen one, and each that one

@@ -7,7 +7,7 @@ ghost use Rattle.rv_choice.specs.Choice.{chosen_marks, borrowed_names, is_left, 
 ghost use Rattle.rv_choice.specs.UnknownName.{unknown_name};
 
 use regex::{Matcher, Regex};
-use rv_jobs::Job;
+use rv_expect::Job;
 use std::alloc::{AllocError, Global};
 
 /// What chooses jobs: a job is chosen if any of these chooses it. If none is given, every job is chosen.

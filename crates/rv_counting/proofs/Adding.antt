@@ -5,18 +5,18 @@ use Rattle.std.proofs.Math.Seq.{get_or-append_seam}
 use Rattle.std.proofs.lemmas.Bool.{false≢true}
 use Rattle.std.proofs.lemmas.Result.{IfErr-weaker, IfOk-weaker}
 use Rattle.std.proofs.lemmas.List.{get_or_append_left, length-append, length-take, map-append, map-id, take_all, take_more}
-use Rattle.rv_base.specs.Limits.{most_jobs}
+use Rattle.rv_count_tables.specs.Limits.{most_jobs}
 use Rattle.rv_count_tables.specs.declared.sum.SumError.{SumError}
 use Rattle.rv_count_tables.specs.declared.sum.SumError.TheVariants.{OutOfMemory, Count, Spot, Names, Runs}
 use Rattle.rv_count_tables.specs.declared.table.CountTable.{CountTable}
 use Rattle.rv_count_tables.specs.Sum.{IsSum, HaveNoSum, no_counts}
-use Rattle.rv_engine.specs.declared.engine.RunError.{RunError}
-use Rattle.rv_engine.specs.declared.listener.Flow.{Flow}
-use Rattle.rv_engine.specs.declared.listener.Flow.TheVariants.{GoOn, Stop}
-use Rattle.rv_engine.specs.Results.{IsRunDelivered, HasReceived, HasReceivedSome}
-use Rattle.rv_jobs.specs.declared_job.Job.{Job}
-use Rattle.rv_jobs.specs.Jobs.{single_job}
-use Rattle.rv_jobs.specs.Plans.{Planned}
+use Rattle.rv_fleet.specs.declared_engine.RunError.{RunError}
+use Rattle.rv_fleet.specs.declared_listener.Flow.{Flow}
+use Rattle.rv_fleet.specs.declared_listener.Flow.TheVariants.{GoOn, Stop}
+use Rattle.rv_fleet.specs.Results.{IsRunDelivered, HasReceived, HasReceivedSome}
+use Rattle.rv_trace.specs.declared_job.Job.{Job}
+use Rattle.rv_trace.specs.Jobs.{single_job}
+use Rattle.rv_trace.specs.Plans.{Planned}
 use Rattle.rv_trace.specs.Trace.{job_at}
 use Rattle.rv_counting.specs.JobTables.{jobs_at, IsTableOfFew, IsTableOfJobs, IsTableOfOne, IsTableOfPlaces, SumsTo}
 use Rattle.rv_counting.specs.TableSums.{sum_of_run, sum_or_error, Added, AreAdded, EndAdded}

@@ -2,18 +2,16 @@
 
 ghost use Rattle.std.specs.Prelude.{◌^◌, ◌<◌, ℕ, IfOk, IfSome};
 ghost use Rattle.rv_count_tables.specs.Table.{AreCounts, begun_at};
-ghost use Rattle.rv_jobs.specs.declared_job.Job.{Job as AJob};
-ghost use Rattle.rv_machine.specs.Machine.{state_of};
-ghost use Rattle.rv_rows.specs.Rows.{start_in};
+ghost use Rattle.rv_trace.specs.declared_job.Job.{Job as AJob};
+ghost use Rattle.rv_trace.specs.Machine.{state_of};
+ghost use Rattle.rv_trace.specs.Rows.{start_in};
 ghost use Rattle.rv_trace.specs.Trace.{job_at};
 ghost use Rattle.rv_counting.specs.Counters.{HasCounted};
 ghost use Rattle.rv_counting.specs.Coverage.{AreCountsOf, AreCountsOfJob};
 
 use crate::counter::Counter;
 use rv_count_tables::Addresses;
-use rv_machine::Machine;
-use rv_rows::machine_at;
-use rv_trace::JobImage;
+use rv_trace::{JobImage, Machine, machine_at};
 use std::alloc::{AllocError, Global};
 
 /// Counts a machine's run within a budget of steps. Takes longer than the run alone, and a lookup among the addresses so far for each

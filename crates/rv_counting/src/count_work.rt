@@ -6,8 +6,7 @@ ghost use Rattle.rv_count_tables.specs.Table.{IsTable};
 use crate::table_of_job::count_place;
 use crate::table_sum::HasTable;
 use rv_count_tables::CountTable;
-use rv_engine::{Work, WorkerState};
-use rv_fleet::Batch;
+use rv_fleet::{Batch, Work, WorkerState};
 use std::alloc::{AllocError, Global};
 use std::marker::Model;
 
@@ -54,7 +53,7 @@ pub(crate) struct CountWork<'a> {
 
 impl Work<JobTable> for CountWork<'_> {
     ghost use Rattle.std.specs.Prelude.{ℕ, length, slice_index_or};
-    ghost use Rattle.rv_jobs.specs.declared_job.Job.{Job as AJob};
+    ghost use Rattle.rv_trace.specs.declared_job.Job.{Job as AJob};
     ghost use Rattle.rv_counting.specs.JobTables.{IsTableOfOne};
     ghost use Rattle.rv_trace.specs.Trace.{job_at};
 

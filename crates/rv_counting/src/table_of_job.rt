@@ -7,17 +7,17 @@ ghost use Rattle.sha2.specs.Sha256.{sha256};
 ghost use Rattle.rv_count_tables.specs.Lines.{lacks};
 ghost use Rattle.rv_count_tables.specs.Sum.{no_counts};
 ghost use Rattle.rv_count_tables.specs.Table.{AreCounts, IsTable};
-ghost use Rattle.rv_jobs.specs.declared_job.Job.{Job as AJob};
-ghost use Rattle.rv_text.specs.Printable.{printable_text};
+ghost use Rattle.rv_trace.specs.declared_job.Job.{Job as AJob};
+ghost use Rattle.rv_count_tables.specs.Printable.{printable_text};
 ghost use Rattle.rv_trace.specs.Trace.{job_at};
 ghost use Rattle.rv_counting.specs.JobTables.{IsTableOfOne, table_of_run};
 
 use crate::count::count_job;
-use rv_call_tree::Spots;
-use rv_count_tables::{Addresses, CountTable, FunctionNames, ImageCounts, Images};
-use rv_jobs::{Bytes, Plan, Text};
-use rv_text::{printable_text_is_utf8_without_controls, push_printable_text};
-use rv_trace::{JobImage, image_bytes, image_of_bytes};
+use rv_count_tables::{
+    Addresses, Bytes, CountTable, FunctionNames, ImageCounts, Images, Spots, Text,
+    printable_text_is_utf8_without_controls, push_printable_text,
+};
+use rv_trace::{JobImage, Plan, image_bytes, image_of_bytes};
 use sha2::{Digest, Sha256};
 use std::alloc::{AllocError, Global};
 

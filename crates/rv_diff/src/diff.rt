@@ -11,8 +11,7 @@ ghost use Rattle.rv_diff.specs.Diff.{rows_beside, sums_words, total_steps};
 use crate::by_name::ByName;
 use crate::change::{Change, Compare, change_of};
 use crate::differences::push_change_lines;
-use rv_rows::Row;
-use rv_text::{Span, push_spans, push_text};
+use rv_rows::{Row, Span, push_spans, push_text};
 use std::alloc::{AllocError, Global};
 
 /// The number of differing jobs of two reports.

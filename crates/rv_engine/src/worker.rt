@@ -1,6 +1,6 @@
 //! The loop of a worker: draws chunks, makes their results and delivers them.
 
-ghost use Rattle.rv_jobs.specs.Limits.{most_group};
+ghost use Rattle.rv_rows.specs.Limits.{most_group};
 ghost use Rattle.std.specs.Prelude.{◌≡◌, ◌<◌, ◌≤◌, OnOk};
 ghost use Rattle.rv_engine.specs.Results.{AreMade, piece_count};
 

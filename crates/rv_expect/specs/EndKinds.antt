@@ -1,8 +1,8 @@
 -- The kinds of job ends: exit, budget, each kind of fault, refused.
 use Rattle.std.specs.Prelude.{◌==◌, ◌&&◌, ◌+◌, ◌-◌, ℕ, Bool, true, false, if◌then◌else◌}
 use Rattle.std.specs.Prelude.{Option, Some, None, length, slice_get}
-use Rattle.rv_machine.specs.declared.ending.FaultKind.{FaultKind}
-use Rattle.rv_machine.specs.Faults.{fault_kinds}
+use Rattle.rv_rows.specs.declared_ending.FaultKind.{FaultKind}
+use Rattle.rv_rows.specs.Faults.{fault_kinds}
 use Rattle.rv_rows.specs.declared_row.Row.{Row}
 use Rattle.rv_rows.specs.declared_row.RowEnd.{RowEnd}
 use Rattle.rv_rows.specs.declared_row.RowEnd.TheVariants as ending

@@ -1,7 +1,6 @@
 //! A row together with the data it is compared with.
 
-use rv_jobs::Job;
-use rv_rows::Row;
+use rv_rows::{Job, Row};
 
 /// A job's row together with everything that its job expects it to equal.
 #[derive(Clone, Copy)]

@@ -1,13 +1,12 @@
 //! The kinds of job ends.
 
 ghost use Rattle.std.specs.Prelude.{◌≡◌, slice_get};
-ghost use Rattle.rv_machine.specs.Faults.{fault_kinds};
+ghost use Rattle.rv_rows.specs.Faults.{fault_kinds};
 ghost use Rattle.rv_expect.specs.Judgement.{judging_of};
 ghost use Rattle.rv_expect.specs.EndKinds.{fails_with_end_kind, end_kind_of_index, has_end_kind, end_kind_at};
 
 use crate::judgement::Judge;
-use rv_machine::FaultKind;
-use rv_rows::{Row, RowEnd};
+use rv_rows::{FaultKind, Row, RowEnd};
 
 /// The kind of a job's end, without its exit code, address or value.
 #[derive(Clone, Copy)]

@@ -1,9 +1,9 @@
 //! The loop of a worker: draws chunks and makes them.
 
-ghost use Rattle.rv_jobs.specs.Limits.{most_group};
+ghost use Rattle.rv_rows.specs.Limits.{most_group};
 ghost use Rattle.std.specs.Prelude.{◌≡◌, ◌<◌, ◌≤◌, [], true, map, IfOk};
-ghost use Rattle.rv_claims.specs.NewPieces.{Grew, new_pieces};
-ghost use Rattle.rv_claims.specs.Passes.{has_ended};
+ghost use Rattle.rv_engine.specs.NewPieces.{Grew, new_pieces};
+ghost use Rattle.rv_engine.specs.Passes.{has_ended};
 ghost use Rattle.rv_fleet.specs.Batches.{batch_rows};
 ghost use Rattle.rv_fleet.specs.Pieces.{count_of_pieces, piece_at, numbered_piece, pieces_of};
 ghost use Rattle.rv_fleet.specs.Promised.{HasWorked};
@@ -14,9 +14,8 @@ use crate::piece::{Piece, make_piece};
 use crate::pieces::Pieces;
 use crate::places::all_indices;
 use crate::worker_promise::Worked;
-use rv_claims::{Claims, Pass};
-use rv_engine::WorkerState;
-use rv_jobs::Plan;
+use rv_engine::{Claims, Pass, WorkerState};
+use rv_rows::Plan;
 use std::alloc::{AllocError, Global};
 
 /// Takes chunks until none is left, and makes each before it takes the next. Returns the chunks in the order drawn. `group` is the number

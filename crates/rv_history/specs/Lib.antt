@@ -11,3 +11,8 @@ pub mod StandInside
 pub mod Printing
 pub mod Kept
 pub mod Legs
+pub use Rattle.rv_trace.specs.Bus
+pub use Rattle.rv_trace.specs.Machine
+pub use Rattle.rv_trace.specs.State
+pub use Rattle.rv_trace.specs.Trace
+pub use Rattle.rv_trace.specs.declared_ending

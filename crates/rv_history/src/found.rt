@@ -1,6 +1,6 @@
 //! Results of moves.
 
-use rv_machine::Ending;
+use rv_trace::Ending;
 
 /// Why a move stopped.
 #[derive(Clone, Copy)]

@@ -16,7 +16,7 @@ use crate::slices::slice_end;
 use crate::stepping::{Stepped, step_beside};
 use crate::stops::Stops;
 use crate::track::Checkpoints;
-use rv_machine::Ending;
+use rv_trace::Ending;
 use std::alloc::{AllocError, Global};
 
 /// Returns the next stop of a move, with the machine there. Stores states as it goes.

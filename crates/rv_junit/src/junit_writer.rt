@@ -2,17 +2,16 @@
 
 ghost use Rattle.std.specs.Prelude.{◌≡◌, IfErr, OnErr, OnOk};
 ghost use Rattle.std.specs.Io.KnownBytes.{Appends};
-ghost use Rattle.rv_rows.specs.Sinks.{AppendsBeginning};
-ghost use Rattle.rv_rows.specs.Counts.{HasIncreased};
+ghost use Rattle.rv_stream.specs.Sinks.{AppendsBeginning};
+ghost use Rattle.rv_stream.specs.Counts.{HasIncreased};
 ghost use Rattle.rv_stream.specs.Streams.{row_text_list};
-ghost use Rattle.rv_expect.specs.Judgement.{judging_of};
+ghost use Rattle.rv_job_text.specs.Judgement.{judging_of};
 ghost use Rattle.rv_junit.specs.Junit.{junit_text};
 
 use crate::junit::{push_suite_begin, push_test_case};
 use crate::suite::Suite;
-use rv_rows::{Row, Sink, WriteError, put_all};
-use rv_stream::{IndexedRows, RowReporter, write_row_texts};
-use rv_text::push_text;
+use rv_job_text::{RowReporter, push_text};
+use rv_stream::{IndexedRows, Row, Sink, WriteError, put_all, write_row_texts};
 use std::alloc::{AllocError, Global};
 
 /// Writes rows as JUnit XML: one suite, and one test case per row, in order, with its steps and its console. A failed row is a failure, or
@@ -57,7 +56,7 @@ struct Cases<'a, 'b, T: RowReporter> {
 }
 
 impl<'a, 'b, T: RowReporter> RowReporter for Cases<'a, 'b, T> {
-    ghost use Rattle.rv_expect.specs.Judgement.{judging_of};
+    ghost use Rattle.rv_job_text.specs.Judgement.{judging_of};
     ghost use Rattle.rv_junit.specs.Junit.{test_case_text};
 
     ghost line = { λ cases place row. test_case_text cases.suite.name.now (judging_of cases.suite.judge) row

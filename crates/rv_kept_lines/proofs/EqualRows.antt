@@ -4,8 +4,8 @@ use Rattle.std.proofs.lemmas.Bool.{OnTrue_from}
 use Rattle.std.proofs.lemmas.Slice.Eq.{bytes_eq-Decides}
 use Rattle.std.specs.Bool.{OnTrue}
 use Rattle.std.specs.Str.{bytes_eq}
-use Rattle.rv_rows.specs.Verdict.{are_same_signatures}
-use Rattle.rv_rows.specs.declared_row.Row.{Row}
+use Rattle.rv_expect.specs.Verdict.{are_same_signatures}
+use Rattle.rv_expect.specs.declared_row.Row.{Row}
 
 -- signatures that are the same are equal
 pub equal_signatures : (signature other : Option (List ℕ))

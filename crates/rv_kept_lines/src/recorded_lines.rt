@@ -4,7 +4,7 @@ ghost use Rattle.std.specs.Prelude.{◌≡◌, IfOk, IfSome};
 ghost use Rattle.std.specs.Bool.{OnTrue};
 
 use crate::row_copies::{are_equal_rows, copy_row, row_size};
-use rv_rows::Row;
+use rv_expect::Row;
 use std::alloc::{AllocError, Global};
 use std::collections::BTreeMap;
 use std::marker::{Brand, PhantomData};
@@ -12,7 +12,7 @@ use std::marker::{Brand, PhantomData};
 /// Specifies what is reported of rows. Each run chooses its own.
 pub trait LinesSpec {
     ghost use Rattle.std.specs.Prelude.{ℕ, List};
-    ghost use Rattle.rv_rows.specs.declared_row.Row.{Row};
+    ghost use Rattle.rv_expect.specs.declared_row.Row.{Row};
 
     // The lines of the row of the job at an index.
     ghost lines: { ℕ → Row → List ℕ };

@@ -3,11 +3,10 @@
 ghost use Rattle.std.specs.Prelude.{◌≡◌, ◌++◌, ℕ, OnOk, true};
 ghost use Rattle.std.specs.Option.{ForSome};
 ghost use Rattle.rv_expect.specs.Judgement.{fails, judging_of};
-ghost use Rattle.rv_rows.specs.declared_row.Row.{Row as ARow};
+ghost use Rattle.rv_expect.specs.declared_row.Row.{Row as ARow};
 
 use crate::recorded_lines::{LinesSpec, RecordedLines, RecordedRow};
-use rv_expect::Judge;
-use rv_rows::{Row, RowReporter};
+use rv_expect::{Judge, Row, RowReporter};
 use std::alloc::{AllocError, Global};
 use std::sync::{Mutex, Wait};
 

@@ -1,10 +1,10 @@
 //! A reporter that reuses kept lines.
 
 ghost use Rattle.std.specs.Prelude.{◌≡◌, ℕ};
-ghost use Rattle.rv_rows.specs.declared_row.Row.{Row as ARow};
+ghost use Rattle.rv_expect.specs.declared_row.Row.{Row as ARow};
 
 use crate::recorded_lines::{LinesSpec, RecordedLines};
-use rv_rows::{Row, RowReporter};
+use rv_expect::{Row, RowReporter};
 use std::alloc::{AllocError, Global};
 
 /// Reports what another reporter reports: uses the lines that are kept, and makes only those of the other rows anew.

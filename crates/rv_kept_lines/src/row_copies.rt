@@ -3,8 +3,7 @@
 ghost use Rattle.std.specs.Prelude.{◌≡◌, IfOk};
 ghost use Rattle.std.specs.Bool.{OnTrue};
 
-use rv_base::{Bytes, Text};
-use rv_rows::{Row, Words, are_same_signatures};
+use rv_expect::{Bytes, Row, Text, Words, are_same_signatures};
 use std::alloc::{AllocError, Global};
 
 /// Returns a copy that is equal in all fields.

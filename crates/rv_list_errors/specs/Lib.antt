@@ -1,5 +1,3 @@
-pub use Rattle.rv_list_locations.specs.Places
-pub use Rattle.rv_list_locations.specs.JobPlaces
 pub mod FaultHeads
 pub mod Lines
 pub mod PlacedFaults
@@ -10,3 +8,6 @@ pub mod UnknownKeys
 pub mod Expectations
 pub mod JobFaults
 pub mod FaultsTold
+pub use Rattle.rv_list_locations.specs.JobPlaces
+pub use Rattle.rv_list_locations.specs.Places
+pub use Rattle.rv_text.specs.Printable

@@ -2,8 +2,8 @@
 use Rattle.std.specs.Prelude.{ℕ, List, []}
 use Rattle.rv_history.specs.declared.found.Found.{Found}
 use Rattle.rv_history.specs.declared.found.Found.TheVariants as found
-use Rattle.rv_machine.specs.declared.ending.Ending.{Ending}
-use Rattle.rv_machine.specs.declared.ending.Ending.TheVariants as ending
+use Rattle.rv_history.specs.declared_ending.Ending.{Ending}
+use Rattle.rv_history.specs.declared_ending.Ending.TheVariants as ending
 use Rattle.rv_gdb_protocol.specs.Stops.{Aborted, BadCall, BusError, Exited, FileTooLarge, IllegalInstruction, NoEnding, SegmentFault, Told, UsedUp, told_by_fault}
 
 abbrev pub told_by_ending : Ending → Told

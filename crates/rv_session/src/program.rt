@@ -1,6 +1,6 @@
 //! The program that is debugged.
 
-use rv_base::Bytes;
+use rv_gdb_protocol::Bytes;
 
 /// The image of the job's program, which gdb can request.
 #[derive(Drop)]

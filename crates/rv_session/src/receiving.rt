@@ -9,8 +9,7 @@ ghost use Rattle.rv_gdb_protocol.specs.declared.request.Refusal.TheVariants as r
 
 use crate::reply::Reply;
 use crate::session::Session;
-use rv_base::Bytes;
-use rv_gdb_protocol::{Incoming, Refusal, Sum, parse_request, push_frame, push_printed};
+use rv_gdb_protocol::{Bytes, Incoming, Refusal, Sum, parse_request, push_frame, push_printed};
 use std::alloc::{AllocError, Global};
 
 /// The maximum number of output bytes in a packet, two digits each.

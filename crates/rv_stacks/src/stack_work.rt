@@ -1,9 +1,7 @@
 //! The table of each job of a batch, with its call tree.
 
 use crate::table::count_place_with_stacks;
-use rv_counting::JobTable;
-use rv_engine::{Work, WorkerState};
-use rv_fleet::Batch;
+use rv_counting::{Batch, JobTable, Work, WorkerState};
 use std::alloc::{AllocError, Global};
 
 /// Counts the jobs of a batch, with their call trees.

@@ -2,3 +2,4 @@ mod Tellings
 mod Sending
 mod Limits
 mod Received
+pub mod Public

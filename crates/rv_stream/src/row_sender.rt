@@ -6,9 +6,8 @@ ghost use Rattle.rv_stream.specs.Texts.{IsSent};
 use crate::outbox::Outbox;
 use crate::reported_row::ReportedRow;
 use crate::streamed::StreamSpec;
-use rv_engine::{Flow, Observer};
-use rv_fleet::Sink;
-use rv_rows::{RowReporter, WriteError};
+use rv_base::Sink;
+use rv_fleet::{Flow, Observer, RowReporter, WriteError};
 use std::alloc::Global;
 
 /// Reports each row with the index of its job and writes the text. Rows that arrive together are written at once.

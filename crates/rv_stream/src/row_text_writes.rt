@@ -1,13 +1,13 @@
 //! Reported texts of rows, written in few large writes.
 
 ghost use Rattle.std.specs.Prelude.{◌≡◌, ◌++◌, IfErr, OnErr, OnOk};
-ghost use Rattle.rv_rows.specs.Counts.{one_more};
-ghost use Rattle.rv_rows.specs.Sinks.{AppendsBeginning, IsPartlySent};
+ghost use Rattle.rv_base.specs.Counts.{one_more};
+ghost use Rattle.rv_base.specs.Sinks.{AppendsBeginning, IsPartlySent};
 ghost use Rattle.rv_stream.specs.Streams.{joined_row_texts};
 
 use crate::indexed_rows::IndexedRows;
-use rv_fleet::{Sink, put_all};
-use rv_rows::{RowReporter, WriteError};
+use rv_base::{Sink, put_all};
+use rv_fleet::{RowReporter, WriteError};
 use std::alloc::Global;
 
 // The size in bytes from which the buffered text is written.

@@ -5,7 +5,7 @@ ghost use Rattle.rv_terminal.specs.ColorSinks.{IsOut, IsOutInPart, first_course,
 
 use crate::colors::Colors;
 use crate::course::{OutputState, put_by_course};
-use rv_base::{Sink, SinkFailed};
+use rv_rows::{Sink, SinkFailed};
 use std::marker::{Brand, Model, PhantomData};
 
 /// Whether results are coloured, and what the sink had received before them. Each command has its own implementation.

@@ -1,8 +1,7 @@
 //! The store over files.
 
 use crate::testing::told_over;
-use rv_files::FileStore;
-use rv_jobs::{ReadError, Store};
+use rvfleet_app::{FileStore, ReadError, Store};
 use samples::{agree, cell_of, file, numbers};
 use std::fs;
 use std::test::Fail;

@@ -3,7 +3,7 @@ use Rattle.std.proofs.Common.{◌≡◌, ◌⊎◌, ◌∙◌, ℕ, Bool, List, 
 use Rattle.clap.specs.Kinds.{IsAmong}
 use Rattle.clap.specs.Words.{fault_of}
 use Rattle.clap.specs.declared.error.kind.ErrorKind.{ErrorKind}
-use Rattle.rv_base.specs.Files.{FileContents}
+use Rattle.rv_files.specs.Files.{FileContents}
 use Rattle.rvtest_cli.specs.RvtestCommand.{test_app}
 use Rattle.rvtest_cli.specs.RvtestWords.{IsMisuseReported, misuse_text, words_fault_kinds, words_misuse}
 use Rattle.rvtest_cli.specs.WordsErrors.{IsToldOf}

@@ -8,8 +8,8 @@ use Rattle.rv_command.specs.declared.stop.Stop.TheVariants as stop
 use Rattle.rv_files.specs.declared.file_error.FileError.{FileError}
 use Rattle.rv_files.specs.declared.file_error.FileError.TheVariants as file
 use Rattle.rv_files.specs.Placed.{CommittedFile}
-use Rattle.rv_report.specs.declared.report.WriteError.{WriteError}
-use Rattle.rv_report.specs.declared.report.WriteError.TheVariants as write
+use Rattle.rv_rows.specs.declared_report.WriteError.{WriteError}
+use Rattle.rv_rows.specs.declared_report.WriteError.TheVariants as write
 use Rattle.rv_stream.specs.declared.error.BothError.{BothError}
 use Rattle.rv_stream.specs.declared.error.BothError.TheVariants as both
 use Rattle.rv_stream.specs.declared.error.StreamError.TheVariants as stream

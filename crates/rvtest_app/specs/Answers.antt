@@ -2,7 +2,7 @@
 use Rattle.std.specs.Prelude.{◌≡◌, ◌⊎◌, ℕ, Bool, List, Option, Some, None}
 use Rattle.clap.specs.Kinds.{IsAmong}
 use Rattle.clap.specs.declared.error.kind.ErrorKind.TheVariants.{DisplayHelp, DisplayVersion}
-use Rattle.rv_base.specs.Files.{FileContents}
+use Rattle.rv_files.specs.Files.{FileContents}
 use Rattle.rvtest_cli.specs.RvtestWords.{asked_words, words_fault_kinds, words_request}
 use Rattle.rvtest_cli.specs.declared.requests.Asked.{Asked}
 use Rattle.rvtest_cli.specs.declared.requests.Asked.TheVariants as asked

@@ -3,7 +3,7 @@ use Rattle.std.specs.Prelude.{◌≡◌, ◌⊎◌, ℕ, Bool, true, false, List
 use Rattle.clap.specs.Kinds.{IsAmong}
 use Rattle.clap.specs.Words.{fault_of}
 use Rattle.clap.specs.declared.error.kind.ErrorKind.{ErrorKind as WordsFault}
-use Rattle.rv_base.specs.Files.{FileContents}
+use Rattle.rv_files.specs.Files.{FileContents}
 use Rattle.rv_choice.specs.ChoiceStops.{IsChoiceStop}
 use Rattle.rv_choice.specs.UnknownName.{IsUnknownNameStop}
 use Rattle.rvtest_cli.specs.RvtestCommand.{test_app}
@@ -23,9 +23,9 @@ use Rattle.rv_command.specs.Texts.{IsReportReadAt, IsTextAt, optional_text}
 use Rattle.rv_command.specs.declared.stop.Stop.{Stop}
 use Rattle.rv_command.specs.declared.stop.Stop.TheVariants as stop
 use Rattle.rv_gdb.specs.declared.conversation.SessionError.{SessionError}
-use Rattle.rv_lists.specs.JobList.{job_list_of}
-use Rattle.rv_lists.specs.declared.job.Job.{Job}
-use Rattle.rv_report.specs.declared.partial.PartialReport.{PartialReport}
+use Rattle.rv_rows.specs.JobList.{job_list_of}
+use Rattle.rv_rows.specs.declared_job.Job.{Job}
+use Rattle.rv_rows.specs.declared_partial.PartialReport.{PartialReport}
 use Rattle.rvtest_app.specs.AcceptStops.{IsUnacceptedStop}
 use Rattle.rvtest_app.specs.Answers.{AskForHelp}
 use Rattle.rvtest_app.specs.Commands.{failure_rule}

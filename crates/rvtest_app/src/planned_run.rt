@@ -3,15 +3,15 @@
 ghost use Rattle.std.specs.Prelude.{◌≡◌, ◌≤◌, length, take};
 ghost use Rattle.std.specs.Option.{ForSome};
 ghost use Rattle.std.specs.List.Sorted.{IsStrictlyIncreasing};
-ghost use Rattle.rv_fleet.specs.Choices.{AreJobIndices};
+ghost use Rattle.rv_stream.specs.Choices.{AreJobIndices};
 ghost use Rattle.rv_job_text.specs.RowReporter.{reporter_of};
 ghost use Rattle.rvtest_app.specs.FailureLines.{failure_lines};
 
 use crate::into_report::ReportFrame;
 use rv_expect::KnownJobs;
 use rv_job_text::TextReporter;
-use rv_jobs::JobList;
 use rv_kept_lines::{LinesSpec, RecordedLines};
+use rv_rows::JobList;
 use std::sync::Mutex;
 
 /// The jobs of a list, and the selection of those that are requested.

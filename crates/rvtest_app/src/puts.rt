@@ -14,9 +14,9 @@ use crate::file_texts::FileTexts;
 use crate::outlets::{Outlets, abandon_outlets};
 use crate::placing::commit_outlets;
 use rv_command::{Stop, put_message, put_results};
-use rv_files::{LastError, Outputs};
-use rv_junit::IndexedRows;
-use rv_rows::{RowReporter, Sink};
+use rv_files::{LastError, Outputs, Sink};
+use rv_rows::RowReporter;
+use rv_stream::IndexedRows;
 use std::alloc::Global;
 
 /// Writes what a command shows: to standard output, or to standard error if a file goes to standard output.

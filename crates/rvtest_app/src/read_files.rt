@@ -2,7 +2,7 @@
 
 ghost use Rattle.std.specs.Prelude.{◌≡◌, length};
 
-use rv_base::Text;
+use rv_files::Text;
 use std::path::PathBuf;
 
 /// A file that a command reads.

@@ -1,9 +1,8 @@
 //! The report text of a row, reported as the row comes.
 
-ghost use Rattle.rv_report.specs.Report.{row_text};
+ghost use Rattle.rv_rows.specs.Report.{row_text};
 
-use rv_report::push_row;
-use rv_rows::{Row, RowReporter};
+use rv_rows::{Row, RowReporter, push_row};
 use std::alloc::{AllocError, Global};
 
 /// Reports each row as a report has it.

@@ -3,10 +3,10 @@
 ghost use Rattle.std.specs.Prelude.{◌≡◌, ◌<◌, ◌≤◌, ◌^◌, IfErr, IfOk, Ok, OnErr, OnOk, Some, length};
 ghost use Rattle.std.specs.Io.KnownBytes.{Appends};
 ghost use Rattle.rv_expect.specs.Judgement.{judging_of};
-ghost use Rattle.rv_fleet.specs.Batches.{batch_rows};
+ghost use Rattle.rv_stream.specs.Batches.{batch_rows};
 ghost use Rattle.rv_job_text.specs.TotalsLine.{run_totals_line};
-ghost use Rattle.rv_lists.specs.Sinks.{AppendsBeginning};
-ghost use Rattle.rv_report.specs.Report.{row_text};
+ghost use Rattle.rv_files.specs.Sinks.{AppendsBeginning};
+ghost use Rattle.rv_rows.specs.Report.{row_text};
 ghost use Rattle.rv_stream.specs.Limits.{rows_within};
 ghost use Rattle.rv_stream.specs.Streams.{joined_row_texts};
 ghost use Rattle.rvtest_app.specs.Commands.{stop_of_stream};
@@ -18,10 +18,11 @@ use crate::outlets::unwritten_stop;
 use crate::report_row_reporter::ReportRowReporter;
 use rv_command::Stop;
 use rv_expect::Judge;
-use rv_fleet::{Batch, Crew, Row, Rows, Sink, put_all};
+use rv_files::{Sink, put_all};
 use rv_job_text::push_run_totals_line;
+use rv_rows::{Row, RowReporter, Rows};
 use rv_stream::{
-    BothError, FailureLimit, ReporterOutput, RowReporter, StreamError, stream_rows,
+    Batch, BothError, Crew, FailureLimit, ReporterOutput, StreamError, stream_rows,
     stream_rows_to_both,
 };
 use std::alloc::Global;

@@ -1,10 +1,10 @@
 -- The counts are those of the run that begins where the job's does.
 use Rattle.std.proofs.Common.{Some, None, Result, get_or, sym, subst, arith}
 use Rattle.std.proofs.lemmas.List.{get_or_read}
-use Rattle.rv_jobs.specs.declared_job.Job.{Job}
-use Rattle.rv_machine.specs.Machine.{state_of}
-use Rattle.rv_machine.specs.State.{State}
-use Rattle.rv_report.specs.declared.row.Refusal.{Refusal}
+use Rattle.rv_trace.specs.declared_job.Job.{Job}
+use Rattle.rv_trace.specs.Machine.{state_of}
+use Rattle.rv_trace.specs.State.{State}
+use Rattle.rv_fleet.specs.declared_row.Refusal.{Refusal}
 use Rattle.rv_counting.specs.Coverage.{AreCountsOf, AreCountsOfJob}
 use Rattle.rv_counting.proofs.Evens.{counts_even, counts_few}
 use Rattle.rv_counting.proofs.Starts.{start_even}

@@ -1,5 +1,5 @@
 -- The counts of the run, sorted.
-use Rattle.rv_machine.specs.Machine.{state_of}
+use Rattle.rv_trace.specs.Machine.{state_of}
 use Rattle.rv_counting.proofs.count.count_run.Goals as goal
 
 pub returns : goal.returns

@@ -1,6 +1,6 @@
 -- From block to block.
 use Rattle.std.proofs.Common.{◌≡◌, ◌+◌, ◌-◌, sym, subst, arith}
-use Rattle.rv_machine.specs.Machine.{state_of}
+use Rattle.rv_trace.specs.Machine.{state_of}
 use Rattle.rv_counting.specs.Counters.{IsCounting}
 use Rattle.rv_counting.proofs.Counters.{counted_all, equal_tests, unequal_tests}
 use Rattle.rv_counting.proofs.count.counter_of_run.Goals as goal

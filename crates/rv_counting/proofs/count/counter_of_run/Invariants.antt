@@ -1,6 +1,6 @@
 -- What is counted so far.
 use Rattle.std.proofs.Common.{◌-◌, ◌≤◌}
-use Rattle.rv_machine.specs.Machine.{state_of}
+use Rattle.rv_trace.specs.Machine.{state_of}
 use Rattle.rv_counting.specs.Counters.{IsCounting}
 use Rattle.rv_counting.proofs.count.counter_of_run.Given as goal
 

@@ -3,11 +3,11 @@ use Rattle.std.proofs.Common.{◌≡◌, ◌∙◌, ◌<◌, ◌^◌, ℕ, Optio
 use Rattle.std.proofs.lemmas.List.{get_or_read}
 use Rattle.std.specs.Prelude.{IfSome}
 use Rattle.std.specs.Result.{result_ok}
-use Rattle.rv_elf.specs.Image.{image_of}
+use Rattle.rv_trace.specs.Image.{image_of}
 use Rattle.rv_count_tables.specs.declared.table.AddressCounts.{AddressCounts}
 use Rattle.rv_count_tables.specs.Table.{IsTable, begun_at}
-use Rattle.rv_jobs.specs.declared_job.Job.{Job}
-use Rattle.rv_rows.specs.Rows.{start_in}
+use Rattle.rv_trace.specs.declared_job.Job.{Job}
+use Rattle.rv_trace.specs.Rows.{start_in}
 use Rattle.rv_trace.specs.Trace.{job_at}
 use Rattle.rv_counting.specs.Coverage.{AreCountsOfJob}
 use Rattle.rv_counting.specs.JobTables.{table_of_run, IsTableOfOne}

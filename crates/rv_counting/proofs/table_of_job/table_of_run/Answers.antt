@@ -4,7 +4,7 @@ use Rattle.rv_count_tables.specs.declared.table.FunctionName.{FunctionName}
 use Rattle.rv_count_tables.specs.Table.{AreNames, AreNamesOf, AreSpots}
 use Rattle.rv_counting.proofs.OfJobs.{no_names, no_owners, no_spots, one_image_is_table}
 use Rattle.rv_counting.proofs.table_of_job.table_of_run.Goals as goal
-use Rattle.rv_call_tree.specs.declared.spot.Spot.{Spot}
+use Rattle.rv_count_tables.specs.declared_spot.Spot.{Spot}
 
 pub returns-clause-table : goal.returns-clause-table
 returns-clause-table c =

@@ -2,8 +2,8 @@ use Rattle.std.proofs.Common.{rules}
 use Rattle.std.proofs.Common.{◌≡◌, ◌∙◌, IfSome, List, ap, subst, sym}
 use Rattle.rv_elf.specs.Rows.{accepted}
 use Rattle.rv_elf.specs.Symbols.{signature_check}
-use Rattle.rv_memory.specs.declared.map.Region.{Region}
-use Rattle.rv_memory.specs.Bus.{Contents}
+use Rattle.rv_machine.specs.declared_map.Region.{Region}
+use Rattle.rv_machine.specs.Bus.{Contents}
 use Rattle.rv_machine.specs.Run.{Ran}
 use Rattle.rv_machine.specs.Machine.{state_of}
 use Rattle.rv_machine.proofs.Public.{run_keeps}

@@ -4,8 +4,8 @@ use Rattle.std.proofs.lemmas.Result.{err_from_is_err_and}
 use Rattle.std.specs.List.{concat}
 use Rattle.rv_base.proofs.Public.{beginning_of_longer, failed_under_way, more_under_way, nothing_under_way}
 use Rattle.rv_base.proofs.Public.{stopped_under_way}
-use Rattle.rv_rows.specs.Sinks.{IsPartlySent}
-use Rattle.rv_rows.specs.declared_row.Row.{Row}
+use Rattle.rv_base.specs.Sinks.{IsPartlySent}
+use Rattle.rv_fleet.specs.declared_row.Row.{Row}
 use Rattle.rv_stream.proofs.Tellings.{told_behind, told_none, told_rest}
 use Rattle.rv_stream.specs.Streams.{row_text_list, joined_row_texts}
 use Rattle.rv_stream.proofs.row_text_writes.write_row_texts.Goals as goal

@@ -1,5 +1,5 @@
 use Rattle.std.proofs.Common.{◌≡◌, ◌++◌, take}
-use Rattle.rv_rows.specs.Sinks.{IsPartlySent}
+use Rattle.rv_base.specs.Sinks.{IsPartlySent}
 use Rattle.rv_stream.specs.Streams.{joined_row_texts}
 use Rattle.rv_stream.proofs.row_text_writes.write_row_texts.Given as goal
 

@@ -6,9 +6,9 @@ use Rattle.std.specs.Io.KnownBytes.{Appends}
 use Rattle.std.specs.List.{concat}
 use Rattle.rv_expect.specs.Judgement.{fails, judging_of}
 use Rattle.rv_fleet.specs.Batches.{batch_rows}
-use Rattle.rv_rows.specs.declared_report.WriteError.{WriteError}
-use Rattle.rv_rows.specs.declared_row.Row.{Row}
-use Rattle.rv_rows.specs.Sinks.{AppendsBeginning}
+use Rattle.rv_fleet.specs.declared_report.WriteError.{WriteError}
+use Rattle.rv_fleet.specs.declared_row.Row.{Row}
+use Rattle.rv_base.specs.Sinks.{AppendsBeginning}
 use Rattle.rv_stream.specs.declared.reported_row.ReportedRow.{ReportedRow}
 use Rattle.rv_stream.specs.Limits.{rows_up_to}
 use Rattle.rv_stream.specs.Streams.{joined_row_texts}

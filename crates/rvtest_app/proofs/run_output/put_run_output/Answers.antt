@@ -1,6 +1,6 @@
 use Rattle.std.proofs.Common.{◌∙◌, ◌-◌, ap, arith, length}
 use Rattle.rv_expect.specs.Judgement.{judging_of}
-use Rattle.rv_fleet.specs.Batches.{batch_rows}
+use Rattle.rv_stream.specs.Batches.{batch_rows}
 use Rattle.rv_job_text.specs.TotalsLine.{run_totals_line}
 use Rattle.rv_stream.specs.Limits.{rows_within}
 use Rattle.rvtest_app.proofs.Sent.{begun_before, told_behind, told_whole}

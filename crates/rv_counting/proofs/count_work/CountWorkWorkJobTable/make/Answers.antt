@@ -1,5 +1,5 @@
 use Rattle.std.proofs.Common.{[]}
-use Rattle.rv_jobs.specs.Jobs.{single_job}
+use Rattle.rv_trace.specs.Jobs.{single_job}
 use Rattle.rv_counting.proofs.count_work.CountWorkWorkJobTable.make.Goals as goal
 
 pub new-requires : goal.new-requires

@@ -1,7 +1,7 @@
 -- One row more is told of, if it has a place.
 use Rattle.std.proofs.Common.{◌≡◌, ◌∙◌, ◌<◌, ◌∷◌, [], ◌++◌, ℕ, List, Some, get_or, length, sym, ap, subst, arith}
 use Rattle.std.proofs.lemmas.List.{length-append, length-map, map-append}
-use Rattle.rv_rows.specs.declared_report.WriteError.TheVariants.{OutOfMemory}
+use Rattle.rv_fleet.specs.declared_report.WriteError.TheVariants.{OutOfMemory}
 use Rattle.rv_stream.specs.declared.reported_row.ReportedRow.{ReportedRow}
 use Rattle.rv_stream.specs.Streams.{joined_row_texts}
 use Rattle.rv_stream.specs.Texts.{IsSent}
