@@ -1,4 +1,4 @@
-//! What `rvtest help list` prints. packaging/pages writes this file from README.md's table of keys.
+//! What `rvtest help keys` prints. packaging/pages writes this file from README.md's table of keys.
 
 /// The keys of a list.
 pub(crate) const LIST_KEYS: &str = "\

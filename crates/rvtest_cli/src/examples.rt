@@ -139,9 +139,10 @@ Status:
 
 pub(crate) const HELP: &str = "\
 Examples:
-  rvtest help list
+  rvtest help run
+  rvtest help keys
 
 Status:
-  0  The keys were described
+  0  The help was printed
   2  Invalid arguments, or unknown topic
   3  System error: memory";

@@ -269,9 +269,13 @@ pub(crate) const PROFILE: Subcommand<'static> = Subcommand {
 
 const HELP: Subcommand<'static> = Subcommand {
     name: "help",
-    about: "Describe the keys of a job list",
+    about: "Print help for a command, or describe the keys of a job list",
     after: examples::HELP,
-    arguments: &[Argument::Word("topic", "TOPIC", "Topic to describe: list")],
+    arguments: &[Argument::OptionalWord(
+        "topic",
+        "TOPIC",
+        "Name of a command, or keys for the keys of a job list",
+    )],
 };
 
 const LIST_PATH: &str = "Path of the job list";

@@ -4,7 +4,7 @@ use Rattle.clap.specs.Words.{HasKind, app_of, fault_of, is_simple_and_free, kind
 use Rattle.rvtest_cli.specs.RvtestWords.{FailsByMisuse, matched_misuse, misuse_kinds, words_fault_kinds, words_misuse, matched_words}
 use Rattle.rvtest_cli.specs.WordsErrors.{FailsByKinds}
 use Rattle.rvtest_cli.proofs.RvtestReading.{faults, here, kinds_of_misuse, no_misuse, none_told, of_memory, refused, told_of, told_where_failed}
-use Rattle.rvtest_cli.proofs.requests.read_words.Goals as goal
+use Rattle.rvtest_cli.proofs.requests.read_request.Goals as goal
 
 pub returns-in_err-command-clause-kinds : goal.returns-in_err-command-clause-kinds
 returns-in_err-command-clause-kinds g c =
