@@ -22,6 +22,7 @@ use Rattle.rv_accept.specs.declared.values.ValueKey.TheVariants as key
 use Rattle.rv_accept_text.specs.ChangedTexts.{text_change}
 use Rattle.rv_accept_text.specs.FileLines.{job_name, left_head}
 use Rattle.rv_accept_text.specs.declared.new_list.ChangedValue.{ChangedValue}
+use Rattle.rv_text.specs.Words.{exit_code_text}
 
 -- ---- a value that is replaced
 
@@ -66,7 +67,7 @@ value_line path value job row = value_head path value job ++ value_change value.
 
 -- how a run ended, with its code or kind
 abbrev pub actual_end_text : RowEnd → List ℕ
-actual_end_text (ending.Exit code) = codes "exit " ++ decimal code
+actual_end_text (ending.Exit code) = codes "exit " ++ exit_code_text code
 actual_end_text (ending.Fault kind pc value) = codes "fault " ++ fault_name kind
 actual_end_text ending.Budget = codes "budget"
 actual_end_text (ending.Refused refusal) = codes "refused " ++ refusal_name refusal
@@ -81,7 +82,7 @@ wanted_end_text None = codes "exit 0"
 abbrev pub expected_text : Option ℕ → Option ExpectedEnd → RowEnd → List ℕ
 expected_text None how end = wanted_end_text how
 expected_text (Some code) how end =
-    if has_expected_exit (Some code) end then wanted_end_text how else codes "exit " ++ decimal code
+    if has_expected_exit (Some code) end then wanted_end_text how else codes "exit " ++ exit_code_text code
 
 abbrev pub other_end_text : Job → RowEnd → List ℕ
 other_end_text job (ending.Refused refusal) = actual_end_text (ending.Refused refusal)

@@ -291,7 +291,7 @@ fn push_wanted(
 {
     match exit {
         Some(code) if !has_expected_exit(exit, ending) => {
-            push_spans(out, &[Span::Text("exit "), Span::Number(code as u64)])
+            push_spans(out, &[Span::Text("exit "), Span::ExitCode(code)])
         }
         _ => push_wanted_end(out, end),
     }
@@ -314,7 +314,7 @@ fn push_met_end(out: &mut Vec<u8>, ending: RowEnd) -> Result<(), AllocError>
     ensures { OnOk result (out.new.items ≡ out.old.items ++ actual_end_text ending) }
 {
     match ending {
-        RowEnd::Exit(code) => push_spans(out, &[Span::Text("exit "), Span::Number(code as u64)]),
+        RowEnd::Exit(code) => push_spans(out, &[Span::Text("exit "), Span::ExitCode(code)]),
         RowEnd::Fault(kind, ..) => push_spans(
             out,
             &[Span::Text("fault "), Span::Text(kind.name())],

@@ -10,7 +10,7 @@ use Rattle.rv_rows.specs.declared_row.RowEnd.{RowEnd}
 use Rattle.rv_rows.specs.declared_row.RowEnd.TheVariants as ending
 use Rattle.rv_rows.specs.declared_row.Verdict.{Verdict}
 use Rattle.rv_rows.specs.Report.{line, refusal_name, verdict_name}
-use Rattle.rv_text.specs.Words.{word_digits}
+use Rattle.rv_text.specs.Words.{exit_code_text, word_digits}
 use Rattle.rv_rows.specs.Verdict.{are_same_signatures}
 use Rattle.rv_diff.specs.declared.change.Compare.{Compare}
 use Rattle.rv_diff.specs.declared.change.Compare.TheVariants.{Outcomes, Slower, Steps}
@@ -19,7 +19,7 @@ use Rattle.rv_diff.specs.Change.{have_same_console, are_same_endings, agree_in_s
 -- ---- what changed
 
 unfoldable pub ending_words : RowEnd → List ℕ
-ending_words (ending.Exit code) = codes "exit " ++ decimal code
+ending_words (ending.Exit code) = codes "exit " ++ exit_code_text code
 ending_words (ending.Fault kind pc value) = codes "fault " ++ fault_name kind
     ++ codes " pc=" ++ word_digits pc ++ codes " value=" ++ word_digits value
 ending_words ending.Budget = codes "budget"

@@ -67,7 +67,7 @@ fn push_ending<'a>(text: &mut Vec<u8>, ending: RowEnd, end: &'a str) -> Result<(
             text,
             &[
                 Span::Text("exit "),
-                Span::Number(u64::from(code)),
+                Span::ExitCode(code),
                 Span::Text(end),
             ],
         ),

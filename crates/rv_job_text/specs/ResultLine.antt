@@ -6,7 +6,7 @@ use Rattle.rv_rows.specs.declared_row.Row.{Row}
 use Rattle.rv_rows.specs.declared_row.RowEnd.{RowEnd}
 use Rattle.rv_rows.specs.declared_row.RowEnd.TheVariants as ending
 use Rattle.rv_rows.specs.Report.{line, refusal_name}
-use Rattle.rv_text.specs.Words.{word_digits}
+use Rattle.rv_text.specs.Words.{exit_code_text, word_digits}
 use Rattle.rv_expect.specs.Judgement.{Judged, failed, known, now_passes, passed}
 use Rattle.rv_text.specs.Printable.{printable_text}
 use Rattle.rv_text.specs.Symbol.{symbol_in_brackets}
@@ -22,7 +22,7 @@ after_steps_text steps = codes " after " ++ decimal steps ++ codes " steps"
 -- how a run ended, with the number of steps and the address, or why there is none
 unfoldable pub result_ending_text : RowEnd → ℕ → Option (List ℕ × ℕ) → Option (List ℕ) → List ℕ
 result_ending_text (ending.Exit code) steps place reason =
-    codes "exit " ++ decimal code ++ after_steps_text steps
+    codes "exit " ++ exit_code_text code ++ after_steps_text steps
 result_ending_text (ending.Fault kind pc value) steps place reason =
     codes "fault " ++ fault_name kind ++ codes " at " ++ word_digits pc ++ symbol_in_brackets place
     ++ codes ", value " ++ word_digits value ++ codes "," ++ after_steps_text steps

@@ -25,14 +25,14 @@ use Rattle.rv_rows.specs.declared_row.Row.{Row}
 use Rattle.rv_rows.specs.declared_row.RowEnd.{RowEnd}
 use Rattle.rv_rows.specs.declared_row.RowEnd.TheVariants as ending
 use Rattle.rv_rows.specs.Report.{line, refusal_name}
-use Rattle.rv_text.specs.Words.{word_digits}
+use Rattle.rv_text.specs.Words.{exit_code_text, word_digits}
 use Rattle.rv_job_text.specs.ConsoleLines.{Wanted, console_lines, expected_by_lines}
 
 -- ---- the exit code and the end
 
 unfoldable pub expected_exit_text : Option ℕ → List ℕ
 expected_exit_text None = codes "an exit"
-expected_exit_text (Some code) = codes "exit " ++ decimal code
+expected_exit_text (Some code) = codes "exit " ++ exit_code_text code
 
 unfoldable pub expected_end_text : Option ExpectedEnd → List ℕ
 expected_end_text None = codes "another end"
@@ -124,7 +124,7 @@ signature_difference_text first (Some path) words bytes difference =
 
 -- how a run ended
 unfoldable pub row_end_text : RowEnd → List ℕ
-row_end_text (ending.Exit code) = codes "exit " ++ decimal code
+row_end_text (ending.Exit code) = codes "exit " ++ exit_code_text code
 row_end_text (ending.Fault kind pc value) = codes "fault " ++ fault_name kind
 row_end_text ending.Budget = codes "its budget used up"
 row_end_text (ending.Refused why) = codes "the refusal " ++ refusal_name why

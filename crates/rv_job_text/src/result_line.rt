@@ -142,13 +142,13 @@ fn push_result_ending(
 
 fn push_exit_ending(bytes: &mut Vec<u8>, code: u32, steps: u32) -> Result<(), AllocError>
     ensures { OnOk result (bytes.new.items ≡ bytes.old.items
-        ++ (codes "exit " ++ decimal code ++ after_steps_text steps)) }
+        ++ (codes "exit " ++ exit_code_text code ++ after_steps_text steps)) }
 {
     push_spans(
         bytes,
         &[
             Span::Text("exit "),
-            Span::Number(code as u64),
+            Span::ExitCode(code),
             Span::Text(" after "),
             Span::Number(steps as u64),
             Span::Text(" steps"),

@@ -113,7 +113,7 @@ pub(crate) fn push_expected_exit(
     ensures { OnOk result (bytes.new.items ≡ bytes.old.items ++ expected_exit_text expected) }
 {
     match expected {
-        Some(code) => push_spans(bytes, &[Span::Text("exit "), Span::Number(code as u64)]),
+        Some(code) => push_spans(bytes, &[Span::Text("exit "), Span::ExitCode(code)]),
         None => push_text(bytes, "an exit"),
     }
 }
@@ -195,7 +195,7 @@ fn push_row_end(bytes: &mut Vec<u8>, before: &'static str, ending: RowEnd) -> Re
     let before = Span::Text(before);
     match ending {
         RowEnd::Exit(code) => {
-            let code = Span::Number(code as u64);
+            let code = Span::ExitCode(code);
             push_spans(bytes, &[before, Span::Text("exit "), code])
         }
         RowEnd::Fault(kind, _, _) => {

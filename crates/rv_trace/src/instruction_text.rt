@@ -197,7 +197,7 @@ pub(crate) fn push_end_reason(bytes: &mut Vec<u8>, end: RowEnd) -> Result<(), Al
     match end {
         RowEnd::Exit(code) => push_spans(
             bytes,
-            &[Span::Text("exit "), Span::Number(u64::from(code))],
+            &[Span::Text("exit "), Span::ExitCode(code)],
         ),
         RowEnd::Fault(kind, _, value) => {
             push_text(bytes, kind.name())?;

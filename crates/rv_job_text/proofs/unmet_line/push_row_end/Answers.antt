@@ -1,6 +1,6 @@
 use Rattle.std.proofs.Common.{codes}
-use Rattle.std.specs.Fmt.{decimal}
 use Rattle.rv_text.proofs.Public.{told}
+use Rattle.rv_text.specs.Words.{exit_code_text}
 use Rattle.rv_job_text.specs.UnmetLines.{row_end_text}
 use Rattle.rv_job_text.proofs.Told.{ended_told}
 use Rattle.rv_job_text.proofs.unmet_line.push_row_end.Goals as goal
@@ -9,7 +9,7 @@ pub returns-in-Exit : goal.returns-in-Exit
 unfolding row_end_text
 returns-in-Exit c =
     rw c.in-Exit.is
-    (told _ _ _ _ _ (ended_told c.args.before.now (codes "exit ") (decimal c.in-Exit.code)) c.push_spans.ensures)
+    (told _ _ _ _ _ (ended_told c.args.before.now (codes "exit ") (exit_code_text c.in-Exit.code)) c.push_spans.ensures)
 
 pub returns-in-Fault : goal.returns-in-Fault
 unfolding row_end_text
