@@ -7,6 +7,7 @@ use Rattle.rv_jobs.specs.Plans.{Planned}
 use Rattle.rv_machine.specs.Faults.{fault_name}
 use Rattle.rv_rows.specs.declared_row.Row.{Row}
 use Rattle.rv_rows.specs.Report.{line}
+use Rattle.rv_text.specs.Words.{count_text}
 use Rattle.rv_expect.specs.Judgement.{Judging, fails, is_known_failure, is_passed, judgement}
 use Rattle.rv_expect.specs.declared.failure_kind.FailureKind.{FailureKind}
 use Rattle.rv_expect.specs.declared.failure_kind.FailureKind.TheVariants as failure
@@ -72,13 +73,13 @@ passed_counts_text jobs passed failed = decimal jobs ++ job_word jobs ++ codes "
 
 -- the number of known failures, shown if there are any
 abbrev pub known_count_text : ℕ → List ℕ
-known_count_text count = if count == 0 then [] else codes ", " ++ decimal count ++ codes " known"
+known_count_text count = if count == 0 then [] else codes ", " ++ count_text count (codes "known failure")
 
 -- the text of the last line for rows with these failures
 unfoldable pub totals_text : Judging → List FailureKind → List Row → List ℕ
 totals_text judging failures rows = passed_counts_text (length rows) (passed_count judging rows) (failed_count judging rows)
     ++ bracket_text (failure_texts_below (failure_count failures) failure_kind_count)
-    ++ known_count_text (known_count judging rows) ++ codes ", " ++ decimal (total_steps rows) ++ codes " steps"
+    ++ known_count_text (known_count judging rows) ++ codes ", " ++ count_text (total_steps rows) (codes "step")
 
 -- the last line for the rows of a report, whose failures are counted by their ends
 abbrev pub totals_line : Judging → List Row → List ℕ

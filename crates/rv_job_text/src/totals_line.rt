@@ -1,7 +1,7 @@
 //! The last line, which counts the rows.
 
 ghost use Rattle.std.specs.Prelude.{◌≡◌, ◌<◌, ◌≤◌, ◌^◌, ◌++◌, OnOk, codes, length};
-ghost use Rattle.std.specs.Fmt.{decimal};
+ghost use Rattle.rv_text.specs.Words.{count_text};
 ghost use Rattle.rv_job_text.specs.TotalsLine.{failed_count, hidden_text, job_word, known_count, known_count_text, passed_count, passed_counts_text, run_totals_line, total_steps, totals_line, totals_text};
 ghost use Rattle.rv_expect.specs.Judgement.{judging_of};
 
@@ -116,8 +116,7 @@ fn push_known_count(bytes: &mut Vec<u8>, count: usize) -> Result<(), AllocError>
         bytes,
         &[
             Span::Text(", "),
-            Span::Number(count as u64),
-            Span::Text(" known"),
+            Span::Count(count as u64, "known failure"),
         ],
     )
 }
@@ -174,10 +173,7 @@ fn push_hidden_count(bytes: &mut Vec<u8>, hidden: usize) -> Result<(), AllocErro
 // Appends the steps of all jobs.
 fn push_total_steps(bytes: &mut Vec<u8>, steps: u64) -> Result<(), AllocError>
     ensures { OnOk result (bytes.new.items ≡ bytes.old.items
-        ++ (codes ", " ++ decimal steps ++ codes " steps")) }
+        ++ (codes ", " ++ count_text steps (codes "step"))) }
 {
-    push_spans(
-        bytes,
-        &[Span::Text(", "), Span::Number(steps), Span::Text(" steps")],
-    )
+    push_spans(bytes, &[Span::Text(", "), Span::Count(steps, "step")])
 }
