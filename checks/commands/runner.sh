@@ -393,7 +393,7 @@ printf '%s\n' '! first: steps 2 -> 7' '1 of 3 jobs differ: 0 gone, 0 new, 1 chan
 run diff three slower --steps >out 2>err
 ends 'their steps compared' 1 slower.shown
 run diff three green >out 2>err
-shows 'a report compared with that of a choice' 0 '0 of 1 jobs differ: 0 gone, 0 new, 0 changed, 2 left out'
+shows 'a report compared with that of a choice' 0 '0 of 1 job differs: 0 gone, 0 new, 0 changed, 2 not compared'
 run diff three missing >out 2>err
 says 'a missing report compared' 3 none missing
 run explain three.toml second --last 1 >out 2>err
@@ -401,7 +401,7 @@ shows 'a job explained' 1 'FAIL second: exit 5 after 2 steps' 'expected: exit 0'
 # A folder that has one of two images.
 mkdir root
 cp z.elf root/gone.elf
-printf '%s\n' 'gone.toml:6: job 2 "lost": refused image-unreadable: lost.elf: No such file or directory' '2 jobs, 1 refused' >root.checked
+printf '%s\n' 'gone.toml:6: error: job 2 "lost": refused image-unreadable: lost.elf: No such file or directory' '2 jobs, 1 refused' >root.checked
 run check gone.toml --root root >out 2>err
 ends 'images in a folder checked' 2 root.checked
 run explain gone.toml gone >out 2>err

@@ -5,4 +5,4 @@ pub mod OfPlans
 pub mod TwoEnds
 mod KnownLines
 mod KnownPlaces
-mod Failures
+mod Collecting

@@ -274,7 +274,7 @@ TellsFaultOfTable names ms wrong told = TellsOwnFault wrong ms told
 
 -- the explanation of an element that is not a table
 abbrev pub TellsNoTable : Data → List ℕ → Type 0
-TellsNoTable value told = (shown : List ℕ) × IsShownValue value shown × (told ≡ shown ++ codes ": expected a table")
+TellsNoTable value told = (shown : List ℕ) × IsShownValue value shown × (told ≡ codes "expected a table, found " ++ shown)
 
 -- the explanation of an error of an element, in a list whose jobs have these names
 abbrev pub TellsJobFault : List (Option (List ℕ)) → Option Data → What → List ℕ → Type 0

@@ -504,7 +504,7 @@ misuse_text misuse.StampAlone = codes "the argument '--stamp <TEXT>' cannot be u
 misuse_text misuse.BudgetAndRows =
     codes "the argument '--budget <N>' cannot be used with '--into <FILE>', '--report <FILE>', '--junit <FILE>' or '--shard <K/N>': results with an overridden budget are not saved"
 misuse_text misuse.StopAfterAndShard =
-    codes "the argument '--stop-after <N>' cannot be used with '--shard <K/N>': a part has a row for each of its jobs"
+    codes "the argument '--stop-after <N>' cannot be used with '--shard <K/N>': a part must have a row for every job of its shard"
 misuse_text misuse.IntoAndReport =
     codes "the argument '--into <FILE>' cannot be used with '--report <FILE>' or '--shard <K/N>': it already names the report to write"
 misuse_text misuse.IntoStdout =

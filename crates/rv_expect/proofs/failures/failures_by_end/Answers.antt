@@ -4,7 +4,7 @@ use Rattle.rv_rows.specs.declared_row.Row.{Row}
 use Rattle.rv_expect.specs.FailureKinds.{failure_by_end}
 use Rattle.rv_expect.specs.declared.failure_kind.FailureKind.{FailureKind}
 use Rattle.rv_expect.specs.Judgement.{judging_of}
-use Rattle.rv_expect.proofs.Failures.{all_of, one_more}
+use Rattle.rv_expect.proofs.Collecting.{all_of, one_more}
 use Rattle.rv_expect.proofs.failures.failures_by_end.Goals as goal
 
 pub loop-row-preserved : goal.loop-row-preserved

@@ -5,7 +5,7 @@ use Rattle.rv_rows.specs.declared_row.Row.{Row}
 use Rattle.rv_expect.specs.FailureKinds.{failure_in_plan}
 use Rattle.rv_expect.specs.declared.failure_kind.FailureKind.{FailureKind}
 use Rattle.rv_expect.specs.Judgement.{judging_of}
-use Rattle.rv_expect.proofs.Failures.{all_of, one_more, pair_at, pairs}
+use Rattle.rv_expect.proofs.Collecting.{all_of, one_more, pair_at, pairs}
 use Rattle.rv_expect.proofs.failures.failures_in_plan.Goals as goal
 
 pub loop-i-preserved : goal.loop-i-preserved
