@@ -27,7 +27,7 @@ pub(crate) const RUN: Subcommand<'static> = Subcommand {
         Argument::Option(
             "stamp",
             "TEXT",
-            "Tag the part with this text; merge accepts only parts with equal tags [default: a digest of the list]",
+            "Stamp the part with this text; merge accepts only parts with equal stamps [default: a digest of the list]",
         ),
         Argument::Number("workers", Some('j'), THREADS, WORKERS, &[]),
         Argument::Group,
