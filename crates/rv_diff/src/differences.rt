@@ -65,11 +65,7 @@ fn push_ending<'a>(text: &mut Vec<u8>, ending: RowEnd, end: &'a str) -> Result<(
     match ending {
         RowEnd::Exit(code) => push_spans(
             text,
-            &[
-                Span::Text("exit "),
-                Span::ExitCode(code),
-                Span::Text(end),
-            ],
+            &[Span::Text("exit "), Span::ExitCode(code), Span::Text(end)],
         ),
         RowEnd::Fault(kind, pc, value) => push_spans(
             text,

@@ -153,7 +153,10 @@ fn push_word_place(bytes: &mut Vec<u8>, first: Option<u32>, place: usize) -> Res
                 Span::Text("): expected "),
             ],
         ),
-        None => push_spans(bytes, &[Span::Text(" at word "), number, Span::Text(": expected ")]),
+        None => push_spans(
+            bytes,
+            &[Span::Text(" at word "), number, Span::Text(": expected ")],
+        ),
     }
 }
 

@@ -114,10 +114,7 @@ fn push_known_count(bytes: &mut Vec<u8>, count: usize) -> Result<(), AllocError>
     }
     push_spans(
         bytes,
-        &[
-            Span::Text(", "),
-            Span::Count(count as u64, "known failure"),
-        ],
+        &[Span::Text(", "), Span::Count(count as u64, "known failure")],
     )
 }
 

@@ -5,7 +5,9 @@ ghost use Rattle.std.specs.List.{flat_map};
 ghost use Rattle.rv_text.specs.Spans.{span_text};
 
 use crate::printable::{push_printable_name, push_printable_text, push_printable_value};
-use crate::text_and_numbers::{push_count, push_exit_code, push_number, push_text, push_word_digits};
+use crate::text_and_numbers::{
+    push_count, push_exit_code, push_number, push_text, push_word_digits,
+};
 use std::alloc::{AllocError, Global};
 
 /// A span of a line.

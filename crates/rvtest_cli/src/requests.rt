@@ -105,10 +105,7 @@ fn is_command_help(word: &str, topic: &str) -> bool
 }
 
 // Returns the help that the words request with an option, as an error; they request nothing else.
-fn command_help<'a, T: AsStr>(
-    alloc: Global,
-    words: &[T],
-) -> Result<Option<Asked<'a>>, WordsError>
+fn command_help<'a, T: AsStr>(alloc: Global, words: &[T]) -> Result<Option<Asked<'a>>, WordsError>
     ensures value { IfOk result (λ asked. asked ≡ None) }
     ensures kinds { FailsByKinds (fault_of test_app (map T.text words.entry.now)) result }
 {
