@@ -1,5 +1,5 @@
 -- The lines of golden files.
-use Rattle.std.specs.Prelude.{◌==◌, ◌++◌, ℕ, List, [], Option, Some, None, codes, if◌then◌else◌, length, option_map, slice_get, unwrap_or}
+use Rattle.std.specs.Prelude.{◌++◌, ℕ, List, [], Option, Some, None, codes, if◌then◌else◌, length, option_map, slice_get, unwrap_or}
 use Rattle.std.specs.List.{find}
 use Rattle.rv_jobs.specs.declared_job.Job.{Job}
 use Rattle.rv_text.specs.Printable.{printable_text}

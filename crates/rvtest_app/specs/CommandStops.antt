@@ -1,12 +1,10 @@
 -- Why commands stopped before their work was done.
 use Rattle.std.specs.Prelude.{◌≡◌, ◌⊎◌, ℕ, Bool, true, false, List, [], MatchOption, Option, None, Some, Ok}
 use Rattle.clap.specs.Kinds.{IsAmong}
-use Rattle.clap.specs.Words.{fault_of}
 use Rattle.clap.specs.declared.error.kind.ErrorKind.{ErrorKind as WordsFault}
 use Rattle.rv_base.specs.Files.{FileContents}
 use Rattle.rv_choice.specs.ChoiceStops.{IsChoiceStop}
 use Rattle.rv_choice.specs.UnknownName.{IsUnknownNameStop}
-use Rattle.rvtest_cli.specs.RvtestCommand.{test_app}
 use Rattle.rvtest_cli.specs.RvtestWords.{asked_words, misuse_text, words_fault_kinds, words_faults, words_misuse, words_request}
 use Rattle.rvtest_cli.specs.declared.accept.AcceptArgs.{AcceptArgs}
 use Rattle.rvtest_cli.specs.declared.check.CheckArgs.{CheckArgs}
