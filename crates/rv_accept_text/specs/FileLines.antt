@@ -11,7 +11,7 @@ use Rattle.rv_accept.specs.declared.claims.Part.TheVariants as part
 use Rattle.rv_accept.specs.declared.fates.GoldenFileOutcome.{GoldenFileOutcome}
 use Rattle.rv_accept.specs.declared.fates.GoldenFileOutcome.TheVariants as fate
 use Rattle.rv_accept.specs.declared.targets.Target.{Target}
-use Rattle.rv_accept_text.specs.ChangedTexts.{byte_change, text_change, word_change}
+use Rattle.rv_accept_text.specs.ChangedTexts.{byte_difference, text_change, word_change}
 use Rattle.rv_accept_text.specs.GoldenFiles.{is_left, new_text}
 use Rattle.rv_accept_text.specs.declared.golden_file.GoldenFile.{GoldenFile}
 use Rattle.rv_accept_text.specs.declared.golden_file.ListFile.{ListFile}
@@ -64,7 +64,7 @@ text_or_empty text = unwrap_or text []
 abbrev pub two_claims_text : List Job → GoldenText → GoldenText → List ℕ
 two_claims_text jobs first other = part_text first.part ++ printable_text (job_name jobs first.job) ++ codes " and "
     ++ part_text other.part ++ printable_text (job_name jobs other.job) ++ codes " differ"
-    ++ byte_change (text_or_empty first.text) (text_or_empty other.text)
+    ++ byte_difference (text_or_empty first.text) (text_or_empty other.text)
 
 abbrev pub other_claim_text : List Job → GoldenText → Option GoldenText → List ℕ
 other_claim_text jobs first None = codes "\n"

@@ -5,7 +5,7 @@ ghost use Rattle.rv_accept_text.specs.FileLines.{changed_file_line, disagreement
 ghost use Rattle.rv_accept_text.specs.FileLines.{made_file_line, other_claim_text, part_change, part_text, text_or_empty, two_claims_text};
 ghost use Rattle.rv_accept_text.specs.FileLines.{why_file_is_left, written_file_line};
 
-use crate::changed_text::{push_byte_change, push_text_change, push_word_change};
+use crate::changed_text::{push_byte_difference, push_text_change, push_word_change};
 use crate::golden_file::{GoldenFile, ListFile};
 use crate::job_lines::job_name;
 use rv_accept::{
@@ -232,7 +232,7 @@ fn push_two_claims(
             Span::Text(" differ"),
         ],
     )?;
-    push_byte_change(out, text_or_empty(&first.text), text_or_empty(&other.text))
+    push_byte_difference(out, text_or_empty(&first.text), text_or_empty(&other.text))
 }
 
 fn text_or_empty(text: &Option<Bytes>) -> &[u8]

@@ -541,6 +541,13 @@ subcommand_misuse name rows = if bytes_eq name (codes "run") then run_misuse row
 abbrev pub matched_misuse : Option (Text × List Row) → Option Misuse
 matched_misuse = option_and_then (λ met. subcommand_misuse met.0 met.1)
 
+-- which options cannot be combined, and the kinds of errors, in arguments that `clap` parses as they are
+abbrev pub plain_misuse : List Text → Option Misuse
+plain_misuse words = matched_misuse (subcommand_of test_app words)
+
+abbrev pub plain_fault_kinds : List Text → Kinds
+plain_fault_kinds words = or_else (fault_of test_app words) (misuse_kinds (plain_misuse words))
+
 -- which options cannot be combined, in arguments in which `clap` finds no error
 abbrev pub words_misuse : List Text → Option Misuse
 words_misuse words = matched_misuse (requested_subcommand words)

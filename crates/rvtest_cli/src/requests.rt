@@ -1,12 +1,11 @@
 //! The requests that arguments make of `rvtest`: a command with its values.
 
 ghost use Rattle.std.specs.Prelude.{◌≡◌, [], IfErr, IfOk, IfSome, None, map, option_map};
-ghost use Rattle.clap.specs.Kinds.{or_else};
 ghost use Rattle.clap.specs.Words.{fault_of, found_of, rows_of, subcommand_of, subcommand_rows_of};
 ghost use Rattle.rvtest_cli.specs.RvtestCommand.{test_app};
 ghost use Rattle.rvtest_cli.specs.RvtestWords.{IsAskedInRange, IsMisuseReported, ReadsRequest, matched_misuse, subcommand_misuse};
-ghost use Rattle.rvtest_cli.specs.RvtestWords.{asked_words, is_command_help, is_help, matched_words, misuse_kinds, subcommand_words};
-ghost use Rattle.rvtest_cli.specs.RvtestWords.{words_fault_kinds, words_faults, words_misuse, words_request};
+ghost use Rattle.rvtest_cli.specs.RvtestWords.{asked_words, is_command_help, is_help, matched_words, plain_fault_kinds, plain_misuse};
+ghost use Rattle.rvtest_cli.specs.RvtestWords.{subcommand_words, words_fault_kinds, words_faults, words_misuse, words_request};
 ghost use Rattle.rvtest_cli.specs.WordsErrors.{FailsByKinds};
 
 use crate::accept::{AcceptArgs, accept_request};
@@ -123,10 +122,9 @@ fn read_request<'a, T: AsStr>(
     ensures value { IfOk result
         (λ asked. option_map asked_words asked ≡ matched_words (subcommand_of test_app (map T.text words.entry.now))) }
     ensures within { IfOk result (λ asked. IfSome asked IsAskedInRange) }
-    ensures kinds { FailsByKinds (or_else (fault_of test_app (map T.text words.entry.now))
-        (misuse_kinds (matched_misuse (subcommand_of test_app (map T.text words.entry.now))))) result }
+    ensures kinds { FailsByKinds (plain_fault_kinds (map T.text words.entry.now)) result }
     ensures misused { fault_of test_app (map T.text words.entry.now) ≡ []
-        → IfErr result (IsMisuseReported (matched_misuse (subcommand_of test_app (map T.text words.entry.now)))) }
+        → IfErr result (IsMisuseReported (plain_misuse (map T.text words.entry.now))) }
 {
     let command = test_command(alloc)?;
     match command.try_get_matches_from(words) {
