@@ -71,7 +71,7 @@ impl FailureKind {
 
     /// Whether this is the other kind.
     pub fn is_same(self, other: FailureKind) -> bool
-        ensures { result ≡ is_same_failure_kind self.entry other }
+        ensures { result ≡ is_same_failure_kind self other }
     {
         match (self, other) {
             (FailureKind::Exit, FailureKind::Exit) => true,

@@ -1,4 +1,4 @@
-use Rattle.std.proofs.Common.{◌∙◌, ◌×◌, ◌++◌, ◌<◌, ℕ, List, ap, arith, get_or, length, sym}
+use Rattle.std.proofs.Common.{◌∙◌, ◌++◌, ◌<◌, ℕ, List, ap, arith, get_or, length, sym}
 use Rattle.std.specs.List.{zip}
 use Rattle.std.specs.Prelude.{option_to_list}
 use Rattle.rv_rows.specs.declared_row.Row.{Row}
