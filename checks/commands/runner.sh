@@ -306,7 +306,7 @@ ends 'the other shard without a stamp' 1 second.shown
 run merge three.part2 three.part1 >out 2>err
 says 'shards without a stamp merged' 1 three '3 jobs'
 run merge spaced.part1 three.part2 >out 2>err
-says 'shards of lists that differ by a byte' 2 none three.part2 'a different stamp' spaced.part1
+says 'shards of lists that differ by a byte' 2 none three.part2 'the stamp differs' spaced.part1
 head -c 100 part2 >begun
 run merge part1 begun >out 2>err
 says 'a part that is cut off' 2 none begun
