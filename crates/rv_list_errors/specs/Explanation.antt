@@ -58,7 +58,7 @@ IsNotToml text place told = (reason : List ℕ) × (told
     ++ (codes ": error: invalid TOML: " ++ reason)))))
 
 abbrev pub too_many_jobs_text : ℕ → List ℕ
-too_many_jobs_text count = codes "too many jobs: expected at most " ++ (decimal most_jobs ++ (codes ", found " ++ decimal count))
+too_many_jobs_text count = (codes "too many jobs: expected at most " ++ (decimal most_jobs ++ codes ", found ")) ++ decimal count
 
 -- ---- keys
 
