@@ -1,7 +1,7 @@
 use Rattle.std.proofs.Common.{◌++◌}
 use Rattle.std.specs.Fmt.{decimal}
 use Rattle.std.specs.Prelude.{codes}
-use Rattle.rv_base.specs.Limits.{most_jobs}
+use Rattle.rv_lists.specs.Limits.{most_jobs}
 use Rattle.rv_list_errors.proofs.Messages.{adds_then}
 use Rattle.rv_list_errors.proofs.list_fault.push_too_many_jobs.Goals as goal
 
