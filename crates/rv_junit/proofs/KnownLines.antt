@@ -12,7 +12,7 @@ use Rattle.rv_stream.specs.Told.{rows_of_reported}
 use Rattle.rv_stream.specs.declared.reported_row.ReportedRow.{ReportedRow}
 use Rattle.rv_junit.specs.KnownLines.{AreFailureTexts, AreLinesOf, IsFailureText}
 
-IsKept : Judging → List (Option (Vec ℕ Global)) → List ReportedRow → ℕ → ReportedRow → Type 0
+abbrev IsKept : Judging → List (Option (Vec ℕ Global)) → List ReportedRow → ℕ → ReportedRow → Type 0
 IsKept judging texts reported k any =
     IfSome (get_or texts k None) (λ text. IsFailureText judging (get_or reported k any) text.items)
 

@@ -27,13 +27,13 @@ pub struct Cases<'a, T: RowReporter> {
     /// The lines of a row by its number, if they are known: the reporter is not asked for them again. There may be fewer than rows.
     pub texts: &'a [Option<Vec<u8>>],
     pub ghost placed: { length rows.now ≤ length places.now },
-    pub ghost known: { AreLinesOf (T.line reporter.now) places.now rows.now texts.now },
 }
 
 impl<T: RowReporter> Cases<'_, T> {
     // The lines of a row, if they are known.
     fn known_lines(&self, number: usize) -> Option<&[u8]>
-        requires { number < length self.now.rows.now }
+        requires number { number < length self.now.rows.now }
+        requires known { AreLinesOf (T.line self.now.reporter.now) self.now.places.now self.now.rows.now self.now.texts.now }
         ensures { IfSome result (λ lines. (any : ARow) → lines.now ≡ T.line self.now.reporter.now
             (slice_index_or self.now.places.now number 0) (slice_index_or self.now.rows.now number any)) }
     {
@@ -54,7 +54,8 @@ impl<T: RowReporter> Cases<'_, T> {
         number: usize,
         text: &mut Vec<u8>,
     ) -> Result<(), AllocError>
-        requires { number < length self.now.rows.now }
+        requires number { number < length self.now.rows.now }
+        requires known { AreLinesOf (T.line self.now.reporter.now) self.now.places.now self.now.rows.now self.now.texts.now }
         ensures { OnOk result ((any : ARow) → text.new.items ≡ text.old.items
             ++ case_text suite.now.name.now (judging_of suite.now.judge) (T.line self.now.reporter.now)
             (slice_index_or self.now.places.now number 0) (slice_index_or self.now.rows.now number any)) }
@@ -83,6 +84,7 @@ pub(crate) fn write_cases<T: RowReporter, W: Sink>(
     cases: &Cases<'_, T>,
     out: &mut W,
 ) -> Result<(), WriteError>
+    requires known { AreLinesOf (T.line cases.now.reporter.now) cases.now.places.now cases.now.rows.now cases.now.texts.now }
     ensures under_way { OnOk result (IsPartlySent (W.taken out.old) (W.taken out.new) text.new.items
         (text.old.items ++ joined_row_texts (case_text suite.now.name.now (judging_of suite.now.judge) (T.line cases.now.reporter.now))
         cases.now.places.now cases.now.rows.now)) }

@@ -27,7 +27,7 @@ pub struct FailureTexts<'k> {
 impl<'k> FailureTexts<'k> {
     /// It has seen no row yet. Takes no memory.
     pub fn new(alloc: Global, judge: Judge<'k>) -> FailureTexts<'k>
-        ensures judge { judging_of result.judge ≡ judging_of judge }
+        ensures judge { judging_of result.judge ≡ judging_of judge.entry }
         ensures none { AreFailureTexts (judging_of result.judge) result.is_closed result.texts.items [] }
     {
         FailureTexts {

@@ -7,6 +7,7 @@ ghost use Rattle.rv_rows.specs.Counts.{HasIncreased};
 ghost use Rattle.rv_stream.specs.Streams.{row_text_list};
 ghost use Rattle.rv_expect.specs.Judgement.{judging_of};
 ghost use Rattle.rv_junit.specs.Junit.{junit_text};
+ghost use Rattle.rv_junit.specs.KnownLines.{AreLinesOf};
 
 use crate::case_writes::{Cases, write_cases};
 use crate::junit::push_suite_begin;
@@ -25,6 +26,7 @@ pub fn write_junit<T: RowReporter, W: Sink>(
     cases: &Cases<'_, T>,
     out: &mut W,
 ) -> Result<(), WriteError>
+    requires known { AreLinesOf (T.line cases.now.reporter.now) cases.now.places.now cases.now.rows.now cases.now.texts.now }
     ensures appended { OnOk result (Appends (W.taken out.old) (W.taken out.new)
         (junit_text suite.now.name.now (judging_of suite.now.judge)
         (row_text_list (T.line cases.now.reporter.now) cases.now.places.now cases.now.rows.now) cases.now.rows.now)) }

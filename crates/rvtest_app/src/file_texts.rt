@@ -1,7 +1,6 @@
 //! What goes to files.
 
 ghost use Rattle.std.specs.Prelude.{◌≤◌, length};
-ghost use Rattle.rv_junit.specs.KnownLines.{AreLinesOf};
 ghost use Rattle.rvtest_app.specs.ReportTexts.{report_rows};
 
 use crate::report_texts::ReportText;
@@ -18,5 +17,4 @@ pub(crate) struct FileTexts<'s, 't, 'p, T: RowReporter> {
     /// The lines that are known already, by the numbers of their rows.
     pub(crate) texts: &'p [Option<Vec<u8>>],
     ghost placed: { length (report_rows report) ≤ length places.now },
-    ghost known: { AreLinesOf (T.line reporter.now) places.now (report_rows report) texts.now },
 }

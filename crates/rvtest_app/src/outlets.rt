@@ -10,6 +10,7 @@ ghost use Rattle.rvtest_app.specs.Outlets.{outlet_path, stdout_part, uses_stdout
 ghost use Rattle.rvtest_app.specs.WriteStops.{IsEitherFileStop, IsTextStop, IsUnopenedStop, IsUnwrittenStop, IsWriteErrorStop, IsWriteStop};
 ghost use Rattle.rvtest_app.specs.WriteStops.{stop_of_write_error};
 ghost use Rattle.rv_junit.specs.Junit.{junit_text};
+ghost use Rattle.rv_junit.specs.KnownLines.{AreLinesOf};
 ghost use Rattle.rv_stream.specs.Streams.{row_text_list};
 ghost use Rattle.rvtest_app.specs.RowSinks.{AreOutletParts, is_file};
 ghost use Rattle.rvtest_app.specs.ReportTexts.{report_rest_of, report_text_of};
@@ -223,6 +224,7 @@ impl<'a, P: Drop, W: Sink + LastError + Drop> Outlet<'a, P, W> {
         suite: &Suite<'_>,
         cases: &Cases<'_, T>,
     ) -> Result<(), Stop>
+        requires known { AreLinesOf (T.line cases.now.reporter.now) cases.now.places.now cases.now.rows.now cases.now.texts.now }
         ensures put { OnOk result (IsPutInto W.taken W.failed self.old self.new
             (junit_text suite.now.name.now (judging_of suite.now.judge)
             (row_text_list (T.line cases.now.reporter.now) cases.now.places.now cases.now.rows.now) cases.now.rows.now)) }

@@ -1,5 +1,5 @@
-use Rattle.std.proofs.Common.{◌∙◌, ◌+◌, ◌++◌, List, drop, get_or, refl, subst, take, arith}
-use Rattle.std.proofs.lemmas.List.{take_all}
+use Rattle.std.proofs.Common.{◌∙◌, ◌+◌, ◌<◌, ◌++◌, ◌∷◌, [], ℕ, List, length, drop, get_or, refl, subst, take, arith}
+use Rattle.std.proofs.lemmas.List.{get_or_default, take_all}
 use Rattle.std.proofs.lemmas.Result.{err_from_is_err_and}
 use Rattle.std.specs.List.{concat}
 use Rattle.rv_base.proofs.Public.{beginning_of_longer, failed_under_way, more_under_way, nothing_under_way}
@@ -11,6 +11,10 @@ use Rattle.rv_rows.specs.declared_row.Row.{Row}
 use Rattle.rv_stream.proofs.Public.{told_behind, told_none, told_rest}
 use Rattle.rv_stream.specs.Streams.{row_text_list, joined_row_texts}
 use Rattle.rv_junit.proofs.case_writes.write_cases.Goals as goal
+
+some_row : (rows : List Row) (i : ℕ) → i < length rows → Row
+some_row [] i lt = absurd (omega (arith, lt))
+some_row (row ∷ rows) i lt = row
 
 pub loop-i-init : goal.loop-i-init
 loop-i-init g c =
@@ -45,7 +49,8 @@ returns-in_err-write_if_large-clause-part g c =
     let places = c.args.cases.now.places.now in
     let rows = c.args.cases.now.rows.now in
     let i = c.loop-i.i in
-    let row = c.index-rows-i.result in
+    let any = some_row rows i (omega arith) in
+    let row = get_or rows i any in
     let before = g.W.Sink.taken c.args.out.now in
     let after = g.W.Sink.taken c.write_if_large.new.out in
     let told_so_far = text ++ joined_row_texts line places (take i rows) in
@@ -54,8 +59,8 @@ returns-in_err-write_if_large-clause-part g c =
     (text ++ joined_row_texts line places rows)
     (failed_under_way before (g.W.Sink.taken c.loop-i.out) after c.loop-i.text.items (line (get_or places i 0) row)
     c.push_case.new.text.items told_so_far longer c.loop-i.invariant.under_way
-    c.in_ok-push_case.ensures c.in_err-write_if_large.ensures.part
-    (told_behind line text places rows i 0 row (omega arith) (omega arith) c.index-rows-i.is))
+    (c.in_ok-push_case.ensures any) c.in_err-write_if_large.ensures.part
+    (told_behind line text places rows i 0 row (omega arith) (omega arith) (get_or_default rows i any row (omega arith))))
     (told_rest line text places rows (i + 1)))
 
 pub loop-i-preserved : goal.loop-i-preserved
@@ -65,14 +70,15 @@ loop-i-preserved g c =
     let places = c.args.cases.now.places.now in
     let rows = c.args.cases.now.rows.now in
     let i = c.loop-i.i in
-    let row = c.index-rows-i.result in
+    let any = some_row rows i (omega arith) in
+    let row = get_or rows i any in
     record {
       under_way = more_under_way (g.W.Sink.taken c.args.out.now) (g.W.Sink.taken c.loop-i.out)
           (g.W.Sink.taken c.write_if_large.new.out) c.loop-i.text.items (line (get_or places i 0) row)
           c.push_case.new.text.items c.write_if_large.new.text.items (text ++ joined_row_texts line places (take i rows))
-          (text ++ joined_row_texts line places (take (i + 1) rows)) c.loop-i.invariant.under_way c.in_ok-push_case.ensures
+          (text ++ joined_row_texts line places (take (i + 1) rows)) c.loop-i.invariant.under_way (c.in_ok-push_case.ensures any)
           c.in_ok-write_if_large.ensures.under_way
-          (told_behind line text places rows i 0 row (omega arith) (omega arith) c.index-rows-i.is);
+          (told_behind line text places rows i 0 row (omega arith) (omega arith) (get_or_default rows i any row (omega arith)));
       counted = c.in_ok-write_if_large.ensures.counted ∙ c.loop-i.invariant.counted;
     }
 
@@ -83,9 +89,3 @@ returns-clause-under_way g c =
     subst (λ (rows : List Row). IsPartlySent (g.W.Sink.taken c.args.out.now) (g.W.Sink.taken c.loop-i.out)
     c.loop-i.text.items (text ++ joined_row_texts line c.args.cases.now.places.now rows))
     (take_all c.loop-i.i c.args.cases.now.rows.now (omega arith)) c.loop-i.invariant.under_way
-
-pub bounds-rows-i : goal.bounds-rows-i
-bounds-rows-i g c = omega arith
-
-pub bounds-places-i : goal.bounds-places-i
-bounds-places-i g c = omega arith
