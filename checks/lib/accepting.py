@@ -264,16 +264,18 @@ def try_changed_golden_file(rvtest, folder):
     ]
     (place / "list.toml").write_text("".join(tables))
     there, into = os.pipe()
-    # What is told of 200 files does not fit, so `accept` waits until it is read.
+    # The lines of 200 files do not fit into the pipe, even after the first read, so `accept` waits for the second one.
     room = fcntl.fcntl(into, fcntl.F_SETPIPE_SZ, 4096)
     accept = subprocess.Popen([rvtest, "accept", "list.toml"], cwd=place, stdout=into, stderr=subprocess.PIPE)
     os.close(into)
-    with open(there, "rb") as told:
+    # Without a buffer, which would take all that the pipe has with the first read.
+    with open(there, "rb", buffering=0) as told:
         first = told.read(room // 2)
         (place / "job1.out").write_bytes(b"mine")
-        if not (first + told.read()).endswith(f"job{jobs - 1}, 2 bytes\n".encode()):
-            raise Failed("a golden file that changes: not all is told")
+        whole = first + told.readall()
     found = ended(accept)
+    if not whole.endswith(f"job{jobs - 1}, 2 bytes\n".encode()):
+        raise Failed(f"a golden file that changes: the output ends with {whole[-80:]!r}, and then {found}")
     if found != (3, changed("job1.out")) or (place / "job1.out").read_bytes() != b"mine" or (place / "job0.out").exists():
         raise Failed(f"a golden file that changes: {found}")
 
