@@ -6,12 +6,12 @@ use Rattle.rv_stream.specs.Limits.{rows_within}
 use Rattle.rvtest_app.proofs.Sent.{begun_before, told_behind, told_whole}
 use Rattle.rvtest_app.proofs.run_output.put_run_output.Goals as goal
 
-pub put_totals_line-requires-few : goal.put_totals_line-requires-few
-put_totals_line-requires-few g c =
+pub put_totals_line-requires-clause-few : goal.put_totals_line-requires-clause-few
+put_totals_line-requires-clause-few g c =
     omega (arith, ap length c.as_slice-done.ensures, rw c.in-Ok.is at c.stream_with_file-out.ensures.few, c.args.batch.now.few)
 
-pub put_totals_line-requires-placed : goal.put_totals_line-requires-placed
-put_totals_line-requires-placed g c =
+pub put_totals_line-requires-clause-placed : goal.put_totals_line-requires-clause-placed
+put_totals_line-requires-clause-placed g c =
     omega (arith, ap length c.as_slice-done.ensures, rw c.in-Ok.is at c.stream_with_file-out.ensures.few)
 
 pub returns-in-Err-put_totals_line-clause-part : goal.returns-in-Err-put_totals_line-clause-part
