@@ -51,7 +51,9 @@ pub fn row_at_with_recent(
         ≡ row_of plan.now (slice_index_or plan.now.jobs i d)) }
     ensures recent { OnOk result (AreOutcomes plan.now recent.new) }
 {
-    let outcome = outcome_at(alloc, plan, i, spare)?;
+    let attempt = attempt_at(alloc, plan, i, spare)?;
+    let outcome = attempt.outcome(alloc)?;
+    spare.keep(attempt);
     let same = is_same_as_named(plan, plan.job(i), &outcome, spare, recent)?;
     keep_outcome_if_named(alloc, plan, i, &outcome, recent)?;
     judged_row(alloc, plan, i, outcome, same)
@@ -82,24 +84,6 @@ pub(crate) fn judged_row(
         same,
     );
     row_of_outcome(alloc, job.name.as_str(), outcome, verdict)
-}
-
-// Returns the outcome of the job at an index.
-fn outcome_at(
-    alloc: Global,
-    plan: &Plan,
-    i: usize,
-    spare: &mut Spare,
-) -> Result<Outcome, AllocError>
-    requires { i < length plan.now.jobs }
-    ensures { IfOk result
-        (λ outcome. (d : AJob) → outcome
-        ≡ outcome_in plan.now.answers (slice_index_or plan.now.jobs i d)) }
-{
-    let attempt = attempt_at(alloc, plan, i, spare)?;
-    let outcome = attempt.outcome(alloc)?;
-    spare.keep(attempt);
-    Ok(outcome)
 }
 
 // Returns the result of the job at an index.
@@ -148,7 +132,6 @@ pub fn image_refusal_at(alloc: Global, plan: &Plan, i: usize) -> Result<Option<R
 
 /// Returns the machine in which the job at an index runs, in its state before the first step, or why the job is refused. `image` is the
 /// image that was read from the job's file. Runs nothing.
-#[tactic(auto, unfolding(crate::specs::Outcome::start_of))]
 pub fn machine_at(
     alloc: Global,
     plan: &Plan,
@@ -163,8 +146,28 @@ pub fn machine_at(
         ≡ Ok (state_of machine))
         (λ why. start_in plan.now.answers (slice_index_or plan.now.jobs i d) ≡ Err why)) }
 {
+    machine_at_reusing(alloc, plan, i, image, &mut Spare::new())
+}
+
+/// Like [`machine_at`], but reuses the memory of a machine that is no longer needed.
+#[tactic(auto, unfolding(crate::specs::Outcome::start_of))]
+pub fn machine_at_reusing(
+    alloc: Global,
+    plan: &Plan,
+    i: usize,
+    image: &Image,
+    spare: &mut Spare,
+) -> Result<Result<Machine, Refusal>, AllocError>
+    requires place { i < length plan.now.jobs }
+    requires image { (d : AJob) → image_in plan.now.answers (slice_index_or plan.now.jobs i d)
+        ≡ Some image.now }
+    ensures { IfOk result (λ found. (d : AJob) → MatchResult found
+        (λ machine. start_in plan.now.answers (slice_index_or plan.now.jobs i d)
+        ≡ Ok (state_of machine))
+        (λ why. start_in plan.now.answers (slice_index_or plan.now.jobs i d) ≡ Err why)) }
+{
     match image_file_or_refusal(plan.image(i), plan.reference(i), plan.console_reference(i)) {
-        Ok(file) => machine_over_image(alloc, plan.job(i), file, image),
+        Ok(file) => machine_over_image(alloc, plan.job(i), file, image, spare),
         Err(why) => Ok(Err(why)),
     }
 }

@@ -194,7 +194,7 @@ impl<'x, R: Threads + Wait + Sync + Clock, D: Inputs> ListRun<'x, R, D> {
         ensures files { result.0.files ≡ to.files }
         ensures shown { OnOk result.2 (IsShown (uses_run_stdout self.now.asked.now) (run_output_text
             (row_lines_at (reporter_of planned.now.reporter.now)) (judging_of planned.now.reporter.now.judge)
-            planned.now.places.now (run_rows self.now.asked.now.stop_after
+            planned.now.reporter.now.plan.now planned.now.places.now (run_rows self.now.asked.now.stop_after
             (judging_of planned.now.reporter.now.judge) planned.now.reporter.now.plan.now planned.now.places.now))
             (outputs_of F.placed O.taken E.taken E.failed to) (outputs_of F.placed O.taken E.taken E.failed result.0)) }
         ensures report { OnOk result.2 (IsPutInto F.File.taken F.File.failed outlets.entry.report result.1.report

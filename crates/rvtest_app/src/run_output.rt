@@ -18,8 +18,8 @@ use crate::outlets::unwritten_stop;
 use crate::report_row_reporter::ReportRowReporter;
 use rv_command::Stop;
 use rv_expect::Judge;
-use rv_fleet::{Batch, Crew, Row, Rows, Sink, put_all};
-use rv_job_text::push_run_totals_line;
+use rv_fleet::{Batch, Crew, Rows, Sink, put_all};
+use rv_job_text::{RunRows, push_run_totals_line};
 use rv_stream::{
     BothError, FailureLimit, ReporterOutput, RowReporter, StreamError, stream_rows,
     stream_rows_to_both,
@@ -56,11 +56,11 @@ pub(crate) fn put_run_output<
     ensures rows { IfOk result.2 (λ rows. rows ≡ rows_within limit.now (batch_rows batch.now)) }
     ensures few { IfOk result.2 (λ rows. length rows ≤ length batch.now.places.now) }
     ensures all { OnOk result.2 (Appends (W.taken out) (W.taken result.0)
-        (run_output_text (T.line reporter.now) (judging_of limit.now.judge) batch.now.places.now
+        (run_output_text (T.line reporter.now) (judging_of limit.now.judge) batch.now.plan.now batch.now.places.now
         (rows_within limit.now (batch_rows batch.now)))) }
     ensures counted { OnOk result.2 (W.failed result.0 ≡ W.failed out) }
     ensures part { OnErr result.2 (AppendsBeginning (W.taken out) (W.taken result.0)
-        (run_output_text (T.line reporter.now) (judging_of limit.now.judge) batch.now.places.now
+        (run_output_text (T.line reporter.now) (judging_of limit.now.judge) batch.now.plan.now batch.now.places.now
         (rows_within limit.now (batch_rows batch.now)))) }
     ensures report { OnOk result.2 (AreRowsPut V.taken V.failed file result.1
         (joined_row_texts row_text batch.now.places.now (rows_within limit.now (batch_rows batch.now)))) }
@@ -73,7 +73,12 @@ pub(crate) fn put_run_output<
     };
     let done = rows.as_slice();
     let hidden = batch.places.len() - done.len();
-    match put_totals_line(crew.alloc, &limit.judge, done, hidden, &mut out) {
+    let run = RunRows {
+        plan: batch.plan,
+        places: batch.places,
+        rows: done,
+    };
+    match put_totals_line(crew.alloc, &limit.judge, &run, hidden, &mut out) {
         Ok(()) => (out, file, Ok(rows)),
         Err(error) => (out, file, Err(BothError::First(error))),
     }
@@ -129,19 +134,20 @@ fn stream_with_file<
 fn put_totals_line<W: Sink>(
     alloc: Global,
     judge: &Judge<'_>,
-    rows: &[Row],
+    run: &RunRows<'_>,
     hidden: usize,
     out: &mut W,
 ) -> Result<(), StreamError>
-    requires { length rows.now < 2 ^ 32 }
+    requires few { length run.now.rows.now < 2 ^ 32 }
+    requires placed { length run.now.rows.now ≤ length run.now.places.now }
     ensures all { OnOk result (Appends (W.taken out.old) (W.taken out.new)
-        (run_totals_line (judging_of judge.now) rows.now hidden)) }
+        (run_totals_line (judging_of judge.now) run.now.plan.now run.now.places.now run.now.rows.now hidden)) }
     ensures counted { OnOk result (W.failed out.new ≡ W.failed out.old) }
     ensures part { OnErr result (AppendsBeginning (W.taken out.old) (W.taken out.new)
-        (run_totals_line (judging_of judge.now) rows.now hidden)) }
+        (run_totals_line (judging_of judge.now) run.now.plan.now run.now.places.now run.now.rows.now hidden)) }
 {
     let mut line = Vec::new(alloc);
-    push_run_totals_line(&mut line, judge, rows, hidden)?;
+    push_run_totals_line(&mut line, judge, run, hidden)?;
     match put_all(out, line.as_slice()) {
         Ok(()) => Ok(()),
         Err(_) => Err(StreamError::Failed),

@@ -69,7 +69,7 @@ impl<'x, R: Threads + Wait + Sync + Clock, D: Inputs> ListRun<'x, R, D> {
         ensures files { result.0.files ≡ to.files }
         ensures shown { OnOk result.2 (IsShown is_beside (run_output_text
             (row_lines_at (reporter_of planned.now.reporter.now)) (judging_of planned.now.reporter.now.judge)
-            planned.now.places.now (run_rows self.now.asked.now.stop_after
+            planned.now.reporter.now.plan.now planned.now.places.now (run_rows self.now.asked.now.stop_after
             (judging_of planned.now.reporter.now.judge) planned.now.reporter.now.plan.now planned.now.places.now))
             (outputs_of F.placed O.taken E.taken E.failed to) (outputs_of F.placed O.taken E.taken E.failed result.0)) }
         ensures report { OnOk result.2 (AreRowsPut F.File.taken F.File.failed file result.1
@@ -114,7 +114,8 @@ impl<'x, R: Threads + Wait + Sync + Clock, D: Inputs> ListRun<'x, R, D> {
         ensures few { IfOk result.2 (λ rows. length rows ≤ length planned.now.places.now) }
         ensures shown { OnOk result.2 (Appends (W.taken shown.stream) (W.taken result.0)
             (run_output_text (row_lines_at (reporter_of planned.now.reporter.now))
-            (judging_of planned.now.reporter.now.judge) planned.now.places.now (run_rows self.now.asked.now.stop_after
+            (judging_of planned.now.reporter.now.judge) planned.now.reporter.now.plan.now planned.now.places.now
+            (run_rows self.now.asked.now.stop_after
             (judging_of planned.now.reporter.now.judge) planned.now.reporter.now.plan.now planned.now.places.now))) }
         ensures counted { OnOk result.2 (W.failed result.0 ≡ W.failed shown.stream) }
         ensures report { OnOk result.2 (AreRowsPut V.taken V.failed file result.1
