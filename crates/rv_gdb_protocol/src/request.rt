@@ -110,7 +110,7 @@ pub enum Watched {
 pub enum Stoppoint {
     /// Before the instruction at this address.
     Break(u32),
-    /// At such an access to one of 1 to 65,536 bytes, all of them within the address space.
+    /// At an access of this kind to one of 1 to 65,536 bytes, all of them within the address space.
     Watch(Watched, Range),
 }
 

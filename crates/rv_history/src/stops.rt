@@ -136,7 +136,7 @@ impl Stops {
 impl Watch {
     ghost use Rattle.rv_history.specs.Stops.{watch_bytes};
 
-    // Compares the bytes that are in regions with others from an index on. Returns the index after them if they are equal.
+    // Compares the bytes that are in regions with others from an index on. Returns the index after them if they are equal, else `None`.
     fn seen_in(&self, bus: &Bus, bytes: &[u8], from: usize) -> Option<usize>
         requires { from ≤ length bytes.now }
         ensures within { IfSome result (λ end. end ≤ length bytes.now) }

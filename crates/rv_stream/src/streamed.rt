@@ -6,17 +6,11 @@ use std::marker::Brand;
 pub trait StreamSpec {
     ghost use Rattle.std.specs.Prelude.{ℕ, List, Option};
     ghost use Rattle.rv_expect.specs.Judgement.{Judging};
-    ghost use Rattle.rv_rows.specs.declared_row.Row.{Row};
 
     // What the sink received before, and how many writes failed.
     ghost before: { Option (List ℕ) };
 
     ghost failures: { ℕ };
-
-    // The text reported for a row, and the indices of the rows.
-    ghost line: { ℕ → Row → List ℕ };
-
-    ghost places: { List ℕ };
 
     // The number of the failure that ends the run, and what counts as a failure.
     ghost most: { Option ℕ };
@@ -25,17 +19,13 @@ pub trait StreamSpec {
 }
 
 impl StreamSpec for Brand {
-    ghost use Rattle.std.specs.Prelude.{[], None};
+    ghost use Rattle.std.specs.Prelude.{None};
     ghost use Rattle.rv_expect.specs.Judgement.{judging_by_rule};
     ghost use Rattle.rv_expect.specs.declared.passing.Rule.TheVariants.{Strict};
 
     ghost before = { None };
 
     ghost failures = { 0 };
-
-    ghost line = { λ _ _. [] };
-
-    ghost places = { [] };
 
     ghost most = { None };
 

@@ -48,6 +48,10 @@ abbrev pub run_report_text : Option (List Row) → ℕ → List ℕ → Option S
 run_report_text (Some old) jobs places shard rows = report_text (merged_rows places rows old)
 run_report_text None jobs places shard rows = chosen_report_text jobs places shard rows
 
+-- the report text of a row that is written as the row arrives: empty if rows are not streamed
+abbrev pub report_row_text : Bool → ℕ → Row → List ℕ
+report_row_text is_streaming place row = if is_streaming then row_text place row else []
+
 -- the part of the report that is written as rows arrive: empty if they are merged into another report
 abbrev pub streamed_rows : Option (List Row) → List ℕ → List Row → List ℕ
 streamed_rows (Some old) places rows = []
