@@ -41,7 +41,7 @@ _rvfleet_is_named() {
 # The words of which one is wanted behind another word: by the program, the place, and the word before.
 _rvfleet_choices() {
     case "$1" in
-        'rvtest 2 help') echo 'list' ;;
+        'rvtest 2 help') echo 'run list explain console gdb check accept merge diff show counts cover profile help keys' ;;
         *' --color') echo 'always never auto' ;;
     esac
 }

@@ -29,7 +29,7 @@ _rvfleet_behind_rvtest() {
         'counts:Add up tables of counts written by run --counts'
         'cover:Run jobs and show how much of their images was executed'
         'profile:Run jobs and show in which functions they spent their steps'
-        'help:Describe the keys of a job list'
+        'help:Print help for a command, or describe the keys of a job list'
     )
     if (( CURRENT == 2 )); then
         _describe command commands
@@ -46,12 +46,12 @@ _rvfleet_behind_rvtest() {
                 '--failed[Select the jobs that failed in this report]:REPORT:_files' \
                 '--partial[Accept a truncated report and use its complete rows]' \
                 '--shard[Run the Kth of N shards of the list]:K/N: ' \
-                '--stamp[Identify the run that the part belongs to \[default\: a digest of the list\]]:TEXT: ' \
+                '--stamp[Stamp the part with this text; merge accepts only parts with equal stamps \[default\: a digest of the list\]]:TEXT: ' \
                 ''{-j,--workers}'[Use at most N threads, from 1 to 64 \[default\: one per processor\]]:N: ' \
                 '--group[Jobs that a thread takes at once, from 1 to 4096 \[default\: 1\]]:N: ' \
                 '--budget[Override every job'\''s step budget, from 1 to 1000000000]:N: ' \
                 '--root[Resolve relative paths in the list against this directory]:DIR:_directories' \
-                '--into[Update the rows of this file, a report of the whole list]:FILE:_files' \
+                '--into[Update this report of the whole list with the rows of the run]:FILE:_files' \
                 '--report[Write the report to this file, or - for standard output]:FILE:_files' \
                 '--junit[Write JUnit XML to this file, or - for standard output]:FILE:_files' \
                 '--suite[Set the name of the test suite in JUnit XML]:NAME: ' \
@@ -62,7 +62,7 @@ _rvfleet_behind_rvtest() {
                 '--stop-after[Stop after the Nth failure, from 1 to 4096]:N: ' \
                 ''{-v,--verbose}'[Also show the jobs that pass; cannot be used with --quiet]' \
                 ''{-q,--quiet}'[Show only the last line; cannot be used with --verbose]' \
-                '--last[Show the last N instructions of a job, from 0 to 100000]:N: ' \
+                '--last[Show the last N instructions of each failed job, from 0 to 100000]:N: ' \
                 '--color[Color the output\: always, never or auto (on a terminal)]:WHEN:(always never auto)' \
                 '--help[Print help]' \
                 ':LIST:_files' ;;
@@ -76,7 +76,7 @@ _rvfleet_behind_rvtest() {
                 '--help[Print help]' \
                 ':LIST:_files' ;;
         explain) _arguments \
-                '--last[Show the last N instructions of a job, from 0 to 100000 \[default\: 16\]]:N: ' \
+                '--last[Show the last N instructions of the job, from 0 to 100000 \[default\: 16\]]:N: ' \
                 '--budget[Override every job'\''s step budget, from 1 to 1000000000]:N: ' \
                 '--root[Resolve relative paths in the list against this directory]:DIR:_directories' \
                 '--color[Color the output\: always, never or auto (on a terminal)]:WHEN:(always never auto)' \
@@ -106,7 +106,7 @@ _rvfleet_behind_rvtest() {
                 '--partial[Accept a truncated report and use its complete rows]' \
                 '--ends[Also accept a different exit code or kind of fault]' \
                 '--check[Show what would change without writing anything]' \
-                '--outside[Also write golden files outside the list'\''s directory or DIR]' \
+                '--outside[Also write golden files outside the list'\''s directory (or the --root directory)]' \
                 ''{-j,--workers}'[Use at most N threads, from 1 to 64 \[default\: one per processor\]]:N: ' \
                 '--group[Jobs that a thread takes at once, from 1 to 4096 \[default\: 1\]]:N: ' \
                 '--root[Resolve relative paths in the list against this directory]:DIR:_directories' \
@@ -122,7 +122,7 @@ _rvfleet_behind_rvtest() {
         diff) _arguments \
                 '--partial[Accept a truncated report and use its complete rows]' \
                 '--steps[Also compare steps and the addresses of faults]' \
-                '--slower[Report jobs that take over N percent more steps, from 0 to 1000]:N: ' \
+                '--slower[Report jobs that take more than N percent more steps, from 0 to 1000]:N: ' \
                 '--color[Color the output\: always, never or auto (on a terminal)]:WHEN:(always never auto)' \
                 '--help[Print help]' \
                 ':OLD:_files' \
@@ -173,7 +173,7 @@ _rvfleet_behind_rvtest() {
                 ':NAME:_rvfleet_jobs' ;;
         help) _arguments \
                 '--help[Print help]' \
-                ':TOPIC:(list)' ;;
+                ':TOPIC:(run list explain console gdb check accept merge diff show counts cover profile help keys)' ;;
     esac
 }
 

@@ -30,7 +30,8 @@ ROWS = [
     ("rvtest run fleet.toml --suite up", []),
     ("rvtest run fleet.toml --color a", ["always", "auto"]),
     ("rvtest show fleet.toml --color n", ["never"]),
-    ("rvtest help l", ["list"]),
+    ("rvtest help k", ["keys"]),
+    ("rvtest help prof", ["profile"]),
     ("rvfleet on", ["one"]),
 ]
 # A list that is called as a command is. fish takes such a word for the command, and zsh offers no files behind a list.

@@ -100,11 +100,11 @@ refuses 'a line that no part has' 'rvtest: changed:4: invalid part line "console
 refuses 'a part that is cut off' 'rvtest: begun: the part is truncated' p1-2 begun
 refuses 'a whole report' 'rvtest: list.text: expected a part of a run, found a whole report' p1-2 list.text
 refuses 'the report of a choice' 'rvtest: choice: expected the part of a shard, found a report of selected jobs' p1-2 choice
-refuses 'another number of shards' 'rvtest: p2-3: a different number of shards than p1-2' p1-2 p2-3
-refuses 'another number of jobs' 'rvtest: other-jobs: a list with a different number of jobs than p1-2' p1-2 other-jobs
-refuses 'another stamp' 'rvtest: other-stamp: a different stamp than p1-2' p1-2 other-stamp
-refuses 'a shard that is missing' 'rvtest: missing part of shard 2' p1-2
-refuses 'another text of a shard' 'rvtest: other-text: the same shard as p2-2, but different contents' p1-2 p2-2 other-text
+refuses 'another number of shards' 'rvtest: p2-3: a different number of shards than "p1-2"' p1-2 p2-3
+refuses 'another number of jobs' 'rvtest: other-jobs: a list with a different number of jobs than "p1-2"' p1-2 other-jobs
+refuses 'another stamp' 'rvtest: other-stamp: the stamp differs from that of "p1-2"' p1-2 other-stamp
+refuses 'a shard that is missing' 'rvtest: no part for shard 2' p1-2
+refuses 'another text of a shard' 'rvtest: other-text: covers the same shard as "p2-2", but differs from it' p1-2 p2-2 other-text
 refuses 'a name in two rows' 'rvtest: twice: job 2 has the name of an earlier job' p1-2 twice
 
 merge p1-2 missing
@@ -120,7 +120,7 @@ shard list.toml 1 2 first
 shard list.toml 2 2 second
 shard other.toml 2 2 other
 merges 'parts without a stamp' 1 list.text first second
-refuses 'a part of another list' 'rvtest: other: a different stamp than first' first other
+refuses 'a part of another list' 'rvtest: other: the stamp differs from that of "first"' first other
 
 # ---- two machines whose files differ: each row is that of its machine's files
 

@@ -288,13 +288,13 @@ report_of <<<"${base/6869/686a0a}" >new.txt
 differ 'another console' 1 <<<'! a: console byte 1: "i" -> "j\x0a"
 1 of 3 jobs differ: 0 gone, 0 new, 1 changed'
 report_of <<<"${base/6869/68}" >new.txt
-differ 'a shorter console' 1 <<<'! a: console 2 bytes -> 1 bytes
+differ 'a shorter console' 1 <<<'! a: console 2 bytes -> 1 byte
 1 of 3 jobs differ: 0 gone, 0 new, 1 changed'
 report_of <<<"${base/0000000b/ffffffff}" >new.txt
 differ 'another word' 1 <<<'! a: signature word 1: 0000000b -> ffffffff
 1 of 3 jobs differ: 0 gone, 0 new, 1 changed'
 report_of <<<"${base/,0000000b/}" >new.txt
-differ 'fewer words' 1 <<<'! a: signature 2 words -> 1 words
+differ 'fewer words' 1 <<<'! a: signature 2 words -> 1 word
 1 of 3 jobs differ: 0 gone, 0 new, 1 changed'
 report_of <<<"${base/0000000a,0000000b/-}" >new.txt
 differ 'no signature' 1 <<<'! a: signature 2 words -> none

@@ -306,7 +306,7 @@ ends 'the other shard without a stamp' 1 second.shown
 run merge three.part2 three.part1 >out 2>err
 says 'shards without a stamp merged' 1 three '3 jobs'
 run merge spaced.part1 three.part2 >out 2>err
-says 'shards of lists that differ by a byte' 2 none three.part2 'a different stamp' spaced.part1
+says 'shards of lists that differ by a byte' 2 none three.part2 'the stamp differs' spaced.part1
 head -c 100 part2 >begun
 run merge part1 begun >out 2>err
 says 'a part that is cut off' 2 none begun
@@ -393,7 +393,7 @@ printf '%s\n' '! first: steps 2 -> 7' '1 of 3 jobs differ: 0 gone, 0 new, 1 chan
 run diff three slower --steps >out 2>err
 ends 'their steps compared' 1 slower.shown
 run diff three green >out 2>err
-shows 'a report compared with that of a choice' 0 '0 of 1 jobs differ: 0 gone, 0 new, 0 changed, 2 left out'
+shows 'a report compared with that of a choice' 0 '0 of 1 job differs: 0 gone, 0 new, 0 changed, 2 not compared'
 run diff three missing >out 2>err
 says 'a missing report compared' 3 none missing
 run explain three.toml second --last 1 >out 2>err
@@ -401,7 +401,7 @@ shows 'a job explained' 1 'FAIL second: exit 5 after 2 steps' 'expected: exit 0'
 # A folder that has one of two images.
 mkdir root
 cp z.elf root/gone.elf
-printf '%s\n' 'gone.toml:6: job 2 "lost": refused image-unreadable: lost.elf: No such file or directory' '2 jobs, 1 refused' >root.checked
+printf '%s\n' 'gone.toml:6: error: job 2 "lost": refused image-unreadable: lost.elf: No such file or directory' '2 jobs, 1 refused' >root.checked
 run check gone.toml --root root >out 2>err
 ends 'images in a folder checked' 2 root.checked
 run explain gone.toml gone >out 2>err

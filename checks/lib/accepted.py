@@ -65,11 +65,11 @@ def last_line(told, is_check):
     """The line that counts files."""
     files = file_count(told)
     word = "would be written" if is_check else "written"
-    return f"{files} file{'s' * (files != 1)} {word}, {sum(line.startswith('left ') for line in lines_in(told))} left"
+    return f"{files} file{'s' * (files != 1)} {word}, {sum(line.startswith('skipped ') for line in lines_in(told))} skipped"
 
 
 def left_of(told):
-    return "".join(lines(line) for line in lines_in(told) if line.startswith("left "))
+    return "".join(lines(line) for line in lines_in(told) if line.startswith("skipped "))
 
 
 def check_accepted(row):

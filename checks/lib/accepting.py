@@ -166,7 +166,7 @@ def try_list(rvtest, folder, seed, is_checked):
         raise Failed(f"run: status {status}, {shown}{said}")
     after = contents(folder)
     status, told, said = run(rvtest, folder, ["accept", "list.toml", "--ends"])
-    if (status, told, said) != (0, "0 files written, 0 left\n", "") or contents(folder) != after:
+    if (status, told, said) != (0, "0 files written, 0 skipped\n", "") or contents(folder) != after:
         raise Failed(f"the second accept: status {status}, {told}{said}")
 
 

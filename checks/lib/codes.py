@@ -151,10 +151,10 @@ def told_of(job, meaning, code, letters, start):
         if not meaning:
             raise Ends("illegal", int(code, 16))
         place, told = done(meaning, len(code) // 2, letters, registers)
-        end = f"budget used up after {steps + 1} steps"
+        end = f"budget used up after {images.steps_text(steps + 1)}"
     except Ends as ends:
         kind, value = ends.args
-        place, end = CODE, f"fault {kind} at {CODE:08x}, value {value:08x}, after {steps} steps"
+        place, end = CODE, f"fault {kind} at {CODE:08x}, value {value:08x}, after {images.steps_text(steps)}"
         told = kind + MET.get(kind, " at {:08x}").format(value)
     yield f"FAIL {job}: {end}"
     yield "     expected: exit 0, since no expectation is set"

@@ -133,18 +133,27 @@ def image(words):
     return changed(data, changes)
 
 
+def steps_text(steps):
+    return f"{steps} step{'s' * (steps != 1)}"
+
+
+def exit_text(code):
+    """An exit code as people see it: a negative one with its sign."""
+    return f"{code}" if code < 2**31 else f"{code - 2**32} ({code})"
+
+
 def run_of(console, end):
     """Code that puts bytes to the console and ends as a word says, and what its run comes to, as a row's line tells it."""
     code, steps = put_of(console)
     if end == "budget":
-        return words_of([*code, ENDS[end]]), f"budget used up after {BUDGET} steps"
+        return words_of([*code, ENDS[end]]), f"budget used up after {steps_text(BUDGET)}"
     if end in ENDS:
         place = BASE + 4 * len(code)
-        told = f"fault {end} at {place:08x}, value {VALUES.get(end, 0):08x}, after {steps} steps"
+        told = f"fault {end} at {place:08x}, value {VALUES.get(end, 0):08x}, after {steps_text(steps)}"
         return words_of([*code, ENDS[end]]), told
-    code.append(int(end) << 20 | 0x513)
+    code.append((int(end) & 0xFFF) << 20 | 0x513)
     # The instruction of the exit call that ends the run is no step.
-    return words_of(code) + EXIT, f"exit {end} after {steps + 2} steps"
+    return words_of(code) + EXIT, f"exit {exit_text(int(end))} after {steps_text(steps + 2)}"
 
 
 def put_of(console):

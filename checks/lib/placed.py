@@ -77,7 +77,7 @@ def check_place(row):
 ENDS = {"one": "code 00000513 X", "two": "one"}
 
 
-MISSING = "rvtest: no image was found: relative paths are resolved against {}\n"
+MISSING = "rvtest: note: no image was found: relative paths are resolved against {}\n"
 HERE = "the current directory; use --root DIR to resolve them against DIR"
 
 

@@ -108,7 +108,7 @@ ROW_END = re.compile(rb"^verdict .*\n", re.MULTILINE)
 
 def cut_off_note(path, count):
     """What is told of a report that is cut off behind so many rows."""
-    return f"rvtest: {path}: the report is truncated; complete rows: {count}\n"
+    return f"rvtest: {path}: note: the report is truncated; using its {count} complete row{'s' * (count != 1)}\n"
 
 
 def wants_whole_rows(row, beginning):

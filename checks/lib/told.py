@@ -102,7 +102,7 @@ def check_whole(row):
 def check_reason(row):
     """Why the image of a list's only job is refused."""
     write_list(row, f"name = 'a', image = '{row['image']}', budget = 9, {row['keys']}")
-    told = f'list.toml:1: job 1 "a": refused {row["refusal"]}: {row["told"]}'
+    told = f'list.toml:1: error: job 1 "a": refused {row["refusal"]}: {row["told"]}'
     row.wants(["check", "list.toml"], 2, lines(told, "1 job, 1 refused"))
 
 
@@ -148,14 +148,14 @@ def check_shown(row):
         code = images.numbers("00000013 01002503")
         row.write("image.elf", images.with_symbols(images.program(code), [(data, images.BASE, 2, 1)]))
         write_list(row, "name = 'a', image = 'image.elf', budget = 9")
-        end = f"fault load-access at 80000004 ({text}+0x4), value 00000010, after 1 steps"
+        end = f"fault load-access at 80000004 ({text}+0x4), value 00000010, after 1 step"
         wants_run(row, [], told_lines(f"FAIL a: {end}", UNEXPECTED))
 
 
 def check_value(row):
     """What is shown of the value that a file says is expected."""
     row.write("f", row["value"])
-    told = f'expected: console of f: byte 0 is "\\xfe", expected "{row["shown"]}"'
+    told = f'console differs from f at byte 0: expected "{row["shown"]}", found "\\xfe"'
     wants_console(row, b"\xfe", "expect_console_file = 'f'", told, "| \\xfe")
 
 
@@ -195,6 +195,11 @@ def write_run(row, path, text):
     return f"image = '{path}'" + ("" if signature == "-" else ", signature = ['x', 'y']"), told, console
 
 
+def shown_expectation(text):
+    """An unmet expectation as its line shows it: a difference says what is expected by itself."""
+    return text if text.startswith(("console differs", "signature differs")) else f"expected: {text}"
+
+
 def check_unmet(row):
     """Which expectations the second of three jobs does not meet."""
     named = write_run(row, "a.elf", row["first"])[0] if row["first"] else "image = 'one'"
@@ -210,7 +215,7 @@ def check_unmet(row):
     if row["file"]:
         row.write("f", row["file"].replace(".", ""))
     if row["expected"]:
-        out = told_lines(f"FAIL b: {told}", *(f"expected: {text}" for text in lines_in(row["expected"])), *tail_of(raw(console)))
+        out = told_lines(f"FAIL b: {told}", *map(shown_expectation, lines_in(row["expected"])), *tail_of(raw(console)))
     else:
         out = lines(f"{'FAIL' if told.startswith('refused') else 'PASS'} b: {told}")
     wants_run(row, ["--verbose", "--only", "b"], out)

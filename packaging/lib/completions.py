@@ -5,8 +5,8 @@ from help import PROGRAMS, commands_of, general_options
 JOB_NAMES = ("NAME",)
 FOLDERS = ("DIR",)
 FREE_WORDS = ("REGEX", "K/N", "TEXT", "N", "H")
-# The words of which a value is one.
-CHOICES = {"WHEN": "always never auto", "TOPIC": "list"}
+# Values that are one of a few words.
+CHOICES = ("WHEN", "TOPIC")
 
 
 # Options whose value is a name of the user's own, and not a job's.
@@ -27,6 +27,13 @@ def kind_of(value):
 def kind_of_option(option):
     """What is offered for the value of an option."""
     return "none" if option.name in FREE_NAMES else kind_of(option.value)
+
+
+def words_of(value):
+    """The words of which a value is one."""
+    if value == "WHEN":
+        return "always never auto"
+    return " ".join([command.name for command in commands_of("rvtest")] + ["keys"])
 
 
 # ---- bash
@@ -53,7 +60,7 @@ def bash_function(name, asked, cases):
 
 def choices():
     """Each option, and each command as the word behind its program, whose value is one of a few words, and these."""
-    found = {f"*' --{option.name}'": CHOICES[option.value] for option in valued_options() if kind_of_option(option) == "choice"}
+    found = {f"*' --{option.name}'": words_of(option.value) for option in valued_options() if kind_of_option(option) == "choice"}
     for program in PROGRAMS:
         for command in commands_of(program):
             found |= {f"'{program} 2 {command.name}'": words for words in argument_choices(command)}
@@ -62,7 +69,7 @@ def choices():
 
 def argument_choices(command):
     """The words of which an argument of a command is one, for each such argument."""
-    return [CHOICES[name] for name, _ in command.arguments if kind_of(name) == "choice"]
+    return [words_of(name) for name, _ in command.arguments if kind_of(name) == "choice"]
 
 
 def bash(text):
@@ -90,7 +97,7 @@ ZSH_ACTIONS = {"job": "_rvfleet_jobs", "folder": "_directories", "none": " ", "f
 
 def zsh_action(kind, value):
     """What zsh does for a value of a kind."""
-    return f"({CHOICES[value]})" if kind == "choice" else ZSH_ACTIONS[kind]
+    return f"({words_of(value)})" if kind == "choice" else ZSH_ACTIONS[kind]
 
 
 def zsh_quoted(text):
@@ -156,7 +163,7 @@ def fish_value(option):
     if option.value is None:
         return ""
     kind = kind_of_option(option)
-    return f" -x -a '{CHOICES[option.value]}'" if kind == "choice" else FISH_VALUES[kind]
+    return f" -x -a '{words_of(option.value)}'" if kind == "choice" else FISH_VALUES[kind]
 
 
 def fish_quoted(text):

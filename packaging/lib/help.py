@@ -43,7 +43,7 @@ def parts_of_help(program, *words):
     ran = subprocess.run([TOP / program, *words, "--help"], capture_output=True, text=True, check=True)
     parts, heading = {"": []}, ""
     for line in ran.stdout.splitlines():
-        if re.fullmatch(r"[A-Z][a-z]+:", line):
+        if re.fullmatch(r"[A-Z][a-z ]+:", line):
             heading = line[:-1]
             parts[heading] = []
         elif line:

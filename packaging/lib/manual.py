@@ -70,17 +70,17 @@ def key_entry(names, value, default):
 
 
 def key_paragraph(names, value, default):
-    """A key as `rvtest help list` tells it, in lines of at most 80 characters."""
+    """A key as `rvtest help keys` tells it, in lines of at most 80 characters."""
     shown = ", ".join(re.findall("`([^`]+)`", names))
     told = value.replace("`", "") + (f"; {default_text(default)}" if default else "")
     return f"  {shown}\n" + textwrap.fill(told, width=80, initial_indent=" " * 6, subsequent_indent=" " * 6)
 
 
 def keys_source():
-    """The Rust source of what `rvtest help list` tells."""
+    """The Rust source of what `rvtest help keys` tells."""
     told = "\n".join(["The keys of a job, a table of the array job:", "", *(key_paragraph(*key) for key in keys())])
     written = told.replace("\\", "\\\\").replace('"', '\\"')
-    return f"""//! What `rvtest help list` prints. packaging/pages writes this file from README.md's table of keys.
+    return f"""//! What `rvtest help keys` prints. packaging/pages writes this file from README.md's table of keys.
 
 /// The keys of a list.
 pub(crate) const LIST_KEYS: &str = "\\

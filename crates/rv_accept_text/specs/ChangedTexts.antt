@@ -14,6 +14,14 @@ values_from place old new = codes ": byte " ++ decimal place ++ codes ": \"" ++ 
 unfoldable pub byte_change : List ℕ → List ℕ → List ℕ
 byte_change old new = values_from (common_prefix_len nat_eq old new) old new
 
+-- two texts that differ: from which byte on, and both from there on
+abbrev pub values_of_both : ℕ → List ℕ → List ℕ → List ℕ
+values_of_both place one other = codes " at byte " ++ decimal place ++ codes ": \"" ++ printable_value (drop place one)
+    ++ codes "\" and \"" ++ printable_value (drop place other) ++ codes "\"\n"
+
+unfoldable pub byte_difference : List ℕ → List ℕ → List ℕ
+byte_difference one other = values_of_both (common_prefix_len nat_eq one other) one other
+
 -- the difference by lines if both texts are UTF-8, else by bytes; the old text has a name
 unfoldable pub text_change : List ℕ → List ℕ → List ℕ → List ℕ
 text_change source old new =

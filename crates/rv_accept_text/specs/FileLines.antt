@@ -1,9 +1,9 @@
 -- The lines of golden files.
-use Rattle.std.specs.Prelude.{◌==◌, ◌++◌, ℕ, List, [], Option, Some, None, codes, if◌then◌else◌, length, option_map, slice_get, unwrap_or}
-use Rattle.std.specs.Fmt.{decimal}
+use Rattle.std.specs.Prelude.{◌++◌, ℕ, List, [], Option, Some, None, codes, if◌then◌else◌, length, option_map, slice_get, unwrap_or}
 use Rattle.std.specs.List.{find}
 use Rattle.rv_jobs.specs.declared_job.Job.{Job}
 use Rattle.rv_text.specs.Printable.{printable_text}
+use Rattle.rv_text.specs.Words.{count_text}
 use Rattle.rv_accept.specs.Fates.{gives_another_text, names_file}
 use Rattle.rv_accept.specs.declared.claims.GoldenText.{GoldenText}
 use Rattle.rv_accept.specs.declared.claims.Part.{Part}
@@ -11,7 +11,7 @@ use Rattle.rv_accept.specs.declared.claims.Part.TheVariants as part
 use Rattle.rv_accept.specs.declared.fates.GoldenFileOutcome.{GoldenFileOutcome}
 use Rattle.rv_accept.specs.declared.fates.GoldenFileOutcome.TheVariants as fate
 use Rattle.rv_accept.specs.declared.targets.Target.{Target}
-use Rattle.rv_accept_text.specs.ChangedTexts.{byte_change, text_change, word_change}
+use Rattle.rv_accept_text.specs.ChangedTexts.{byte_difference, text_change, word_change}
 use Rattle.rv_accept_text.specs.GoldenFiles.{is_left, new_text}
 use Rattle.rv_accept_text.specs.declared.golden_file.GoldenFile.{GoldenFile}
 use Rattle.rv_accept_text.specs.declared.golden_file.ListFile.{ListFile}
@@ -39,12 +39,9 @@ part_change part.Signature path old new = word_change old new
 abbrev pub changed_file_line : List Job → Target → List ℕ → List ℕ → List ℕ
 changed_file_line jobs target old new = file_head (codes "~ ") jobs target ++ part_change target.part target.path old new
 
-abbrev pub bytes_word : ℕ → List ℕ
-bytes_word count = if count == 1 then codes " byte\n" else codes " bytes\n"
-
 abbrev pub made_file_line : List Job → Target → List ℕ → List ℕ
-made_file_line jobs target new = file_head (codes "+ ") jobs target ++ (codes ", " ++ decimal (length new)
-    ++ bytes_word (length new))
+made_file_line jobs target new = file_head (codes "+ ") jobs target ++ (codes ", " ++ count_text (length new) (codes "byte")
+    ++ codes "\n")
 
 abbrev pub written_file_line : List Job → Target → Option (List ℕ) → List ℕ → List ℕ
 written_file_line jobs target None new = made_file_line jobs target new
@@ -67,7 +64,7 @@ text_or_empty text = unwrap_or text []
 abbrev pub two_claims_text : List Job → GoldenText → GoldenText → List ℕ
 two_claims_text jobs first other = part_text first.part ++ printable_text (job_name jobs first.job) ++ codes " and "
     ++ part_text other.part ++ printable_text (job_name jobs other.job) ++ codes " differ"
-    ++ byte_change (text_or_empty first.text) (text_or_empty other.text)
+    ++ byte_difference (text_or_empty first.text) (text_or_empty other.text)
 
 abbrev pub other_claim_text : List Job → GoldenText → Option GoldenText → List ℕ
 other_claim_text jobs first None = codes "\n"
@@ -83,13 +80,14 @@ abbrev pub disagreement_text : List Job → List GoldenText → List ℕ → Lis
 disagreement_text jobs claims path = first_claim_text jobs claims path (find (names_file path) claims)
 
 abbrev pub why_file_is_left : List Job → List GoldenText → List ℕ → GoldenFileOutcome → List ℕ
-why_file_is_left jobs claims path (fate.LeftBy job) = printable_text (job_name jobs job) ++ codes " also expects it, and is left unchanged\n"
+why_file_is_left jobs claims path (fate.LeftBy job) = codes "job \"" ++ printable_text (job_name jobs job)
+    ++ codes "\" also names this file and was skipped\n"
 why_file_is_left jobs claims path (fate.Differ job other) = disagreement_text jobs claims path
-why_file_is_left jobs claims path (fate.Agreed text) = codes "the list and images are never overwritten\n"
-why_file_is_left jobs claims path fate.Unclaimed = codes "the list and images are never overwritten\n"
+why_file_is_left jobs claims path (fate.Agreed text) = codes "the list and the images are never overwritten\n"
+why_file_is_left jobs claims path fate.Unclaimed = codes "the list and the images are never overwritten\n"
 
 abbrev pub left_head : List ℕ → List ℕ
-left_head name = codes "left " ++ printable_text name ++ codes ": "
+left_head name = codes "skipped " ++ printable_text name ++ codes ": "
 
 -- why a golden file is rejected, if it is
 unfoldable pub left_file_line : ListFile → List GoldenText → GoldenFile → List ℕ

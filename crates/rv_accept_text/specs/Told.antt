@@ -1,8 +1,9 @@
 -- Everything that `accept` reports.
-use Rattle.std.specs.Prelude.{◌==◌, ◌+◌, ◌&&◌, ◌++◌, ℕ, Bool, true, false, List, [], ◌∷◌, Option, Some, None, codes, if◌then◌else◌, is_some, slice_get}
+use Rattle.std.specs.Prelude.{◌+◌, ◌&&◌, ◌++◌, ℕ, Bool, true, false, List, [], ◌∷◌, Option, Some, None, codes, is_some, slice_get}
 use Rattle.std.specs.Fmt.{decimal}
 use Rattle.std.specs.List.{count_by, flat_map}
 use Rattle.rv_jobs.specs.declared_job.Job.{Job}
+use Rattle.rv_text.specs.Words.{count_text}
 use Rattle.rv_accept.specs.declared.runs.JobRun.{JobRun}
 use Rattle.rv_accept_text.specs.FileLines.{file_line, left_file_line}
 use Rattle.rv_accept_text.specs.GoldenFiles.{is_left, new_text}
@@ -58,12 +59,9 @@ is_left_job (Some run) = run.is_chosen && is_some run.left
 abbrev pub left_count : AcceptSummary → ℕ
 left_count told = count_by is_left_job told.runs.now + count_by (is_left told.list) told.files.now
 
-abbrev pub files_word : ℕ → List ℕ
-files_word count = if count == 1 then codes " file" else codes " files"
-
 abbrev pub writing_word : Writing → List ℕ
 writing_word writing.Done = codes " written, "
 writing_word writing.Asked = codes " would be written, "
 
 abbrev pub count_line : Writing → ℕ → ℕ → List ℕ
-count_line how changed left = decimal changed ++ files_word changed ++ writing_word how ++ decimal left ++ codes " left\n"
+count_line how changed left = count_text changed (codes "file") ++ writing_word how ++ decimal left ++ codes " skipped\n"

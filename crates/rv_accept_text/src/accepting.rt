@@ -4,7 +4,7 @@ ghost use Rattle.std.specs.Prelude.{◌≡◌, ◌≤◌, ◌<◌, ◌+◌, ◌^
 ghost use Rattle.std.specs.List.{count_by, flat_map};
 ghost use Rattle.rv_accept_text.specs.FileLines.{file_line, left_file_line};
 ghost use Rattle.rv_accept_text.specs.GoldenFiles.{is_left};
-ghost use Rattle.rv_accept_text.specs.Told.{changed_count, count_line, files_word, is_changed, is_left_job, left_count, left_job_lines};
+ghost use Rattle.rv_accept_text.specs.Told.{changed_count, count_line, is_changed, is_left_job, left_count, left_job_lines};
 ghost use Rattle.rv_accept_text.specs.Told.{one_if, told_lines, value_line_in, value_line_of, writing_word};
 
 use crate::file_lines::{push_file_line, push_left_file_line};
@@ -130,20 +130,13 @@ impl<'a> AcceptSummary<'a> {
         push_spans(
             out,
             &[
-                Span::Number(count as u64),
-                Span::Text(files_word(count)),
+                Span::Count(count as u64, "file"),
                 Span::Text(writing_word(writing)),
                 Span::Number(self.left_count() as u64),
-                Span::Text(" left\n"),
+                Span::Text(" skipped\n"),
             ],
         )
     }
-}
-
-fn files_word(count: usize) -> &'static str
-    ensures { result.now ≡ files_word count }
-{
-    if count == 1 { " file" } else { " files" }
 }
 
 fn writing_word(writing: Writing) -> &'static str

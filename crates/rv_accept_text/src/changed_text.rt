@@ -3,7 +3,7 @@
 ghost use Rattle.std.specs.Prelude.{◌≡◌, ◌++◌, OnOk, nat_eq};
 ghost use Rattle.std.specs.List.{common_prefix_len};
 ghost use Rattle.rv_text.specs.Spans.{span_text};
-ghost use Rattle.rv_accept_text.specs.ChangedTexts.{byte_change, digits_at, text_change, values_from, word_change, word_change_at};
+ghost use Rattle.rv_accept_text.specs.ChangedTexts.{byte_change, byte_difference, digits_at, text_change, values_from, values_of_both, word_change, word_change_at};
 
 use rv_job_text::push_console_lines;
 use rv_rows::LINE;
@@ -53,6 +53,40 @@ fn push_values_from<'x>(
             Span::Value(tail_from(old, place)),
             Span::Text("\" -> \""),
             Span::Value(tail_from(new, place)),
+            Span::Text("\"\n"),
+        ],
+    )
+}
+
+/// Appends the offset from which two texts differ, neither of which replaces the other, and ends the line.
+#[tactic(auto, unfolding(crate::specs::ChangedTexts::byte_difference))]
+pub(crate) fn push_byte_difference(
+    out: &mut Vec<u8>,
+    one: &[u8],
+    other: &[u8],
+) -> Result<(), AllocError>
+    ensures { OnOk result (out.new.items ≡ out.old.items ++ byte_difference one.now other.now) }
+{
+    push_values_of_both(out, equal_len(one, other), one, other)
+}
+
+fn push_values_of_both<'x>(
+    out: &mut Vec<u8>,
+    place: usize,
+    one: &'x [u8],
+    other: &'x [u8],
+) -> Result<(), AllocError>
+    ensures { OnOk result (out.new.items ≡ out.old.items ++ values_of_both place one.now other.now) }
+{
+    push_spans(
+        out,
+        &[
+            Span::Text(" at byte "),
+            Span::Number(place as u64),
+            Span::Text(": \""),
+            Span::Value(tail_from(one, place)),
+            Span::Text("\" and \""),
+            Span::Value(tail_from(other, place)),
             Span::Text("\"\n"),
         ],
     )

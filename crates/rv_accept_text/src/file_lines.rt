@@ -1,11 +1,11 @@
 //! The lines of golden files.
 
 ghost use Rattle.std.specs.Prelude.{◌≡◌, ◌++◌, OnOk, option_map};
-ghost use Rattle.rv_accept_text.specs.FileLines.{bytes_word, changed_file_line, disagreement_text, file_head, file_line, left_file_line, left_head};
+ghost use Rattle.rv_accept_text.specs.FileLines.{changed_file_line, disagreement_text, file_head, file_line, left_file_line, left_head};
 ghost use Rattle.rv_accept_text.specs.FileLines.{made_file_line, other_claim_text, part_change, part_text, text_or_empty, two_claims_text};
 ghost use Rattle.rv_accept_text.specs.FileLines.{why_file_is_left, written_file_line};
 
-use crate::changed_text::{push_byte_change, push_text_change, push_word_change};
+use crate::changed_text::{push_byte_difference, push_text_change, push_word_change};
 use crate::golden_file::{GoldenFile, ListFile};
 use crate::job_lines::job_name;
 use rv_accept::{
@@ -85,16 +85,10 @@ fn push_made_file_line(
         out,
         &[
             Span::Text(", "),
-            Span::Number(text.len() as u64),
-            Span::Text(bytes_word(text.len())),
+            Span::Count(text.len() as u64, "byte"),
+            Span::Text("\n"),
         ],
     )
-}
-
-fn bytes_word(count: usize) -> &'static str
-    ensures { result.now ≡ bytes_word count }
-{
-    if count == 1 { " byte\n" } else { " bytes\n" }
 }
 
 // Appends which file it is, and which part of which job's results it contains.
@@ -151,7 +145,7 @@ pub(crate) fn push_left_head(out: &mut Vec<u8>, name: &str) -> Result<(), AllocE
     push_spans(
         out,
         &[
-            Span::Text("left "),
+            Span::Text("skipped "),
             Span::Shown(name.as_bytes()),
             Span::Text(": "),
         ],
@@ -171,14 +165,15 @@ fn push_why_file_is_left(
         GoldenFileOutcome::LeftBy(job) => push_spans(
             out,
             &[
+                Span::Text("job \""),
                 Span::Shown(job_name(jobs, *job).as_bytes()),
-                Span::Text(" also expects it, and is left unchanged\n"),
+                Span::Text("\" also names this file and was skipped\n"),
             ],
         ),
         GoldenFileOutcome::Differ(..) => push_disagreement(out, jobs, claims, target.path.as_str()),
         GoldenFileOutcome::Agreed(_) | GoldenFileOutcome::Unclaimed => push_text(
             out,
-            "the list and images are never overwritten\n",
+            "the list and the images are never overwritten\n",
         ),
     }
 }
@@ -237,7 +232,7 @@ fn push_two_claims(
             Span::Text(" differ"),
         ],
     )?;
-    push_byte_change(out, text_or_empty(&first.text), text_or_empty(&other.text))
+    push_byte_difference(out, text_or_empty(&first.text), text_or_empty(&other.text))
 }
 
 fn text_or_empty(text: &Option<Bytes>) -> &[u8]

@@ -23,7 +23,7 @@ no_such_job list name =
 -- the separator before the name of the job at an index, counted from 0, in a list of a number of names
 abbrev pub text_before_name : ℕ → ℕ → List ℕ
 text_before_name place count =
-    if place == 0 then codes "\"; the names are " else if place + 1 == count then codes " and " else codes ", "
+    if place == 0 then codes "\"; the jobs are \"" else if place + 1 == count then codes "\" and \"" else codes "\", \""
 
 -- the names of jobs from an index on, in a list of a number of names
 unfoldable pub names_from : ℕ → ℕ → List Job → List ℕ
@@ -36,7 +36,7 @@ names_left count = if nat_lt 20 count then codes " and " ++ decimal (count - 20)
 
 -- the first 20 names, and how many more there are
 abbrev pub told_names : List Job → List ℕ
-told_names jobs = names_from 0 (length jobs) (take 20 jobs) ++ names_left (length jobs)
+told_names jobs = names_from 0 (length jobs) (take 20 jobs) ++ codes "\"" ++ names_left (length jobs)
 
 -- the job at this index is the one that was probably meant
 abbrev pub IsMeant : List Job → List ℕ → ℕ → Type 0
@@ -45,7 +45,7 @@ IsMeant jobs name place = IsNearestJob jobs name place × IsNearJob jobs name pl
 -- the name of the job that was probably meant; or, if there is none, the names of the jobs
 abbrev pub IsNameHint : List Job → List ℕ → List ℕ → Type 0
 IsNameHint jobs name hint =
-    ((place : ℕ) × IsMeant jobs name place × (hint ≡ codes "\"; a similar name exists: " ++ job_name jobs place))
+    ((place : ℕ) × IsMeant jobs name place × (hint ≡ codes "\"; a similar name exists: \"" ++ job_name jobs place ++ codes "\""))
     ⊎ (((place : ℕ) → IsMeant jobs name place → ⊥) × (hint ≡ told_names jobs))
 
 -- no job of the list has this name, with a hint

@@ -2,7 +2,7 @@
 
 ghost use Rattle.std.specs.Prelude.{◌≡◌, ◌++◌, IfOk, OnOk, map};
 ghost use Rattle.rv_choice.specs.Choice.{borrowed_names, failed_job_names, has_row_named, jobs_without_row};
-ghost use Rattle.rv_choice.specs.FailedJobNotes.{failed_job_notes, missing_rows_note, none_failed_note, note_of_failed_job, removed_job_note};
+ghost use Rattle.rv_choice.specs.FailedJobNotes.{failed_job_notes, missing_rows_note, missing_rows_text, none_failed_note, note_of_failed_job, removed_job_note};
 ghost use Rattle.rv_choice.specs.FailedJobNotes.{removed_job_notes};
 
 use crate::marks::has_job_named;
@@ -71,9 +71,9 @@ fn none_failed_note(alloc: Global, path: &str, missing: usize) -> Result<Vec<u8>
     ensures { IfOk result (λ note. note.items ≡ none_failed_note path.now missing) }
 {
     if missing == 0 {
-        path_message(alloc, path, "no failed jobs")
+        path_message(alloc, path, "note: no failed jobs")
     } else {
-        path_message(alloc, path, "no failed jobs among its rows")
+        path_message(alloc, path, "note: no failed jobs among its rows")
     }
 }
 
@@ -84,8 +84,17 @@ fn missing_rows_note(alloc: Global, path: &str, missing: usize) -> Result<Vec<u8
     if missing == 0 {
         return Ok(Vec::new(alloc));
     }
-    let what = ": jobs of the list without a row: ";
-    path_number_message(alloc, path, what, missing, "\n")
+    path_number_message(alloc, path, ": note: ", missing, missing_rows_text(missing))
+}
+
+fn missing_rows_text(missing: usize) -> &'static str
+    ensures { result.now ≡ missing_rows_text missing }
+{
+    if missing == 1 {
+        " job of the list has no row\n"
+    } else {
+        " jobs of the list have no row\n"
+    }
 }
 
 fn removed_job_notes(
@@ -131,7 +140,7 @@ fn push_removed_job_note<'a>(
         &[
             Span::Text("rvtest: "),
             Span::Shown(path.as_bytes()),
-            Span::Text(": job \""),
+            Span::Text(": note: job \""),
             Span::Text(name),
             Span::Text("\" failed, but is no longer in the list\n"),
         ],

@@ -67,11 +67,15 @@ fn push_name_hint(
 
 fn push_near_name<'a>(message: &mut Vec<u8>, near: &'a str) -> Result<(), AllocError>
     ensures { OnOk result (message.new.items
-        ≡ message.old.items ++ (codes "\"; a similar name exists: " ++ near.now)) }
+        ≡ message.old.items ++ (codes "\"; a similar name exists: \"" ++ near.now ++ codes "\"")) }
 {
     push_spans(
         message,
-        &[Span::Text("\"; a similar name exists: "), Span::Text(near)],
+        &[
+            Span::Text("\"; a similar name exists: \""),
+            Span::Text(near),
+            Span::Text("\""),
+        ],
     )
 }
 
@@ -84,6 +88,7 @@ fn push_names(message: &mut Vec<u8>, jobs: &[Job]) -> Result<(), AllocError>
 {
     let told = jobs.len().min(MOST_TOLD);
     push_first_names(message, &jobs[..told], jobs.len())?;
+    push_text(message, "\"")?;
     push_names_left(message, jobs.len())
 }
 
@@ -117,9 +122,9 @@ fn text_before_name(place: usize, count: usize) -> &'static str
     ensures { result.now ≡ text_before_name place count }
 {
     match place {
-        0 => "\"; the names are ",
-        _ if place + 1 == count => " and ",
-        _ => ", ",
+        0 => "\"; the jobs are \"",
+        _ if place + 1 == count => "\" and \"",
+        _ => "\", \"",
     }
 }
 

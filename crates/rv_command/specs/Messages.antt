@@ -1,5 +1,5 @@
 -- The messages on standard error.
-use Rattle.std.specs.Prelude.{◌≡◌, ◌⊎◌, ◌++◌, if◌then◌else◌, ℕ, Bool, true, List, [], Option, codes, length}
+use Rattle.std.specs.Prelude.{◌≡◌, ◌==◌, ◌⊎◌, ◌++◌, if◌then◌else◌, ℕ, Bool, true, List, [], Option, codes, length}
 use Rattle.std.specs.Fmt.{decimal}
 use Rattle.std.specs.Io.KnownBytes.{Appends}
 use Rattle.rv_base.specs.Counts.{one_more}
@@ -24,10 +24,14 @@ abbrev pub path_number_message : List ℕ → List ℕ → ℕ → List ℕ → 
 path_number_message path place number what =
     codes "rvtest: " ++ printable_text path ++ place ++ decimal number ++ what
 
+abbrev pub complete_rows_text : ℕ → List ℕ
+complete_rows_text rows = if rows == 1 then codes " complete row\n" else codes " complete rows\n"
+
 -- the number of complete rows in a truncated report; empty for a complete one
 abbrev pub cut_off_note : List ℕ → PartialReport → List ℕ
 cut_off_note path read = if read.is_cut_off
-    then path_number_message path (codes ": the report is truncated; complete rows: ") (length read.report.rows) (codes "\n")
+    then path_number_message path (codes ": note: the report is truncated; using its ") (length read.report.rows)
+    (complete_rows_text (length read.report.rows))
     else []
 
 -- why a command stopped before its work was done

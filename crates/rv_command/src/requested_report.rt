@@ -2,7 +2,7 @@
 
 ghost use Rattle.std.specs.Prelude.{◌≡◌, ◌≤◌, IfErr, IfOk, length};
 ghost use Rattle.rv_base.specs.Limits.{most_jobs};
-ghost use Rattle.rv_command.specs.Messages.{cut_off_note};
+ghost use Rattle.rv_command.specs.Messages.{complete_rows_text, cut_off_note};
 ghost use Rattle.rv_command.specs.Stops.{IsPartialFaultStop, IsRequestedFaultStop, IsRequestedUnreadStop};
 ghost use Rattle.rv_command.specs.Texts.{IsReportRead, IsReportReadAt};
 ghost use Rattle.rv_report.specs.Partial.{IsReadAs};
@@ -77,6 +77,17 @@ pub fn cut_off_note(alloc: Global, path: &str, read: &PartialReport) -> Result<V
     if !read.is_cut_off {
         return Ok(Vec::new(alloc));
     }
-    let what = ": the report is truncated; complete rows: ";
-    path_number_message(alloc, path, what, read.report.rows.as_slice().len(), "\n")
+    let rows = read.report.rows.as_slice().len();
+    let what = ": note: the report is truncated; using its ";
+    path_number_message(alloc, path, what, rows, complete_rows_text(rows))
+}
+
+fn complete_rows_text(rows: usize) -> &'static str
+    ensures { result.now ≡ complete_rows_text rows }
+{
+    if rows == 1 {
+        " complete row\n"
+    } else {
+        " complete rows\n"
+    }
 }

@@ -14,10 +14,10 @@ pub word_told : (b name c g w n x to y z : List ℕ)
     ≡ (((b ++ name) ++ c) ++ (g ++ (((w ++ n) ++ c) ++ ((x ++ to) ++ y)))) ++ z
 word_told b name c g w n x to y z = simp (append_assoc, append-nil)
 
-pub counts_told : (b name c g n s w to k z : List ℕ)
-    → b ++ (name ++ ((c ++ g) ++ (n ++ ((s ++ (w ++ to)) ++ (k ++ ((s ++ (w ++ z)) ++ []))))))
-    ≡ (((b ++ name) ++ c) ++ (g ++ ((((n ++ s) ++ w) ++ to) ++ ((k ++ s) ++ w)))) ++ z
-counts_told b name c g n s w to k z = simp (append_assoc, append-nil)
+pub counts_told : (b name c g n to k z : List ℕ)
+    → b ++ (name ++ ((c ++ g) ++ (n ++ (to ++ (k ++ (z ++ []))))))
+    ≡ (((b ++ name) ++ c) ++ (g ++ ((n ++ to) ++ k))) ++ z
+counts_told b name c g n to k z = simp (append_assoc, append-nil)
 
 pub byte_told : (b name c g w n q x to y z : List ℕ)
     → b ++ (name ++ ((c ++ (g ++ w)) ++ (n ++ ((c ++ q) ++ (x ++ ((q ++ (to ++ q)) ++ (y ++ ((q ++ z) ++ []))))))))
@@ -26,15 +26,15 @@ byte_told b name c g w n q x to y z = simp (append_assoc, append-nil)
 
 -- a signature that is gone, one that is new, and none in either
 
-pub gone_told : (b name c g n s w to none z : List ℕ)
-    → b ++ (name ++ ((c ++ g) ++ (n ++ ((s ++ (w ++ (to ++ (none ++ z)))) ++ []))))
-    ≡ (((b ++ name) ++ c) ++ (g ++ ((((n ++ s) ++ w) ++ to) ++ none))) ++ z
-gone_told b name c g n s w to none z = simp (append_assoc, append-nil)
+pub gone_told : (b name c g n to none z : List ℕ)
+    → b ++ (name ++ ((c ++ g) ++ (n ++ ((to ++ (none ++ z)) ++ []))))
+    ≡ (((b ++ name) ++ c) ++ (g ++ ((n ++ to) ++ none))) ++ z
+gone_told b name c g n to none z = simp (append_assoc, append-nil)
 
-pub new_told : (b name c g none to n s w z : List ℕ)
-    → b ++ (name ++ ((c ++ (g ++ (none ++ to))) ++ (n ++ ((s ++ (w ++ z)) ++ []))))
-    ≡ (((b ++ name) ++ c) ++ (g ++ ((none ++ to) ++ ((n ++ s) ++ w)))) ++ z
-new_told b name c g none to n s w z = simp (append_assoc, append-nil)
+pub new_told : (b name c g none to n z : List ℕ)
+    → b ++ (name ++ ((c ++ (g ++ (none ++ to))) ++ (n ++ (z ++ []))))
+    ≡ (((b ++ name) ++ c) ++ (g ++ ((none ++ to) ++ n))) ++ z
+new_told b name c g none to n z = simp (append_assoc, append-nil)
 
 pub none_told : (b name c g none to z : List ℕ)
     → b ++ (name ++ ((c ++ (g ++ (none ++ (to ++ (none ++ z))))) ++ []))

@@ -5,6 +5,7 @@ use Rattle.std.specs.Fmt.{decimal}
 use Rattle.std.specs.List.{filter, flat_map}
 use Rattle.rv_rows.specs.declared_row.Row.{Row}
 use Rattle.rv_rows.specs.Report.{line}
+use Rattle.rv_text.specs.Words.{count_text}
 use Rattle.rv_diff.specs.declared.diff.Differing.{Differing}
 use Rattle.rv_diff.specs.declared.diff.StepSums.{StepSums}
 use Rattle.rv_diff.specs.declared.change.Compare.{Compare}
@@ -59,9 +60,12 @@ change_counts_words counts = decimal counts.gone ++ codes " gone, " ++ decimal c
     ++ codes " new, " ++ decimal counts.changed ++ codes " changed"
 
 -- how many of how many jobs differ
+abbrev pub differ_words : ℕ → List ℕ
+differ_words jobs = if jobs == 1 then codes " differs: " else codes " differ: "
+
 unfoldable pub differing_words : ℕ → ℕ → List ℕ
-differing_words count jobs = decimal count ++ codes " of " ++ decimal jobs
-    ++ codes " jobs differ: "
+differing_words count jobs = decimal count ++ codes " of " ++ count_text jobs (codes "job")
+    ++ differ_words jobs
 
 -- the total steps of each report, if slower jobs are looked for
 abbrev pub total_steps : List Row → ℕ
@@ -74,11 +78,11 @@ step_sums (Slower percent) old new = Some record { old = total_steps old; new = 
 
 abbrev pub sums_words : Option StepSums → List ℕ
 sums_words None = []
-sums_words (Some sums) = codes ", steps " ++ decimal sums.old ++ codes " -> " ++ decimal sums.new
+sums_words (Some sums) = codes ", total steps " ++ decimal sums.old ++ codes " -> " ++ decimal sums.new
 
 -- the jobs that are not compared, since a report leaves them out
 abbrev pub left_out_words : ℕ → List ℕ
-left_out_words count = if count == 0 then [] else codes ", " ++ decimal count ++ codes " left out"
+left_out_words count = if count == 0 then [] else codes ", " ++ decimal count ++ codes " not compared"
 
 unfoldable pub count_line : ℕ → Differing → ℕ → Option StepSums → List ℕ
 count_line jobs counts left_out sums = line (differing_words (differing_count counts) jobs ++ change_counts_words counts

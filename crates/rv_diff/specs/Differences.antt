@@ -10,7 +10,7 @@ use Rattle.rv_rows.specs.declared_row.RowEnd.{RowEnd}
 use Rattle.rv_rows.specs.declared_row.RowEnd.TheVariants as ending
 use Rattle.rv_rows.specs.declared_row.Verdict.{Verdict}
 use Rattle.rv_rows.specs.Report.{line, refusal_name, verdict_name}
-use Rattle.rv_text.specs.Words.{word_digits}
+use Rattle.rv_text.specs.Words.{count_text, exit_code_text, word_digits}
 use Rattle.rv_rows.specs.Verdict.{are_same_signatures}
 use Rattle.rv_diff.specs.declared.change.Compare.{Compare}
 use Rattle.rv_diff.specs.declared.change.Compare.TheVariants.{Outcomes, Slower, Steps}
@@ -19,7 +19,7 @@ use Rattle.rv_diff.specs.Change.{have_same_console, are_same_endings, agree_in_s
 -- ---- what changed
 
 unfoldable pub ending_words : RowEnd → List ℕ
-ending_words (ending.Exit code) = codes "exit " ++ decimal code
+ending_words (ending.Exit code) = codes "exit " ++ exit_code_text code
 ending_words (ending.Fault kind pc value) = codes "fault " ++ fault_name kind
     ++ codes " pc=" ++ word_digits pc ++ codes " value=" ++ word_digits value
 ending_words ending.Budget = codes "budget"
@@ -36,18 +36,15 @@ value_in_quotes value = codes "\"" ++ printable_value value ++ codes "\""
 abbrev pub first_differing_index : List ℕ → List ℕ → Option ℕ
 first_differing_index old new = position (λ pair. not (pair.0 == pair.1)) (zip old new)
 
-abbrev pub count_words : ℕ → List ℕ → List ℕ
-count_words count what = decimal count ++ codes " " ++ what
-
 -- the number of each
 abbrev pub counts_words : List ℕ → List ℕ → List ℕ → List ℕ
-counts_words what old new = becomes (count_words (length old) what) (count_words (length new) what)
+counts_words what old new = becomes (count_text (length old) what) (count_text (length new) what)
 
 -- the bytes from the first difference on; if there is none, one console is a prefix of the other
 abbrev pub byte_change_words : Option ℕ → List ℕ → List ℕ → List ℕ
 byte_change_words (Some place) old new = codes "byte " ++ decimal place ++ codes ": "
     ++ becomes (value_in_quotes (drop place old)) (value_in_quotes (drop place new))
-byte_change_words None old new = counts_words (codes "bytes") old new
+byte_change_words None old new = counts_words (codes "byte") old new
 
 unfoldable pub console_words : List ℕ → List ℕ → List ℕ
 console_words old new = codes "console " ++ byte_change_words (first_differing_index old new) old new
@@ -56,11 +53,11 @@ console_words old new = codes "console " ++ byte_change_words (first_differing_i
 abbrev pub word_change_words : Option ℕ → List ℕ → List ℕ → List ℕ
 word_change_words (Some place) old new = codes "word " ++ decimal place ++ codes ": "
     ++ becomes (word_digits (slice_index old place)) (word_digits (slice_index new place))
-word_change_words None old new = counts_words (codes "words") old new
+word_change_words None old new = counts_words (codes "word") old new
 
 abbrev pub size_words : Option (List ℕ) → List ℕ
 size_words None = codes "none"
-size_words (Some words) = count_words (length words) (codes "words")
+size_words (Some words) = count_text (length words) (codes "word")
 
 -- the sizes, if one of the two signatures is missing
 abbrev pub signature_change_words : Option (List ℕ) → Option (List ℕ) → List ℕ

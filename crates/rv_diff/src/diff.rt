@@ -5,7 +5,7 @@ ghost use Rattle.std.specs.List.{flat_map};
 ghost use Rattle.rv_rows.specs.Report.{line};
 ghost use Rattle.rv_diff.specs.ByName.{row_named};
 ghost use Rattle.rv_diff.specs.Diff.{count_line, diff_text, counts_of_differing, differing_count, gone_line, is_alone_in};
-ghost use Rattle.rv_diff.specs.Diff.{change_counts_words, changes_of_row, differing_words, is_changed, left_out_words, step_sums};
+ghost use Rattle.rv_diff.specs.Diff.{change_counts_words, changes_of_row, differ_words, differing_words, is_changed, left_out_words, step_sums};
 ghost use Rattle.rv_diff.specs.Diff.{rows_beside, sums_words, total_steps};
 
 use crate::by_name::ByName;
@@ -228,7 +228,7 @@ fn push_left_out(text: &mut Vec<u8>, count: usize) -> Result<(), AllocError>
         &[
             Span::Text(", "),
             Span::Number(count as u64),
-            Span::Text(" left out"),
+            Span::Text(" not compared"),
         ],
     )
 }
@@ -240,7 +240,7 @@ fn push_step_sums(text: &mut Vec<u8>, sums: Option<StepSums>) -> Result<(), Allo
         Some(sums) => push_spans(
             text,
             &[
-                Span::Text(", steps "),
+                Span::Text(", total steps "),
                 Span::Number(sums.old),
                 Span::Text(" -> "),
                 Span::Number(sums.new),
@@ -248,6 +248,12 @@ fn push_step_sums(text: &mut Vec<u8>, sums: Option<StepSums>) -> Result<(), Allo
         ),
         None => Ok(()),
     }
+}
+
+fn differ_words(jobs: usize) -> &'static str
+    ensures { result.now ≡ differ_words jobs }
+{
+    if jobs == 1 { " differs: " } else { " differ: " }
 }
 
 fn push_counts(text: &mut Vec<u8>, jobs: usize, counts: Differing) -> Result<(), AllocError>
@@ -261,8 +267,8 @@ fn push_counts(text: &mut Vec<u8>, jobs: usize, counts: Differing) -> Result<(),
         &[
             Span::Number(count as u64),
             Span::Text(" of "),
-            Span::Number(jobs as u64),
-            Span::Text(" jobs differ: "),
+            Span::Count(jobs as u64, "job"),
+            Span::Text(differ_words(jobs)),
             Span::Number(counts.gone as u64),
             Span::Text(" gone, "),
             Span::Number(counts.added as u64),

@@ -65,11 +65,7 @@ fn push_ending<'a>(text: &mut Vec<u8>, ending: RowEnd, end: &'a str) -> Result<(
     match ending {
         RowEnd::Exit(code) => push_spans(
             text,
-            &[
-                Span::Text("exit "),
-                Span::Number(u64::from(code)),
-                Span::Text(end),
-            ],
+            &[Span::Text("exit "), Span::ExitCode(code), Span::Text(end)],
         ),
         RowEnd::Fault(kind, pc, value) => push_spans(
             text,
@@ -174,10 +170,10 @@ fn push_console_change<'a>(text: &mut Vec<u8>, old: &'a Row, new: &'a Row) -> Re
                 Span::Text("! "),
                 Span::Text(new.name.as_str()),
                 Span::Text(": console "),
-                Span::Number(before.len() as u64),
-                Span::Text(" bytes -> "),
-                Span::Number(after.len() as u64),
-                Span::Text(" bytes\n"),
+                Span::Count(before.len() as u64, "byte"),
+                Span::Text(" -> "),
+                Span::Count(after.len() as u64, "byte"),
+                Span::Text("\n"),
             ],
         ),
     }

@@ -13,14 +13,14 @@ name_and_reason mnemonic extension reason =
 
 -- the text of a code that is not an instruction of RV32IMC
 abbrev pub unsimulated_text : Option Row → List ℕ
-unsimulated_text None = codes "no instruction"
+unsimulated_text None = codes "not an instruction"
 unsimulated_text (Some r) = name_and_reason r.mnemonic r.extension (codes "not simulated")
 
 -- ---- of a code that has none in the set of a job
 
 -- an instruction of RV32IMC that the set lacks, by its name and its extension
 abbrev pub missing_text : List ℕ → List ℕ → List ℕ
-missing_text mnemonic extension = name_and_reason mnemonic extension (codes "not in this job's set")
+missing_text mnemonic extension = name_and_reason mnemonic extension (codes "not in this job's \"isa\"")
 
 -- the text of a word: every set has the base, so a missing instruction of RV32IMC belongs to M
 abbrev pub illegal_text_by_name : Option Instr → ℕ → List ℕ

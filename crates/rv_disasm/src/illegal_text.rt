@@ -23,7 +23,7 @@ pub fn push_illegal32(bytes: &mut Vec<u8>, word: u32) -> Result<(), AllocError>
     }
 }
 
-/// Appends the description of a halfword that is not an instruction of a job's set, as in `c.li (C: not in this job's set)` or `c.flw (F:
+/// Appends the description of a halfword that is not an instruction of a job's set, as in `c.li (C: not in this job's \"isa\")` or `c.flw (F:
 /// not simulated)`, or `no instruction`.
 #[tactic(auto, unfolding(crate::specs::Illegal::illegal_text16))]
 pub fn push_illegal16(bytes: &mut Vec<u8>, half: u16) -> Result<(), AllocError>
@@ -42,7 +42,7 @@ fn push_missing(bytes: &mut Vec<u8>, form: Form, extension: &str) -> Result<(), 
         ≡ bytes.old.items ++ missing_text form.0.now extension.now) }
 {
     let Form(mnemonic, _) = form;
-    push_name_and_reason(bytes, mnemonic, extension, "not in this job's set")
+    push_name_and_reason(bytes, mnemonic, extension, "not in this job's \"isa\"")
 }
 
 /// Appends the name of a row that is not simulated, or `no instruction` if there is none.
@@ -54,7 +54,7 @@ pub(crate) fn push_unsimulated(bytes: &mut Vec<u8>, row: Option<Row>) -> Result<
         Some(Row(_, _, mnemonic, extension)) => {
             push_name_and_reason(bytes, mnemonic, extension, "not simulated")
         }
-        None => push_literal(bytes, "no instruction"),
+        None => push_literal(bytes, "not an instruction"),
     }
 }
 

@@ -5,3 +5,4 @@ pub mod OfPlans
 pub mod TwoEnds
 mod KnownLines
 mod KnownPlaces
+mod Collecting

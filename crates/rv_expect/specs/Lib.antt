@@ -8,7 +8,7 @@ pub mod RowReporter
 pub mod UnmetInPlan
 pub mod Passing
 pub mod Judgement
-pub mod EndKinds
+pub mod FailureKinds
 pub mod MetExpectations
 pub mod Problem
 pub mod TwoEnds

@@ -13,7 +13,8 @@
 
 mod comparison;
 mod difference;
-mod end_kind;
+mod failure_kind;
+mod failures;
 mod judgement;
 mod known_jobs;
 mod known_lines;
@@ -29,7 +30,8 @@ mod unmet;
 
 pub use comparison::Comparison;
 pub use difference::{Difference, SameDifference, SignatureDifference};
-pub use end_kind::{EndKind, fails_with_end_kind};
+pub use failure_kind::FailureKind;
+pub use failures::{failures_by_end, failures_in_plan};
 pub use judgement::{Judge, Judgement};
 pub use known_jobs::{KnownFault, KnownFaultKind, KnownJob, KnownJobs};
 pub use known_reader::read_known_jobs;

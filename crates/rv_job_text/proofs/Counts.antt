@@ -1,4 +1,4 @@
--- Rows are counted, and the kinds of ends of those that failed told in brackets.
+-- Rows are counted, and the kinds of failures told in brackets.
 use Rattle.std.proofs.Common.{◌≡◌, ◌∙◌, sym, ap, ℕ, ◌+◌, ◌<◌, ◌≤◌, List, [], ◌∷◌, ◌++◌, get_or, length, take}
 use Rattle.std.proofs.Common.{Bool, true, false, cond, add-one, arith, ne_eqb, append-nil, append_assoc, ◌==◌}
 use Rattle.std.proofs.Common.{length-append}
@@ -9,9 +9,9 @@ use Rattle.std.proofs.lemmas.Bool.{true≢false}
 use Rattle.std.proofs.lemmas.Grind.{flat_map-append}
 use Rattle.std.proofs.lemmas.List.{length-take, take_all}
 use Rattle.std.proofs.lemmas.List.Sums.{count_by-le-length, count_by_more_no, count_by_more_yes}
-use Rattle.rv_expect.specs.declared.end_kind.EndKind.{EndKind}
-use Rattle.rv_expect.specs.EndKinds.{end_kind_at}
-use Rattle.rv_job_text.specs.TotalsLine.{bracket_text, failure_texts_below, open_bracket_text, end_kind_name}
+use Rattle.rv_expect.specs.declared.failure_kind.FailureKind.{FailureKind}
+use Rattle.rv_expect.specs.FailureKinds.{failure_kind_at}
+use Rattle.rv_job_text.specs.TotalsLine.{bracket_text, failure_kind_name, failure_texts_below, open_bracket_text}
 use Rattle.rv_text.proofs.Public.{more}
 
 -- ---- the elements that pass a test, among so many
@@ -67,22 +67,22 @@ bracket-none (first ∷ others) is_open old new begun none so_far =
     let filled : (length (first ∷ others) == 0) ≡ false = ne_eqb (length (first ∷ others)) 0 (omega arith) in
     absurd (true≢false (ap not (sym filled) ∙ (sym begun ∙ none)))
 
--- ---- the kinds of ends below one place more
+-- ---- the kinds of failures below one place more
 
-pub failure_texts_below-none : (count : EndKind → ℕ) (place : ℕ) → count (end_kind_at place) ≡ 0 →
+pub failure_texts_below-none : (count : FailureKind → ℕ) (place : ℕ) → count (failure_kind_at place) ≡ 0 →
     failure_texts_below count (place + 1) ≡ failure_texts_below count place
 unfolding failure_texts_below
 failure_texts_below-none count place none = rw (add-one place, none) (append-nil (failure_texts_below count place))
 
-pub failure_texts_below-some : (count : EndKind → ℕ) (place : ℕ) → 0 < count (end_kind_at place) →
+pub failure_texts_below-some : (count : FailureKind → ℕ) (place : ℕ) → 0 < count (failure_kind_at place) →
     failure_texts_below count (place + 1)
-    ≡ failure_texts_below count place ++ (decimal (count (end_kind_at place)) ++ codes " " ++ end_kind_name (end_kind_at place)) ∷ []
+    ≡ failure_texts_below count place ++ (decimal (count (failure_kind_at place)) ++ codes " " ++ failure_kind_name (failure_kind_at place)) ∷ []
 unfolding failure_texts_below
 failure_texts_below-some count place some =
-    let how = end_kind_at place in
+    let how = failure_kind_at place in
     let other : (count how == 0) ≡ false = ne_eqb (count how) 0 (omega arith) in
     rw add-one (ap (λ t. failure_texts_below count place
-    ++ cond t [] ((decimal (count how) ++ codes " " ++ end_kind_name how) ∷ [])) other)
+    ++ cond t [] ((decimal (count how) ++ codes " " ++ failure_kind_name how) ∷ [])) other)
 
 pub is_begun : (texts : List (List ℕ)) (text : List ℕ) → true ≡ not (length (texts ++ text ∷ []) == 0)
 is_begun texts text =

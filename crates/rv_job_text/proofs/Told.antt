@@ -6,12 +6,15 @@ pub byte_told : (byte n is q m ex w : List ℕ)
     ≡ ((((byte ++ n) ++ is) ++ ((q ++ m) ++ q)) ++ ex) ++ ((q ++ w) ++ q)
 byte_told byte n is q m ex w = simp (append_assoc, append-nil)
 
-pub five_told : (a b c d e : List ℕ) → a ++ (b ++ (c ++ (d ++ (e ++ [])))) ≡ (((a ++ b) ++ c) ++ d) ++ e
-five_told a b c d e = simp (append_assoc, append-nil)
-
 pub words_told : (place met ex wanted : List ℕ)
     → place ++ (met ++ (ex ++ (wanted ++ []))) ≡ ((place ++ met) ++ ex) ++ wanted
 words_told place met ex wanted = simp (append_assoc, append-nil)
+
+pub three_told : (a b c : List ℕ) → a ++ (b ++ (c ++ [])) ≡ (a ++ b) ++ c
+three_told a b c = simp (append_assoc, append-nil)
+
+pub refused_told : (before a name z : List ℕ) → before ++ (a ++ (name ++ (z ++ []))) ≡ before ++ ((a ++ name) ++ z)
+refused_told before a name z = simp (append_assoc, append-nil)
 
 pub ended_told : (before kind name : List ℕ) → before ++ (kind ++ (name ++ [])) ≡ before ++ (kind ++ name)
 ended_told before kind name = ap (λ text. before ++ (kind ++ text)) (append-nil name)

@@ -1,6 +1,5 @@
 -- The line that explains a used-up budget.
 use Rattle.std.specs.Prelude.{◌≡◌, ◌==◌, ◌++◌, ℕ, Bool, List, [], Option, Some, None, codes, if◌then◌else◌}
-use Rattle.std.specs.Fmt.{decimal}
 use Rattle.rv_hang.specs.BudgetUse.{IsBudgetUseIn}
 use Rattle.rv_hang.specs.declared.budget_use.BudgetUse.{BudgetUse}
 use Rattle.rv_hang.specs.declared.budget_use.BudgetUse.TheVariants.{Changes, Repeats}
@@ -11,14 +10,19 @@ use Rattle.rv_rows.specs.declared_row.Row.{Row}
 use Rattle.rv_rows.specs.declared_row.RowEnd.{RowEnd}
 use Rattle.rv_rows.specs.declared_row.RowEnd.TheVariants.{Budget}
 use Rattle.rv_rows.specs.Report.{line}
+use Rattle.rv_text.specs.Words.{count_text}
 
 -- the reason for a loop that loads from the exhausted input script
 abbrev pub waiting_text : Bool → List ℕ
 waiting_text waits = if waits then codes ", waiting for input after the end of the script" else []
 
+-- how often a loop repeats
+abbrev pub period_text : ℕ → List ℕ
+period_text period = if period == 1 then codes "step" else count_text period (codes "step")
+
 unfoldable pub repetition_line : Repetition → List ℕ
-repetition_line r = line (codes "     never ends: after " ++ decimal r.begin ++ codes " steps it repeats every "
-    ++ decimal r.period ++ codes " steps" ++ waiting_text r.waits)
+repetition_line r = line (codes "     never ends: after " ++ count_text r.begin (codes "step") ++ codes " it repeats every "
+    ++ period_text r.period ++ waiting_text r.waits)
 
 -- whether the last steps or all steps of the run were searched
 abbrev pub last_or_all_text : ℕ → ℕ → List ℕ
@@ -26,7 +30,7 @@ last_or_all_text steps within = if within == steps then codes "its " else codes 
 
 unfoldable pub changes_line : ℕ → ℕ → List ℕ
 changes_line steps within = line (codes "     the budget may be too small: no endless loop was found in "
-    ++ last_or_all_text steps within ++ decimal within ++ codes " steps")
+    ++ last_or_all_text steps within ++ count_text within (codes "step"))
 
 -- the line for a run of this many steps
 abbrev pub budget_use_line : ℕ → Option BudgetUse → List ℕ

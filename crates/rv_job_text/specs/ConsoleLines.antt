@@ -85,7 +85,7 @@ shown_line place text = text_shown_from (shown_begin place text) text
 -- a note that a line has no line feed
 abbrev pub feed_note : List ℕ → List ℕ
 feed_note whole =
-    if position_or_len is_feed whole == length whole then codes "     \\ no newline at the end\n" else []
+    if position_or_len is_feed whole == length whole then codes "     \\ no newline at end\n" else []
 
 -- the line of one side, after a margin; it is shown relative to the line of the other side
 unfoldable pub side_line : List ℕ → List ℕ → List ℕ → List ℕ

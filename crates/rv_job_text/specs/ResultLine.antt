@@ -1,12 +1,11 @@
 -- The line with a job's result.
 use Rattle.std.specs.Prelude.{◌==◌, length, ℕ, List, [], ◌++◌, Option, Some, None, codes, if◌then◌else◌}
-use Rattle.std.specs.Fmt.{decimal}
 use Rattle.rv_machine.specs.Faults.{fault_name}
 use Rattle.rv_rows.specs.declared_row.Row.{Row}
 use Rattle.rv_rows.specs.declared_row.RowEnd.{RowEnd}
 use Rattle.rv_rows.specs.declared_row.RowEnd.TheVariants as ending
 use Rattle.rv_rows.specs.Report.{line, refusal_name}
-use Rattle.rv_text.specs.Words.{word_digits}
+use Rattle.rv_text.specs.Words.{count_text, exit_code_text, word_digits}
 use Rattle.rv_expect.specs.Judgement.{Judged, failed, known, now_passes, passed}
 use Rattle.rv_text.specs.Printable.{printable_text}
 use Rattle.rv_text.specs.Symbol.{symbol_in_brackets}
@@ -17,12 +16,12 @@ optional_reason_text None = []
 optional_reason_text (Some reason) = codes ": " ++ printable_text reason
 
 abbrev pub after_steps_text : ℕ → List ℕ
-after_steps_text steps = codes " after " ++ decimal steps ++ codes " steps"
+after_steps_text steps = codes " after " ++ count_text steps (codes "step")
 
 -- how a run ended, with the number of steps and the address, or why there is none
 unfoldable pub result_ending_text : RowEnd → ℕ → Option (List ℕ × ℕ) → Option (List ℕ) → List ℕ
 result_ending_text (ending.Exit code) steps place reason =
-    codes "exit " ++ decimal code ++ after_steps_text steps
+    codes "exit " ++ exit_code_text code ++ after_steps_text steps
 result_ending_text (ending.Fault kind pc value) steps place reason =
     codes "fault " ++ fault_name kind ++ codes " at " ++ word_digits pc ++ symbol_in_brackets place
     ++ codes ", value " ++ word_digits value ++ codes "," ++ after_steps_text steps
@@ -33,7 +32,7 @@ result_ending_text (ending.Refused why) steps place reason =
 abbrev pub judged_word : Judged → List ℕ
 judged_word passed = codes "PASS "
 judged_word failed = codes "FAIL "
-judged_word (known why) = codes "known "
+judged_word (known why) = codes "KNOWN "
 judged_word (now_passes path) = codes "FAIL "
 
 -- why a job is known to fail, if a reason is given

@@ -1,24 +1,29 @@
--- The last line: the number of jobs, how many passed, how the failed ones ended, and how many failures are known.
+-- The last line: the number of jobs, how many passed, what did not match in the failed ones, and how many failures are known.
 use Rattle.std.specs.Prelude.{◌==◌, ℕ, zero, suc, List, [], ◌∷◌, ◌++◌}
 use Rattle.std.specs.Prelude.{codes, if◌then◌else◌, length, sum_by, count_by}
 use Rattle.std.specs.List.{flat_map}
 use Rattle.std.specs.Fmt.{decimal}
+use Rattle.rv_jobs.specs.Plans.{Planned}
 use Rattle.rv_machine.specs.Faults.{fault_name}
 use Rattle.rv_rows.specs.declared_row.Row.{Row}
 use Rattle.rv_rows.specs.Report.{line}
+use Rattle.rv_text.specs.Words.{count_text}
 use Rattle.rv_expect.specs.Judgement.{Judging, fails, is_known_failure, is_passed, judgement}
-use Rattle.rv_expect.specs.declared.end_kind.EndKind.{EndKind}
-use Rattle.rv_expect.specs.declared.end_kind.EndKind.TheVariants as end_kind
-use Rattle.rv_expect.specs.EndKinds.{fails_with_end_kind, end_kind_at, end_kind_count}
+use Rattle.rv_expect.specs.declared.failure_kind.FailureKind.{FailureKind}
+use Rattle.rv_expect.specs.declared.failure_kind.FailureKind.TheVariants as failure
+use Rattle.rv_expect.specs.FailureKinds.{failure_kind_at, failure_kind_count, failures_by_end, failures_in_plan, is_same_failure_kind}
 
--- ---- kinds of ends
+-- ---- kinds of failures
 
--- the word for a kind of end
-abbrev pub end_kind_name : EndKind → List ℕ
-end_kind_name end_kind.Exit = codes "exit"
-end_kind_name end_kind.Budget = codes "budget"
-end_kind_name (end_kind.Fault kind) = fault_name kind
-end_kind_name end_kind.Refused = codes "refused"
+-- the word for a kind of failure
+abbrev pub failure_kind_name : FailureKind → List ℕ
+failure_kind_name failure.Exit = codes "exit"
+failure_kind_name failure.Budget = codes "budget"
+failure_kind_name (failure.Fault kind) = fault_name kind
+failure_kind_name failure.Refused = codes "refused"
+failure_kind_name failure.Console = codes "console"
+failure_kind_name failure.Signature = codes "signature"
+failure_kind_name failure.SameAs = codes "same_as"
 
 -- ---- counts
 
@@ -31,23 +36,23 @@ failed_count judging rows = count_by (fails judging) rows
 abbrev pub known_count : Judging → List Row → ℕ
 known_count judging rows = count_by (λ row. is_known_failure (judgement judging row)) rows
 
-abbrev pub failure_count_of_end_kind : Judging → List Row → EndKind → ℕ
-failure_count_of_end_kind judging rows kind = count_by (fails_with_end_kind judging kind) rows
+abbrev pub failure_count : List FailureKind → FailureKind → ℕ
+failure_count failures kind = count_by (is_same_failure_kind kind) failures
 
 abbrev pub total_steps : List Row → ℕ
 total_steps rows = sum_by (λ row. row.steps) rows
 
 -- ---- the line
 
--- how many jobs failed with a kind of end, shown if there are any
-abbrev pub failure_text_of_end_kind : (EndKind → ℕ) → EndKind → List (List ℕ)
-failure_text_of_end_kind count kind =
-    if count kind == 0 then [] else (decimal (count kind) ++ codes " " ++ end_kind_name kind) ∷ []
+-- how many failures there are of a kind, shown if there are any
+abbrev pub failure_text : (FailureKind → ℕ) → FailureKind → List (List ℕ)
+failure_text count kind =
+    if count kind == 0 then [] else (decimal (count kind) ++ codes " " ++ failure_kind_name kind) ∷ []
 
--- the failures by kind of end, in order, for the kinds below an index
-unfoldable pub failure_texts_below : (EndKind → ℕ) → ℕ → List (List ℕ)
+-- the failures by kind, in order, for the kinds below an index
+unfoldable pub failure_texts_below : (FailureKind → ℕ) → ℕ → List (List ℕ)
 failure_texts_below count zero = []
-failure_texts_below count (suc place) = failure_texts_below count place ++ failure_text_of_end_kind count (end_kind_at place)
+failure_texts_below count (suc index) = failure_texts_below count index ++ failure_text count (failure_kind_at index)
 
 -- the texts in brackets, separated by commas; nothing if there are none
 abbrev pub open_bracket_text : List (List ℕ) → List ℕ
@@ -68,22 +73,23 @@ passed_counts_text jobs passed failed = decimal jobs ++ job_word jobs ++ codes "
 
 -- the number of known failures, shown if there are any
 abbrev pub known_count_text : ℕ → List ℕ
-known_count_text count = if count == 0 then [] else codes ", " ++ decimal count ++ codes " known"
+known_count_text count = if count == 0 then [] else codes ", " ++ count_text count (codes "known failure")
 
--- the text of the last line for rows
-unfoldable pub totals_text : Judging → List Row → List ℕ
-totals_text judging rows = passed_counts_text (length rows) (passed_count judging rows) (failed_count judging rows)
-    ++ bracket_text (failure_texts_below (failure_count_of_end_kind judging rows) end_kind_count)
-    ++ known_count_text (known_count judging rows) ++ codes ", " ++ decimal (total_steps rows) ++ codes " steps"
+-- the text of the last line for rows with these failures
+unfoldable pub totals_text : Judging → List FailureKind → List Row → List ℕ
+totals_text judging failures rows = passed_counts_text (length rows) (passed_count judging rows) (failed_count judging rows)
+    ++ bracket_text (failure_texts_below (failure_count failures) failure_kind_count)
+    ++ known_count_text (known_count judging rows) ++ codes ", " ++ count_text (total_steps rows) (codes "step")
 
--- the last line of a report of rows
+-- the last line for the rows of a report, whose failures are counted by their ends
 abbrev pub totals_line : Judging → List Row → List ℕ
-totals_line judging rows = line (totals_text judging rows)
+totals_line judging rows = line (totals_text judging (failures_by_end judging rows) rows)
 
 -- how many jobs have no row because a failure ended the run, shown if there are any
 abbrev pub hidden_text : ℕ → List ℕ
 hidden_text count = if count == 0 then [] else codes "; " ++ decimal count ++ job_word count ++ codes " not shown"
 
--- the last line of a run that shows these rows, with the number of its other jobs
-abbrev pub run_totals_line : Judging → List Row → ℕ → List ℕ
-run_totals_line judging rows hidden = line (totals_text judging rows ++ hidden_text hidden)
+-- the last line of a run that shows these rows of a plan's jobs at some indices, with the number of its other jobs
+abbrev pub run_totals_line : Judging → Planned → List ℕ → List Row → ℕ → List ℕ
+run_totals_line judging plan places rows hidden =
+    line (totals_text judging (failures_in_plan judging plan places rows) rows ++ hidden_text hidden)

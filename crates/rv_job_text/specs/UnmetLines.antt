@@ -25,14 +25,14 @@ use Rattle.rv_rows.specs.declared_row.Row.{Row}
 use Rattle.rv_rows.specs.declared_row.RowEnd.{RowEnd}
 use Rattle.rv_rows.specs.declared_row.RowEnd.TheVariants as ending
 use Rattle.rv_rows.specs.Report.{line, refusal_name}
-use Rattle.rv_text.specs.Words.{word_digits}
+use Rattle.rv_text.specs.Words.{count_text, exit_code_text, word_digits}
 use Rattle.rv_job_text.specs.ConsoleLines.{Wanted, console_lines, expected_by_lines}
 
 -- ---- the exit code and the end
 
 unfoldable pub expected_exit_text : Option ℕ → List ℕ
 expected_exit_text None = codes "an exit"
-expected_exit_text (Some code) = codes "exit " ++ decimal code
+expected_exit_text (Some code) = codes "exit " ++ exit_code_text code
 
 unfoldable pub expected_end_text : Option ExpectedEnd → List ℕ
 expected_end_text None = codes "another end"
@@ -46,27 +46,27 @@ quoted_value value = codes "\"" ++ printable_value value ++ codes "\""
 
 unfoldable pub byte_difference_text : ℕ → List ℕ → List ℕ → List ℕ
 byte_difference_text place met wanted =
-    codes "byte " ++ decimal place ++ codes " is " ++ quoted_value (drop place met)
-    ++ codes ", expected " ++ quoted_value (drop place wanted)
+    codes " at byte " ++ decimal place ++ codes ": expected " ++ quoted_value (drop place wanted)
+    ++ codes ", found " ++ quoted_value (drop place met)
 
--- the actual number of bytes or words, and the expected one
+-- the expected number of bytes or words, and the actual one
 unfoldable pub count_difference_text : ℕ → List ℕ → ℕ → List ℕ
 count_difference_text met what wanted =
-    codes "it has " ++ decimal met ++ what ++ codes ", expected " ++ decimal wanted
+    codes " in length: expected " ++ count_text wanted what ++ codes ", found " ++ decimal met
 
 -- the first difference between the actual and the expected bytes
 unfoldable pub bytes_difference_text : Difference → List ℕ → List ℕ → List ℕ
 bytes_difference_text (difference.At place) met wanted = byte_difference_text place met wanted
-bytes_difference_text difference.Lengths met wanted = count_difference_text (length met) (codes " bytes") (length wanted)
-bytes_difference_text difference.Absent met wanted = codes "the file was not read"
+bytes_difference_text difference.Lengths met wanted = count_difference_text (length met) (codes "byte") (length wanted)
+bytes_difference_text difference.Absent met wanted = codes ", which was not read"
 
 -- the expected console: the bytes in a job, or those of a file
 unfoldable pub expected_console_text :
     ExpectedConsole → Option (List ℕ) → List ℕ → Difference → List ℕ
 expected_console_text (console.Text text) file met difference =
-    codes "console: " ++ bytes_difference_text difference met text
+    codes "console differs from the expected text" ++ bytes_difference_text difference met text
 expected_console_text (console.File path) file met difference =
-    codes "console of " ++ printable_text path ++ codes ": "
+    codes "console differs from " ++ printable_text path
     ++ bytes_difference_text difference met (unwrap_or file [])
 
 unfoldable pub console_difference_text :
@@ -90,49 +90,47 @@ reference_digits_at text place =
 abbrev pub word_address_text : Option ℕ → ℕ → List ℕ
 word_address_text None place = []
 word_address_text (Some first) place =
-    codes " (at " ++ word_digits ((first + 4 * place) % 2 ^ 32) ++ codes ")"
+    codes " (" ++ word_digits ((first + 4 * place) % 2 ^ 32) ++ codes ")"
 
 unfoldable pub word_place_text : Option ℕ → ℕ → List ℕ
-word_place_text first place = codes "word " ++ decimal place ++ word_address_text first place ++ codes " is "
+word_place_text first place = codes " at word " ++ decimal place ++ word_address_text first place ++ codes ": expected "
 
 abbrev pub word_difference_text : Option ℕ → ℕ → List ℕ → List ℕ → List ℕ
-word_difference_text first place met wanted = word_place_text first place ++ met ++ codes ", expected " ++ wanted
+word_difference_text first place met wanted = word_place_text first place ++ wanted ++ codes ", found " ++ met
 
-unfoldable pub bad_reference_line_text : ℕ → List ℕ → List ℕ
-bad_reference_line_text number path =
-    codes "line " ++ decimal number ++ codes " of " ++ printable_text path
-    ++ codes " is not eight lower-case hexadecimal digits and a newline"
+unfoldable pub bad_reference_line_text : ℕ → List ℕ
+bad_reference_line_text number =
+    codes ", which is invalid at line " ++ decimal number ++ codes ": expected eight lower-case hexadecimal digits and a newline"
 
--- the first difference between a signature and the reference with a path
-unfoldable pub reference_difference_text :
-    Option ℕ → List ℕ → List ℕ → List ℕ → SignatureDifference → List ℕ
-reference_difference_text first path words text (signature.Line number) = bad_reference_line_text number path
-reference_difference_text first path words text (signature.Word place) =
+-- the first difference between a signature and a reference
+unfoldable pub reference_difference_text : Option ℕ → List ℕ → List ℕ → SignatureDifference → List ℕ
+reference_difference_text first words text (signature.Line number) = bad_reference_line_text number
+reference_difference_text first words text (signature.Word place) =
     word_difference_text first place (signature_word_digits words place) (printable_text (reference_digits_at text place))
-reference_difference_text first path words text signature.Count =
-    count_difference_text (length words) (codes " words") (length text / 9)
-reference_difference_text first path words text signature.Absent = codes "the file was not read"
+reference_difference_text first words text signature.Count =
+    count_difference_text (length words) (codes "word") (length text / 9)
+reference_difference_text first words text signature.Absent = codes ", which was not read"
 
 unfoldable pub signature_difference_text : Option ℕ → Option (List ℕ) → Option (List ℕ) → Option (List ℕ)
     → SignatureDifference → List ℕ
 signature_difference_text first None words bytes difference = codes "no signature"
 signature_difference_text first (Some path) words bytes difference =
-    codes "signature of " ++ printable_text path ++ codes ": "
-    ++ reference_difference_text first path (signature_words_or_empty words) (unwrap_or bytes []) difference
+    codes "signature differs from " ++ printable_text path
+    ++ reference_difference_text first (signature_words_or_empty words) (unwrap_or bytes []) difference
 
 -- ---- the named job
 
--- how a run ended
+-- how a run ended, as what the job did
 unfoldable pub row_end_text : RowEnd → List ℕ
-row_end_text (ending.Exit code) = codes "exit " ++ decimal code
-row_end_text (ending.Fault kind pc value) = codes "fault " ++ fault_name kind
-row_end_text ending.Budget = codes "its budget used up"
-row_end_text (ending.Refused why) = codes "the refusal " ++ refusal_name why
+row_end_text (ending.Exit code) = codes "ended with exit " ++ exit_code_text code
+row_end_text (ending.Fault kind pc value) = codes "ended with fault " ++ fault_name kind
+row_end_text ending.Budget = codes "used up its budget"
+row_end_text (ending.Refused why) = codes "was refused (" ++ refusal_name why ++ codes ")"
 
 -- which of two signatures is missing
 abbrev pub absent_signature_text : Option (List ℕ) → List ℕ
-absent_signature_text None = codes "found none, expected one"
-absent_signature_text (Some words) = codes "found one, expected none"
+absent_signature_text None = codes ": expected one, found none"
+absent_signature_text (Some words) = codes ": expected none, found one"
 
 -- the first difference between two signatures, either of which may be missing
 unfoldable pub signatures_difference_text : Option ℕ → Option (List ℕ) → Option (List ℕ) → Difference → List ℕ
@@ -140,24 +138,24 @@ signatures_difference_text first words others (difference.At place) =
     word_difference_text first place (signature_word_digits (signature_words_or_empty words) place)
     (signature_word_digits (signature_words_or_empty others) place)
 signatures_difference_text first words others difference.Lengths =
-    count_difference_text (length (signature_words_or_empty words)) (codes " words") (length (signature_words_or_empty others))
+    count_difference_text (length (signature_words_or_empty words)) (codes "word") (length (signature_words_or_empty others))
 signatures_difference_text first words others difference.Absent = absent_signature_text words
 
 -- the first difference between a row and that of the named job
 unfoldable pub rows_difference_text : Option ℕ → Row → Row → SameDifference → List ℕ
 rows_difference_text first row other same.Ending =
-    codes "it ended with " ++ row_end_text other.ending ++ codes ", this job with "
+    codes ", which " ++ row_end_text other.ending ++ codes "; this job "
     ++ row_end_text row.ending
 rows_difference_text first row other (same.Console difference) =
-    codes "console: " ++ bytes_difference_text difference row.console other.console
+    codes ": console differs" ++ bytes_difference_text difference row.console other.console
 rows_difference_text first row other (same.Signature difference) =
-    codes "signature: " ++ signatures_difference_text first row.signature other.signature difference
-rows_difference_text first row other same.Absent = codes "it was not run"
+    codes ": signature differs" ++ signatures_difference_text first row.signature other.signature difference
+rows_difference_text first row other same.Absent = codes ", which was not run"
 
 unfoldable pub same_difference_text : Option ℕ → Row → Option Row → SameDifference → List ℕ
 same_difference_text first row None difference = codes "the same result as another job, which was not run"
 same_difference_text first row (Some other) difference =
-    codes "the same result as " ++ printable_text other.name ++ codes ": " ++ rows_difference_text first row other difference
+    codes "the same result as " ++ printable_text other.name ++ rows_difference_text first row other difference
 
 -- ---- the line
 
@@ -173,10 +171,16 @@ unmet_expectation_text address sides (unmet.Same difference) =
     same_difference_text address sides.row sides.other difference
 unmet_expectation_text address sides unmet.Nothing = codes "exit 0, since no expectation is set"
 
--- the difference by lines if possible, else a single line after five spaces
+-- what comes before an unmet expectation: five spaces, and a word unless the text says what differs
+abbrev pub unmet_margin : Unmet → List ℕ
+unmet_margin (unmet.Console difference) = codes "     "
+unmet_margin (unmet.Signature difference) = codes "     "
+unmet_margin _ = codes "     expected: "
+
+-- the difference by lines if possible, else a single line
 abbrev pub unmet_line_by : Option ℕ → Sides → Unmet → Option Wanted → List ℕ
 unmet_line_by address sides unmet None =
-    line (codes "     expected: " ++ unmet_expectation_text address sides unmet)
+    line (unmet_margin unmet ++ unmet_expectation_text address sides unmet)
 unmet_line_by address sides unmet (Some wanted) = console_lines wanted.source sides.row.console wanted.text
 
 unfoldable pub unmet_line : Option ℕ → Sides → Unmet → List ℕ

@@ -1,7 +1,8 @@
 //! The line that explains a used-up budget.
 
 ghost use Rattle.std.specs.Prelude.{◌≡◌, ◌++◌, OnOk};
-ghost use Rattle.rv_job_text.specs.BudgetUseLine.{budget_use_line, changes_line, last_or_all_text, repetition_line, waiting_text};
+ghost use Rattle.rv_job_text.specs.BudgetUseLine.{budget_use_line, changes_line, last_or_all_text, period_text, repetition_line, waiting_text};
+ghost use Rattle.rv_text.specs.Spans.{span_text};
 
 use rv_hang::{BudgetUse, Repetition};
 use rv_text::{Span, push_spans};
@@ -30,14 +31,23 @@ fn push_repetition_line(text: &mut Vec<u8>, repetition: Repetition) -> Result<()
         text,
         &[
             Span::Text("     never ends: after "),
-            Span::Number(u64::from(repetition.begin)),
-            Span::Text(" steps it repeats every "),
-            Span::Number(u64::from(repetition.period)),
-            Span::Text(" steps"),
+            Span::Count(u64::from(repetition.begin), "step"),
+            Span::Text(" it repeats every "),
+            period_span(repetition.period),
             Span::Text(waiting_text(repetition.waits)),
             Span::Text("\n"),
         ],
     )
+}
+
+fn period_span(period: u32) -> Span<'static>
+    ensures { span_text result ≡ period_text period }
+{
+    if period == 1 {
+        Span::Text("step")
+    } else {
+        Span::Count(u64::from(period), "step")
+    }
 }
 
 fn waiting_text(waits: bool) -> &'static str
@@ -59,8 +69,8 @@ fn push_changes_line(text: &mut Vec<u8>, steps: u32, within: u32) -> Result<(), 
         &[
             Span::Text("     the budget may be too small: no endless loop was found in "),
             Span::Text(last_or_all_text(steps, within)),
-            Span::Number(u64::from(within)),
-            Span::Text(" steps\n"),
+            Span::Count(u64::from(within), "step"),
+            Span::Text("\n"),
         ],
     )
 }

@@ -1,6 +1,6 @@
 //! Text for the first difference between actual and expected bytes.
 
-ghost use Rattle.std.specs.Prelude.{◌≡◌, ◌++◌, [], OnOk, codes, option_map, unwrap_or};
+ghost use Rattle.std.specs.Prelude.{◌≡◌, ◌++◌, [], OnOk, option_map, unwrap_or};
 ghost use Rattle.rv_text.specs.Printable.{printable_text};
 ghost use Rattle.rv_job_text.specs.UnmetLines.{byte_difference_text, bytes_difference_text, console_difference_text, count_difference_text};
 
@@ -24,34 +24,27 @@ pub(crate) fn push_console_difference(
 {
     match expected {
         Some(ExpectedConsole::Text(text)) => {
-            push_text(bytes, "console: ")?;
+            push_text(bytes, "console differs from the expected text")?;
             push_bytes_difference(bytes, met, text.as_slice(), difference)
         }
         Some(ExpectedConsole::File(path)) => {
-            push_compared_name(bytes, "console of ", path.as_str())?;
+            push_compared_name(bytes, "console differs from ", path.as_str())?;
             push_bytes_difference(bytes, met, bytes_or_empty(file), difference)
         }
         None => push_text(bytes, "no console"),
     }
 }
 
-/// Appends what is compared, with its name, before the difference.
+/// Appends what is compared with a name, before the difference.
 pub(crate) fn push_compared_name(
     bytes: &mut Vec<u8>,
     before: &'static str,
     name: &str,
 ) -> Result<(), AllocError>
     ensures { OnOk result (bytes.new.items ≡ bytes.old.items
-        ++ (before.now ++ printable_text name.now ++ codes ": ")) }
+        ++ (before.now ++ printable_text name.now)) }
 {
-    push_spans(
-        bytes,
-        &[
-            Span::Text(before),
-            Span::Shown(name.as_bytes()),
-            Span::Text(": "),
-        ],
-    )
+    push_spans(bytes, &[Span::Text(before), Span::Shown(name.as_bytes())])
 }
 
 pub(crate) fn bytes_or_empty(file: Option<&[u8]>) -> &[u8]
@@ -76,8 +69,8 @@ pub(crate) fn push_bytes_difference(
 {
     match difference {
         Difference::At(place) => push_byte_difference(bytes, place, met, wanted),
-        Difference::Lengths => push_count_difference(bytes, met.len(), " bytes", wanted.len()),
-        Difference::Absent => push_text(bytes, "the file was not read"),
+        Difference::Lengths => push_count_difference(bytes, met.len(), "byte", wanted.len()),
+        Difference::Absent => push_text(bytes, ", which was not read"),
     }
 }
 
@@ -94,18 +87,18 @@ fn push_byte_difference<'a>(
     push_spans(
         bytes,
         &[
-            Span::Text("byte "),
+            Span::Text(" at byte "),
             Span::Number(place as u64),
-            Span::Text(" is \""),
-            Span::Value(met),
-            Span::Text("\", expected \""),
+            Span::Text(": expected \""),
             Span::Value(wanted),
+            Span::Text("\", found \""),
+            Span::Value(met),
             Span::Text("\""),
         ],
     )
 }
 
-/// Appends the actual and the expected number of bytes or words.
+/// Appends the expected and the actual number of bytes or words.
 #[tactic(auto, unfolding(crate::specs::UnmetLines::count_difference_text))]
 pub(crate) fn push_count_difference(
     bytes: &mut Vec<u8>,
@@ -118,11 +111,10 @@ pub(crate) fn push_count_difference(
     push_spans(
         bytes,
         &[
-            Span::Text("it has "),
+            Span::Text(" in length: expected "),
+            Span::Count(wanted as u64, what),
+            Span::Text(", found "),
             Span::Number(met as u64),
-            Span::Text(what),
-            Span::Text(", expected "),
-            Span::Number(wanted as u64),
         ],
     )
 }

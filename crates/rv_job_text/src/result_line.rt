@@ -1,11 +1,10 @@
 //! The line with a job's result.
 
 ghost use Rattle.std.specs.Prelude.{◌≡◌, ◌++◌, OnOk, codes, option_map};
-ghost use Rattle.std.specs.Fmt.{decimal};
 ghost use Rattle.rv_expect.specs.Judgement.{judged_of};
 ghost use Rattle.rv_machine.specs.Faults.{fault_name};
 ghost use Rattle.rv_rows.specs.Report.{refusal_name};
-ghost use Rattle.rv_text.specs.Words.{word_digits};
+ghost use Rattle.rv_text.specs.Words.{exit_code_text, word_digits};
 ghost use Rattle.rv_job_text.specs.ResultLine.{judged_ending_text, judged_word, known_reason_text, now_passes_text, optional_reason_text, result_ending_text};
 ghost use Rattle.rv_text.specs.Symbol.{symbol_in_brackets};
 ghost use Rattle.rv_job_text.specs.ResultLine.{result_line, after_steps_text};
@@ -62,7 +61,7 @@ fn judged_word(judgement: Judgement<'_>) -> &'static str
     match judgement {
         Judgement::Passed => "PASS ",
         Judgement::Failed | Judgement::NowPasses(_) => "FAIL ",
-        Judgement::Known(_) => "known ",
+        Judgement::Known(_) => "KNOWN ",
     }
 }
 
@@ -142,16 +141,15 @@ fn push_result_ending(
 
 fn push_exit_ending(bytes: &mut Vec<u8>, code: u32, steps: u32) -> Result<(), AllocError>
     ensures { OnOk result (bytes.new.items ≡ bytes.old.items
-        ++ (codes "exit " ++ decimal code ++ after_steps_text steps)) }
+        ++ (codes "exit " ++ exit_code_text code ++ after_steps_text steps)) }
 {
     push_spans(
         bytes,
         &[
             Span::Text("exit "),
-            Span::Number(code as u64),
+            Span::ExitCode(code),
             Span::Text(" after "),
-            Span::Number(steps as u64),
-            Span::Text(" steps"),
+            Span::Count(steps as u64, "step"),
         ],
     )
 }
@@ -183,8 +181,7 @@ fn push_fault_value(bytes: &mut Vec<u8>, value: u32, steps: u32) -> Result<(), A
             Span::Text(", value "),
             Span::Word(value),
             Span::Text(", after "),
-            Span::Number(steps as u64),
-            Span::Text(" steps"),
+            Span::Count(steps as u64, "step"),
         ],
     )
 }
@@ -197,8 +194,7 @@ fn push_budget_ending(bytes: &mut Vec<u8>, steps: u32) -> Result<(), AllocError>
         bytes,
         &[
             Span::Text("budget used up after "),
-            Span::Number(steps as u64),
-            Span::Text(" steps"),
+            Span::Count(steps as u64, "step"),
         ],
     )
 }

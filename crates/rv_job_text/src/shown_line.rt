@@ -39,7 +39,7 @@ fn push_feed_note(bytes: &mut Vec<u8>, whole: &[u8], feed: usize) -> Result<(), 
     ensures { OnOk result (bytes.new.items ≡ bytes.old.items ++ feed_note whole.now) }
 {
     if feed == whole.len() {
-        push_text(bytes, "     \\ no newline at the end\n")
+        push_text(bytes, "     \\ no newline at end\n")
     } else {
         Ok(())
     }

@@ -11,13 +11,6 @@ use rv_rows::{LINE, Words};
 use rv_text::{Span, push_spans, push_text};
 use std::alloc::AllocError;
 
-/// A reference: its path and its bytes.
-#[derive(Clone, Copy)]
-struct ReferenceFile<'a> {
-    path: &'a str,
-    bytes: &'a [u8],
-}
-
 /// Appends the difference from the expected signature. `address` is that of its first word, if it is known.
 #[tactic(auto, unfolding(crate::specs::UnmetLines::signature_difference_text))]
 pub(crate) fn push_signature_difference(
@@ -35,13 +28,10 @@ pub(crate) fn push_signature_difference(
         return push_text(bytes, "no signature");
     };
     let path = path.as_str();
-    push_compared_name(bytes, "signature of ", path)?;
+    push_compared_name(bytes, "signature differs from ", path)?;
     let words = signature_words_or_empty(&comparison.row.signature);
-    let reference = ReferenceFile {
-        path,
-        bytes: bytes_or_empty(comparison.reference),
-    };
-    push_reference_difference(bytes, address, words, &reference, difference)
+    let reference = bytes_or_empty(comparison.reference);
+    push_reference_difference(bytes, address, words, reference, difference)
 }
 
 #[tactic(auto, unfolding(crate::specs::UnmetLines::reference_difference_text))]
@@ -49,18 +39,16 @@ fn push_reference_difference(
     bytes: &mut Vec<u8>,
     first: Option<u32>,
     words: &[u32],
-    reference: &ReferenceFile<'_>,
+    reference: &[u8],
     difference: SignatureDifference,
 ) -> Result<(), AllocError>
     ensures { OnOk result (bytes.new.items ≡ bytes.old.items
-        ++ reference_difference_text first reference.now.path.now words.now reference.now.bytes.now
-        difference) }
+        ++ reference_difference_text first words.now reference.now difference) }
 {
-    let text = reference.bytes;
     match difference {
-        SignatureDifference::Line(number) => push_bad_reference_line(bytes, number, reference.path),
+        SignatureDifference::Line(number) => push_bad_reference_line(bytes, number),
         SignatureDifference::Word(place) => {
-            let wanted = Span::Shown(reference_digits_at(text, place));
+            let wanted = Span::Shown(reference_digits_at(reference, place));
             push_word_difference(
                 bytes,
                 first,
@@ -72,25 +60,23 @@ fn push_reference_difference(
         SignatureDifference::Count => push_count_difference(
             bytes,
             words.len(),
-            " words",
-            text.len() / LINE,
+            "word",
+            reference.len() / LINE,
         ),
-        SignatureDifference::Absent => push_text(bytes, "the file was not read"),
+        SignatureDifference::Absent => push_text(bytes, ", which was not read"),
     }
 }
 
 #[tactic(auto, unfolding(crate::specs::UnmetLines::bad_reference_line_text))]
-fn push_bad_reference_line(bytes: &mut Vec<u8>, number: usize, path: &str) -> Result<(), AllocError>
-    ensures { OnOk result (bytes.new.items ≡ bytes.old.items ++ bad_reference_line_text number path.now) }
+fn push_bad_reference_line(bytes: &mut Vec<u8>, number: usize) -> Result<(), AllocError>
+    ensures { OnOk result (bytes.new.items ≡ bytes.old.items ++ bad_reference_line_text number) }
 {
     push_spans(
         bytes,
         &[
-            Span::Text("line "),
+            Span::Text(", which is invalid at line "),
             Span::Number(number as u64),
-            Span::Text(" of "),
-            Span::Shown(path.as_bytes()),
-            Span::Text(" is not eight lower-case hexadecimal digits and a newline"),
+            Span::Text(": expected eight lower-case hexadecimal digits and a newline"),
         ],
     )
 }
@@ -120,7 +106,7 @@ pub(crate) fn push_signatures_difference(
                 wanted,
             )
         }
-        Difference::Lengths => push_count_difference(bytes, met.len(), " words", wanted.len()),
+        Difference::Lengths => push_count_difference(bytes, met.len(), "word", wanted.len()),
         Difference::Absent => push_text(bytes, absent_signature_text(words)),
     }
 }
@@ -130,12 +116,12 @@ fn absent_signature_text(words: &Option<Words>) -> &'static str
     ensures { result.now ≡ absent_signature_text words.now }
 {
     match words {
-        Some(_) => "found one, expected none",
-        None => "found none, expected one",
+        Some(_) => ": expected none, found one",
+        None => ": expected one, found none",
     }
 }
 
-// Appends the actual and the expected word at an index.
+// Appends the expected and the actual word at an index.
 fn push_word_difference<'a>(
     bytes: &mut Vec<u8>,
     first: Option<u32>,
@@ -147,7 +133,7 @@ fn push_word_difference<'a>(
         ++ word_difference_text first place (span_text met.entry) (span_text wanted.entry)) }
 {
     push_word_place(bytes, first, place)?;
-    push_spans(bytes, &[met, Span::Text(", expected "), wanted])
+    push_spans(bytes, &[wanted, Span::Text(", found "), met])
 }
 
 // Appends the index of a word, and its address if that of the first word is known.
@@ -160,14 +146,17 @@ fn push_word_place(bytes: &mut Vec<u8>, first: Option<u32>, place: usize) -> Res
         Some(first) => push_spans(
             bytes,
             &[
-                Span::Text("word "),
+                Span::Text(" at word "),
                 number,
-                Span::Text(" (at "),
+                Span::Text(" ("),
                 Span::Word(word_address(first, place)),
-                Span::Text(") is "),
+                Span::Text("): expected "),
             ],
         ),
-        None => push_spans(bytes, &[Span::Text("word "), number, Span::Text(" is ")]),
+        None => push_spans(
+            bytes,
+            &[Span::Text(" at word "), number, Span::Text(": expected ")],
+        ),
     }
 }
 

@@ -1,18 +1,19 @@
 //! The last line, which counts the rows.
 
-ghost use Rattle.std.specs.Prelude.{◌≡◌, ◌<◌, ◌^◌, ◌++◌, OnOk, codes, length};
-ghost use Rattle.std.specs.Fmt.{decimal};
+ghost use Rattle.std.specs.Prelude.{◌≡◌, ◌<◌, ◌≤◌, ◌^◌, ◌++◌, OnOk, codes, length};
+ghost use Rattle.rv_text.specs.Words.{count_text};
 ghost use Rattle.rv_job_text.specs.TotalsLine.{failed_count, hidden_text, job_word, known_count, known_count_text, passed_count, passed_counts_text, run_totals_line, total_steps, totals_line, totals_text};
 ghost use Rattle.rv_expect.specs.Judgement.{judging_of};
 
-use crate::failures_by_end_kind::push_failures_by_end_kind;
-use rv_expect::Judge;
+use crate::failure_counts::push_failure_counts;
+use rv_expect::{FailureKind, Judge, failures_by_end, failures_in_plan};
+use rv_jobs::Plan;
 use rv_rows::Row;
 use rv_text::{Span, push_spans, push_text};
 use std::alloc::AllocError;
 
-/// Appends the last line for rows: the number of jobs, how many passed and failed, how the failed ones ended, how many failures are known,
-/// and the total steps.
+/// Appends the last line for the rows of a report: the number of jobs, how many passed and failed, how the failed ones ended, how many
+/// failures are known, and the total steps.
 pub fn push_totals_line(
     bytes: &mut Vec<u8>,
     judge: &Judge<'_>,
@@ -21,29 +22,47 @@ pub fn push_totals_line(
     requires { length rows.now < 2 ^ 32 }
     ensures { OnOk result (bytes.new.items ≡ bytes.old.items ++ totals_line (judging_of judge.now) rows.now) }
 {
-    push_totals_text(bytes, judge, rows)?;
+    let failures = failures_by_end(*bytes.allocator(), judge, rows)?;
+    push_totals_text(bytes, judge, failures.as_slice(), rows)?;
     push_text(bytes, "\n")
 }
 
-/// Like [`push_totals_line`], for a run that shows these rows and has `hidden` further jobs, before which a failure ended it.
+/// The rows of a plan's jobs at some indices, the first of which have rows.
+#[derive(Clone, Copy)]
+pub struct RunRows<'a> {
+    pub plan: &'a Plan,
+    pub places: &'a [usize],
+    pub rows: &'a [Row],
+}
+
+/// Like [`push_totals_line`], for a run that shows these rows and has `hidden` further jobs, before which a failure ended it. What did not
+/// match in the failed jobs is shown by kind.
 pub fn push_run_totals_line(
     bytes: &mut Vec<u8>,
     judge: &Judge<'_>,
-    rows: &[Row],
+    run: &RunRows<'_>,
     hidden: usize,
 ) -> Result<(), AllocError>
-    requires { length rows.now < 2 ^ 32 }
-    ensures { OnOk result (bytes.new.items ≡ bytes.old.items ++ run_totals_line (judging_of judge.now) rows.now hidden) }
+    requires few { length run.now.rows.now < 2 ^ 32 }
+    requires placed { length run.now.rows.now ≤ length run.now.places.now }
+    ensures { OnOk result (bytes.new.items ≡ bytes.old.items
+        ++ run_totals_line (judging_of judge.now) run.now.plan.now run.now.places.now run.now.rows.now hidden) }
 {
-    push_totals_text(bytes, judge, rows)?;
+    let failures = failures_in_plan(*bytes.allocator(), judge, run.plan, run.places, run.rows)?;
+    push_totals_text(bytes, judge, failures.as_slice(), run.rows)?;
     push_hidden_count(bytes, hidden)?;
     push_text(bytes, "\n")
 }
 
 #[tactic(auto, unfolding(crate::specs::TotalsLine::totals_text))]
-fn push_totals_text(bytes: &mut Vec<u8>, judge: &Judge<'_>, rows: &[Row]) -> Result<(), AllocError>
+fn push_totals_text(
+    bytes: &mut Vec<u8>,
+    judge: &Judge<'_>,
+    failures: &[FailureKind],
+    rows: &[Row],
+) -> Result<(), AllocError>
     requires { length rows.now < 2 ^ 32 }
-    ensures { OnOk result (bytes.new.items ≡ bytes.old.items ++ totals_text (judging_of judge.now) rows.now) }
+    ensures { OnOk result (bytes.new.items ≡ bytes.old.items ++ totals_text (judging_of judge.now) failures.now rows.now) }
 {
     push_passed_counts(
         bytes,
@@ -51,7 +70,7 @@ fn push_totals_text(bytes: &mut Vec<u8>, judge: &Judge<'_>, rows: &[Row]) -> Res
         passed_count(judge, rows),
         failed_count(judge, rows),
     )?;
-    push_failures_by_end_kind(bytes, judge, rows)?;
+    push_failure_counts(bytes, failures)?;
     push_known_count(bytes, known_count(judge, rows))?;
     push_total_steps(bytes, total_steps(rows))
 }
@@ -95,11 +114,7 @@ fn push_known_count(bytes: &mut Vec<u8>, count: usize) -> Result<(), AllocError>
     }
     push_spans(
         bytes,
-        &[
-            Span::Text(", "),
-            Span::Number(count as u64),
-            Span::Text(" known"),
-        ],
+        &[Span::Text(", "), Span::Count(count as u64, "known failure")],
     )
 }
 
@@ -155,10 +170,7 @@ fn push_hidden_count(bytes: &mut Vec<u8>, hidden: usize) -> Result<(), AllocErro
 // Appends the steps of all jobs.
 fn push_total_steps(bytes: &mut Vec<u8>, steps: u64) -> Result<(), AllocError>
     ensures { OnOk result (bytes.new.items ≡ bytes.old.items
-        ++ (codes ", " ++ decimal steps ++ codes " steps")) }
+        ++ (codes ", " ++ count_text steps (codes "step"))) }
 {
-    push_spans(
-        bytes,
-        &[Span::Text(", "), Span::Number(steps), Span::Text(" steps")],
-    )
+    push_spans(bytes, &[Span::Text(", "), Span::Count(steps, "step")])
 }

@@ -3,7 +3,7 @@
 ghost use Rattle.std.specs.Prelude.{◌≡◌, ◌++◌, OnOk, None, option_map};
 ghost use Rattle.rv_expect.specs.Comparisons.{sides_of};
 ghost use Rattle.rv_job_text.specs.UnmetLines.{expected_end_text, row_end_text, expected_exit_text, same_difference_text, rows_difference_text};
-ghost use Rattle.rv_job_text.specs.UnmetLines.{unmet_line, unmet_line_by, unmet_lines, unmet_expectation_text};
+ghost use Rattle.rv_job_text.specs.UnmetLines.{unmet_line, unmet_line_by, unmet_lines, unmet_expectation_text, unmet_margin};
 
 use crate::console_lines::push_console_lines;
 use crate::difference_text::{push_bytes_difference, push_compared_name, push_console_difference};
@@ -50,7 +50,7 @@ fn push_unmet_line(
     }
 }
 
-// Appends the single line of an unmet expectation, after five spaces.
+// Appends the single line of an unmet expectation.
 fn push_expected_line(
     bytes: &mut Vec<u8>,
     comparison: &Comparison<'_, '_>,
@@ -60,9 +60,19 @@ fn push_expected_line(
     ensures { OnOk result (bytes.new.items ≡ bytes.old.items
         ++ unmet_line_by address (sides_of comparison.now) unmet None) }
 {
-    push_text(bytes, "     expected: ")?;
+    push_text(bytes, unmet_margin(unmet))?;
     push_unmet_expectation(bytes, comparison, address, unmet)?;
     push_text(bytes, "\n")
+}
+
+// Returns what comes before an unmet expectation: five spaces, and a word unless the text says what differs.
+fn unmet_margin(unmet: Unmet) -> &'static str
+    ensures { result.now ≡ unmet_margin unmet }
+{
+    match unmet {
+        Unmet::Console(_) | Unmet::Signature(_) => "     ",
+        Unmet::Exit | Unmet::End | Unmet::Same(_) | Unmet::Nothing => "     expected: ",
+    }
 }
 
 #[tactic(auto, unfolding(crate::specs::UnmetLines::unmet_expectation_text))]
@@ -113,7 +123,7 @@ pub(crate) fn push_expected_exit(
     ensures { OnOk result (bytes.new.items ≡ bytes.old.items ++ expected_exit_text expected) }
 {
     match expected {
-        Some(code) => push_spans(bytes, &[Span::Text("exit "), Span::Number(code as u64)]),
+        Some(code) => push_spans(bytes, &[Span::Text("exit "), Span::ExitCode(code)]),
         None => push_text(bytes, "an exit"),
     }
 }
@@ -167,11 +177,11 @@ fn push_rows_difference(
 {
     match difference {
         SameDifference::Ending => {
-            push_row_end(bytes, "it ended with ", other.ending)?;
-            push_row_end(bytes, ", this job with ", row.ending)
+            push_row_end(bytes, ", which ", other.ending)?;
+            push_row_end(bytes, "; this job ", row.ending)
         }
         SameDifference::Console(difference) => {
-            push_text(bytes, "console: ")?;
+            push_text(bytes, ": console differs")?;
             push_bytes_difference(
                 bytes,
                 row.console.as_slice(),
@@ -180,14 +190,14 @@ fn push_rows_difference(
             )
         }
         SameDifference::Signature(difference) => {
-            push_text(bytes, "signature: ")?;
+            push_text(bytes, ": signature differs")?;
             push_signatures_difference(bytes, first, &row.signature, &other.signature, difference)
         }
-        SameDifference::Absent => push_text(bytes, "it was not run"),
+        SameDifference::Absent => push_text(bytes, ", which was not run"),
     }
 }
 
-// Appends a text, then how a run ended, with its value.
+// Appends a text, then how a run ended, as what the job did.
 #[tactic(auto, unfolding(crate::specs::UnmetLines::row_end_text))]
 fn push_row_end(bytes: &mut Vec<u8>, before: &'static str, ending: RowEnd) -> Result<(), AllocError>
     ensures { OnOk result (bytes.new.items ≡ bytes.old.items ++ (before.now ++ row_end_text ending)) }
@@ -195,17 +205,20 @@ fn push_row_end(bytes: &mut Vec<u8>, before: &'static str, ending: RowEnd) -> Re
     let before = Span::Text(before);
     match ending {
         RowEnd::Exit(code) => {
-            let code = Span::Number(code as u64);
-            push_spans(bytes, &[before, Span::Text("exit "), code])
+            let code = Span::ExitCode(code);
+            push_spans(bytes, &[before, Span::Text("ended with exit "), code])
         }
         RowEnd::Fault(kind, _, _) => {
             let kind = Span::Text(kind.name());
-            push_spans(bytes, &[before, Span::Text("fault "), kind])
+            push_spans(bytes, &[before, Span::Text("ended with fault "), kind])
         }
-        RowEnd::Budget => push_spans(bytes, &[before, Span::Text("its budget used up")]),
+        RowEnd::Budget => push_spans(bytes, &[before, Span::Text("used up its budget")]),
         RowEnd::Refused(why) => {
             let why = Span::Text(why.name());
-            push_spans(bytes, &[before, Span::Text("the refusal "), why])
+            push_spans(
+                bytes,
+                &[before, Span::Text("was refused ("), why, Span::Text(")")],
+            )
         }
     }
 }

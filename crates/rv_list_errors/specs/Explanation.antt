@@ -36,9 +36,12 @@ abbrev pub IsShownValue : Data → List ℕ → Type 0
 IsShownValue value shown = MatchOption (as_str value)
     ((text : List ℕ) × IsValueText false value text × (shown ≡ printable_value text)) (λ text. shown ≡ quoted text)
 
+abbrev pub missing_key_text : List ℕ → List ℕ
+missing_key_text key = codes "missing key \"" ++ (key ++ codes "\"")
+
 -- a key with its value, or that it is missing
 abbrev pub IsKeyAndValue : List ℕ → Option Data → List ℕ → Type 0
-IsKeyAndValue key None told = told ≡ key ++ codes " is missing"
+IsKeyAndValue key None told = told ≡ missing_key_text key
 IsKeyAndValue key (Some value) told = (shown : List ℕ) × IsShownValue value shown × (told ≡ key ++ codes " = " ++ shown)
 
 -- a key with its value, or that it is missing, and what is expected of the value
@@ -55,7 +58,7 @@ IsNotToml text place told = (reason : List ℕ) × (told
     ++ (codes ": error: invalid TOML: " ++ reason)))))
 
 abbrev pub too_many_jobs_text : ℕ → List ℕ
-too_many_jobs_text count = decimal count ++ (codes " jobs: at most " ++ (decimal most_jobs ++ codes " are allowed"))
+too_many_jobs_text count = (codes "too many jobs: expected at most " ++ (decimal most_jobs ++ codes ", found ")) ++ decimal count
 
 -- ---- keys
 
@@ -137,8 +140,8 @@ is_unsimulated letter = not (letter == 105 || letter == 109 || letter == 99)
 abbrev pub letter_words : Option ℕ → List ℕ
 letter_words None = sets_words
 letter_words (Some letter) =
-    if letter == 97 then codes "A is not simulated: " ++ sets_words
-    else if letter == 102 || letter == 100 then codes "F and D are not simulated: " ++ sets_words else sets_words
+    if letter == 97 then codes "the A extension is not simulated: " ++ sets_words
+    else if letter == 102 || letter == 100 then codes "the F and D extensions are not simulated: " ++ sets_words else sets_words
 
 -- the words for the letters after rv32
 abbrev pub letters_words : List ℕ → List ℕ

@@ -237,17 +237,17 @@ TellsWrongKind ms told = TellsWrongKey ms (find (is_of_other_kind ms) kinds_of_k
 
 abbrev pub job_of_name_text : Option ℕ → List ℕ
 job_of_name_text None = []
-job_of_name_text (Some number) = codes "job " ++ (decimal number ++ codes " has this name: ")
+job_of_name_text (Some number) = codes ", but job " ++ (decimal number ++ codes " has this name")
 
--- a key for a name, its value, which job has that name, if any, and what is expected
+-- a key for a name, its value, what is expected, and which job has that name, if any
 abbrev pub TellsName : List (Option (List ℕ)) → List ℕ → List ℕ → Members → List ℕ → Type 0
 TellsName names key wanted ms told = (met : List ℕ) × IsKeyAndValue key (get_member key ms) met
-    × (told ≡ met ++ (codes ": " ++ (job_of_name_text (number_of_name names (text_at_key key ms)) ++ wanted)))
+    × (told ≡ met ++ (codes ": " ++ (wanted ++ job_of_name_text (number_of_name names (text_at_key key ms)))))
 
 abbrev pub free_words : List ℕ
 free_words = codes "expected a unique name"
 
--- the key `same_as`, its value, which job has that name, if any, and what is expected, followed by more text
+-- the key `same_as`, its value, what is expected, and which job has that name, if any, followed by more text
 abbrev pub TellsSameAs : List (Option (List ℕ)) → Members → List ℕ → Type 0
 TellsSameAs names ms told = (head : List ℕ)
     × TellsName names (codes "same_as") (codes "expected the name of an earlier job") ms head × BeginsWith head told
@@ -274,7 +274,7 @@ TellsFaultOfTable names ms wrong told = TellsOwnFault wrong ms told
 
 -- the explanation of an element that is not a table
 abbrev pub TellsNoTable : Data → List ℕ → Type 0
-TellsNoTable value told = (shown : List ℕ) × IsShownValue value shown × (told ≡ shown ++ codes ": expected a table")
+TellsNoTable value told = (shown : List ℕ) × IsShownValue value shown × (told ≡ codes "expected a table, found " ++ shown)
 
 -- the explanation of an error of an element, in a list whose jobs have these names
 abbrev pub TellsJobFault : List (Option (List ℕ)) → Option Data → What → List ℕ → Type 0

@@ -172,7 +172,7 @@ pub(crate) const ISA: Expected = Expected {
 
 pub(crate) const ISA_WITH_A: Expected = Expected {
     key: "isa",
-    before: "A is not simulated: expected \"rv32i\", \"rv32im\", \"rv32ic\" or \"rv32imc\"",
+    before: "the A extension is not simulated: expected \"rv32i\", \"rv32im\", \"rv32ic\" or \"rv32imc\"",
     rest: Rest::Nothing,
     behind: "",
     bytes: Bytes::Untold,
@@ -180,7 +180,7 @@ pub(crate) const ISA_WITH_A: Expected = Expected {
 
 pub(crate) const ISA_WITH_FLOATS: Expected = Expected {
     key: "isa",
-    before: "F and D are not simulated: expected \"rv32i\", \"rv32im\", \"rv32ic\" or \"rv32imc\"",
+    before: "the F and D extensions are not simulated: expected \"rv32i\", \"rv32im\", \"rv32ic\" or \"rv32imc\"",
     rest: Rest::Nothing,
     behind: "",
     bytes: Bytes::Untold,

@@ -65,8 +65,8 @@ fn element_at(elements: &[Value], place: usize) -> Option<&Value>
 fn push_no_table(message: &mut Message, element: &Value)
     ensures { AddsSome message.old message.new (TellsNoTable (view element.now)) }
 {
+    message.push("expected a table, found ");
     message.push_value(element);
-    message.push(": expected a table");
 }
 
 // Appends an error of a job that is a table.

@@ -8,7 +8,7 @@ ghost use Rattle.rv_list_errors.specs.Explanation.{AddsSome, IsNotToml, too_many
 use crate::keys::{Owner, push_unknown_key, unknown_key};
 use crate::list::List;
 use crate::message::Message;
-use crate::values::push_expected_value;
+use crate::values::{push_expected_value, value_at_key};
 use rv_list_locations::{RepeatedKey, line_and_column, repeated_key};
 use rv_lists::What;
 use rv_lists::limits::MOST_JOBS;
@@ -81,12 +81,11 @@ const TABLES: &str = "expected an array of tables, [[job]]";
 
 // Appends that a list has no jobs. A key other than `job` is reported too, since it may be meant.
 fn push_no_jobs(message: &mut Message, table: &Table) {
-    push_expected_value(
-        message,
-        table,
-        "job",
-        "expected at least one table, [[job]]",
-    );
+    if value_at_key(table, "job").is_some() {
+        push_expected_value(message, table, "job", "expected at least one [[job]] table");
+    } else {
+        message.push("no jobs: expected at least one [[job]] table");
+    }
     if let Some(key) = unknown_key(table, Owner::List) {
         message.push("; found ");
         push_unknown_key(message, key);
@@ -96,8 +95,12 @@ fn push_no_jobs(message: &mut Message, table: &Table) {
 fn push_too_many_jobs(message: &mut Message, jobs: usize)
     ensures { Adds message.old message.new (too_many_jobs_text jobs) }
 {
+    message.push_number_between(
+        "too many jobs: expected at most ",
+        MOST_JOBS as u64,
+        ", found ",
+    );
     message.push_number(jobs as u64);
-    message.push_number_between(" jobs: at most ", MOST_JOBS as u64, " are allowed");
 }
 
 fn push_unknown_list_key(message: &mut Message, table: &Table) {

@@ -18,7 +18,7 @@ use crate::values::{push_key_and_value, text_at_key};
 use rv_lists::limits::MOST_NAME;
 use toml::Table;
 
-/// Appends a key with a name, which earlier job has it, if any, and what is expected.
+/// Appends a key with a name, what is expected, and which job has that name, if any.
 pub(crate) fn push_name_fault(
     message: &mut Message,
     list: &List<'_>,
@@ -31,8 +31,8 @@ pub(crate) fn push_name_fault(
 {
     push_key_and_value(message, table, key);
     message.push(": ");
-    push_job_of_name(message, list.job_number_of_name(text_at_key(table, key)));
     message.push(wanted);
+    push_job_of_name(message, list.job_number_of_name(text_at_key(table, key)));
 }
 
 // Appends which job has a name, if any.
@@ -40,7 +40,7 @@ fn push_job_of_name(message: &mut Message, number: Option<u64>)
     ensures { Adds message.old message.new (job_of_name_text number) }
 {
     if let Some(number) = number {
-        message.push_number_between("job ", number, " has this name: ");
+        message.push_number_between(", but job ", number, " has this name");
     }
 }
 

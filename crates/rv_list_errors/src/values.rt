@@ -1,10 +1,11 @@
 //! Actual values, and what is expected.
 
-ghost use Rattle.std.specs.Prelude.{◌≡◌, option_map, unwrap_or};
+ghost use Rattle.std.specs.Prelude.{◌≡◌, Some, option_map, unwrap_or};
 ghost use Rattle.toml.specs.Data.{get_member, no_items};
 ghost use Rattle.toml.specs.View.{items_view, table_view, view};
 ghost use Rattle.rv_lists.specs.Keys.{array_at_key, text_at_key};
-ghost use Rattle.rv_list_errors.specs.Explanation.{AddsSome, IsKeyAndValue, IsExpectedValue};
+ghost use Rattle.rv_list_errors.specs.Explanation.{AddsSome, IsKeyAndValue, IsExpectedValue, missing_key_text};
+ghost use Rattle.rv_list_errors.specs.NearNames.{Adds};
 
 use crate::message::Message;
 use toml::{Table, Value};
@@ -49,14 +50,26 @@ pub(crate) fn push_key_and_value(message: &mut Message, table: &Table, key: &str
     ensures { AddsSome message.old message.new
         (IsKeyAndValue key.now (get_member key.now (table_view table.now))) }
 {
-    message.push(key);
     match value_at_key(table, key) {
-        Some(value) => {
-            message.push(" = ");
-            message.push_value(value);
-        }
-        None => message.push(" is missing"),
+        Some(value) => push_key_with_value(message, key, value),
+        None => push_missing_key(message, key),
     }
+}
+
+fn push_key_with_value(message: &mut Message, key: &str, value: &Value)
+    ensures { AddsSome message.old message.new (IsKeyAndValue key.now (Some (view value.now))) }
+{
+    message.push(key);
+    message.push(" = ");
+    message.push_value(value);
+}
+
+fn push_missing_key(message: &mut Message, key: &str)
+    ensures { Adds message.old message.new (missing_key_text key.now) }
+{
+    message.push("missing key \"");
+    message.push(key);
+    message.push("\"");
 }
 
 /// Appends a key, its value, and what is expected of it.

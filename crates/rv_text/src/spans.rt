@@ -5,7 +5,9 @@ ghost use Rattle.std.specs.List.{flat_map};
 ghost use Rattle.rv_text.specs.Spans.{span_text};
 
 use crate::printable::{push_printable_name, push_printable_text, push_printable_value};
-use crate::text_and_numbers::{push_number, push_text, push_word_digits};
+use crate::text_and_numbers::{
+    push_count, push_exit_code, push_number, push_text, push_word_digits,
+};
 use std::alloc::{AllocError, Global};
 
 /// A span of a line.
@@ -15,6 +17,10 @@ pub enum Span<'a> {
     Text(&'a str),
     /// A number in decimal.
     Number(u64),
+    /// A number and a noun, as [`push_count`](crate::text_and_numbers::push_count) writes it.
+    Count(u64, &'a str),
+    /// An exit code, as [`push_exit_code`](crate::text_and_numbers::push_exit_code) writes it.
+    ExitCode(u32),
     /// A word as eight lower-case hexadecimal digits.
     Word(u32),
     /// Text from a file, as [`push_printable_text`] shows it.
@@ -50,6 +56,8 @@ fn push_span(bytes: &mut Vec<u8>, span: Span<'_>) -> Result<(), AllocError>
     match span {
         Span::Text(text) => push_text(bytes, text),
         Span::Number(number) => push_number(bytes, number),
+        Span::Count(number, noun) => push_count(bytes, number, noun),
+        Span::ExitCode(code) => push_exit_code(bytes, code),
         Span::Word(word) => push_word_digits(bytes, word),
         Span::Shown(text) => push_printable_text(bytes, text),
         Span::Value(value) => push_printable_value(bytes, value),

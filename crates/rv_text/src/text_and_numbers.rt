@@ -2,7 +2,7 @@
 
 ghost use Rattle.std.specs.Prelude.{◌≡◌, ◌++◌, OnOk};
 ghost use Rattle.std.specs.Fmt.{decimal};
-ghost use Rattle.rv_text.specs.Words.{word_digits};
+ghost use Rattle.rv_text.specs.Words.{count_text, exit_code_text, plural_ending, word_digits};
 
 use std::alloc::AllocError;
 
@@ -19,6 +19,38 @@ pub fn push_number(bytes: &mut Vec<u8>, number: u64) -> Result<(), AllocError>
 {
     let digits = number.to_string(*bytes.allocator())?;
     push_text(bytes, digits.as_str())
+}
+
+/// Appends a number and a noun, which is given in the singular: `1 step`, but `2 steps`.
+#[tactic(auto, unfolding(crate::specs::Words::count_text))]
+pub fn push_count(bytes: &mut Vec<u8>, number: u64, noun: &str) -> Result<(), AllocError>
+    ensures { OnOk result (bytes.new.items ≡ bytes.old.items ++ count_text number noun.now) }
+{
+    push_number(bytes, number)?;
+    push_text(bytes, " ")?;
+    push_text(bytes, noun)?;
+    push_text(bytes, plural_ending(number))
+}
+
+fn plural_ending(number: u64) -> &'static str
+    ensures { result.now ≡ plural_ending number }
+{
+    if number == 1 { "" } else { "s" }
+}
+
+/// Appends an exit code. A negative one is written as the program returned it and as a list has it: `-1 (4294967295)`.
+#[tactic(auto, unfolding(crate::specs::Words::exit_code_text))]
+pub fn push_exit_code(bytes: &mut Vec<u8>, code: u32) -> Result<(), AllocError>
+    ensures { OnOk result (bytes.new.items ≡ bytes.old.items ++ exit_code_text code) }
+{
+    if code <= 0x7fff_ffff {
+        return push_number(bytes, u64::from(code));
+    }
+    push_text(bytes, "-")?;
+    push_number(bytes, 0x1_0000_0000 - u64::from(code))?;
+    push_text(bytes, " (")?;
+    push_number(bytes, u64::from(code))?;
+    push_text(bytes, ")")
 }
 
 /// Appends a word as eight lower-case hexadecimal digits.

@@ -17,7 +17,7 @@ use Rattle.rv_memory.specs.declared.access.Width.TheVariants as width
 use Rattle.rv_rows.specs.declared_row.RowEnd.{RowEnd}
 use Rattle.rv_rows.specs.declared_row.RowEnd.TheVariants as ending
 use Rattle.rv_rows.specs.Report.{line, refusal_name}
-use Rattle.rv_text.specs.Words.{word_digits}
+use Rattle.rv_text.specs.Words.{exit_code_text, word_digits}
 use Rattle.rv_trace.specs.declared.code.Code.{Code}
 use Rattle.rv_trace.specs.declared.code.Code.TheVariants.{Half, Word}
 use Rattle.rv_trace.specs.declared.step.TracedStep.{TracedStep}
@@ -124,7 +124,7 @@ fault_value_text _ value = codes " at " ++ word_digits value
 
 -- how the instruction at the end ended the run
 unfoldable pub end_reason : RowEnd → List ℕ
-end_reason (ending.Exit code) = codes "exit " ++ decimal code
+end_reason (ending.Exit code) = codes "exit " ++ exit_code_text code
 end_reason (ending.Fault kind pc value) = fault_name kind ++ fault_value_text kind value
 end_reason ending.Budget = codes "not run: the budget is used up"
 end_reason (ending.Refused why) = refusal_name why

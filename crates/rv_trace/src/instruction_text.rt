@@ -195,10 +195,7 @@ pub(crate) fn push_end_reason(bytes: &mut Vec<u8>, end: RowEnd) -> Result<(), Al
     ensures { OnOk result (bytes.new.items ≡ bytes.old.items ++ end_reason end) }
 {
     match end {
-        RowEnd::Exit(code) => push_spans(
-            bytes,
-            &[Span::Text("exit "), Span::Number(u64::from(code))],
-        ),
+        RowEnd::Exit(code) => push_spans(bytes, &[Span::Text("exit "), Span::ExitCode(code)]),
         RowEnd::Fault(kind, _, value) => {
             push_text(bytes, kind.name())?;
             push_value_of_fault(bytes, kind, value)

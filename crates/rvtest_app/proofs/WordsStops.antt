@@ -1,11 +1,9 @@
 -- What stops the program for its words.
 use Rattle.std.proofs.Common.{◌≡◌, ◌⊎◌, ◌∙◌, ℕ, Bool, List, [], MatchOption, Option, Some, None, Result, Ok, Err, IfErr, inl, inr, subst, ⊎_elim}
 use Rattle.clap.specs.Kinds.{IsAmong}
-use Rattle.clap.specs.Words.{fault_of}
 use Rattle.clap.specs.declared.error.kind.ErrorKind.{ErrorKind}
 use Rattle.rv_base.specs.Files.{FileContents}
-use Rattle.rvtest_cli.specs.RvtestCommand.{test_app}
-use Rattle.rvtest_cli.specs.RvtestWords.{IsMisuseReported, misuse_text, words_fault_kinds, words_misuse}
+use Rattle.rvtest_cli.specs.RvtestWords.{IsMisuseReported, misuse_text, words_fault_kinds, words_faults, words_misuse}
 use Rattle.rvtest_cli.specs.WordsErrors.{IsToldOf}
 use Rattle.rvtest_cli.specs.declared.words_error.WordsError.{WordsError}
 use Rattle.rvtest_cli.specs.declared.words_error.WordsError.TheVariants as error
@@ -35,7 +33,7 @@ help_stop known is_terminal words before after why asked is =
 -- a fault of words stops the program by its kind
 stop_of_error : (known : Option FileContents) (is_terminal : Bool) (words : List (List ℕ)) (told : WordsError) (before after : ℕ) (why : Stop)
     → IsToldOf (words_fault_kinds words) told
-    → (fault_of test_app words ≡ [] → IsMisuseReported (words_misuse words) told)
+    → (words_faults words ≡ [] → IsMisuseReported (words_misuse words) told)
     → IsWordsErrorStop told before after why → IsStopFor known is_terminal words why
 stop_of_error known is_terminal words error.OutOfMemory before after why among misused is = inr (inl is)
 stop_of_error known is_terminal words (error.Told fault text) before after why among misused is =
@@ -50,7 +48,7 @@ stop_of_error known is_terminal words (error.Told fault text) before after why a
 
 pub words_stop : (known : Option FileContents) (is_terminal : Bool) (words : List (List ℕ)) (told : WordsError) (answer : Result ℕ Stop)
     (before after : ℕ) → IsToldOf (words_fault_kinds words) told
-    → (fault_of test_app words ≡ [] → IsMisuseReported (words_misuse words) told)
+    → (words_faults words ≡ [] → IsMisuseReported (words_misuse words) told)
     → IfErr answer (IsWordsErrorStop told before after) → IfErr answer (IsStopFor known is_terminal words)
 words_stop known is_terminal words told (Ok status) before after among misused is = tt
 words_stop known is_terminal words told (Err why) before after among misused is =

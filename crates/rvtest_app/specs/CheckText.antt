@@ -25,6 +25,7 @@ use Rattle.rv_report.specs.declared.row.Refusal.{Refusal}
 use Rattle.rv_report.specs.declared.row.Refusal.TheVariants as refusal
 use Rattle.rv_rows.specs.ImageRefusals.{image_refusal_in}
 use Rattle.rv_text.specs.Printable.{printable_text}
+use Rattle.rv_text.specs.Words.{count_text}
 use Rattle.rvtest_app.specs.Commands.{is_job_refused, refused_job_count, warned_job_count}
 use Rattle.rvtest_app.specs.MissingImages.{missing_images_line}
 
@@ -39,10 +40,10 @@ abbrev pub path_and_line : List ℕ → Option ℕ → List ℕ
 path_and_line path None = printable_text path
 path_and_line path (Some number) = printable_text path ++ codes ":" ++ decimal number
 
--- where the job at an index begins, its number, counted from 1, and its name
-unfoldable pub job_prefix : List ℕ → List ℕ → ℕ → Job → List ℕ
-job_prefix path lines place job =
-    path_and_line path (slice_get lines place) ++ codes ": job " ++ decimal (place + 1) ++ codes " \"" ++ job.name ++ codes "\": "
+-- where the job at an index begins, how severe the problem is, the number of the job, counted from 1, and its name
+unfoldable pub job_prefix : List ℕ → List ℕ → List ℕ → ℕ → Job → List ℕ
+job_prefix severity path lines place job =
+    path_and_line path (slice_get lines place) ++ severity ++ codes " job " ++ decimal (place + 1) ++ codes " \"" ++ job.name ++ codes "\": "
 
 -- ---- a job that is refused
 
@@ -51,7 +52,7 @@ abbrev pub refusal_text : Refusal → Option (List ℕ) → List ℕ
 refusal_text why reason = codes "refused " ++ refusal_name why ++ optional_reason_text reason
 
 unfoldable pub refused_file_line : List ℕ → List ℕ → ℕ → Job → Refusal → Option (List ℕ) → List ℕ
-refused_file_line path lines place job why reason = line (job_prefix path lines place job ++ refusal_text why reason)
+refused_file_line path lines place job why reason = line (job_prefix (codes ": error:") path lines place job ++ refusal_text why reason)
 
 -- the line for a job's image if the image alone makes the job refused, whatever its other files are
 abbrev pub refused_image_line : List ℕ → List ℕ → Planned → List UnreadPath → ℕ → Job → Refusal → List ℕ
@@ -95,13 +96,13 @@ expected_end_name _ = codes "budget"
 
 -- the code and the end that a job expects, which no run satisfies
 abbrev pub two_ends_text : Option ℕ → Option ExpectedEnd → List ℕ
-two_ends_text code end = codes "warning: expect_exit = " ++ decimal (unwrap_or code 0)
+two_ends_text code end = codes "expect_exit = " ++ decimal (unwrap_or code 0)
     ++ codes " with expect_end = \"" ++ expected_end_name end
     ++ codes "\": a run ends in only one way, so the job never passes"
 
 unfoldable pub two_ends_line : List ℕ → List ℕ → ℕ → Job → List ℕ
 two_ends_line path lines place job =
-    line (job_prefix path lines place job ++ two_ends_text job.expect_exit job.expect_end)
+    line (job_prefix (codes ": warning:") path lines place job ++ two_ends_text job.expect_exit job.expect_end)
 
 -- the warning for a job that expects two ends; empty for any other job
 unfoldable pub warned_job_text : List ℕ → List ℕ → ℕ → Job → List ℕ
@@ -115,7 +116,7 @@ refused_count_text refused = if refused == 0 then codes "none refused" else deci
 -- the number of warnings, if there are any
 abbrev pub warning_count_text : ℕ → List ℕ
 warning_count_text warned = if warned == 0 then []
-    else codes ", " ++ decimal warned ++ (if warned == 1 then codes " warning" else codes " warnings")
+    else codes ", " ++ count_text warned (codes "warning")
 
 unfoldable pub job_counts_line : ℕ → ℕ → ℕ → List ℕ
 job_counts_line jobs refused warned =

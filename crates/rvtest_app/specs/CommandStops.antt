@@ -1,13 +1,11 @@
 -- Why commands stopped before their work was done.
 use Rattle.std.specs.Prelude.{◌≡◌, ◌⊎◌, ℕ, Bool, true, false, List, [], MatchOption, Option, None, Some, Ok}
 use Rattle.clap.specs.Kinds.{IsAmong}
-use Rattle.clap.specs.Words.{fault_of}
 use Rattle.clap.specs.declared.error.kind.ErrorKind.{ErrorKind as WordsFault}
 use Rattle.rv_base.specs.Files.{FileContents}
 use Rattle.rv_choice.specs.ChoiceStops.{IsChoiceStop}
 use Rattle.rv_choice.specs.UnknownName.{IsUnknownNameStop}
-use Rattle.rvtest_cli.specs.RvtestCommand.{test_app}
-use Rattle.rvtest_cli.specs.RvtestWords.{asked_words, misuse_text, words_fault_kinds, words_misuse, words_request}
+use Rattle.rvtest_cli.specs.RvtestWords.{asked_words, misuse_text, words_fault_kinds, words_faults, words_misuse, words_request}
 use Rattle.rvtest_cli.specs.declared.accept.AcceptArgs.{AcceptArgs}
 use Rattle.rvtest_cli.specs.declared.check.CheckArgs.{CheckArgs}
 use Rattle.rvtest_cli.specs.declared.console.ConsoleArgs.{ConsoleArgs}
@@ -142,7 +140,7 @@ IsMisuseStop words why =
 pub record IsFaultStop (words : List (List ℕ)) (why : Stop) : Type 0 where
   pub faulty : AreFaulty words
   pub refused : IsRefusal why
-  pub misused : fault_of test_app words ≡ [] → IsMisuseStop words why
+  pub misused : words_faults words ≡ [] → IsMisuseStop words why
 
 -- the arguments stopped the program: memory ran out, the requested help was not written, or the arguments are rejected
 abbrev pub IsWordsStop : List (List ℕ) → Stop → Type 0

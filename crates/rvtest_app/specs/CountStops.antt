@@ -37,7 +37,7 @@ count_overflow_message path what address = codes "rvtest: " ++ printable_text pa
 
 -- a function has one name in the table at the path and another in the tables before it
 abbrev pub two_names_message : List ℕ → ℕ → List ℕ
-two_names_message path function = codes "rvtest: " ++ printable_text path ++ codes ": " ++ word_digits function
+two_names_message path function = codes "rvtest: " ++ printable_text path ++ codes ": the function at " ++ word_digits function
     ++ codes " has two names in one image\n"
 
 -- a table cannot be added to the others
@@ -45,7 +45,7 @@ abbrev pub IsSumErrorStop : List ℕ → SumError → Stop → Type 0
 IsSumErrorStop path sum.OutOfMemory why = why ≡ stop.OutOfMemory
 IsSumErrorStop path (sum.Count address) why = IsStop 2 (count_overflow_message path (codes ": the count at ") address) why
 IsSumErrorStop path (sum.Spot function) why =
-    IsStop 2 (count_overflow_message path (codes ": a count in the stacks of ") function) why
+    IsStop 2 (count_overflow_message path (codes ": a stack count of the function at ") function) why
 IsSumErrorStop path (sum.Names function) why = IsStop 2 (two_names_message path function) why
 IsSumErrorStop path sum.Runs why = IsStop 2 (path_message path (codes "the number of runs does not fit in 64 bits")) why
 

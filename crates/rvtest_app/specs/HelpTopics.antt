@@ -6,19 +6,19 @@ use Rattle.rv_command.specs.declared.stop.Stop.TheVariants as stop
 use Rattle.rv_text.specs.Printable.{printable_value}
 use Rattle.rvtest_app.specs.declared.list_keys.TheConstants.{LIST_KEYS}
 
--- for the list format, its keys
-abbrev pub list_topic : List ℕ
-list_topic = codes "list"
+-- the topic that describes the keys of a list
+abbrev pub keys_topic : List ℕ
+keys_topic = codes "keys"
 
--- what is printed for a topic: all keys for the list format, and nothing for any other topic
+-- what is printed for a topic: the keys of a list for `keys`, and nothing for any other topic
 abbrev pub IsTopicPrinted : List ℕ → List ℕ → ℕ → Type 0
-IsTopicPrinted topic text status = (topic ≡ list_topic) × ((text ≡ LIST_KEYS.now) × (status ≡ 0))
+IsTopicPrinted topic text status = (topic ≡ keys_topic) × ((text ≡ LIST_KEYS.now) × (status ≡ 0))
 
 abbrev pub no_topic_message : List ℕ → List ℕ
 no_topic_message topic = codes "rvtest: unknown help topic \"" ++ printable_value topic
-    ++ codes "\": try \"help list\" for the keys of a list, or \"COMMAND --help\" for a command\n"
+    ++ codes "\": try \"help keys\" for the keys of a list, or \"help COMMAND\" for a command\n"
 
 -- out of memory, or the topic is unknown and the message names it
 abbrev pub IsNoTopicStop : List ℕ → Stop → Type 0
 IsNoTopicStop topic why = (why ≡ stop.OutOfMemory)
-    ⊎ ((topic ≡ list_topic → ⊥) × IsStop 2 (no_topic_message topic) why)
+    ⊎ ((topic ≡ keys_topic → ⊥) × IsStop 2 (no_topic_message topic) why)

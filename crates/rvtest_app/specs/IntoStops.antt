@@ -13,6 +13,7 @@ use Rattle.rv_report.specs.declared.saved.Extent.{Extent}
 use Rattle.rv_report.specs.declared.saved.Extent.TheVariants as extent
 use Rattle.rv_report.specs.declared.saved.SavedReport.{SavedReport}
 use Rattle.rv_text.specs.Printable.{printable_text}
+use Rattle.rv_text.specs.Words.{count_text}
 use Rattle.rvtest_app.specs.IntoReports.{job_names}
 use Rattle.rvtest_app.specs.declared.whole_report.NotWhole.{NotWhole}
 use Rattle.rvtest_app.specs.declared.whole_report.NotWhole.TheVariants as other
@@ -26,13 +27,13 @@ expected_whole_report = codes ": --into expects a report of the whole list\n"
 
 -- the report at the path has this many rows of a list of this many jobs
 abbrev pub part_refusal : List ℕ → ℕ → ℕ → List ℕ
-part_refusal path rows jobs = codes "rvtest: " ++ printable_text path ++ codes ": rows of " ++ decimal rows
-    ++ codes " of " ++ decimal jobs ++ codes " jobs" ++ expected_whole_report
+part_refusal path rows jobs = codes "rvtest: " ++ printable_text path ++ codes ": a partial report (" ++ decimal rows
+    ++ codes " of " ++ count_text jobs (codes "job") ++ codes ")" ++ expected_whole_report
 
 -- the report has this many rows, and the list at the path this many jobs
 abbrev pub count_refusal : List ℕ → List ℕ → ℕ → ℕ → List ℕ
-count_refusal path list rows jobs = codes "rvtest: " ++ printable_text path ++ codes ": " ++ decimal rows
-    ++ codes " rows, but " ++ printable_text list ++ codes " has " ++ decimal jobs ++ codes " jobs" ++ expected_whole_report
+count_refusal path list rows jobs = codes "rvtest: " ++ printable_text path ++ codes ": has " ++ count_text rows (codes "row")
+    ++ codes ", but " ++ printable_text list ++ codes " has " ++ count_text jobs (codes "job") ++ expected_whole_report
 
 -- the job of this number has one name in the report and another in the list at the path
 abbrev pub name_refusal : List ℕ → List ℕ → ℕ → List ℕ → List ℕ → List ℕ

@@ -30,9 +30,9 @@ IsKnownAt files (Some path) jobs known = IsSomeAnd known (IsKnownFile files path
 abbrev pub known_fault_text : List ℕ → List ℕ → KnownFaultKind → List ℕ
 known_fault_text list name kind.NoName =
     codes "\"" ++ printable_value name ++ codes "\" is not a job name: expected NAME [# REASON]"
-known_fault_text list name kind.Twice = printable_value name ++ codes " is already listed on an earlier line"
+known_fault_text list name kind.Twice = codes "duplicate job name \"" ++ printable_value name ++ codes "\""
 known_fault_text list name kind.NoJob =
-    codes "no job of " ++ printable_text list ++ codes " is named " ++ printable_value name
+    codes "no job named \"" ++ printable_value name ++ codes "\" in " ++ printable_text list
 
 abbrev pub known_fault_message : List ℕ → List ℕ → KnownFault → List ℕ
 known_fault_message path list fault = codes "rvtest: " ++ printable_text path ++ codes ":" ++ decimal fault.line

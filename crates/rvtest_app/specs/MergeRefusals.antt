@@ -27,7 +27,7 @@ two_parts_message path what other end =
 
 -- a shard belongs to another run than the first one
 abbrev pub other_run_message : List (Bor (List ℕ)) → List ℕ → List ℕ → List ℕ
-other_run_message parts path what = two_parts_message path what (part_path parts 0) (codes "\n")
+other_run_message parts path what = two_parts_message path what (part_path parts 0) (codes "\"\n")
 
 -- what is wrong with the shard with this path and text
 abbrev pub flaw_message : List (Bor (List ℕ)) → List ℕ → List ℕ → Flaw → List ℕ
@@ -36,11 +36,11 @@ flaw_message parts path text flaw.CutOff = path_message path (codes "the part is
 flaw_message parts path text flaw.Whole = path_message path (codes "expected a part of a run, found a whole report")
 flaw_message parts path text flaw.Choice =
     path_message path (codes "expected the part of a shard, found a report of selected jobs")
-flaw_message parts path text flaw.OtherShards = other_run_message parts path (codes "a different number of shards than ")
-flaw_message parts path text flaw.OtherJobs = other_run_message parts path (codes "a list with a different number of jobs than ")
-flaw_message parts path text flaw.OtherStamp = other_run_message parts path (codes "a different stamp than ")
+flaw_message parts path text flaw.OtherShards = other_run_message parts path (codes "a different number of shards than \"")
+flaw_message parts path text flaw.OtherJobs = other_run_message parts path (codes "a list with a different number of jobs than \"")
+flaw_message parts path text flaw.OtherStamp = other_run_message parts path (codes "the stamp differs from that of \"")
 flaw_message parts path text (flaw.OtherText earlier) =
-    two_parts_message path (codes "the same shard as ") (part_path parts earlier) (codes ", but different contents\n")
+    two_parts_message path (codes "covers the same shard as \"") (part_path parts earlier) (codes "\", but differs from it\n")
 flaw_message parts path text (flaw.NameTwice number) =
     path_number_message path (codes ": job ") number (codes " has the name of an earlier job\n")
 
@@ -51,7 +51,7 @@ IsMergeErrorStop parts texts error.NoTexts why = IsStop 2 (codes "rvtest: expect
 IsMergeErrorStop parts texts (error.Text place flaw) why =
     IsStop 2 (flaw_message parts (part_path parts place) (nth_text texts place) flaw) why
 IsMergeErrorStop parts texts (error.Missing number) why =
-    IsStop 2 (codes "rvtest: missing part of shard " ++ decimal number ++ codes "\n") why
+    IsStop 2 (codes "rvtest: no part for shard " ++ decimal number ++ codes "\n") why
 
 -- out of memory, or the texts at the paths are rejected for an error that they have
 abbrev pub ArePartsRefused : List (Bor (List ℕ)) → List (List ℕ) → Stop → Type 0

@@ -35,7 +35,7 @@ paths_text (Some folder) = codes "no image was found: relative paths are resolve
 -- what `run` reports for the jobs of a list, if all of them run
 abbrev pub missing_images_note : List Job → List UnreadPath → ℕ → Option (List ℕ) → List ℕ
 missing_images_note jobs unread count root =
-    if count == length jobs && are_images_missing jobs unread then codes "rvtest: " ++ line (paths_text root) else []
+    if count == length jobs && are_images_missing jobs unread then codes "rvtest: note: " ++ line (paths_text root) else []
 
 -- what `check` reports for them
 abbrev pub missing_images_line : List Job → List UnreadPath → Option (List ℕ) → List ℕ

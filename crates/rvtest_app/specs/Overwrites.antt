@@ -173,8 +173,8 @@ pub record AreAcceptFilesApart (words : AcceptArgs) (jobs : List Job) (marks : L
   pub no_input : list_any (is_read (inputs_of_accept words jobs)) (golden_paths_of_marked (optional_text words.run.root) jobs marks) ≡ false
 
 -- a golden file is outside of the directory
-abbrev pub outside_head : List ℕ → List ℕ
-outside_head role = codes "rvtest: " ++ role
+abbrev pub outside_head : List ℕ → List ℕ → List ℕ
+outside_head head role = head ++ role
 
 abbrev pub outside_path : List ℕ → List ℕ
 outside_path path = codes " \"" ++ printable_text path ++ codes "\" is outside the directory "
@@ -182,11 +182,11 @@ outside_path path = codes " \"" ++ printable_text path ++ codes "\" is outside t
 abbrev pub quoted_text : List ℕ → List ℕ
 quoted_text text = codes "\"" ++ printable_text text ++ codes "\""
 
-abbrev pub outside_text : List ℕ → List ℕ → List ℕ → List ℕ
-outside_text role path directory = outside_head role ++ outside_path path ++ quoted_text directory
+abbrev pub outside_text : List ℕ → List ℕ → List ℕ → List ℕ → List ℕ
+outside_text head role path directory = outside_head head role ++ outside_path path ++ quoted_text directory
 
 abbrev pub outside_message : List ℕ → List ℕ → List ℕ → List ℕ
-outside_message role path directory = outside_text role path directory ++ codes "; use --outside to write it\n"
+outside_message role path directory = outside_text (codes "rvtest: ") role path directory ++ codes "; use --outside to write it\n"
 
 abbrev pub IsOutsideStop : List ℕ → Stop → Type 0
 IsOutsideStop path why = (role : List ℕ) × (directory : List ℕ) × IsStop 2 (outside_message role path directory) why

@@ -2,6 +2,7 @@
 use Rattle.std.specs.Prelude.{ℕ, List, ◌++◌, ◌+◌, ◌-◌, ◌==◌, if◌then◌else◌, length, map}
 use Rattle.std.specs.Prelude.{Option, Some, None}
 use Rattle.std.specs.List.{list_any}
+use Rattle.rv_jobs.specs.Plans.{Planned}
 use Rattle.rv_job_text.specs.TotalsLine.{run_totals_line}
 use Rattle.rv_expect.specs.Judgement.{Judging, fails}
 use Rattle.rv_report.specs.declared.saved.Extent.{Extent}
@@ -12,10 +13,11 @@ use Rattle.rv_report.specs.declared.row.Row.{Row}
 use Rattle.rv_report.specs.Report.{report_text}
 use Rattle.rv_stream.specs.Streams.{joined_row_texts}
 
--- what is reported for the rows of the first of the jobs at some indices, then the summary line, which counts also the jobs without a row
-abbrev pub run_output_text : (ℕ → Row → List ℕ) → Judging → List ℕ → List Row → List ℕ
-run_output_text line judging places rows =
-    joined_row_texts line places rows ++ run_totals_line judging rows (length places - length rows)
+-- what is reported for the rows of the first of a plan's jobs at some indices, then the summary line, which counts also the jobs without a
+-- row
+abbrev pub run_output_text : (ℕ → Row → List ℕ) → Judging → Planned → List ℕ → List Row → List ℕ
+run_output_text line judging plan places rows =
+    joined_row_texts line places rows ++ run_totals_line judging plan places rows (length places - length rows)
 
 -- 1 if some row counts as a failure, else 0
 abbrev pub rows_status : Judging → List Row → ℕ

@@ -124,7 +124,7 @@ report_file words reporter places shard old rows = file_at (run_report_path word
 abbrev pub IsRunWritten : RunArgs → RowReporter → List ℕ → Option Shard → Option (List Row) → List Row → CommandOutputs → CommandOutputs → Type 0
 IsRunWritten words reporter places shard old rows before after =
     WentOutBeside (uses_run_stdout words) (run_report_path words) (optional_text words.junit)
-    (run_output_text (row_lines_at reporter) reporter.judging places rows)
+    (run_output_text (row_lines_at reporter) reporter.judging reporter.plan places rows)
     (run_report_text old (length reporter.plan.jobs) (shown_indices places rows) shard rows)
     (run_junit words reporter (shown_indices places rows) rows) before after
 

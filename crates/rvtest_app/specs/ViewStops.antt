@@ -34,7 +34,7 @@ use Rattle.rvtest_app.specs.declared.view.View.TheVariants as view
 -- the table at the path has no counts of the image at the other path, but of one that was there earlier
 abbrev pub other_image_message : List ℕ → List ℕ → List ℕ
 other_image_message table path = codes "rvtest: " ++ printable_text table ++ codes ": " ++ printable_text path
-    ++ codes ": the image differs from that of the selected jobs\n"
+    ++ codes ": counted with a different image than the selected jobs use\n"
 
 -- the table at the path has counts of an image other than these
 abbrev pub IsOtherImageStop : Option FileContents → List ℕ → List FileImage → Stop → Type 0

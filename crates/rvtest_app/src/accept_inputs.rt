@@ -64,7 +64,7 @@ fn look_up_reads<'a, F: Outputs>(
     ensures list { IfOk result (λ reads. AreFilesOf (F.placed files.now) (asked.now.run.list.now ∷ []) reads.list) }
     ensures inputs { IfOk result (λ reads. AreFilesOf (F.placed files.now) (inputs_of_accept asked.now jobs.now) reads.inputs) }
 {
-    let list = read_paths_of_words(alloc, &[asked.run.list], "LIST")?;
+    let list = read_paths_of_words(alloc, &[asked.run.list], "the job list")?;
     let inputs = inputs_of_accept(alloc, asked, jobs)?;
     let golden = golden_of_jobs(alloc, asked.run.root, jobs)?;
     Ok(AcceptReads {
@@ -135,10 +135,10 @@ fn refuse_list_overwrite<F: Outputs>(
 ) -> Result<(), Stop>
     ensures apart { (paths : List (List ℕ)) → AreFilesOf (F.placed files.now) paths reads.now.inputs
         → OnOk result (IfSome (F.placed files.now) (λ _. IsUnread paths list.now)) }
-    ensures stopped { IfErr result (IsOverwriteStop (codes "LIST") list.now) }
+    ensures stopped { IfErr result (IsOverwriteStop (codes "the updated list") list.now) }
 {
-    refuse_file(files, alloc, "LIST", list, &reads.inputs)?;
-    refuse_file(files, alloc, "LIST", list, &reads.golden)
+    refuse_file(files, alloc, "the updated list", list, &reads.inputs)?;
+    refuse_file(files, alloc, "the updated list", list, &reads.golden)
 }
 
 // Rejects golden files that would overwrite the list, an input, or a golden file with another path.
@@ -314,7 +314,7 @@ fn check_bounds<F: Outputs>(
     if !bounds.is_outside_allowed {
         return Err(outside_stop(alloc, bounds.directory, golden));
     }
-    push_outside_text(alloc, notes, bounds.directory, golden)?;
+    push_outside_text(alloc, notes, "rvtest: warning: ", bounds.directory, golden)?;
     push_text(notes, "\n")?;
     Ok(())
 }
@@ -334,7 +334,7 @@ fn outside_message(
         ≡ outside_message (writer_text golden.now.role) (path_buf_bytes golden.now.path) directory.now) }
 {
     let mut text = Vec::new(alloc);
-    push_outside_text(alloc, &mut text, directory, golden)?;
+    push_outside_text(alloc, &mut text, "rvtest: ", directory, golden)?;
     push_text(&mut text, "; use --outside to write it\n")?;
     Ok(text)
 }
@@ -342,22 +342,23 @@ fn outside_message(
 fn push_outside_text(
     alloc: Global,
     text: &mut Vec<u8>,
+    head: &str,
     directory: &str,
     golden: &ReadPath<'_>,
 ) -> Result<(), AllocError>
     ensures { OnOk result (text.new.items ≡ text.old.items
-        ++ outside_text (writer_text golden.now.role) (path_buf_bytes golden.now.path) directory.now) }
+        ++ outside_text head.now (writer_text golden.now.role) (path_buf_bytes golden.now.path) directory.now) }
 {
     let role = writer_text(alloc, golden.role)?;
-    push_outside_head(text, role.as_str())?;
+    push_outside_head(text, head, role.as_str())?;
     push_outside_path(text, golden.path.as_str())?;
     push_quoted_text(text, directory)
 }
 
-fn push_outside_head(text: &mut Vec<u8>, role: &str) -> Result<(), AllocError>
-    ensures { OnOk result (text.new.items ≡ text.old.items ++ outside_head role.now) }
+fn push_outside_head(text: &mut Vec<u8>, head: &str, role: &str) -> Result<(), AllocError>
+    ensures { OnOk result (text.new.items ≡ text.old.items ++ outside_head head.now role.now) }
 {
-    push_spans(text, &[Span::Text("rvtest: "), Span::Text(role)])
+    push_spans(text, &[Span::Text(head), Span::Text(role)])
 }
 
 fn push_outside_path(text: &mut Vec<u8>, path: &str) -> Result<(), AllocError>

@@ -175,7 +175,7 @@ impl<'a> CheckedList<'a> {
             self.now.path.now self.now.lines.now place (slice_index_or self.now.plan.now.jobs place d) why
             (option_map (λ text. text.items) reason)) }
     {
-        self.push_job_prefix(told, place, self.plan.job(place))?;
+        self.push_job_prefix(told, ": error:", place, self.plan.job(place))?;
         push_refusal(told, why, reason)?;
         push_text(told, "\n")
     }
@@ -226,23 +226,30 @@ impl<'a> CheckedList<'a> {
         ensures { OnOk result (told.new.items ≡ told.old.items
             ++ two_ends_line self.now.path.now self.now.lines.now place job.now) }
     {
-        self.push_job_prefix(told, place, job)?;
+        self.push_job_prefix(told, ": warning:", place, job)?;
         push_two_ends(told, job.expect_exit, job.expect_end)?;
         push_text(told, "\n")
     }
 
-    // Appends the location of the job at an index, and its name.
+    // Appends the location of the job at an index, how severe the problem is, and the job's name.
     #[tactic(auto, unfolding(crate::specs::CheckText::job_prefix))]
-    fn push_job_prefix(&self, told: &mut Vec<u8>, place: usize, job: &Job) -> Result<(), AllocError>
+    fn push_job_prefix(
+        &self,
+        told: &mut Vec<u8>,
+        severity: &'static str,
+        place: usize,
+        job: &Job,
+    ) -> Result<(), AllocError>
         requires { place < length self.now.plan.now.jobs }
         ensures { OnOk result (told.new.items ≡ told.old.items
-            ++ job_prefix self.now.path.now self.now.lines.now place job.now) }
+            ++ job_prefix severity.now self.now.path.now self.now.lines.now place job.now) }
     {
         self.push_path_and_line(told, place)?;
         push_spans(
             told,
             &[
-                Span::Text(": job "),
+                Span::Text(severity),
+                Span::Text(" job "),
                 Span::Number(place as u64 + 1),
                 Span::Text(" \""),
                 Span::Text(job.name.as_str()),
@@ -296,7 +303,7 @@ fn push_two_ends(
     push_spans(
         told,
         &[
-            Span::Text("warning: expect_exit = "),
+            Span::Text("expect_exit = "),
             Span::Number(code.unwrap_or(0) as u64),
             Span::Text(" with expect_end = \""),
             Span::Text(expected_end_name(end)),
@@ -357,13 +364,8 @@ fn push_warning_count(told: &mut Vec<u8>, warned: usize) -> Result<(), AllocErro
     if warned == 0 {
         return Ok(());
     }
-    let word = if warned == 1 { " warning" } else { " warnings" };
     push_spans(
         told,
-        &[
-            Span::Text(", "),
-            Span::Number(warned as u64),
-            Span::Text(word),
-        ],
+        &[Span::Text(", "), Span::Count(warned as u64, "warning")],
     )
 }

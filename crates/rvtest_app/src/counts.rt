@@ -64,7 +64,7 @@ fn refuse_sum_overwrite<F: Outputs>(
     let read = look_up_files(
         files,
         alloc,
-        read_paths_of_words(alloc, asked.tables.as_slice(), "TABLE")?,
+        read_paths_of_words(alloc, asked.tables.as_slice(), "the table")?,
     )?;
     refuse_overwrite(files, alloc, "--out", asked.out, &read)
 }
@@ -142,7 +142,7 @@ pub(crate) fn sum_error_stop(alloc: Global, path: &str, error: SumError) -> Stop
             Stop::of_refusal(count_overflow_message(alloc, path, what, address))
         }
         SumError::Spot(function) => {
-            let what = ": a count in the stacks of ";
+            let what = ": a stack count of the function at ";
             Stop::of_refusal(count_overflow_message(alloc, path, what, function))
         }
         SumError::Names(function) => Stop::of_refusal(two_names_message(alloc, path, function)),
@@ -161,7 +161,7 @@ fn two_names_message(alloc: Global, path: &str, function: u32) -> Result<Vec<u8>
         &[
             Span::Text("rvtest: "),
             Span::Shown(path.as_bytes()),
-            Span::Text(": "),
+            Span::Text(": the function at "),
             Span::Word(function),
             Span::Text(" has two names in one image\n"),
         ],

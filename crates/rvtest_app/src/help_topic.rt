@@ -16,7 +16,7 @@ pub(crate) fn topic_help(alloc: Global, asked: HelpArgs<'_>) -> Result<Found, St
     ensures told { IfOk result (λ found. IsTopicPrinted asked.entry.topic.now found.text.items found.status) }
     ensures stopped { IfErr result (IsNoTopicStop asked.entry.topic.now) }
 {
-    if asked.topic != "list" {
+    if asked.topic != "keys" {
         return Err(no_topic_stop(alloc, asked.topic));
     }
     let mut text = Vec::new(alloc);
@@ -39,7 +39,7 @@ fn no_topic_message(alloc: Global, topic: &str) -> Result<Vec<u8>, AllocError>
             Span::Text("rvtest: unknown help topic \""),
             Span::Value(topic.as_bytes()),
             Span::Text(
-                "\": try \"help list\" for the keys of a list, or \"COMMAND --help\" for a command\n",
+                "\": try \"help keys\" for the keys of a list, or \"help COMMAND\" for a command\n",
             ),
         ],
     )

@@ -106,17 +106,18 @@ fn push_known_fault<'a>(
         KnownFaultKind::Twice => push_spans(
             message,
             &[
+                Span::Text("duplicate job name \""),
                 Span::Value(name),
-                Span::Text(" is already listed on an earlier line"),
+                Span::Text("\""),
             ],
         ),
         KnownFaultKind::NoJob => push_spans(
             message,
             &[
-                Span::Text("no job of "),
-                Span::Shown(list.as_bytes()),
-                Span::Text(" is named "),
+                Span::Text("no job named \""),
                 Span::Value(name),
+                Span::Text("\" in "),
+                Span::Shown(list.as_bytes()),
             ],
         ),
     }

@@ -1,4 +1,4 @@
-//! What `rvtest help list` prints. packaging/pages writes this file from README.md's table of keys.
+//! What `rvtest help keys` prints. packaging/pages writes this file from README.md's table of keys.
 
 /// The keys of a list.
 pub(crate) const LIST_KEYS: &str = "\
@@ -11,8 +11,8 @@ The keys of a job, a table of the array job:
   budget
       maximum number of steps, 1 to 1,000,000,000; required
   input, input_hex
-      the console's script, as text or hexadecimal digits: at most 65,536 bytes;
-      default: empty
+      console input for the program, as text or hexadecimal digits: at most
+      65,536 bytes; default: empty
   load
       \"physical\" or \"virtual\": where segments are placed; default: physical
   region
@@ -29,7 +29,8 @@ The keys of a job, a table of the array job:
   expect_end
       \"budget\", or a kind of fault such as \"load-access\"
   expect_console, expect_console_file
-      the output: at most 65,536 bytes, or a file's path
+      the expected console output, at most 65,536 bytes, or the path of a file
+      that has it
   expect_signature
       path of a file with the signature's lines; requires signature
   same_as

@@ -80,7 +80,7 @@ fn refuse_merge_overwrites<F: Outputs>(
     let read = look_up_files(
         files,
         alloc,
-        read_paths_of_words(alloc, asked.parts.as_slice(), "PART")?,
+        read_paths_of_words(alloc, asked.parts.as_slice(), "the part")?,
     )?;
     refuse_overwrite(files, alloc, "--report", asked.report, &read)?;
     refuse_overwrite(files, alloc, "--junit", asked.junit, &read)
@@ -237,12 +237,12 @@ fn merge_error_stop(
 
 fn missing_shard_message(alloc: Global, number: usize) -> Result<Vec<u8>, AllocError>
     ensures { IfOk result (λ text. text.items
-        ≡ codes "rvtest: missing part of shard " ++ decimal number ++ codes "\n") }
+        ≡ codes "rvtest: no part for shard " ++ decimal number ++ codes "\n") }
 {
     text_of_spans(
         alloc,
         &[
-            Span::Text("rvtest: missing part of shard "),
+            Span::Text("rvtest: no part for shard "),
             Span::Number(number as u64),
             Span::Text("\n"),
         ],
@@ -300,21 +300,26 @@ fn part_flaw_message(
             alloc,
             asked,
             path,
-            "a different number of shards than ",
+            "a different number of shards than \"",
         ),
         Flaw::OtherJobs => other_run_message(
             alloc,
             asked,
             path,
-            "a list with a different number of jobs than ",
+            "a list with a different number of jobs than \"",
         ),
-        Flaw::OtherStamp => other_run_message(alloc, asked, path, "a different stamp than "),
+        Flaw::OtherStamp => other_run_message(
+            alloc,
+            asked,
+            path,
+            "the stamp differs from that of \"",
+        ),
         Flaw::OtherText(earlier) => two_parts_message(
             alloc,
             path,
-            "the same shard as ",
+            "covers the same shard as \"",
             part_path(asked, earlier),
-            ", but different contents\n",
+            "\", but differs from it\n",
         ),
         Flaw::NameTwice(number) => {
             let what = " has the name of an earlier job\n";
@@ -332,7 +337,7 @@ fn other_run_message(
 ) -> Result<Vec<u8>, AllocError>
     ensures { IfOk result (λ text. text.items ≡ other_run_message asked.now.parts.items path.now what.now) }
 {
-    two_parts_message(alloc, path, what, part_path(asked, 0), "\n")
+    two_parts_message(alloc, path, what, part_path(asked, 0), "\"\n")
 }
 
 // Returns the message that one shard conflicts with another.

@@ -27,7 +27,7 @@ pub(crate) fn missing_images_note(
 {
     let mut note = Vec::new(alloc);
     if count == plan.jobs() && are_images_missing(plan, unread) {
-        push_text(&mut note, "rvtest: ")?;
+        push_text(&mut note, "rvtest: note: ")?;
         push_paths_line(&mut note, root)?;
     }
     Ok(note)

@@ -57,9 +57,21 @@ fn inputs_of_run<'a>(
     ensures { IfOk result (λ read. read_paths read.items ≡ inputs_of_run asked.now jobs.now) }
 {
     let mut read = Vec::new(alloc);
-    push_read(alloc, &mut read, None, asked.list, ReadRole::Word("LIST"))?;
+    push_read(
+        alloc,
+        &mut read,
+        None,
+        asked.list,
+        ReadRole::Word("the job list"),
+    )?;
     if let Some(known) = asked.known {
-        push_read(alloc, &mut read, None, known, ReadRole::Word("--known"))?;
+        push_read(
+            alloc,
+            &mut read,
+            None,
+            known,
+            ReadRole::Word("the file of --known"),
+        )?;
     }
     for job in jobs {
         push_job_paths(alloc, &mut read, asked.root, job)?;
@@ -142,7 +154,13 @@ pub(crate) fn failed_of_run<'a>(
 {
     let mut read = Vec::new(alloc);
     if let Some(failed) = asked.failed {
-        push_read(alloc, &mut read, None, failed, ReadRole::Word("--failed"))?;
+        push_read(
+            alloc,
+            &mut read,
+            None,
+            failed,
+            ReadRole::Word("the report of --failed"),
+        )?;
     }
     Ok(read)
 }
@@ -152,7 +170,13 @@ fn reports_of_run<'a>(alloc: Global, asked: &RunArgs<'_>) -> Result<Vec<ReadPath
 {
     let mut read = failed_of_run(alloc, asked)?;
     if let Some(into) = asked.into {
-        push_read(alloc, &mut read, None, into, ReadRole::Word("--into"))?;
+        push_read(
+            alloc,
+            &mut read,
+            None,
+            into,
+            ReadRole::Word("the report of --into"),
+        )?;
     }
     Ok(read)
 }

@@ -153,7 +153,8 @@ impl<'x, R: Threads + Wait + Sync + Clock, D: Inputs> ListRun<'x, R, D> {
             (streamed_rows frame.old (shown_indices planned.now.places.now rows) rows) outlets }
         ensures status { IfOk result (λ status. status ≡ rows_status (judging_of planned.now.reporter.now.judge) rows) }
         ensures outputs_of { (before : CommandOutputs) → IsShown (uses_run_stdout self.now.asked.now) (run_output_text
-            (row_lines_at (reporter_of planned.now.reporter.now)) (judging_of planned.now.reporter.now.judge) planned.now.places.now rows)
+            (row_lines_at (reporter_of planned.now.reporter.now)) (judging_of planned.now.reporter.now.judge)
+            planned.now.reporter.now.plan.now planned.now.places.now rows)
             before (outputs_of F.placed O.taken E.taken E.failed to.old)
             → OnOk result (IsCountedRunWritten self.now.asked.now (reporter_of planned.now.reporter.now) planned.now.places.now
             frame.shard frame.old rows before (outputs_of F.placed O.taken E.taken E.failed to.new)) }

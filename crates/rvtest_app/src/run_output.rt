@@ -1,6 +1,6 @@
 //! What a run whose rows are shown comes to.
 
-ghost use Rattle.std.specs.Prelude.{◌≡◌, ◌-◌, ◌<◌, ◌≤◌, ◌^◌, Err, IfErr, IfOk, Ok, OnErr, OnOk, false, is_ok, is_some, length, true};
+ghost use Rattle.std.specs.Prelude.{◌≡◌, ◌-◌, ◌≤◌, Err, IfErr, IfOk, Ok, OnErr, OnOk, false, is_ok, is_some, length, true};
 ghost use Rattle.std.specs.Io.KnownBytes.{Appends};
 ghost use Rattle.rv_expect.specs.Judgement.{judging_of};
 ghost use Rattle.rv_job_text.specs.TotalsLine.{run_totals_line};
@@ -13,8 +13,8 @@ use crate::outlets::{Outlet, unwritten_stop};
 use rv_command::Stop;
 use rv_expect::Judge;
 use rv_files::LastError;
-use rv_fleet::{Rows, Sink, put_all};
-use rv_job_text::push_run_totals_line;
+use rv_fleet::{Batch, Rows, Sink, put_all};
+use rv_job_text::{RunRows, push_run_totals_line};
 use rv_rows::WriteError;
 use rv_stream::StreamError;
 use std::alloc::{AllocError, Global};
@@ -60,30 +60,31 @@ pub(crate) fn rows_if_written(
     }
 }
 
-/// Writes the last line of a run of `jobs` jobs, which counts its rows and the jobs without one, and returns the rows.
+/// Writes the last line of a run of some jobs, which counts its rows and the jobs without one, and returns the rows.
 pub(crate) fn put_totals_line<W: Sink>(
     alloc: Global,
     judge: &Judge<'_>,
-    jobs: usize,
+    batch: &Batch<'_>,
     ran: Result<Rows, ShowError>,
     out: &mut W,
 ) -> Result<Rows, ShowError>
-    requires few { IfOk ran (λ rows. length rows ≤ jobs) }
-    requires jobs { jobs < 2 ^ 32 }
+    requires few { IfOk ran (λ rows. length rows ≤ length batch.now.places.now) }
     ensures rows { IfOk result (λ rows. ran ≡ Ok rows) }
     ensures line { IfOk result (λ rows. Appends (W.taken out.old) (W.taken out.new)
-        (run_totals_line (judging_of judge.now) rows (jobs - length rows))) }
+        (run_totals_line (judging_of judge.now) batch.now.plan.now batch.now.places.now rows
+        (length batch.now.places.now - length rows))) }
     ensures counted { OnOk result (W.failed out.new ≡ W.failed out.old) }
     ensures report { IfErr result (λ error. error ≡ ReportFailed → ran ≡ Err ReportFailed) }
 {
     let rows = ran?;
+    let run = RunRows {
+        plan: batch.plan,
+        places: batch.places,
+        rows: rows.as_slice(),
+    };
+    let hidden = batch.places.len() - run.rows.len();
     let mut line = Vec::new(alloc);
-    push_run_totals_line(
-        &mut line,
-        judge,
-        rows.as_slice(),
-        jobs - rows.as_slice().len(),
-    )?;
+    push_run_totals_line(&mut line, judge, &run, hidden)?;
     match put_all(out, line.as_slice()) {
         Ok(()) => Ok(rows),
         Err(_) => Err(ShowError::StreamFailed),

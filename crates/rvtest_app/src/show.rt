@@ -82,7 +82,7 @@ fn refuse_show_overwrite<F: Outputs>(
     let read = look_up_files(
         files,
         alloc,
-        read_paths_of_words(alloc, &[asked.report], "REPORT")?,
+        read_paths_of_words(alloc, &[asked.report], "the report")?,
     )?;
     refuse_overwrite(files, alloc, "--junit", asked.junit, &read)
 }

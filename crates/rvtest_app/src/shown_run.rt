@@ -74,8 +74,9 @@ impl<'x, R: Threads + Wait + Sync + Clock, D: Inputs> ListRun<'x, R, D> {
         ensures few { IfOk result.1.ran (λ rows. length rows ≤ length planned.now.places.now) }
         ensures shown { OnOk result.1.ran (Appends (W.taken shown.stream) (W.taken result.0)
             (run_output_text (row_lines_at (reporter_of planned.now.reporter.now))
-            (judging_of planned.now.reporter.now.judge) planned.now.places.now (run_rows self.now.asked.now.stop_after
-            (judging_of planned.now.reporter.now.judge) planned.now.reporter.now.plan.now planned.now.places.now))) }
+            (judging_of planned.now.reporter.now.judge) planned.now.reporter.now.plan.now planned.now.places.now
+            (run_rows self.now.asked.now.stop_after (judging_of planned.now.reporter.now.judge)
+            planned.now.reporter.now.plan.now planned.now.places.now))) }
         ensures counted { OnOk result.1.ran (W.failed result.0 ≡ W.failed shown.stream) }
         ensures report { OnOk result.1.ran (AreRowsWritten V.taken V.failed sink result.1.sink
             (joined_row_texts (report_row_text rows.now.is_streaming) planned.now.places.now (run_rows self.now.asked.now.stop_after
@@ -120,7 +121,7 @@ impl<'x, R: Threads + Wait + Sync + Clock, D: Inputs> ListRun<'x, R, D> {
         } = observer;
         let (sink, sent) = finish_sender(sender);
         let ran = rows_if_written(ran, sent);
-        let ran = put_totals_line(alloc, &reporter.judge, places.len(), ran, &mut stream);
+        let ran = put_totals_line(alloc, &reporter.judge, &batch, ran, &mut stream);
         let stream = stream.into_inner();
         progress.finish();
         (stream, ShownRun { sink, texts, ran })

@@ -160,7 +160,7 @@ fn other_image_message<'a>(
             Span::Shown(table.as_bytes()),
             Span::Text(": "),
             Span::Shown(path.as_bytes()),
-            Span::Text(": the image differs from that of the selected jobs\n"),
+            Span::Text(": counted with a different image than the selected jobs use\n"),
         ],
     )
 }

@@ -134,11 +134,11 @@ fn part_refusal<'a>(
         &[
             Span::Text("rvtest: "),
             Span::Shown(path.as_bytes()),
-            Span::Text(": rows of "),
+            Span::Text(": a partial report ("),
             Span::Number(rows as u64),
             Span::Text(" of "),
-            Span::Number(u64::from(jobs)),
-            Span::Text(" jobs"),
+            Span::Count(u64::from(jobs), "job"),
+            Span::Text(")"),
             Span::Text(WANTED),
         ],
     )
@@ -158,13 +158,12 @@ fn count_refusal<'a>(
         &[
             Span::Text("rvtest: "),
             Span::Shown(path.as_bytes()),
-            Span::Text(": "),
-            Span::Number(rows as u64),
-            Span::Text(" rows, but "),
+            Span::Text(": has "),
+            Span::Count(rows as u64, "row"),
+            Span::Text(", but "),
             Span::Shown(list.as_bytes()),
             Span::Text(" has "),
-            Span::Number(jobs as u64),
-            Span::Text(" jobs"),
+            Span::Count(jobs as u64, "job"),
             Span::Text(WANTED),
         ],
     )

@@ -16,7 +16,7 @@ use Rattle.clap.specs.declared.parser.matches.ArgMatches.{ArgMatches}
 use Rattle.clap.specs.declared.parser.matches.ArgMatches.TheViews.{out-SubCommand}
 use Rattle.clap.specs.declared.parser.matches.SubCommand.{SubCommand}
 use Rattle.rvtest_cli.specs.RvtestCommand.{test_app}
-use Rattle.rvtest_cli.specs.RvtestWords.{FailsByMisuse, IsMisuseReported, matched_misuse, misuse_kinds, words_fault_kinds, words_misuse}
+use Rattle.rvtest_cli.specs.RvtestWords.{FailsByMisuse, IsMisuseReported, misuse_kinds, plain_fault_kinds, plain_misuse}
 use Rattle.rvtest_cli.specs.WordsErrors.{FailsByKinds, IsToldOf, IsToldOfKind}
 use Rattle.rvtest_cli.specs.declared.refusals.Misuse.{Misuse}
 use Rattle.rvtest_cli.specs.declared.words_error.WordsError.{WordsError}
@@ -41,12 +41,12 @@ pub here : (app : App) (words : List Text) (found : ArgMatches) → app ≡ test
 here app words found is has = (has (ap is_simple is)).1 ∙ ap (λ a. subcommand_of a words) is
 
 -- where `clap` finds no fault, the faults are options that do not go together
-pub faults : (words : List Text) → fault_of test_app words ≡ [] → misuse_kinds (words_misuse words) ≡ words_fault_kinds words
+pub faults : (words : List Text) → fault_of test_app words ≡ [] → misuse_kinds (plain_misuse words) ≡ plain_fault_kinds words
 faults words none = sym (past (fault_of test_app words) _ none)
 
 -- a fault that `clap` finds is one of the faults
 pub refused : (app : App) (words : List Text) (error : Error) → app ≡ test_app → HasKind (fault_of app words) error
-    → HasKind (words_fault_kinds words) error
+    → HasKind (plain_fault_kinds words) error
 refused app words error is has =
     first_fails (fault_of test_app words) _ (kind_of error) (subst (λ a. HasKind (fault_of a words) error) is has)
 

@@ -285,9 +285,9 @@ abbrev pub with_reports : App → App
 with_reports app = with_subcommand (with_subcommand (with_subcommand app merge_app.top)
     diff_app.top) show_app.top
 
--- help <TOPIC>
+-- help [TOPIC]
 abbrev pub help_app : App
-help_app = with_rule (new_app (codes "help")) (word_rule (codes "topic"))
+help_app = with_rule (new_app (codes "help")) (optional_word_rule (codes "topic"))
 
 -- the whole command
 abbrev pub test_app : App

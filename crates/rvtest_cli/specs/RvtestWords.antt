@@ -315,9 +315,35 @@ subcommand_words name rows = if bytes_eq name (codes "run") then test_run_reques
 abbrev pub matched_words : Option (Text × List Row) → Option Words
 matched_words = option_and_then (λ found. subcommand_words found.0 found.1)
 
+-- ---- help for a command
+
+-- whether a word requests the help for all commands
+abbrev pub is_help : Text → Bool
+is_help word = bytes_eq word (codes "help")
+
+-- whether a word and a topic request the help for a command: every topic but `keys` and an option of `help` itself
+abbrev pub is_command_help : Text → Text → Bool
+is_command_help word topic = is_help word && (not (bytes_eq topic (codes "keys"))
+    && (not (bytes_eq topic (codes "--help")) && not (bytes_eq topic (codes "-h"))))
+
+-- `rvtest help` and `rvtest help COMMAND` with the option that requests the same help; nothing for other arguments
+pub help_words : List Text → Option (List Text)
+help_words (program ∷ word ∷ []) = if is_help word then Some (program ∷ codes "--help" ∷ []) else None
+help_words (program ∷ word ∷ topic ∷ []) =
+    if is_command_help word topic then Some (program ∷ topic ∷ codes "--help" ∷ []) else None
+help_words words = None
+
+-- the arguments that `clap` parses
+abbrev pub parsed_words : List Text → List Text
+parsed_words words = option_map_or (λ help. help) (help_words words) words
+
+-- the matched subcommand, with its values; none if the help for a command is requested
+abbrev pub requested_subcommand : List Text → Option (Text × List Row)
+requested_subcommand words = option_map_or (λ help. None) (help_words words) (subcommand_of test_app words)
+
 -- the request of the arguments: the subcommand and the values are the matches that `clap` defines for them
 abbrev pub words_request : List Text → Option Words
-words_request words = matched_words (subcommand_of test_app words)
+words_request words = matched_words (requested_subcommand words)
 
 -- ---- what is wrong with words
 
@@ -478,7 +504,7 @@ misuse_text misuse.StampAlone = codes "the argument '--stamp <TEXT>' cannot be u
 misuse_text misuse.BudgetAndRows =
     codes "the argument '--budget <N>' cannot be used with '--into <FILE>', '--report <FILE>', '--junit <FILE>' or '--shard <K/N>': results with an overridden budget are not saved"
 misuse_text misuse.StopAfterAndShard =
-    codes "the argument '--stop-after <N>' cannot be used with '--shard <K/N>': a part has a row for each of its jobs"
+    codes "the argument '--stop-after <N>' cannot be used with '--shard <K/N>': a part must have a row for every job of its shard"
 misuse_text misuse.IntoAndReport =
     codes "the argument '--into <FILE>' cannot be used with '--report <FILE>' or '--shard <K/N>': it already names the report to write"
 misuse_text misuse.IntoStdout =
@@ -515,13 +541,24 @@ subcommand_misuse name rows = if bytes_eq name (codes "run") then run_misuse row
 abbrev pub matched_misuse : Option (Text × List Row) → Option Misuse
 matched_misuse = option_and_then (λ met. subcommand_misuse met.0 met.1)
 
+-- which options cannot be combined, and the kinds of errors, in arguments that `clap` parses as they are
+abbrev pub plain_misuse : List Text → Option Misuse
+plain_misuse words = matched_misuse (subcommand_of test_app words)
+
+abbrev pub plain_fault_kinds : List Text → Kinds
+plain_fault_kinds words = or_else (fault_of test_app words) (misuse_kinds (plain_misuse words))
+
 -- which options cannot be combined, in arguments in which `clap` finds no error
 abbrev pub words_misuse : List Text → Option Misuse
-words_misuse words = matched_misuse (subcommand_of test_app words)
+words_misuse words = matched_misuse (requested_subcommand words)
+
+-- the kinds of errors that `clap` finds in arguments
+abbrev pub words_faults : List Text → Kinds
+words_faults words = fault_of test_app (parsed_words words)
 
 -- the kinds of errors in arguments: those that `clap` finds, else options that cannot be combined
 abbrev pub words_fault_kinds : List Text → Kinds
-words_fault_kinds words = or_else (fault_of test_app words) (misuse_kinds (words_misuse words))
+words_fault_kinds words = or_else (words_faults words) (misuse_kinds (words_misuse words))
 
 -- out of memory, or the error says which options cannot be combined
 abbrev pub IsMisuseReported : Option Misuse → WordsError → Type 0

@@ -6,7 +6,7 @@ Examples:
   rvtest run tests.toml --report report.txt --junit junit.xml
   rvtest run tests.toml --failed report.txt --into report.txt
 
-Status:
+Exit status:
   0  No job failed
   1  A job failed
   2  Invalid arguments, list or report
@@ -17,8 +17,8 @@ Examples:
   rvtest list tests.toml
   rvtest list tests.toml --match uart --exclude slow
 
-Status:
-  0  The names were printed, or no job failed in the report
+Exit status:
+  0  The names were printed, or --failed found no failed job
   2  Invalid arguments, list or report
   3  System error: memory or a file";
 
@@ -27,9 +27,9 @@ Examples:
   rvtest explain tests.toml uart-echo
   rvtest explain tests.toml uart-echo --last 200
 
-Status:
-  0  The job passes by the strict rule
-  1  The job fails by the strict rule
+Exit status:
+  0  The job passed
+  1  The job failed
   2  Invalid arguments or list, or unknown job name
   3  System error: memory or a file";
 
@@ -38,9 +38,9 @@ Examples:
   rvtest console tests.toml uart-echo
   rvtest console tests.toml uart-echo >uart-echo.out
 
-Status:
-  0  The job passes by the strict rule
-  1  The job fails by the strict rule
+Exit status:
+  0  The job passed
+  1  The job failed
   2  Invalid arguments or list, or unknown job name
   3  System error: memory or a file";
 
@@ -48,7 +48,7 @@ pub(crate) const GDB: &str = "\
 Examples:
   gdb-multiarch -ex 'target remote | rvtest gdb tests.toml uart-echo'
 
-Status:
+Exit status:
   0  gdb ended the session or closed the connection
   2  Invalid arguments or list, unknown job name, or the job is refused
   3  System error: memory, a file or a stream";
@@ -58,7 +58,7 @@ Examples:
   rvtest check tests.toml
   rvtest check tests.toml --root build
 
-Status:
+Exit status:
   0  No errors, and no job is refused
   2  Invalid arguments, an error in the list, or a job is refused
   3  System error: memory or a file";
@@ -68,9 +68,9 @@ Examples:
   rvtest accept tests.toml --check
   rvtest accept tests.toml --match uart --ends
 
-Status:
-  0  Nothing is left; with --check, nothing would change either
-  1  A job or a file is left; with --check, a file would change
+Exit status:
+  0  Every selected job was accepted; with --check, nothing would change
+  1  A job or file was skipped, or with --check, a file would change
   2  Invalid arguments, list or report
   3  System error: memory, a thread or a file";
 
@@ -79,7 +79,7 @@ Examples:
   rvtest merge part-1.txt part-2.txt --report report.txt
   rvtest merge part-*.txt --report report.txt --junit junit.xml
 
-Status:
+Exit status:
   0  No job failed
   1  A job failed
   2  Invalid arguments or part, or a part is missing
@@ -90,7 +90,7 @@ Examples:
   rvtest diff main.txt branch.txt
   rvtest diff main.txt branch.txt --slower 5
 
-Status:
+Exit status:
   0  No job differs
   1  A job differs
   2  Invalid arguments or report
@@ -101,7 +101,7 @@ Examples:
   rvtest show report.txt
   rvtest show report.txt --junit junit.xml
 
-Status:
+Exit status:
   0  No job failed
   1  A job failed
   2  Invalid arguments or report
@@ -112,7 +112,7 @@ Examples:
   rvtest counts part-1.counts part-2.counts --out whole.counts
   rvtest counts nightly-*.counts >week.counts
 
-Status:
+Exit status:
   0  The sum was written
   2  Invalid arguments or table, or a sum is 2^64 or more
   3  System error: memory or a file";
@@ -122,8 +122,8 @@ Examples:
   rvtest cover tests.toml
   rvtest cover tests.toml --counts whole.counts --csv >cover.csv
 
-Status:
-  0  Coverage was shown, whatever the verdicts
+Exit status:
+  0  Coverage was shown, even if jobs failed
   2  Invalid arguments, list, report or table
   3  System error: memory, a thread or a file";
 
@@ -132,16 +132,17 @@ Examples:
   rvtest profile tests.toml uart-echo
   rvtest profile tests.toml --counts whole.counts --top 10
 
-Status:
-  0  The profile was shown, whatever the verdicts
+Exit status:
+  0  The profile was shown, even if jobs failed
   2  Invalid arguments, list, report or table
   3  System error: memory, a thread or a file";
 
 pub(crate) const HELP: &str = "\
 Examples:
-  rvtest help list
+  rvtest help run
+  rvtest help keys
 
-Status:
-  0  The keys were described
+Exit status:
+  0  The help was printed
   2  Invalid arguments, or unknown topic
   3  System error: memory";

@@ -106,7 +106,7 @@ impl Misuse {
                 "the argument '--budget <N>' cannot be used with '--into <FILE>', '--report <FILE>', '--junit <FILE>' or '--shard <K/N>': results with an overridden budget are not saved"
             }
             Misuse::StopAfterAndShard => {
-                "the argument '--stop-after <N>' cannot be used with '--shard <K/N>': a part has a row for each of its jobs"
+                "the argument '--stop-after <N>' cannot be used with '--shard <K/N>': a part must have a row for every job of its shard"
             }
             Misuse::IntoAndReport => {
                 "the argument '--into <FILE>' cannot be used with '--report <FILE>' or '--shard <K/N>': it already names the report to write"

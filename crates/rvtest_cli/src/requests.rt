@@ -1,10 +1,11 @@
 //! The requests that arguments make of `rvtest`: a command with its values.
 
-ghost use Rattle.std.specs.Prelude.{◌≡◌, [], IfErr, IfOk, IfSome, map, option_map};
-ghost use Rattle.clap.specs.Words.{fault_of, found_of, rows_of, subcommand_rows_of};
+ghost use Rattle.std.specs.Prelude.{◌≡◌, [], IfErr, IfOk, IfSome, None, map, option_map};
+ghost use Rattle.clap.specs.Words.{fault_of, found_of, rows_of, subcommand_of, subcommand_rows_of};
 ghost use Rattle.rvtest_cli.specs.RvtestCommand.{test_app};
 ghost use Rattle.rvtest_cli.specs.RvtestWords.{IsAskedInRange, IsMisuseReported, ReadsRequest, matched_misuse, subcommand_misuse};
-ghost use Rattle.rvtest_cli.specs.RvtestWords.{asked_words, matched_words, subcommand_words, words_fault_kinds, words_misuse, words_request};
+ghost use Rattle.rvtest_cli.specs.RvtestWords.{asked_words, is_command_help, is_help, matched_words, plain_fault_kinds, plain_misuse};
+ghost use Rattle.rvtest_cli.specs.RvtestWords.{subcommand_words, words_fault_kinds, words_faults, words_misuse, words_request};
 ghost use Rattle.rvtest_cli.specs.WordsErrors.{FailsByKinds};
 
 use crate::accept::{AcceptArgs, accept_request};
@@ -74,8 +75,56 @@ pub fn read_words<'a, T: AsStr>(
     // Arguments fail because of an error that is found in them or because memory runs out; otherwise they have no error.
     ensures kinds { FailsByKinds (words_fault_kinds (map T.text words.entry.now)) result }
     // If `clap` finds no error, the message says which options cannot be combined.
-    ensures misused { fault_of test_app (map T.text words.entry.now) ≡ []
+    ensures misused { words_faults (map T.text words.entry.now) ≡ []
         → IfErr result (IsMisuseReported (words_misuse (map T.text words.entry.now))) }
+{
+    match words {
+        [program, word] if is_help(word.as_str()) => {
+            command_help(alloc, &[program.as_str(), "--help"])
+        }
+        [program, word, topic] if is_command_help(word.as_str(), topic.as_str()) => {
+            command_help(alloc, &[program.as_str(), topic.as_str(), "--help"])
+        }
+        _ => read_request(alloc, words),
+    }
+}
+
+// Whether help is requested for all commands: `rvtest help`.
+fn is_help(word: &str) -> bool
+    ensures { result ≡ is_help word.now }
+{
+    word == "help"
+}
+
+// Whether help is requested for a command: `rvtest help COMMAND`.
+fn is_command_help(word: &str, topic: &str) -> bool
+    ensures { result ≡ is_command_help word.now topic.now }
+{
+    is_help(word) && topic != "keys" && topic != "--help" && topic != "-h"
+}
+
+// Returns the help that the words request with an option, as an error; they request nothing else.
+fn command_help<'a, T: AsStr>(alloc: Global, words: &[T]) -> Result<Option<Asked<'a>>, WordsError>
+    ensures value { IfOk result (λ asked. asked ≡ None) }
+    ensures kinds { FailsByKinds (fault_of test_app (map T.text words.entry.now)) result }
+{
+    let command = test_command(alloc)?;
+    match command.try_get_matches_from(words) {
+        Ok(_) => Ok(None),
+        Err(error) => Err(WordsError::of_clap(alloc, &error)),
+    }
+}
+
+fn read_request<'a, T: AsStr>(
+    alloc: Global,
+    words: &'a [T],
+) -> Result<Option<Asked<'a>>, WordsError>
+    ensures value { IfOk result
+        (λ asked. option_map asked_words asked ≡ matched_words (subcommand_of test_app (map T.text words.entry.now))) }
+    ensures within { IfOk result (λ asked. IfSome asked IsAskedInRange) }
+    ensures kinds { FailsByKinds (plain_fault_kinds (map T.text words.entry.now)) result }
+    ensures misused { fault_of test_app (map T.text words.entry.now) ≡ []
+        → IfErr result (IsMisuseReported (plain_misuse (map T.text words.entry.now))) }
 {
     let command = test_command(alloc)?;
     match command.try_get_matches_from(words) {

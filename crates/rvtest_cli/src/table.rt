@@ -27,7 +27,7 @@ pub(crate) const RUN: Subcommand<'static> = Subcommand {
         Argument::Option(
             "stamp",
             "TEXT",
-            "Identify the run that the part belongs to [default: a digest of the list]",
+            "Stamp the part with this text; merge accepts only parts with equal stamps [default: a digest of the list]",
         ),
         Argument::Number("workers", Some('j'), THREADS, WORKERS, &[]),
         Argument::Group,
@@ -52,7 +52,7 @@ pub(crate) const RUN: Subcommand<'static> = Subcommand {
             Some('q'),
             "Show only the last line; cannot be used with --verbose",
         ),
-        Argument::Number("last", None, LAST, LAST_BOUNDS, &[]),
+        Argument::Number("last", None, RUN_LAST, LAST_BOUNDS, &[]),
         Argument::Option("color", "WHEN", COLOR),
     ],
 };
@@ -143,7 +143,7 @@ pub(crate) const ACCEPT: Subcommand<'static> = Subcommand {
         Argument::Flag(
             "outside",
             None,
-            "Also write golden files outside the list's directory or DIR",
+            "Also write golden files outside the list's directory (or the --root directory)",
         ),
         Argument::Number("workers", Some('j'), THREADS, WORKERS, &[]),
         Argument::Group,
@@ -184,7 +184,7 @@ pub(crate) const DIFF: Subcommand<'static> = Subcommand {
         Argument::Number(
             "slower",
             None,
-            "Report jobs that take over N percent more steps, from 0 to 1000",
+            "Report jobs that take more than N percent more steps, from 0 to 1000",
             SLOWER,
             &[],
         ),
@@ -269,9 +269,13 @@ pub(crate) const PROFILE: Subcommand<'static> = Subcommand {
 
 const HELP: Subcommand<'static> = Subcommand {
     name: "help",
-    about: "Describe the keys of a job list",
+    about: "Print help for a command, or describe the keys of a job list",
     after: examples::HELP,
-    arguments: &[Argument::Word("topic", "TOPIC", "Topic to describe: list")],
+    arguments: &[Argument::OptionalWord(
+        "topic",
+        "TOPIC",
+        "Name of a command, or keys for the keys of a job list",
+    )],
 };
 
 const LIST_PATH: &str = "Path of the job list";
@@ -294,7 +298,7 @@ const THREADS: &str = "Use at most N threads, from 1 to 64 [default: one per pro
 
 const ROOT: &str = "Resolve relative paths in the list against this directory";
 
-const INTO: &str = "Update the rows of this file, a report of the whole list";
+const INTO: &str = "Update this report of the whole list with the rows of the run";
 
 const REPORT: &str = "Write the report to this file, or - for standard output";
 
@@ -317,7 +321,9 @@ const STOP_AFTER: &str = "Stop after the Nth failure, from 1 to 4096";
 
 const LENIENT: &str = "Count only unmet expectations as failures";
 
-const LAST: &str = "Show the last N instructions of a job, from 0 to 100000";
+const LAST: &str = "Show the last N instructions of the job, from 0 to 100000";
+
+const RUN_LAST: &str = "Show the last N instructions of each failed job, from 0 to 100000";
 
 const BUDGET: &str = "Override every job's step budget, from 1 to 1000000000";
 

@@ -4,4 +4,6 @@ use Rattle.rv_diff.proofs.diff.push_counts.Goals as goal
 
 pub returns : goal.returns
 unfolding change_counts_words differing_words
-returns c = simp append_assoc (simp append-nil at c.push_spans.ensures)
+returns c =
+    let told = rw c.differ_words.ensures at c.push_spans.ensures in
+    simp append_assoc (simp append-nil at told)

@@ -1,5 +1,5 @@
 use Rattle.std.proofs.Common.{codes, length}
-use Rattle.std.specs.Fmt.{decimal}
+use Rattle.rv_text.specs.Words.{count_text}
 use Rattle.rv_diff.specs.Differences.{signature_words}
 use Rattle.rv_diff.proofs.Told.{gone_told, new_told, none_told, told}
 use Rattle.rv_diff.proofs.signature_line.push_signature_line.Goals as goal
@@ -10,7 +10,7 @@ returns-in-Some-None c =
     rw (c.in-Some-None.is-0, c.in-Some-None.is-1, ← c.as_slice-in-Some-None.ensures)
     (told c.push_spans.result c.args.text.now.items c.push_spans.new.bytes.items _ _
     (gone_told (codes "! ") c.args.name.now (codes ": ") (codes "signature ")
-    (decimal (length c.as_slice-in-Some-None.result.now)) (codes " ") (codes "words") (codes " -> ") (codes "none")
+    (count_text (length c.as_slice-in-Some-None.result.now) (codes "word")) (codes " -> ") (codes "none")
     (codes "\n")) c.push_spans.ensures)
 
 pub returns-in-None-Some : goal.returns-in-None-Some
@@ -19,7 +19,7 @@ returns-in-None-Some c =
     rw (c.in-None-Some.is-0, c.in-None-Some.is-1, ← c.as_slice-in-None-Some.ensures)
     (told c.push_spans-in-None-Some.result c.args.text.now.items c.push_spans-in-None-Some.new.bytes.items _ _
     (new_told (codes "! ") c.args.name.now (codes ": ") (codes "signature ") (codes "none") (codes " -> ")
-    (decimal (length c.as_slice-in-None-Some.result.now)) (codes " ") (codes "words") (codes "\n"))
+    (count_text (length c.as_slice-in-None-Some.result.now) (codes "word")) (codes "\n"))
     c.push_spans-in-None-Some.ensures)
 
 pub returns-in-None-None : goal.returns-in-None-None

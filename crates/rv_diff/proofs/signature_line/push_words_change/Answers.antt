@@ -1,6 +1,6 @@
 use Rattle.std.proofs.Common.{◌∙◌, codes, length, sym}
 use Rattle.std.specs.Fmt.{decimal}
-use Rattle.rv_text.specs.Words.{word_digits}
+use Rattle.rv_text.specs.Words.{count_text, word_digits}
 use Rattle.rv_diff.proofs.Told.{counts_told, told, word_told}
 use Rattle.rv_diff.proofs.signature_line.push_words_change.Goals as goal
 
@@ -17,5 +17,5 @@ returns-in-None c =
     rw (sym c.first_differing_word.ensures ∙ c.in-None.is)
     (told c.push_spans-in-None.result c.args.text.now.items c.push_spans-in-None.new.bytes.items _ _
     (counts_told (codes "! ") c.args.name.now (codes ": ") (codes "signature ")
-    (decimal (length c.args.old.now)) (codes " ") (codes "words") (codes " -> ") (decimal (length c.args.new.now))
+    (count_text (length c.args.old.now) (codes "word")) (codes " -> ") (count_text (length c.args.new.now) (codes "word"))
     (codes "\n")) c.push_spans-in-None.ensures)

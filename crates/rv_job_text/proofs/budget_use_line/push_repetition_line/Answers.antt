@@ -5,5 +5,5 @@ use Rattle.rv_job_text.proofs.budget_use_line.push_repetition_line.Goals as goal
 pub returns : goal.returns
 unfolding repetition_line
 returns c =
-    let told = rw (c.from.ensures, c.from-2.ensures, c.waiting_text.ensures) at c.push_spans.ensures in
+    let told = rw (c.from.ensures, c.period_span.ensures, c.waiting_text.ensures) at c.push_spans.ensures in
     simp (append_assoc) (simp (append-nil) at told)

@@ -1,12 +1,13 @@
 use Rattle.std.proofs.Common.{codes}
 use Rattle.std.specs.Fmt.{decimal}
 use Rattle.rv_text.proofs.Public.{told}
+use Rattle.rv_text.specs.Words.{count_text}
 use Rattle.rv_job_text.specs.UnmetLines.{count_difference_text}
-use Rattle.rv_job_text.proofs.Told.{five_told}
+use Rattle.rv_job_text.proofs.Told.{words_told}
 use Rattle.rv_job_text.proofs.difference_text.push_count_difference.Goals as goal
 
 pub returns : goal.returns
 unfolding count_difference_text
 returns c =
-    told _ _ _ _ _ (five_told (codes "it has ") (decimal c.args.met) c.args.what.now (codes ", expected ")
-    (decimal c.args.wanted)) c.push_spans.ensures
+    told _ _ _ _ _ (words_told (codes " in length: expected ") (count_text c.args.wanted c.args.what.now) (codes ", found ")
+    (decimal c.args.met)) c.push_spans.ensures

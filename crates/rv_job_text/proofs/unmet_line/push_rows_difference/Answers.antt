@@ -6,9 +6,9 @@ use Rattle.rv_job_text.proofs.unmet_line.push_rows_difference.Goals as goal
 pub returns-in_ok-push_row_end-in-Ending : goal.returns-in_ok-push_row_end-in-Ending
 unfolding rows_difference_text
 returns-in_ok-push_row_end-in-Ending c =
-    let other = codes "it ended with " ++ row_end_text c.args.other.now.ending in
+    let other = codes ", which " ++ row_end_text c.args.other.now.ending in
     rw c.in-Ending.is
-    (told _ _ _ _ _ (sym (append_assoc other (codes ", this job with ") (row_end_text c.args.row.now.ending)))
+    (told _ _ _ _ _ (sym (append_assoc other (codes "; this job ") (row_end_text c.args.row.now.ending)))
     (ended _ _ _ _ _ _ c.in_ok-push_row_end-in-Ending.ensures c.push_row_end-in-Ending.ensures))
 
 pub returns-in_ok-push_text-in-Console : goal.returns-in_ok-push_text-in-Console
@@ -17,7 +17,7 @@ returns-in_ok-push_text-in-Console c =
     let met = c.as_slice.result.now in
     let wanted = c.as_slice-in-Console.result.now in
     rw (c.in-Console.is, ← c.as_slice.ensures, ← c.as_slice-in-Console.ensures)
-    (ended _ _ _ _ (codes "console: ") (bytes_difference_text c.in-Console.difference met wanted)
+    (ended _ _ _ _ (codes ": console differs") (bytes_difference_text c.in-Console.difference met wanted)
     c.in_ok-push_text-in-Console.ensures c.push_bytes_difference.ensures)
 
 pub returns-in_ok-push_text-in-Signature : goal.returns-in_ok-push_text-in-Signature
@@ -26,7 +26,7 @@ returns-in_ok-push_text-in-Signature c =
     let met = c.args.row.now.signature in
     let wanted = c.args.other.now.signature in
     rw c.in-Signature.is
-    (ended _ _ _ _ (codes "signature: ") (signatures_difference_text c.args.first met wanted c.in-Signature.difference)
+    (ended _ _ _ _ (codes ": signature differs") (signatures_difference_text c.args.first met wanted c.in-Signature.difference)
     c.in_ok-push_text-in-Signature.ensures c.push_signatures_difference.ensures)
 
 pub returns-in-Absent : goal.returns-in-Absent

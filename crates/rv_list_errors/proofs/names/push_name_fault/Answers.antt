@@ -15,14 +15,16 @@ returns c =
     let ms = table_view c.args.table.now in
     let names = borrowed_names c.args.list.now.names.items in
     let text = job_of_name_text c.job_number_of_name.result in
-    some_then c.args.message.now c.push_key_and_value.new.message c.push-2.new.self
-    (IsKeyAndValue key (get_member key ms)) (TellsName names key wanted ms) (codes ": " ++ (text ++ wanted))
+    some_then c.args.message.now c.push_key_and_value.new.message c.push_job_of_name.new.message
+    (IsKeyAndValue key (get_member key ms)) (TellsName names key wanted ms) (codes ": " ++ (wanted ++ text))
     c.push_key_and_value.ensures
-    (adds_then c.push_key_and_value.new.message c.push.new.self c.push-2.new.self (codes ": ") (text ++ wanted) c.push.ensures
-    (adds_then c.push.new.self c.push_job_of_name.new.message c.push-2.new.self text wanted c.push_job_of_name.ensures c.push-2.ensures))
+    (adds_then c.push_key_and_value.new.message c.push.new.self c.push_job_of_name.new.message (codes ": ") (wanted ++ text)
+    c.push.ensures
+    (adds_then c.push.new.self c.push-2.new.self c.push_job_of_name.new.message wanted text c.push-2.ensures
+    c.push_job_of_name.ensures))
     (λ met is. (
       met,
       is,
-      ap (λ number. met ++ (codes ": " ++ (job_of_name_text number ++ wanted)))
+      ap (λ number. met ++ (codes ": " ++ (wanted ++ job_of_name_text number)))
           (c.job_number_of_name.ensures ∙ ap (number_of_name names) c.text_at_key.ensures),
     ))

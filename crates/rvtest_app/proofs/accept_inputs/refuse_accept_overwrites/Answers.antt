@@ -11,7 +11,7 @@ returns-in_err-refuse_list_overwrite-clause-stopped g c =
     c.from_residual-in_err-refuse_list_overwrite.ensures.1 in
     rw (is.1, is.2) (inr (
       c.args.asked.now.run.list.now,
-      inr (inl (codes "LIST", c.in_err-refuse_list_overwrite.ensures.stopped)),
+      inr (inl (codes "the updated list", c.in_err-refuse_list_overwrite.ensures.stopped)),
     ))
 
 pub returns-clause-apart : goal.returns-clause-apart

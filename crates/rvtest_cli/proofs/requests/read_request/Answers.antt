@@ -1,30 +1,30 @@
 use Rattle.std.proofs.Common.{◌∙◌, [], ap, map, subst, sym}
 use Rattle.std.proofs.lemmas.Result.{IfOk-weaker}
 use Rattle.clap.specs.Words.{HasKind, app_of, fault_of, is_simple_and_free, kind_of}
-use Rattle.rvtest_cli.specs.RvtestWords.{FailsByMisuse, matched_misuse, misuse_kinds, words_fault_kinds, words_misuse, matched_words}
+use Rattle.rvtest_cli.specs.RvtestWords.{FailsByMisuse, matched_misuse, misuse_kinds, plain_fault_kinds, plain_misuse, matched_words}
 use Rattle.rvtest_cli.specs.WordsErrors.{FailsByKinds}
 use Rattle.rvtest_cli.proofs.RvtestReading.{faults, here, kinds_of_misuse, no_misuse, none_told, of_memory, refused, told_of, told_where_failed}
-use Rattle.rvtest_cli.proofs.requests.read_words.Goals as goal
+use Rattle.rvtest_cli.proofs.requests.read_request.Goals as goal
 
 pub returns-in_err-command-clause-kinds : goal.returns-in_err-command-clause-kinds
 returns-in_err-command-clause-kinds g c =
-    of_memory c.from_residual.result (words_fault_kinds (map g.T.AsStr.text c.args.words.now)) c.from_residual.ensures.1
+    of_memory c.from_residual.result (plain_fault_kinds (map g.T.AsStr.text c.args.words.now)) c.from_residual.ensures.1
 
 pub returns-in_err-command-clause-misused : goal.returns-in_err-command-clause-misused
 returns-in_err-command-clause-misused g c none =
-    no_misuse c.from_residual.result (words_misuse (map g.T.AsStr.text c.args.words.now)) c.from_residual.ensures.1
+    no_misuse c.from_residual.result (plain_misuse (map g.T.AsStr.text c.args.words.now)) c.from_residual.ensures.1
 
 pub returns-in-Err-clause-kinds : goal.returns-in-Err-clause-kinds
 returns-in-Err-clause-kinds g c =
     let words = map g.T.AsStr.text c.args.words.now in
-    told_of (words_fault_kinds words) _ _
+    told_of (plain_fault_kinds words) _ _
     (refused (app_of c.in_ok-command.command) words c.in-Err.error c.in_ok-command.ensures
     (c.in-Err.ensures.kinds (ap is_simple_and_free c.in_ok-command.ensures))) c.of_clap.ensures
 
 pub returns-in-Err-clause-misused : goal.returns-in-Err-clause-misused
 returns-in-Err-clause-misused g c none =
     let words = map g.T.AsStr.text c.args.words.now in
-    none_told (words_misuse words) _ (told_of [] (kind_of c.in-Err.error) _
+    none_told (plain_misuse words) _ (told_of [] (kind_of c.in-Err.error) _
     (subst (λ kinds. HasKind kinds c.in-Err.error) (ap (λ app. fault_of app words) c.in_ok-command.ensures ∙ none)
     (c.in-Err.ensures.kinds (ap is_simple_and_free c.in_ok-command.ensures))) c.of_clap.ensures)
 
@@ -53,5 +53,5 @@ returns-in-Ok-clause-misused g c none =
     let words = map g.T.AsStr.text c.args.words.now in
     let is = here (app_of c.in_ok-command.command) words c.in-Ok.matches c.in_ok-command.ensures
     c.in-Ok.ensures.matches in
-    told_where_failed (words_misuse words) c.matched_request.result
+    told_where_failed (plain_misuse words) c.matched_request.result
     (subst (λ misuse. FailsByMisuse misuse c.matched_request.result) (ap matched_misuse is) c.matched_request.ensures.1)

@@ -1,0 +1,104 @@
+-- What did not match in a failed job: how it ended, else the console, the signature, or the result of the named job.
+use Rattle.std.specs.Prelude.{◌==◌, ◌+◌, ◌-◌, ℕ, Bool, true, false, List, [], ◌∷◌, if◌then◌else◌}
+use Rattle.std.specs.Prelude.{Option, Some, None, length, option_to_list, slice_get}
+use Rattle.std.specs.List.{flat_map, zip}
+use Rattle.rv_machine.specs.declared.ending.FaultKind.{FaultKind}
+use Rattle.rv_machine.specs.Faults.{fault_kinds}
+use Rattle.rv_jobs.specs.Plans.{Planned}
+use Rattle.rv_jobs.specs.declared_job.Job.{Job}
+use Rattle.rv_rows.specs.declared_row.Row.{Row}
+use Rattle.rv_rows.specs.declared_row.RowEnd.{RowEnd}
+use Rattle.rv_rows.specs.declared_row.RowEnd.TheVariants as ending
+use Rattle.rv_rows.specs.Verdict.{is_same_kind}
+use Rattle.rv_expect.specs.declared.failure_kind.FailureKind.{FailureKind}
+use Rattle.rv_expect.specs.declared.failure_kind.FailureKind.TheVariants as failure
+use Rattle.rv_expect.specs.Comparisons.{Sides}
+use Rattle.rv_expect.specs.Judgement.{Judging, fails, is_unknown_failure, judgement}
+use Rattle.rv_expect.specs.Unmet.{unmet_of}
+use Rattle.rv_expect.specs.UnmetInPlan.{sides_in}
+use Rattle.rv_expect.specs.declared.unmet.Unmet.{Unmet}
+use Rattle.rv_expect.specs.declared.unmet.Unmet.TheVariants as unmet
+
+-- ---- the kinds in order
+
+-- the number of kinds
+abbrev pub failure_kind_count : ℕ
+failure_kind_count = length fault_kinds + 6
+
+-- the kinds after those of faults
+abbrev pub kind_after_faults : ℕ → FailureKind
+kind_after_faults index = if index == 0 then failure.Refused
+    else (if index == 1 then failure.Console else (if index == 2 then failure.Signature else failure.SameAs))
+
+-- the kinds after the budget: those of faults come first
+abbrev pub kind_after_budget : Option FaultKind → ℕ → FailureKind
+kind_after_budget (Some kind) index = failure.Fault kind
+kind_after_budget None index = kind_after_faults (index - length fault_kinds)
+
+-- the kind at an index
+abbrev pub failure_kind_at : ℕ → FailureKind
+failure_kind_at index =
+    if index == 0 then failure.Exit
+    else (if index == 1 then failure.Budget else kind_after_budget (slice_get fault_kinds (index - 2)) (index - 2))
+
+-- whether two kinds are the same
+abbrev pub is_same_failure_kind : FailureKind → FailureKind → Bool
+is_same_failure_kind failure.Exit failure.Exit = true
+is_same_failure_kind failure.Budget failure.Budget = true
+is_same_failure_kind (failure.Fault kind) (failure.Fault other) = is_same_kind kind other
+is_same_failure_kind failure.Refused failure.Refused = true
+is_same_failure_kind failure.Console failure.Console = true
+is_same_failure_kind failure.Signature failure.Signature = true
+is_same_failure_kind failure.SameAs failure.SameAs = true
+is_same_failure_kind _ _ = false
+
+-- ---- the kind of a failure
+
+-- the kind of a failure of which only the end is known
+abbrev pub failure_kind_of_end : RowEnd → FailureKind
+failure_kind_of_end (ending.Exit code) = failure.Exit
+failure_kind_of_end ending.Budget = failure.Budget
+failure_kind_of_end (ending.Fault kind pc value) = failure.Fault kind
+failure_kind_of_end (ending.Refused why) = failure.Refused
+
+-- the kind of a failure whose first unmet expectation this is
+abbrev pub failure_kind_of_first : RowEnd → Unmet → FailureKind
+failure_kind_of_first end (unmet.Console difference) = failure.Console
+failure_kind_of_first end (unmet.Signature difference) = failure.Signature
+failure_kind_of_first end (unmet.Same difference) = failure.SameAs
+failure_kind_of_first end _ = failure_kind_of_end end
+
+-- the kind of a failure with these unmet expectations, the first of which decides; a refused job has none
+abbrev pub failure_kind_of_unmet : RowEnd → List Unmet → FailureKind
+failure_kind_of_unmet end [] = failure_kind_of_end end
+failure_kind_of_unmet end (first ∷ others) = failure_kind_of_first end first
+
+-- ---- the failures among rows
+
+-- the failures in a report, which has the ends but not the expectations
+abbrev pub failure_by_end : Judging → Row → Option FailureKind
+failure_by_end judging row = if fails judging row then Some (failure_kind_of_end row.ending) else None
+
+abbrev pub failures_by_end : Judging → List Row → List FailureKind
+failures_by_end judging rows = flat_map (λ row. option_to_list (failure_by_end judging row)) rows
+
+-- what the job expects, as if the job that it names had not run: if it fails though it meets all other expectations, that one is unmet
+abbrev pub sides_without_named_job : Planned → Job → Row → Sides
+sides_without_named_job plan job row = record (sides_in plan job row) { other = None }
+
+-- the kind of a row that failed; a job that passes although it is listed as known to fail has no unmet expectation
+abbrev pub failure_kind_in_plan : Judging → Planned → Option Job → Row → FailureKind
+failure_kind_in_plan judging plan None row = failure_kind_of_end row.ending
+failure_kind_in_plan judging plan (Some job) row = if is_unknown_failure (judgement judging row)
+    then failure_kind_of_unmet row.ending (unmet_of (sides_without_named_job plan job row))
+    else failure_kind_of_end row.ending
+
+-- the failure of the job at an index of a plan, if its row counts as one
+abbrev pub failure_in_plan : Judging → Planned → ℕ → Row → Option FailureKind
+failure_in_plan judging plan place row =
+    if fails judging row then Some (failure_kind_in_plan judging plan (slice_get plan.jobs place) row) else None
+
+-- the failures among the rows of the jobs at some indices
+abbrev pub failures_in_plan : Judging → Planned → List ℕ → List Row → List FailureKind
+failures_in_plan judging plan places rows =
+    flat_map (λ placed. option_to_list (failure_in_plan judging plan placed.0 placed.1)) (zip places rows)

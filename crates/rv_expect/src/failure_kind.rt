@@ -1,0 +1,118 @@
+//! What did not match in a failed job.
+
+ghost use Rattle.std.specs.Prelude.{◌≡◌, slice_get};
+ghost use Rattle.rv_machine.specs.Faults.{fault_kinds};
+ghost use Rattle.rv_expect.specs.FailureKinds.{failure_kind_at, failure_kind_of_end, failure_kind_of_first, failure_kind_of_unmet, is_same_failure_kind};
+ghost use Rattle.rv_expect.specs.FailureKinds.{kind_after_budget, kind_after_faults};
+
+use crate::unmet::Unmet;
+use rv_machine::FaultKind;
+use rv_rows::RowEnd;
+
+/// What did not match in a failed job, without the exit code, address or value: how it ended or, if it ended as expected, the first of its
+/// other expectations that its run does not meet.
+#[derive(Clone, Copy)]
+pub enum FailureKind {
+    /// The run ended with another exit code than the expected one, or with an exit where another end was expected.
+    Exit,
+    /// The run used up its budget.
+    Budget,
+    /// The run ended with a fault of this kind.
+    Fault(FaultKind),
+    /// The job was refused and did not run.
+    Refused,
+    /// The console differs from the expected one.
+    Console,
+    /// The signature differs from the expected one.
+    Signature,
+    /// The result differs from that of the named job.
+    SameAs,
+}
+
+impl FailureKind {
+    /// The number of kinds.
+    pub const COUNT: usize = FaultKind::ALL.len() + 6;
+
+    /// Returns the kind at an index below [`COUNT`](FailureKind::COUNT), in the order exit, budget, each kind of fault, refused, console,
+    /// signature, named job.
+    pub fn from_index(index: usize) -> FailureKind
+        ensures { result ≡ failure_kind_at index }
+    {
+        if index == 0 {
+            FailureKind::Exit
+        } else if index == 1 {
+            FailureKind::Budget
+        } else {
+            kind_after_budget(index - 2)
+        }
+    }
+
+    /// Returns the kind of a failure of which only the end is known.
+    pub fn of_end(ending: RowEnd) -> FailureKind
+        ensures { result ≡ failure_kind_of_end ending }
+    {
+        match ending {
+            RowEnd::Exit(_) => FailureKind::Exit,
+            RowEnd::Budget => FailureKind::Budget,
+            RowEnd::Fault(kind, ..) => FailureKind::Fault(kind),
+            RowEnd::Refused(_) => FailureKind::Refused,
+        }
+    }
+
+    /// Returns the kind of a failure with these unmet expectations, the first of which decides.
+    pub fn of_unmet(ending: RowEnd, unmet: &[Unmet]) -> FailureKind
+        ensures { result ≡ failure_kind_of_unmet ending unmet.now }
+    {
+        match unmet.first() {
+            Some(first) => kind_of_first(ending, *first),
+            None => FailureKind::of_end(ending),
+        }
+    }
+
+    /// Whether this is the other kind.
+    pub fn is_same(self, other: FailureKind) -> bool
+        ensures { result ≡ is_same_failure_kind self other }
+    {
+        match (self, other) {
+            (FailureKind::Exit, FailureKind::Exit) => true,
+            (FailureKind::Budget, FailureKind::Budget) => true,
+            (FailureKind::Fault(kind), FailureKind::Fault(other)) => kind == other,
+            (FailureKind::Refused, FailureKind::Refused) => true,
+            (FailureKind::Console, FailureKind::Console) => true,
+            (FailureKind::Signature, FailureKind::Signature) => true,
+            (FailureKind::SameAs, FailureKind::SameAs) => true,
+            _ => false,
+        }
+    }
+}
+
+fn kind_after_budget(index: usize) -> FailureKind
+    ensures { result ≡ kind_after_budget (slice_get fault_kinds index) index }
+{
+    match FaultKind::ALL.get(index) {
+        Some(kind) => FailureKind::Fault(*kind),
+        None => kind_after_faults(index.saturating_sub(FaultKind::ALL.len())),
+    }
+}
+
+fn kind_after_faults(index: usize) -> FailureKind
+    ensures { result ≡ kind_after_faults index }
+{
+    match index {
+        0 => FailureKind::Refused,
+        1 => FailureKind::Console,
+        2 => FailureKind::Signature,
+        _ => FailureKind::SameAs,
+    }
+}
+
+fn kind_of_first(ending: RowEnd, first: Unmet) -> FailureKind
+    ensures { result ≡ failure_kind_of_first ending first }
+{
+    match first {
+        Unmet::Exit | Unmet::End | Unmet::Nothing => FailureKind::of_end(ending),
+        Unmet::Console(_) => FailureKind::Console,
+        Unmet::Signature(_) => FailureKind::Signature,
+        Unmet::Same(_) => FailureKind::SameAs,
+    }
+}

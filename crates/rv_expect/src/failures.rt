@@ -1,0 +1,115 @@
+//! The failures among rows, each by what did not match.
+
+ghost use Rattle.std.specs.Prelude.{◌≡◌, ◌++◌, ◌<◌, ◌≤◌, IfOk, OnOk, length, option_to_list, slice_index_or};
+ghost use Rattle.rv_jobs.specs.declared_job.Job.{Job as AJob};
+ghost use Rattle.rv_expect.specs.FailureKinds.{failure_by_end, failure_in_plan, failure_kind_of_unmet, failures_by_end, failures_in_plan};
+ghost use Rattle.rv_expect.specs.FailureKinds.{sides_without_named_job};
+ghost use Rattle.rv_expect.specs.Judgement.{judging_of};
+ghost use Rattle.rv_expect.specs.Unmet.{unmet_of};
+
+use crate::comparison::Comparison;
+use crate::failure_kind::FailureKind;
+use crate::judgement::Judge;
+use crate::unmet::unmet_expectations;
+use rv_jobs::Plan;
+use rv_rows::{Row, expected_console_bytes, signature_reference_bytes};
+use std::alloc::{AllocError, Global};
+
+/// Returns the failures among the rows of a report, in order. A report has no expectations, so each is of the kind of its end.
+pub fn failures_by_end(
+    alloc: Global,
+    judge: &Judge<'_>,
+    rows: &[Row],
+) -> Result<Vec<FailureKind>, AllocError>
+    ensures { IfOk result (λ failures. failures.items ≡ failures_by_end (judging_of judge.now) rows.now) }
+{
+    let mut failures = Vec::new(alloc);
+    for row in rows {
+        push_if_failed(&mut failures, failure_by_end(judge, row))?;
+    }
+    Ok(failures)
+}
+
+/// Returns the failures among the rows of a plan's jobs at some indices, in order.
+pub fn failures_in_plan(
+    alloc: Global,
+    judge: &Judge<'_>,
+    plan: &Plan,
+    places: &[usize],
+    rows: &[Row],
+) -> Result<Vec<FailureKind>, AllocError>
+    requires { length rows.now ≤ length places.now }
+    ensures { IfOk result (λ failures. failures.items
+        ≡ failures_in_plan (judging_of judge.now) plan.now places.now rows.now) }
+{
+    let mut failures = Vec::new(alloc);
+    for i in 0..rows.len() {
+        let failure = failure_in_plan(alloc, judge, plan, places[i], &rows[i])?;
+        push_if_failed(&mut failures, failure)?;
+    }
+    Ok(failures)
+}
+
+fn push_if_failed(
+    failures: &mut Vec<FailureKind>,
+    failure: Option<FailureKind>,
+) -> Result<(), AllocError>
+    ensures { OnOk result (failures.new.items ≡ failures.old.items ++ option_to_list failure) }
+{
+    if let Some(kind) = failure {
+        failures.push(kind)?;
+    }
+    Ok(())
+}
+
+fn failure_by_end(judge: &Judge<'_>, row: &Row) -> Option<FailureKind>
+    ensures { result ≡ failure_by_end (judging_of judge.now) row.now }
+{
+    if judge.fails(row) {
+        Some(FailureKind::of_end(row.ending))
+    } else {
+        None
+    }
+}
+
+fn failure_in_plan(
+    alloc: Global,
+    judge: &Judge<'_>,
+    plan: &Plan,
+    place: usize,
+    row: &Row,
+) -> Result<Option<FailureKind>, AllocError>
+    ensures { IfOk result (λ failure. failure ≡ failure_in_plan (judging_of judge.now) plan.now place row.now) }
+{
+    if !judge.fails(row) {
+        return Ok(None);
+    }
+    if !judge.judgement(row).is_unknown_failure() || place >= plan.jobs() {
+        return Ok(Some(FailureKind::of_end(row.ending)));
+    }
+    let kind = kind_of_job(alloc, plan, place, row)?;
+    Ok(Some(kind))
+}
+
+// Returns the kind of a failure by what the job at an index expects. The job that it names is not run again.
+fn kind_of_job(
+    alloc: Global,
+    plan: &Plan,
+    place: usize,
+    row: &Row,
+) -> Result<FailureKind, AllocError>
+    requires { place < length plan.now.jobs }
+    ensures { IfOk result (λ kind. (d : AJob)
+        → kind ≡ failure_kind_of_unmet row.now.ending
+        (unmet_of (sides_without_named_job plan.now (slice_index_or plan.now.jobs place d) row.now))) }
+{
+    let comparison = Comparison {
+        job: plan.job(place),
+        row,
+        console: expected_console_bytes(plan, place),
+        reference: signature_reference_bytes(plan, place),
+        other: None,
+    };
+    let unmet = unmet_expectations(alloc, &comparison)?;
+    Ok(FailureKind::of_unmet(row.ending, unmet.as_slice()))
+}
