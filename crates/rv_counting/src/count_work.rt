@@ -77,9 +77,10 @@ impl Work<JobTable> for CountWork<'_> {
         &self,
         alloc: Global,
         number: usize,
-        _bench: &mut WorkerState,
+        worker_state: &mut WorkerState,
     ) -> Result<JobTable, AllocError> {
-        let table = count_place(alloc, self.batch.plan, self.batch.places[number])?;
+        let place = self.batch.places[number];
+        let table = count_place(alloc, self.batch.plan, place, &mut worker_state.spare)?;
         Ok(JobTable::new(table))
     }
 }

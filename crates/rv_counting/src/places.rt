@@ -15,7 +15,7 @@ use std::sync::Wait;
 use std::thread::Threads;
 
 /// Returns the table of a batch's jobs: the sum of their runs' tables, identical for every crew. Each job is run once more, by the threads
-/// of the crew. Takes memory for the tables that wait to be added, for two sums, and 128 KiB for each thread's decode cache. With so few
+/// of the crew. Takes memory for the tables that wait to be added, for two sums, and 256 KiB for each thread's decode cache. With so few
 /// jobs no number reaches 2^64.
 pub fn count_batch<R: Threads + Wait + Sync>(
     crew: &Crew<'_, R>,

@@ -16,17 +16,19 @@ use crate::count::count_job;
 use rv_call_tree::Spots;
 use rv_count_tables::{Addresses, CountTable, FunctionNames, ImageCounts, Images};
 use rv_jobs::{Bytes, Plan, Text};
+use rv_rows::Spare;
 use rv_text::{printable_text_is_utf8_without_controls, push_printable_text};
 use rv_trace::{JobImage, image_bytes, image_of_bytes};
 use sha2::{Digest, Sha256};
 use std::alloc::{AllocError, Global};
 
 /// Returns the table of the job at an index: the counts of its run, or the table of no runs if the job is refused. Takes longer than one
-/// run of the job, and memory for each executed address.
+/// run of the job, and memory for each executed address. Reuses the memory of the last run.
 pub(crate) fn count_place(
     alloc: Global,
     plan: &Plan,
     place: usize,
+    spare: &mut Spare,
 ) -> Result<CountTable, AllocError>
     requires { place < length plan.now.jobs }
     ensures { IfOk result (λ table. (d : AJob) → IsTableOfOne plan.now.answers (job_at plan.now place d) table) }
@@ -43,7 +45,7 @@ pub(crate) fn count_place(
         place,
         image: &image,
     };
-    match count_job(alloc, &job_image)? {
+    match count_job(alloc, &job_image, spare)? {
         Some(addresses) => table_of_run(alloc, job.image.as_str(), bytes, addresses),
         None => Ok(empty_table(alloc)),
     }

@@ -87,6 +87,7 @@ pub(crate) fn machine_over_image(
     job: &Job,
     file: &[u8],
     image: &Image,
+    spare: &mut Spare,
 ) -> Result<Result<Machine, Refusal>, AllocError>
     requires script { length job.now.script ≤ most_script }
     requires named { IfSome job.now.signature (λ names. (0 < length names.begin)
@@ -97,7 +98,7 @@ pub(crate) fn machine_over_image(
         (λ why. start ≡ Err why)) }
 {
     match range_if_loadable(job, file, image) {
-        Ok(_) => Ok(Ok(loaded_machine(alloc, job, file, image, &mut Spare::new())?)),
+        Ok(_) => Ok(Ok(loaded_machine(alloc, job, file, image, spare)?)),
         Err(error) => Ok(Err(Refusal::Image(error))),
     }
 }

@@ -22,8 +22,8 @@ pub use flat::flat_row;
 pub use law::{narrower_sets_only_refuse, parts_have_the_rows_of_the_whole};
 pub use outcome::{Loadable, Outcome, SignatureRange};
 pub use plan_rows::{
-    expected_console_bytes, image_refusal_at, machine_at, refusal_at, row_at, row_at_with_recent,
-    run_one, signature_reference_bytes,
+    expected_console_bytes, image_refusal_at, machine_at, machine_at_reusing, refusal_at, row_at,
+    row_at_with_recent, run_one, signature_reference_bytes,
 };
 pub use recent_outcomes::Recent;
 pub use reporter::RowReporter;

@@ -148,7 +148,6 @@ pub fn image_refusal_at(alloc: Global, plan: &Plan, i: usize) -> Result<Option<R
 
 /// Returns the machine in which the job at an index runs, in its state before the first step, or why the job is refused. `image` is the
 /// image that was read from the job's file. Runs nothing.
-#[tactic(auto, unfolding(crate::specs::Outcome::start_of))]
 pub fn machine_at(
     alloc: Global,
     plan: &Plan,
@@ -163,8 +162,28 @@ pub fn machine_at(
         ≡ Ok (state_of machine))
         (λ why. start_in plan.now.answers (slice_index_or plan.now.jobs i d) ≡ Err why)) }
 {
+    machine_at_reusing(alloc, plan, i, image, &mut Spare::new())
+}
+
+/// Like [`machine_at`], but reuses the memory of a machine that is no longer needed.
+#[tactic(auto, unfolding(crate::specs::Outcome::start_of))]
+pub fn machine_at_reusing(
+    alloc: Global,
+    plan: &Plan,
+    i: usize,
+    image: &Image,
+    spare: &mut Spare,
+) -> Result<Result<Machine, Refusal>, AllocError>
+    requires place { i < length plan.now.jobs }
+    requires image { (d : AJob) → image_in plan.now.answers (slice_index_or plan.now.jobs i d)
+        ≡ Some image.now }
+    ensures { IfOk result (λ found. (d : AJob) → MatchResult found
+        (λ machine. start_in plan.now.answers (slice_index_or plan.now.jobs i d)
+        ≡ Ok (state_of machine))
+        (λ why. start_in plan.now.answers (slice_index_or plan.now.jobs i d) ≡ Err why)) }
+{
     match image_file_or_refusal(plan.image(i), plan.reference(i), plan.console_reference(i)) {
-        Ok(file) => machine_over_image(alloc, plan.job(i), file, image),
+        Ok(file) => machine_over_image(alloc, plan.job(i), file, image, spare),
         Err(why) => Ok(Err(why)),
     }
 }

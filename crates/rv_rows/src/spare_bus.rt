@@ -40,7 +40,12 @@ impl Spare {
     /// Keeps the bus of a run whose outcome is no longer needed.
     pub(crate) fn keep(&mut self, attempt: Attempt) {
         if let Attempt::Ran(run) = attempt {
-            self.bus = Some(run.bus);
+            self.keep_bus(run.bus);
         }
+    }
+
+    /// Keeps a bus that is no longer needed.
+    pub fn keep_bus(&mut self, bus: Bus) {
+        self.bus = Some(bus);
     }
 }

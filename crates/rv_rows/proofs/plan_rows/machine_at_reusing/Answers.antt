@@ -4,7 +4,7 @@ use Rattle.rv_jobs.specs.declared.kept.Kept.{Kept}
 use Rattle.rv_jobs.specs.Plans.{kept_for}
 use Rattle.rv_rows.specs.Rows.{content_if_read, image_if_read}
 use Rattle.rv_rows.proofs.Loadables.{image_is_read}
-use Rattle.rv_rows.proofs.plan_rows.machine_at.Goals as goal
+use Rattle.rv_rows.proofs.plan_rows.machine_at_reusing.Goals as goal
 
 pub machine_over_image-requires-clause-image : goal.machine_over_image-requires-clause-image
 machine_over_image-requires-clause-image c =
