@@ -7,7 +7,6 @@ ghost use Rattle.rv_elf.specs.Loading.{map_check};
 ghost use Rattle.rv_elf.specs.Symbols.{signature_check, symbol_of};
 ghost use Rattle.rv_elf.specs.Rows.{accepted};
 ghost use Rattle.rv_base.specs.Limits.{most_script};
-ghost use Rattle.rv_machine.specs.Run.{run_of};
 ghost use Rattle.rv_machine.specs.Machine.{state_of};
 ghost use Rattle.rv_rows.specs.Attempt.{HasSignature, IsReadable, outcome_in_bus, outcome_of_attempt};
 ghost use Rattle.rv_rows.specs.Outcome.{row_end, end_of_signature, image_file_or_refusal, file_outcome_of, loadable_image, loaded_state};
@@ -18,7 +17,7 @@ use crate::outcome::{Attempt, EndedRun, Loadable, SignatureRange};
 use crate::spare_bus::Spare;
 use rv_elf::{Image, ImageError, check_map, check_signature, find_symbol, load, read_image};
 use rv_jobs::{Job, Kept, Symbols};
-use rv_machine::{Ending, Machine};
+use rv_machine::{Ending, Machine, Outcome};
 use rv_memory::Map;
 use rv_report::{Refusal, RowEnd};
 use std::alloc::{AllocError, Global};
@@ -133,8 +132,9 @@ pub(crate) fn attempt_over_image(
 {
     match loadable_image(alloc, job, file) {
         Ok(loadable) => {
-            let machine = loaded_machine(alloc, job, file, &loadable.image, spare)?;
-            Ok(Attempt::Ran(run_machine(machine, job.budget, loadable.range)))
+            let mut machine = loaded_machine(alloc, job, file, &loadable.image, spare)?;
+            let ran = machine.run(job.budget);
+            Ok(Attempt::Ran(ended_run(machine, ran, loadable.range)))
         }
         Err(ImageError::OutOfMemory) => Err(AllocError),
         Err(error) => Ok(Attempt::Refused(Refusal::Image(error))),
@@ -230,16 +230,14 @@ fn copy_bytes(alloc: Global, bytes: &[u8]) -> Result<Vec<u8>, AllocError>
     bytes.to_vec(alloc)
 }
 
-/// Runs a machine within a budget.
-pub(crate) fn run_machine(machine: Machine, budget: u32, range: Option<SignatureRange>) -> EndedRun
+/// A run that has ended, whose machine this is.
+pub(crate) fn ended_run(machine: Machine, ran: Outcome, range: Option<SignatureRange>) -> EndedRun
     requires { IfSome range
         (λ range. signature_check range.begin range.end (state_of machine).bus.regions ≡ accepted) }
     ensures outcome { outcome_in_bus result
-        ≡ outcome_of_run (run_of budget (state_of machine)) range }
+        ≡ outcome_of_run (record { ending = ran.ending; steps = ran.steps; state = state_of machine }) range }
     ensures readable { HasSignature result }
 {
-    let mut machine = machine;
-    let ran = machine.run(budget);
     EndedRun {
         ending: row_end(ran.ending),
         steps: ran.steps,

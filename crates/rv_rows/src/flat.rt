@@ -5,7 +5,7 @@ ghost use Rattle.rv_memory.specs.Bus.{byte_at};
 ghost use Rattle.rv_machine.specs.Machine.{state_of};
 ghost use Rattle.rv_rows.specs.Flat.{flat_byte, flat_contents, flat_outcome_of, flat_row_of, flat_state, image_room};
 
-use crate::attempt::run_machine;
+use crate::attempt::ended_run;
 use crate::outcome::{Outcome, refused_outcome};
 use crate::plan_rows::row_of_outcome;
 use rv_isa::Isa;
@@ -36,7 +36,9 @@ fn flat_outcome(alloc: Global, bytes: &[u8], budget: u32) -> Result<Outcome, All
     if IMAGE_ROOM < bytes.len() {
         return Ok(refused_outcome(alloc, Refusal::ImageTooLong));
     }
-    run_machine(flat_machine(alloc, bytes)?, budget, None).outcome(alloc)
+    let mut machine = flat_machine(alloc, bytes)?;
+    let ran = machine.run(budget);
+    ended_run(machine, ran, None).outcome(alloc)
 }
 
 fn flat_machine(alloc: Global, bytes: &[u8]) -> Result<Machine, AllocError>

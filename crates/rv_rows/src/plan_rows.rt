@@ -51,7 +51,9 @@ pub fn row_at_with_recent(
         ≡ row_of plan.now (slice_index_or plan.now.jobs i d)) }
     ensures recent { OnOk result (AreOutcomes plan.now recent.new) }
 {
-    let outcome = outcome_at(alloc, plan, i, spare)?;
+    let attempt = attempt_at(alloc, plan, i, spare)?;
+    let outcome = attempt.outcome(alloc)?;
+    spare.keep(attempt);
     let same = is_same_as_named(plan, plan.job(i), &outcome, spare, recent)?;
     keep_outcome_if_named(alloc, plan, i, &outcome, recent)?;
     judged_row(alloc, plan, i, outcome, same)
@@ -82,24 +84,6 @@ pub(crate) fn judged_row(
         same,
     );
     row_of_outcome(alloc, job.name.as_str(), outcome, verdict)
-}
-
-// Returns the outcome of the job at an index.
-fn outcome_at(
-    alloc: Global,
-    plan: &Plan,
-    i: usize,
-    spare: &mut Spare,
-) -> Result<Outcome, AllocError>
-    requires { i < length plan.now.jobs }
-    ensures { IfOk result
-        (λ outcome. (d : AJob) → outcome
-        ≡ outcome_in plan.now.answers (slice_index_or plan.now.jobs i d)) }
-{
-    let attempt = attempt_at(alloc, plan, i, spare)?;
-    let outcome = attempt.outcome(alloc)?;
-    spare.keep(attempt);
-    Ok(outcome)
 }
 
 // Returns the result of the job at an index.

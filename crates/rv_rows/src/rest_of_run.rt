@@ -12,7 +12,7 @@ ghost use Rattle.rv_rows.specs.IntermediateState.{IsIntermediateState};
 ghost use Rattle.rv_rows.specs.Outcome.{file_outcome_of, loadable_image, outcome_of_run, start_if_loadable};
 ghost use Rattle.rv_rows.specs.Rows.{outcome_in, row_of, start_in};
 
-use crate::attempt::{image_file_or_refusal, loadable_image, run_machine};
+use crate::attempt::{ended_run, image_file_or_refusal, loadable_image};
 use crate::outcome::{Attempt, EndedRun, SignatureRange};
 use crate::plan_rows::{is_same_as_named, judged_row};
 use crate::recent_outcomes::Recent;
@@ -104,7 +104,9 @@ fn rest_of_run(machine: Machine, steps: u32, budget: u32, range: Option<Signatur
         → outcome_in_bus result ≡ outcome_of_run (run_of budget start) range }
     ensures readable { HasSignature result }
 {
-    let mut run = run_machine(machine, budget - steps, range);
+    let mut machine = machine;
+    let ran = machine.run(budget - steps);
+    let mut run = ended_run(machine, ran, range);
     run.steps += steps;
     run
 }
