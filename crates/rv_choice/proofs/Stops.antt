@@ -107,11 +107,12 @@ said_of_text P asked text is holds =
 
 -- the name of the job that was met at a place
 pub near_hint : (jobs : List Job) (name : List ℕ) (place : ℕ) (job : Job) → IsMeant jobs name place
-    → job ≡ get_or jobs place job → IsNameHint jobs name (codes "\"; a similar name exists: " ++ job.name)
+    → job ≡ get_or jobs place job
+    → IsNameHint jobs name (codes "\"; a similar name exists: \"" ++ (job.name ++ codes "\""))
 near_hint jobs name place job meant is =
     let same : job ≡ get_or jobs place (single_job [] 0 []) =
     is ∙ get_or_default jobs place job (single_job [] 0 []) meant.0.within in
-    inl (place, meant, ap (λ (j : Job). codes "\"; a similar name exists: " ++ j.name) same)
+    inl (place, meant, ap (λ (j : Job). codes "\"; a similar name exists: \"" ++ (j.name ++ codes "\"")) same)
 
 -- a refusal of those lines
 pub unknown_stop : (list : List ℕ) (jobs : List Job) (name : List ℕ) (told : Result (Vec ℕ Global) AllocError) (stop : Stop)
