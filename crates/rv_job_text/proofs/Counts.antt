@@ -24,17 +24,13 @@ module _ {X : Type 0} (p : X → Bool) (xs : List X) (i count : ℕ) (so_far : c
   counted_all past = so_far ∙ ap (count_by p) (take_all i xs past)
 
   -- one more of them
-  module _ (x : X) (below : i < length xs) (is : x ≡ get_or xs i x) (passes : Bool) (tested : passes ≡ p x)
-      (next : ℕ) where
+  module _ (d : X) (below : i < length xs) (passes : Bool) (tested : passes ≡ p (get_or xs i d)) (next : ℕ) where
     pub counted_more : passes ≡ true → next ≡ count + 1 → next ≡ count_by p (take (i + 1) xs)
     counted_more passing one_up =
-        let here : p (get_or xs i x) ≡ true = ap p (sym is) ∙ (sym tested ∙ passing) in
-        one_up ∙ (ap (λ n. n + 1) so_far ∙ sym (count_by_more_yes p xs i x below here))
+        one_up ∙ (ap (λ n. n + 1) so_far ∙ sym (count_by_more_yes p xs i d below (sym tested ∙ passing)))
 
     pub counted_same : passes ≡ false → next ≡ count → next ≡ count_by p (take (i + 1) xs)
-    counted_same failing same =
-        let here : p (get_or xs i x) ≡ false = ap p (sym is) ∙ (sym tested ∙ failing) in
-        same ∙ (so_far ∙ sym (count_by_more_no p xs i x below here))
+    counted_same failing same = same ∙ (so_far ∙ sym (count_by_more_no p xs i d below (sym tested ∙ failing)))
 
 -- ---- brackets
 

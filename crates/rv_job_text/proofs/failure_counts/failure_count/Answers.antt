@@ -17,14 +17,11 @@ loop-failure-preserved c =
     let test = is_same_failure_kind c.args.kind in
     let failures = c.args.failures.now in
     let k = c.loop-failure.failure-index in
-    let failure = c.failure-item in
     elim c.if-is_same.branch [
       | then-is_same w ↦
-          counted_more test failures k _ c.loop-failure.invariant failure.result c.loop-failure-test.true failure.is _ c.is_same.ensures _
-          w.if-is_same.true w.count-is
+          counted_more test failures k _ c.loop-failure.invariant _ c.loop-failure-test.true _ c.is_same.ensures _ w.if-is_same.true w.count-is
       | else-is_same w ↦
-          counted_same test failures k _ c.loop-failure.invariant failure.result c.loop-failure-test.true failure.is _ c.is_same.ensures _
-          w.if-is_same.false w.count-is
+          counted_same test failures k _ c.loop-failure.invariant _ c.loop-failure-test.true _ c.is_same.ensures _ w.if-is_same.false w.count-is
     ]
 
 pub returns : goal.returns
