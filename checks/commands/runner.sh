@@ -162,8 +162,18 @@ run >out 2>err
 says 'no words' 2 none 'Usage: rvtest' run check
 run runn passing.toml >out 2>err
 says 'an unknown command' 2 none runn 'Usage: rvtest'
+run --help >all.help 2>err
 run help >out 2>err
-says 'help as a command' 2 none help 'Usage: rvtest'
+ends 'help' 0 all.help
+for words in run list explain console gdb check accept merge diff show counts cover profile help; do
+    run "$words" --help >one.help 2>err
+    run help "$words" >out 2>err
+    ends "help $words" 0 one.help
+done
+run help keys >out 2>err
+shows 'help keys' 0 expect_exit
+run help runn >out 2>err
+says 'help for an unknown command' 2 none runn 'Usage: rvtest'
 run run passing.toml --worker 2 >out 2>err
 says 'a misspelt option' 2 none --worker --workers 'Usage: rvtest run'
 run run passing.toml --workers >out 2>err

@@ -86,7 +86,7 @@ Budget = 3
 END
 {
     echo 'faulty.toml:4:1: error: job 1 "none": budget = 0: expected an integer from 1 to 1000000000'
-    echo 'faulty.toml:6:1: error: job 2 "misspelt": budget is missing: expected an integer from 1 to 1000000000'
+    echo 'faulty.toml:6:1: error: job 2 "misspelt": missing key "budget": expected an integer from 1 to 1000000000'
     echo 'faulty.toml:9:1: error: job 2 "misspelt": unknown key "Budget": a similar key exists: "budget"'
 } >"$work/faulty.checked"
 
@@ -133,6 +133,6 @@ short='refused short-header: the file is shorter than an ELF header'
     echo '5 jobs: 2 passed, 3 failed (1 budget, 1 breakpoint, 1 refused), 13 steps'
 } >"$work/list.shown"
 {
-    echo "list.toml:17: job 4 \"short\": $short"
+    echo "list.toml:17: error: job 4 \"short\": $short"
     echo '5 jobs, 1 refused'
 } >"$work/list.checked"

@@ -109,24 +109,35 @@ def as_bytes(data):
 
 # ---- lines
 
-LINE = re.compile(r"(PASS|FAIL) \S+: (exit|fault|budget|refused)(?: (\S+).*?)?(?: after ([0-9]+) steps)?")
+LINE = re.compile(r"(PASS|FAIL) \S+: (exit|fault|budget|refused)(?: (\S+).*?)?(?: after ([0-9]+) steps?)?")
+# What did not match, by the beginning of the line for the first expectation that is not met. For all others it is how the job ended.
+UNMATCHED = {"console differs": "console", "signature differs": "signature", "expected: the same result as ": "same_as"}
 
 
 def last_line(out):
     """The last line of a run of one job, by what is told of that job."""
-    line = out.partition("\n")[0]
+    line, _, others = out.partition("\n")
     found = LINE.fullmatch(line)
     if found is None:
         raise ValueError(f"no line of a job: {line}")
     word, end, kind, steps = found.groups()
     passed = word == "PASS"
-    way = "" if passed else f" (1 {kind if end == 'fault' else end})"
-    return f"1 job: {int(passed)} passed, {int(not passed)} failed{way}, {steps or 0} steps"
+    what = kind if end == "fault" else end
+    for front, unmatched in UNMATCHED.items():
+        if others.lstrip().startswith(front):
+            what = unmatched
+    way = "" if passed else f" (1 {what})"
+    return f"1 job: {int(passed)} passed, {int(not passed)} failed{way}, {step_count(int(steps or 0))}"
 
 
 def job_count(count):
     """So many jobs, as a last line begins."""
     return f"{count} job" if count == 1 else f"{count} jobs"
+
+
+def step_count(count):
+    """So many steps, as a last line has them."""
+    return f"{count} step" if count == 1 else f"{count} steps"
 
 
 def status_of(last):

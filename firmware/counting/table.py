@@ -144,10 +144,10 @@ def added(first, second, path):
     names = dict(first.names)
     for function, name in sorted(second.names.items()):
         if names.setdefault(function, name) != name:
-            raise Refused(f"{path}: {function:08x} has two names in one image")
+            raise Refused(f"{path}: the function at {function:08x} has two names in one image")
     spots = dict(first.spots)
     for functions, numbers in second.spots.items():
         spots[functions] = tuple(a + b for a, b in zip(numbers, spots.get(functions, (0, 0))))
         if max(spots[functions]) > MOST:
-            raise Refused(f"{path}: a count in the stacks of {functions[-1]:08x} does not fit in 64 bits")
+            raise Refused(f"{path}: a stack count of the function at {functions[-1]:08x} does not fit in 64 bits")
     return Image(first.digest, min(first.path, second.path), *(dict(sorted(it.items())) for it in (counts, names, spots)))

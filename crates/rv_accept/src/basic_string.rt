@@ -27,7 +27,7 @@ fn push_byte(alloc: Global, out: &mut Vec<u8>, byte: u8) -> Result<(), AllocErro
     }
 }
 
-// Returns the character that follows a backslash for a byte, if there is one.
+// Returns the two-character escape of a byte, such as `\n`, if it has one.
 fn short_escape(byte: u8) -> Option<&'static str>
     ensures { option_map (λ text. text.now) result ≡ short_escape byte }
 {

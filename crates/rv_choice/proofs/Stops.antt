@@ -1,7 +1,6 @@
 -- Why words choose no jobs.
-use Rattle.std.proofs.Common.{◌≡◌, ◌∙◌, ◌⊎◌, ℕ, List, [], ◌++◌, Option, Some, None, Bool, IsSomeAnd, IfErr, IfOk, IfSome, Result, Ok, Err, Vec, Global, ap, codes, get_or, inl, inr, refl, subst, sym, ⊎_elim}
+use Rattle.std.proofs.Common.{◌≡◌, ◌⊎◌, ℕ, List, Option, Some, None, Bool, IsSomeAnd, IfErr, IfOk, IfSome, Result, Ok, Err, Vec, Global, codes, inl, inr, refl, subst, sym, ⊎_elim}
 use Rattle.std.specs.Prelude.{option_map}
-use Rattle.std.proofs.lemmas.List.{get_or_default}
 use Rattle.std.specs.Borrow.{Bor}
 use Rattle.std.specs.declared.alloc.AllocError.{AllocError}
 use Rattle.rv_base.specs.Files.{FileContents}
@@ -12,7 +11,6 @@ use Rattle.rv_command.specs.Stops.{IsRequestedUnreadStop, stop_of_lines}
 use Rattle.rv_command.specs.declared.stop.Lines.TheVariants as lines
 use Rattle.rv_command.specs.declared.stop.Stop.{Stop}
 use Rattle.rv_command.specs.declared.stop.Stop.TheVariants as why
-use Rattle.rv_lists.specs.Jobs.{single_job}
 use Rattle.rv_expect.specs.declared.passing.Rule.{Rule}
 use Rattle.rv_lists.specs.declared.job.Job.{Job}
 use Rattle.regex.specs.Strings.{regex_source}
@@ -22,7 +20,7 @@ use Rattle.rv_choice.specs.ChoiceStops.{IsChoiceStop, IsEmptiedStop, IsPatternSt
 use Rattle.rv_choice.specs.ChoiceStops.{unknown}
 use Rattle.rv_choice.specs.Chosen.{AreWanted}
 use Rattle.rv_choice.specs.declared.chooser.Choice.{Choice}
-use Rattle.rv_choice.specs.UnknownName.{IsMeant, IsNameHint, IsUnknownNameMessage, IsUnknownNameStop, unknown_name}
+use Rattle.rv_choice.specs.UnknownName.{IsUnknownNameMessage, IsUnknownNameStop, unknown_name}
 
 some_value : {A : Type 0} (o : Option A) (P : A → Type 0) → IsSomeAnd o P → (x : A) × ((o ≡ Some x) × P x)
 some_value (Some x) P holds = (x, (refl, holds))
@@ -104,14 +102,6 @@ pub said_of_text : (P : List ℕ → Type 0) (asked : Option (Bor (List ℕ))) (
 said_of_text P asked text is holds =
     let Says : Option (Bor (List ℕ)) → Type 0 = λ o. IsSomeAnd (borrowed_text o) P in
     subst Says (sym is) holds
-
--- the name of the job that was met at a place
-pub near_hint : (jobs : List Job) (name : List ℕ) (place : ℕ) (job : Job) → IsMeant jobs name place
-    → job ≡ get_or jobs place job → IsNameHint jobs name (codes "\"; a similar name exists: " ++ job.name)
-near_hint jobs name place job meant is =
-    let same : job ≡ get_or jobs place (single_job [] 0 []) =
-    is ∙ get_or_default jobs place job (single_job [] 0 []) meant.0.within in
-    inl (place, meant, ap (λ (j : Job). codes "\"; a similar name exists: " ++ j.name) same)
 
 -- a refusal of those lines
 pub unknown_stop : (list : List ℕ) (jobs : List Job) (name : List ℕ) (told : Result (Vec ℕ Global) AllocError) (stop : Stop)

@@ -52,17 +52,17 @@ pub struct SessionContext<'a, R, E> {
 }
 
 /// Receives the bytes of a reader, and writes the session's replies to them, until gdb ends the session or the reader is at its end. No
-/// read begins once the session is over. During a move after which no byte is pending, another thread reads ahead: only 0x03 or the end of
-/// the bytes interrupts the move.
+/// read begins once the session is over. If every received byte has been used when a move starts, another thread reads ahead during the move,
+/// and only 0x03 or the end of the bytes interrupts the move.
 pub fn serve<R: Threads, E: EndText, I: Read + Send, O: Sink>(
-    means: &SessionContext<'_, R, E>,
+    context: &SessionContext<'_, R, E>,
     session: &mut Session,
     input: &mut I,
     out: &mut O,
 ) -> Result<(), SessionError>
     requires asked { session.old.asked ≡ None }
-    requires of_run { E.start means.now.end.now ≡ session.old.history.start }
-    ensures heard { OnOk result (IsConversed (E.end_text means.now.end.now) session.old (I.remaining input.old)
+    requires of_run { E.start context.now.end.now ≡ session.old.history.start }
+    ensures heard { OnOk result (IsConversed (E.end_text context.now.end.now) session.old (I.remaining input.old)
         (I.remaining input.new) (O.taken out.old) (O.taken out.new) session.new) }
     ensures ended { OnOk result (IsEnded session.new (I.remaining input.new)) }
     ensures failed { IfErr result (λ broken. broken ≡ SessionError.ReplyWriteFailed → O.failed out.new ≡ one_more (O.failed out.old)) }
@@ -72,12 +72,12 @@ pub fn serve<R: Threads, E: EndText, I: Read + Send, O: Sink>(
     if session.is_over() {
         return Ok(());
     }
-    let mut chunk = read_chunk(means.alloc, input)?;
+    let mut chunk = read_chunk(context.alloc, input)?;
     for _ in 0..u64::MAX {
         if chunk.is_empty() {
             return Ok(());
         }
-        match answer_chunk(means, session, chunk.as_slice(), input, out)? {
+        match answer_chunk(context, session, chunk.as_slice(), input, out)? {
             Some(next) => chunk = next,
             None => return Ok(()),
         }
@@ -88,15 +88,15 @@ pub fn serve<R: Threads, E: EndText, I: Read + Send, O: Sink>(
 
 // Answers the bytes of a read, and reads once more unless the session is over then.
 fn answer_chunk<R: Threads, E: EndText, I: Read + Send, O: Sink>(
-    means: &SessionContext<'_, R, E>,
+    context: &SessionContext<'_, R, E>,
     session: &mut Session,
     chunk: &[u8],
     input: &mut I,
     out: &mut O,
 ) -> Result<Option<Vec<u8>>, SessionError>
     requires asked { session.old.asked ≡ None }
-    requires of_run { E.start means.now.end.now ≡ session.old.history.start }
-    ensures answered { IfOk result (λ next. IsChunkAnswered (E.end_text means.now.end.now) session.old chunk.now
+    requires of_run { E.start context.now.end.now ≡ session.old.history.start }
+    ensures answered { IfOk result (λ next. IsChunkAnswered (E.end_text context.now.end.now) session.old chunk.now
         (I.remaining input.old) (I.remaining input.new) (O.taken out.old) (O.taken out.new)
         (option_map (λ bytes. bytes.items) next) session.new) }
     ensures run { OnOk result (IsSameRun session.old session.new) }
@@ -105,19 +105,19 @@ fn answer_chunk<R: Threads, E: EndText, I: Read + Send, O: Sink>(
     ensures counted { OnOk result (O.failed out.new ≡ O.failed out.old) }
 {
     for index in 0..chunk.len() {
-        if answer_byte(means, session, chunk, index, out)? {
-            return Ok(Some(move_while_reading(means, session, input, out)?));
+        if answer_byte(context, session, chunk, index, out)? {
+            return Ok(Some(move_while_reading(context, session, input, out)?));
         }
     }
     if session.is_over() {
         return Ok(None);
     }
-    Ok(Some(read_chunk(means.alloc, input)?))
+    Ok(Some(read_chunk(context.alloc, input)?))
 }
 
 // Answers a byte of a chunk, and makes the move that it requests if another byte follows. Returns whether a move is pending.
 fn answer_byte<R, E: EndText, O: Sink>(
-    means: &SessionContext<'_, R, E>,
+    context: &SessionContext<'_, R, E>,
     session: &mut Session,
     chunk: &[u8],
     index: usize,
@@ -125,8 +125,8 @@ fn answer_byte<R, E: EndText, O: Sink>(
 ) -> Result<bool, SessionError>
     requires within { index < length chunk.now }
     requires asked { session.old.asked ≡ None }
-    requires of_run { E.start means.now.end.now ≡ session.old.history.start }
-    ensures answered { IfOk result (λ waits. IsByteAnswered (E.end_text means.now.end.now) session.old chunk.now index waits
+    requires of_run { E.start context.now.end.now ≡ session.old.history.start }
+    ensures answered { IfOk result (λ waits. IsByteAnswered (E.end_text context.now.end.now) session.old chunk.now index waits
         (O.taken out.old) (O.taken out.new) session.new) }
     ensures not_over { OnOk result (MayAsk session.new) }
     ensures run { OnOk result (IsSameRun session.old session.new) }
@@ -134,27 +134,27 @@ fn answer_byte<R, E: EndText, O: Sink>(
     ensures unfailed { IfErr result (λ broken. broken ≢ SessionError.ReplyWriteFailed → O.failed out.new ≡ O.failed out.old) }
     ensures counted { OnOk result (O.failed out.new ≡ O.failed out.old) }
 {
-    write_byte_reply(means.alloc, session, chunk[index], out)?;
+    write_byte_reply(context.alloc, session, chunk[index], out)?;
     if !session.is_asked() {
         return Ok(false);
     }
     if index + 1 == chunk.len() {
         return Ok(true);
     }
-    write_move_reply_before(means, session, chunk[index + 1], out)?;
+    write_move_reply_before(context, session, chunk[index + 1], out)?;
     Ok(false)
 }
 
 // Makes the move after which a byte is pending. If that is 0x03, it interrupts the move.
 fn write_move_reply_before<R, E: EndText, O: Sink>(
-    means: &SessionContext<'_, R, E>,
+    context: &SessionContext<'_, R, E>,
     session: &mut Session,
     behind: u8,
     out: &mut O,
 ) -> Result<(), SessionError>
     requires asked { is_some session.old.asked ≡ true }
-    requires of_run { E.start means.now.end.now ≡ session.old.history.start }
-    ensures moved { OnOk result (IsMoveReplyWritten (E.end_text means.now.end.now) (behind == 3) session.old (O.taken out.old)
+    requires of_run { E.start context.now.end.now ≡ session.old.history.start }
+    ensures moved { OnOk result (IsMoveReplyWritten (E.end_text context.now.end.now) (behind == 3) session.old (O.taken out.old)
         (O.taken out.new) session.new) }
     ensures run { OnOk result (IsSameRun session.old session.new) }
     ensures failed { IfErr result (λ broken. broken ≡ SessionError.ReplyWriteFailed → O.failed out.new ≡ one_more (O.failed out.old)) }
@@ -162,9 +162,9 @@ fn write_move_reply_before<R, E: EndText, O: Sink>(
     ensures counted { OnOk result (O.failed out.new ≡ O.failed out.old) }
 {
     if behind == CTRL_C {
-        write_move_reply(means, session, &mut Raised, out)
+        write_move_reply(context, session, &mut Raised, out)
     } else {
-        write_move_reply(means, session, &mut Unraised, out)
+        write_move_reply(context, session, &mut Unraised, out)
     }
 }
 
@@ -189,21 +189,21 @@ fn write_byte_reply<O: Sink>(
 
 // Makes the requested move, and writes the session's reply to it.
 fn write_move_reply<R, E: EndText, J: Interrupt, O: Sink>(
-    means: &SessionContext<'_, R, E>,
+    context: &SessionContext<'_, R, E>,
     session: &mut Session,
     interrupt: &mut J,
     out: &mut O,
 ) -> Result<(), SessionError>
     requires asked { is_some session.old.asked ≡ true }
-    requires of_run { E.start means.now.end.now ≡ session.old.history.start }
-    ensures moved { OnOk result (IsMoveReplyWritten (E.end_text means.now.end.now) (J.was_raised interrupt.new) session.old
+    requires of_run { E.start context.now.end.now ≡ session.old.history.start }
+    ensures moved { OnOk result (IsMoveReplyWritten (E.end_text context.now.end.now) (J.was_raised interrupt.new) session.old
         (O.taken out.old) (O.taken out.new) session.new) }
     ensures run { OnOk result (IsSameRun session.old session.new) }
     ensures failed { IfErr result (λ broken. broken ≡ SessionError.ReplyWriteFailed → O.failed out.new ≡ one_more (O.failed out.old)) }
     ensures unfailed { IfErr result (λ broken. broken ≢ SessionError.ReplyWriteFailed → O.failed out.new ≡ O.failed out.old) }
     ensures counted { OnOk result (O.failed out.new ≡ O.failed out.old) }
 {
-    match session.work(means.alloc, means.end, interrupt) {
+    match session.work(context.alloc, context.end, interrupt) {
         Ok(told) => write_reply_bytes(out, told.as_slice()),
         Err(error) => {
             // gdb is waiting for a reply, and a read for gdb.
@@ -227,15 +227,15 @@ fn write_reply_bytes<O: Sink>(out: &mut O, told: &[u8]) -> Result<(), SessionErr
 
 // Makes the move while another thread reads once.
 fn move_while_reading<R: Threads, E: EndText, I: Read + Send, O: Sink>(
-    means: &SessionContext<'_, R, E>,
+    context: &SessionContext<'_, R, E>,
     session: &mut Session,
     input: &mut I,
     out: &mut O,
 ) -> Result<Vec<u8>, SessionError>
     requires asked { is_some session.old.asked ≡ true }
-    requires of_run { E.start means.now.end.now ≡ session.old.history.start }
+    requires of_run { E.start context.now.end.now ≡ session.old.history.start }
     ensures read { IfOk result (λ chunk. IsChunkRead (I.remaining input.old) (I.remaining input.new) chunk.items) }
-    ensures moved { IfOk result (λ chunk. IsMoveReplyWritten (E.end_text means.now.end.now) (is_interrupted chunk.items true)
+    ensures moved { IfOk result (λ chunk. IsMoveReplyWritten (E.end_text context.now.end.now) (is_interrupted chunk.items true)
         session.old (O.taken out.old) (O.taken out.new) session.new) }
     ensures run { OnOk result (IsSameRun session.old session.new) }
     ensures failed { IfErr result (λ broken. broken ≡ SessionError.ReplyWriteFailed → O.failed out.new ≡ one_more (O.failed out.old)) }
@@ -243,36 +243,36 @@ fn move_while_reading<R: Threads, E: EndText, I: Read + Send, O: Sink>(
     ensures counted { OnOk result (O.failed out.new ≡ O.failed out.old) }
 {
     let raised = AtomicBool::new(false);
-    move_beside_reader(means, session, input, out, &raised)
+    move_beside_reader(context, session, input, out, &raised)
 }
 
 // Makes the move while another thread reads once, and raises an interrupt if the move is to be interrupted.
 fn move_beside_reader<R: Threads, E: EndText, I: Read + Send, O: Sink>(
-    means: &SessionContext<'_, R, E>,
+    context: &SessionContext<'_, R, E>,
     session: &mut Session,
     input: &mut I,
     out: &mut O,
     raised: &AtomicBool,
 ) -> Result<Vec<u8>, SessionError>
     requires asked { is_some session.old.asked ≡ true }
-    requires of_run { E.start means.now.end.now ≡ session.old.history.start }
+    requires of_run { E.start context.now.end.now ≡ session.old.history.start }
     ensures read { IfOk result (λ chunk. IsChunkRead (I.remaining input.old) (I.remaining input.new) chunk.items) }
-    ensures moved { IfOk result (λ chunk. IsMoveReplyWritten (E.end_text means.now.end.now) (is_interrupted chunk.items true)
+    ensures moved { IfOk result (λ chunk. IsMoveReplyWritten (E.end_text context.now.end.now) (is_interrupted chunk.items true)
         session.old (O.taken out.old) (O.taken out.new) session.new) }
     ensures run { OnOk result (IsSameRun session.old session.new) }
     ensures failed { IfErr result (λ broken. broken ≡ SessionError.ReplyWriteFailed → O.failed out.new ≡ one_more (O.failed out.old)) }
     ensures unfailed { IfErr result (λ broken. broken ≢ SessionError.ReplyWriteFailed → O.failed out.new ≡ O.failed out.old) }
     ensures counted { OnOk result (O.failed out.new ≡ O.failed out.old) }
 {
-    let alloc = means.alloc;
+    let alloc = context.alloc;
     let mut coming = SharedInterrupt {
         raised,
         was_seen: false,
     };
     let (read, put) = join_mut(
-        means.rt,
+        context.rt,
         &mut || read_ahead(alloc, input, raised),
-        &mut || write_move_reply(means, session, &mut coming, out),
+        &mut || write_move_reply(context, session, &mut coming, out),
     );
     put?;
     let chunk = read?;

@@ -82,7 +82,7 @@ fn next_watched<I: Interrupt>(
     Ok(leg.arrived(found))
 }
 
-// Returns the end of the run, if there are no stops before it.
+// Like [`next_stop`], for moves without breakpoints and watchpoints: goes to the end of the run, unless it is interrupted.
 fn end_of_run<I: Interrupt>(
     alloc: Global,
     track: &mut Checkpoints,

@@ -16,7 +16,9 @@ use Rattle.rv_jobs.specs.declared.kept.Kept.TheVariants as kept
 use Rattle.rv_memory.specs.declared.map.Region.{Region}
 use Rattle.rv_memory.specs.declared.access.Misaligned.{Misaligned as Choice}
 use Rattle.rv_memory.specs.Bus.{Contents, new_bus}
+use Rattle.rv_machine.specs.Run.{Ran, run_of}
 use Rattle.rv_machine.specs.State.{State, at_reset, is_misaligned}
+use Rattle.rv_machine.proofs.Public.{run_keeps}
 use Rattle.rv_rows.specs.declared.outcome.Loadable.{Loadable}
 use Rattle.rv_rows.specs.declared.outcome.SignatureRange.{SignatureRange}
 use Rattle.rv_rows.specs.Outcome.{end_of_signature, loadable_image, loaded_state, range_if_asked, signature_range}
@@ -133,3 +135,12 @@ range_there job file loadable state e is =
     let P : List Region → Type 0 = λ regions.
     IfSome loadable.range (λ range. signature_check range.begin range.end regions ≡ accepted) in
     subst P (sym (ap (λ (s : State). s.bus.regions) is)) (loadable_parts job file loadable e).range
+
+-- a run leaves the memory map as it is, and so the range of a signature stays there
+pub range_after_run : (range : Option SignatureRange) (budget : ℕ) (state : State) (ran : Ran) → run_of budget state ≡ ran
+    → IfSome range (λ range. signature_check range.begin range.end state.bus.regions ≡ accepted)
+    → IfSome range (λ range. signature_check range.begin range.end ran.state.bus.regions ≡ accepted)
+range_after_run range budget state ran is there =
+    let P : List Region → Type 0 = λ regions.
+    IfSome range (λ range. signature_check range.begin range.end regions ≡ accepted) in
+    subst P (sym (ap (λ (r : Ran). r.state.bus.regions) (sym is) ∙ run_keeps budget state)) there

@@ -1,7 +1,6 @@
 -- The text of a trace: where the run ended, the registers there, and one line per instruction.
 use Rattle.std.specs.Prelude.{◌==◌, ◌+◌, ◌-◌, ℕ, Bool, true, false, List, [], ◌∷◌, ◌++◌, codes, drop}
 use Rattle.std.specs.Prelude.{if◌then◌else◌, length, replicate, Option, Some, None}
-use Rattle.std.specs.Fmt.{decimal}
 use Rattle.std.specs.List.{flat_map}
 use Rattle.rv_disasm.specs.Assembly.{assembly16, assembly32}
 use Rattle.rv_disasm.specs.Illegal.{illegal_text16, illegal_text32}

@@ -6,5 +6,5 @@ use Rattle.rv_accept_text.proofs.job_lines.push_difference.Goals as goal
 pub returns : goal.returns
 returns c =
     subst (λ (name : List ℕ). OnOk c.push_spans.result (c.push_spans.new.bytes.items ≡ c.args.out.now.items
-    ++ (codes "the result differs from that of " ++ printable_text name ++ codes ", which same_as names")))
+    ++ (codes "the result differs from that of job \"" ++ printable_text name ++ codes "\" (same_as)")))
     (c.as_bytes.ensures.value ∙ c.name_of_compared.ensures) c.push_spans.ensures

@@ -5,7 +5,7 @@ use Rattle.rv_gdb.proofs.conversation.answer_chunk.Given as goal
 
 abbrev pub invariant-loop-index : goal.invariant-loop-index
 invariant-loop-index g l =
-    IsHeardIn (g.E.EndText.end_text l.means.end.now) l.initial.session l.chunk l.index (g.O.Sink.taken l.initial.out)
+    IsHeardIn (g.E.EndText.end_text l.context.end.now) l.initial.session l.chunk l.index (g.O.Sink.taken l.initial.out)
     (g.O.Sink.taken l.out) l.session
     × (IsSameRun l.initial.session l.session
     × ((g.I.Read.remaining l.input ≡ g.I.Read.remaining l.initial.input)

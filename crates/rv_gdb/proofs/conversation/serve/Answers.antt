@@ -5,12 +5,12 @@ use Rattle.rv_gdb.proofs.conversation.serve.Goals as goal
 
 pub returns-then-is_over-clause-heard : goal.returns-then-is_over-clause-heard
 returns-then-is_over-clause-heard g c =
-    silent (g.E.EndText.end_text c.args.means.now.end.now) c.args.session.now (g.I.Read.remaining c.args.input.now)
+    silent (g.E.EndText.end_text c.args.context.now.end.now) c.args.session.now (g.I.Read.remaining c.args.input.now)
     (g.O.Sink.taken c.args.out.now) c.requires.asked
 
 pub loop-init : goal.loop-init
 loop-init g c = (
-  first_read (g.E.EndText.end_text c.args.means.now.end.now) c.args.session.now c.in_ok-chunk.chunk.items _ _ _ c.requires.asked
+  first_read (g.E.EndText.end_text c.args.context.now.end.now) c.args.session.now c.in_ok-chunk.chunk.items _ _ _ c.requires.asked
       (sym c.is_over.ensures ∙ c.if-is_over.false) c.in_ok-chunk.ensures.read,
   (same_run c.args.session.now, refl),
 )
@@ -18,20 +18,20 @@ loop-init g c = (
 pub returns-then-is_empty-clause-heard : goal.returns-then-is_empty-clause-heard
 returns-then-is_empty-clause-heard g c =
     let none : c.loop.chunk.items ≡ [] = search rules in
-    (heard_all (g.E.EndText.end_text c.args.means.now.end.now) c.args.session.now c.loop.session c.loop.chunk.items _ _ _ _ none
+    (heard_all (g.E.EndText.end_text c.args.context.now.end.now) c.args.session.now c.loop.session c.loop.chunk.items _ _ _ _ none
     c.loop.invariant.0).0
 
 pub returns-in-None-clause-heard : goal.returns-in-None-clause-heard
 returns-in-None-clause-heard g c =
     let some : c.loop.chunk.items ≢ [] = search rules in
-    (heard_over (g.E.EndText.end_text c.args.means.now.end.now) c.args.session.now c.loop.session c.answer_chunk.new.session
+    (heard_over (g.E.EndText.end_text c.args.context.now.end.now) c.args.session.now c.loop.session c.answer_chunk.new.session
     c.loop.chunk.items _ _ _ _ _ _ some c.loop.invariant.0
     (rw (c.as_slice.ensures.value, c.in-None.is) at c.in_ok-next.ensures.answered)).0
 
 pub loop-preserved : goal.loop-preserved
 loop-preserved g c =
     let some : c.loop.chunk.items ≢ [] = search rules in (
-      heard_more (g.E.EndText.end_text c.args.means.now.end.now) c.args.session.now c.loop.session c.answer_chunk.new.session
+      heard_more (g.E.EndText.end_text c.args.context.now.end.now) c.args.session.now c.loop.session c.answer_chunk.new.session
           c.loop.chunk.items c.in-Some.next.items _ _ _ _ _ _ some c.loop.invariant.0
           (rw (c.as_slice.ensures.value, c.in-Some.is) at c.in_ok-next.ensures.answered),
       (

@@ -1,11 +1,4 @@
-use Rattle.std.proofs.Common.{◌≡◌, ◌∙◌, IfSome, List, ap, subst, sym}
-use Rattle.rv_elf.specs.Rows.{accepted}
-use Rattle.rv_elf.specs.Symbols.{signature_check}
-use Rattle.rv_machine.specs.Machine.{state_of}
-use Rattle.rv_machine.specs.Run.{Ran}
-use Rattle.rv_machine.proofs.Public.{run_keeps}
-use Rattle.rv_memory.specs.declared.map.Region.{Region}
-use Rattle.rv_rows.proofs.Loadables.{loadable_parts, range_there}
+use Rattle.rv_rows.proofs.Loadables.{loadable_parts, range_after_run, range_there}
 use Rattle.rv_rows.proofs.attempt.attempt_over_image.Goals as goal
 
 pub loaded_machine-requires-clause-image : goal.loaded_machine-requires-clause-image
@@ -15,4 +8,6 @@ pub loaded_machine-requires-clause-fits : goal.loaded_machine-requires-clause-fi
 loaded_machine-requires-clause-fits c = (loadable_parts _ _ _ c.in-Ok.ensures).fits
 
 pub ended_run-requires : goal.ended_run-requires
-ended_run-requires c = ?
+ended_run-requires c =
+    range_after_run c.in-Ok.loadable.range _ _ _ c.run-ran.ensures
+    (range_there _ _ c.in-Ok.loadable _ c.in-Ok.ensures c.in_ok-machine-in-Ok.ensures)
