@@ -1,11 +1,13 @@
 -- What a parse that succeeds shows of the words: the subcommand and its values, and that no fault is found; and what is told where it fails.
 use Rattle.std.proofs.Common.{◌≡◌, ◌∙◌, ◌⊎◌, ap, refl, subst, sym, ⊎_elim, [], List, Option, Some, None, option_map}
-use Rattle.std.proofs.Common.{false, is_some, IfErr, Result, Ok, Err, inl}
+use Rattle.std.proofs.Common.{◌∷◌, ◌≤◌, ◌<◌, arith, codes, cond, false, get_or, is_some, length, map, true, IfErr, Result, Ok, Err, inl}
 use Rattle.std.specs.Result.{IsErrAnd}
-use Rattle.std.specs.Prelude.{Box}
+use Rattle.std.specs.Prelude.{Box, IfOk, IfSome}
+use Rattle.std.specs.Option.{option_map_or}
+use Rattle.std.proofs.lemmas.Result.{IfOk-weaker}
 use Rattle.std.specs.Box.{box_value}
 use Rattle.clap.proofs.FaultLemmas.{first_fails, past}
-use Rattle.clap.specs.Kinds.{IsAmong}
+use Rattle.clap.specs.Kinds.{IsAmong, or_else}
 use Rattle.clap.specs.Simple.{subcommand_rows}
 use Rattle.clap.specs.Words.{App, HasKind, HasMatchesOf, Kinds, Row, Text, fault_of, is_simple, kind_of, subcommand_of}
 use Rattle.clap.specs.Words.{subcommand_rows_of}
@@ -16,9 +18,12 @@ use Rattle.clap.specs.declared.parser.matches.ArgMatches.{ArgMatches}
 use Rattle.clap.specs.declared.parser.matches.ArgMatches.TheViews.{out-SubCommand}
 use Rattle.clap.specs.declared.parser.matches.SubCommand.{SubCommand}
 use Rattle.rvtest_cli.specs.RvtestCommand.{test_app}
-use Rattle.rvtest_cli.specs.RvtestWords.{FailsByMisuse, IsMisuseReported, misuse_kinds, plain_fault_kinds, plain_misuse}
+use Rattle.rvtest_cli.specs.RvtestWords.{FailsByMisuse, IsAskedInRange, IsMisuseReported, asked_words, help_words, is_command_help, is_help}
+use Rattle.rvtest_cli.specs.RvtestWords.{matched_misuse, matched_words, misuse_kinds, plain_fault_kinds, plain_misuse, words_fault_kinds, words_faults}
+use Rattle.rvtest_cli.specs.RvtestWords.{words_misuse, words_request}
 use Rattle.rvtest_cli.specs.WordsErrors.{FailsByKinds, IsToldOf, IsToldOfKind}
 use Rattle.rvtest_cli.specs.declared.refusals.Misuse.{Misuse}
+use Rattle.rvtest_cli.specs.declared.requests.Asked.{Asked}
 use Rattle.rvtest_cli.specs.declared.words_error.WordsError.{WordsError}
 use Rattle.rvtest_cli.specs.declared.words_error.WordsError.TheVariants as error
 
@@ -85,3 +90,121 @@ pub told_where_failed : {T : Type 0} (misuse : Option Misuse) (r : Result T Word
     → IfErr r (IsMisuseReported misuse)
 told_where_failed misuse (Ok x) fails = tt
 told_where_failed misuse (Err e) fails = fails
+
+-- ---- the help of a command
+
+or_none : (kinds : Kinds) → or_else kinds [] ≡ kinds
+or_none [] = refl
+or_none (kind ∷ kinds) = refl
+
+-- nothing is within every range
+pub help_within : (r : Result (Option Asked) WordsError) → IfOk r (λ asked. asked ≡ None)
+    → IfOk r (λ asked. IfSome asked IsAskedInRange)
+help_within r none = IfOk-weaker r _ _ (λ asked nothing. subst (λ a. IfSome a IsAskedInRange) (sym nothing) tt) none
+
+-- arguments that request it, in whose place an option requests the same help
+module _ (words help : List Text) (is : help_words words ≡ Some help) where
+  pub help_value : (r : Result (Option Asked) WordsError) → IfOk r (λ asked. asked ≡ None)
+      → IfOk r (λ asked. option_map asked_words asked ≡ words_request words)
+  help_value r none =
+      IfOk-weaker r _ _ (λ asked nothing. ap (option_map asked_words) nothing
+      ∙ sym (ap (λ found. matched_words (option_map_or (λ _. None) found (subcommand_of test_app words))) is)) none
+
+  pub help_kinds : {T : Type 0} (r : Result T WordsError) → FailsByKinds (fault_of test_app help) r
+      → FailsByKinds (words_fault_kinds words) r
+  help_kinds r fails =
+      let kinds : Option (List Text) → Kinds = λ found. or_else (fault_of test_app (option_map_or (λ h. h) found words))
+      (misuse_kinds (matched_misuse (option_map_or (λ _. None) found (subcommand_of test_app words)))) in
+      subst (λ k. FailsByKinds k r) (sym (or_none (fault_of test_app help)) ∙ sym (ap kinds is)) fails
+
+  pub help_misused : {T : Type 0} (r : Result T WordsError) → FailsByKinds (fault_of test_app help) r
+      → words_faults words ≡ [] → IfErr r (IsMisuseReported (words_misuse words))
+  help_misused (Ok x) fails none = tt
+  help_misused (Err e) fails none =
+      let found : Option (List Text) → Kinds = λ h. fault_of test_app (option_map_or (λ h. h) h words) in
+      none_told (words_misuse words) e (subst (λ kinds. IsToldOf kinds e) (sym (ap found is) ∙ none) fails)
+
+-- other arguments, which are parsed as they are
+module _ (words : List Text) (none : help_words words ≡ None) where
+  pub plain_value : (r : Result (Option Asked) WordsError)
+      → IfOk r (λ asked. option_map asked_words asked ≡ matched_words (subcommand_of test_app words))
+      → IfOk r (λ asked. option_map asked_words asked ≡ words_request words)
+  plain_value r asked = rw none asked
+
+  pub plain_kinds : {T : Type 0} (r : Result T WordsError) → FailsByKinds (plain_fault_kinds words) r
+      → FailsByKinds (words_fault_kinds words) r
+  plain_kinds r fails = rw none fails
+
+  pub plain_misused : {T : Type 0} (r : Result T WordsError)
+      → (fault_of test_app words ≡ [] → IfErr r (IsMisuseReported (plain_misuse words)))
+      → words_faults words ≡ [] → IfErr r (IsMisuseReported (words_misuse words))
+  plain_misused r misused = rw none misused
+
+-- ---- which arguments request the help of a command
+
+module _ {X : Type 0} (text : X → Text) where
+  pub help_of_two : (words : List X) (program word : X) → 2 ≤ length words → length words < 3
+      → program ≡ get_or words 0 program → word ≡ get_or words 1 word → is_help (text word) ≡ true
+      → help_words (map text words) ≡ Some (text program ∷ codes "--help" ∷ [])
+  unfolding help_words
+  help_of_two [] program word least below first second is = absurd (omega (arith, least))
+  help_of_two (x ∷ []) program word least below first second is = absurd (omega (arith, least))
+  help_of_two (x ∷ y ∷ []) program word least below first second is =
+      let named : is_help (text y) ≡ true = ap (λ one. is_help (text one)) (sym second) ∙ is in
+      ap (λ help. cond help (Some (text x ∷ codes "--help" ∷ [])) None) named
+      ∙ ap (λ one. Some (text one ∷ codes "--help" ∷ [])) (sym first)
+  help_of_two (x ∷ y ∷ z ∷ rest) program word least below first second is = absurd (omega (arith, below))
+
+  pub help_of_three : (words : List X) (program word topic : X) → 3 ≤ length words → length words < 4
+      → program ≡ get_or words 0 program → word ≡ get_or words 1 word → topic ≡ get_or words 2 topic
+      → is_command_help (text word) (text topic) ≡ true
+      → help_words (map text words) ≡ Some (text program ∷ text topic ∷ codes "--help" ∷ [])
+  unfolding help_words
+  help_of_three [] program word topic least below first second third is = absurd (omega (arith, least))
+  help_of_three (x ∷ []) program word topic least below first second third is = absurd (omega (arith, least))
+  help_of_three (x ∷ y ∷ []) program word topic least below first second third is = absurd (omega (arith, least))
+  help_of_three (x ∷ y ∷ z ∷ []) program word topic least below first second third is =
+      let named : is_command_help (text y) (text z) ≡ true =
+      (λ i. is_command_help (text (sym second i)) (text (sym third i))) ∙ is in
+      ap (λ help. cond help (Some (text x ∷ text z ∷ codes "--help" ∷ [])) None) named
+      ∙ (λ i. Some (text (sym first i) ∷ text (sym third i) ∷ codes "--help" ∷ []))
+  help_of_three (x ∷ y ∷ z ∷ u ∷ rest) program word topic least below first second third is = absurd (omega (arith, below))
+
+  -- others do not
+
+  pub few_words : (words : List X) → length words < 2 → help_words (map text words) ≡ None
+  unfolding help_words
+  few_words [] few = refl
+  few_words (x ∷ []) few = refl
+  few_words (x ∷ y ∷ rest) few = absurd (omega (arith, few))
+
+  pub other_of_two : (words : List X) (word : X) → 2 ≤ length words → length words < 3 → word ≡ get_or words 1 word
+      → is_help (text word) ≡ false → help_words (map text words) ≡ None
+  unfolding help_words
+  other_of_two [] word least below second is = refl
+  other_of_two (x ∷ []) word least below second is = refl
+  other_of_two (x ∷ y ∷ []) word least below second is =
+      let named : is_help (text y) ≡ false = ap (λ one. is_help (text one)) (sym second) ∙ is in
+      ap (λ help. cond help (Some (text x ∷ codes "--help" ∷ [])) None) named
+  other_of_two (x ∷ y ∷ z ∷ rest) word least below second is = absurd (omega (arith, below))
+
+  pub other_of_three : (words : List X) (word topic : X) → 3 ≤ length words → length words < 4
+      → word ≡ get_or words 1 word → topic ≡ get_or words 2 topic → is_command_help (text word) (text topic) ≡ false
+      → help_words (map text words) ≡ None
+  unfolding help_words
+  other_of_three [] word topic least below second third is = refl
+  other_of_three (x ∷ []) word topic least below second third is = refl
+  other_of_three (x ∷ y ∷ []) word topic least below second third is = absurd (omega (arith, least))
+  other_of_three (x ∷ y ∷ z ∷ []) word topic least below second third is =
+      let named : is_command_help (text y) (text z) ≡ false =
+      (λ i. is_command_help (text (sym second i)) (text (sym third i))) ∙ is in
+      ap (λ help. cond help (Some (text x ∷ text z ∷ codes "--help" ∷ [])) None) named
+  other_of_three (x ∷ y ∷ z ∷ u ∷ rest) word topic least below second third is = absurd (omega (arith, below))
+
+  pub many_words : (words : List X) → 4 ≤ length words → help_words (map text words) ≡ None
+  unfolding help_words
+  many_words [] many = refl
+  many_words (x ∷ []) many = refl
+  many_words (x ∷ y ∷ []) many = absurd (omega (arith, many))
+  many_words (x ∷ y ∷ z ∷ []) many = absurd (omega (arith, many))
+  many_words (x ∷ y ∷ z ∷ u ∷ rest) many = refl

@@ -327,7 +327,7 @@ is_command_help word topic = is_help word && (not (bytes_eq topic (codes "keys")
     && (not (bytes_eq topic (codes "--help")) && not (bytes_eq topic (codes "-h"))))
 
 -- `rvtest help` and `rvtest help COMMAND` with the option that requests the same help; nothing for other arguments
-pub help_words : List Text → Option (List Text)
+unfoldable pub help_words : List Text → Option (List Text)
 help_words (program ∷ word ∷ []) = if is_help word then Some (program ∷ codes "--help" ∷ []) else None
 help_words (program ∷ word ∷ topic ∷ []) =
     if is_command_help word topic then Some (program ∷ topic ∷ codes "--help" ∷ []) else None

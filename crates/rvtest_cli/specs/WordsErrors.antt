@@ -1,5 +1,5 @@
 -- Why arguments make no request, and what is reported.
-use Rattle.std.specs.Prelude.{◌≡◌, ◌++◌, ℕ, List, Result, MatchResult, [], codes, string_bytes}
+use Rattle.std.specs.Prelude.{◌≡◌, ◌++◌, Result, MatchResult, [], codes, string_bytes}
 use Rattle.clap.specs.Kinds.{IsAmong}
 use Rattle.clap.specs.Words.{Kinds, Text}
 use Rattle.clap.specs.declared.error.kind.ErrorKind.{ErrorKind}
