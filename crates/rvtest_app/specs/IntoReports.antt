@@ -1,5 +1,5 @@
 -- Merging the rows of a run into the whole report of their list.
-use Rattle.std.specs.Prelude.{◌≡◌, ◌||◌, ℕ, Bool, List, [], ◌∷◌, IsSomeAnd, MatchOption, Option, Some, None, map, slice_set}
+use Rattle.std.specs.Prelude.{◌≡◌, ◌||◌, ℕ, Bool, List, [], ◌∷◌, IsSomeAnd, MatchOption, Option, Some, None, if◌then◌else◌, map, slice_set}
 use Rattle.std.specs.Option.{option_or}
 use Rattle.rv_base.specs.Files.{FileContents}
 use Rattle.rvtest_cli.specs.declared.run.RunArgs.{RunArgs}

@@ -5,11 +5,10 @@ ghost use Rattle.rvtest_app.specs.ReportTexts.{report_rows};
 
 use crate::report_texts::ReportText;
 use rv_junit::Suite;
-use rv_rows::RowReporter;
 
 /// What goes to files: a report, and its rows as JUnit XML with the lines that are reported for the jobs at some indices.
 #[derive(Drop)]
-pub(crate) struct FileTexts<'s, 't, 'p, T: RowReporter> {
+pub(crate) struct FileTexts<'s, 't, 'p, T> {
     pub(crate) suite: Suite<'s>,
     pub(crate) reporter: &'t T,
     pub(crate) places: &'p [usize],

@@ -14,8 +14,8 @@ returns-in-Ok-clause-kinds g c =
     sym (ap (λ app. fault_of app words) c.in_ok-command.ensures)
     ∙ c.in-Ok.ensures.kinds (ap is_simple_and_free c.in_ok-command.ensures)
 
-pub returns-in-Err-clause-kinds : goal.returns-in-Err-clause-kinds
-returns-in-Err-clause-kinds g c =
+pub returns-clause-kinds : goal.returns-clause-kinds
+returns-clause-kinds g c =
     let words = map g.T.AsStr.text c.args.words.now in
     told_of (fault_of test_app words) _ _
     (subst (λ app. HasKind (fault_of app words) c.in-Err.error) c.in_ok-command.ensures
