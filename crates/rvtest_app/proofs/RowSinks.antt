@@ -1,13 +1,15 @@
 -- The sink of a report that is streamed: taken out of its outlet, and put back.
-use Rattle.std.proofs.Common.{◌≡◌, ◌∙◌, ◌++◌, ℕ, Bool, true, false, List, [], ◌∷◌, Option, Some, None, length, refl, sym, ap, take}
-use Rattle.std.specs.Prelude.{is_some, not}
-use Rattle.std.specs.List.{concat}
+use Rattle.std.proofs.Common.{◌≡◌, ◌∙◌, ℕ, Bool, true, false, List, [], ◌∷◌, Option, Some, None, IfSome, length, refl, subst, sym, ap, take}
+use Rattle.std.proofs.lemmas.List.{get_or-take}
+use Rattle.std.specs.Prelude.{Vec, is_some, not, slice_index_or}
+use Rattle.std.specs.declared.alloc.Global.{Global}
+use Rattle.rv_junit.specs.KnownLines.{AreLinesOf}
 use Rattle.rv_report.specs.declared.row.Row.{Row}
 use Rattle.rv_stream.specs.Streams.{joined_row_texts}
 use Rattle.rvtest_app.proofs.ChosenTexts.{ahead_of_shown}
 use Rattle.rvtest_app.specs.IntoReports.{report_row_text, streamed_rows}
 use Rattle.rvtest_app.specs.Outlets.{IsPutInto, outlet_path}
-use Rattle.rvtest_app.specs.RowSinks.{AreOutletParts, AreRowsWritten, is_file}
+use Rattle.rvtest_app.specs.RowSinks.{AreOutletParts, AreRowsWritten}
 use Rattle.rvtest_app.specs.Runs.{shown_indices}
 use Rattle.rvtest_app.specs.declared.outlets.Outlet.{Outlet}
 use Rattle.rvtest_app.specs.declared.outlets.Outlet.TheVariants as outlet
@@ -63,3 +65,10 @@ pub streamed : (old : Option (List Row)) (is_streaming : Bool) (places : List �
     → joined_row_texts (report_row_text is_streaming) places rows ≡ streamed_rows old (shown_indices places rows) rows
 streamed (Some old) is_streaming places rows is = rw is (empty_texts places rows)
 streamed None is_streaming places rows is = rw is (sym (ahead_of_shown None places rows))
+
+-- the lines that are known of the rows of some jobs are known of the rows of the first of them
+pub lines_of_first : (line : ℕ → Row → List ℕ) (places firsts : List ℕ) (rows : List Row) (texts : List (Option (Vec ℕ Global)))
+    → firsts ≡ take (length rows) places → AreLinesOf line places rows texts → AreLinesOf line firsts rows texts
+lines_of_first line places firsts rows texts are lines = λ k any below.
+    subst (λ (place : ℕ). IfSome (slice_index_or texts k None) (λ text. text.items ≡ line place (slice_index_or rows k any)))
+    (sym (ap (λ (all : List ℕ). slice_index_or all k 0) are ∙ get_or-take (length rows) places k 0 below)) (lines k any below)

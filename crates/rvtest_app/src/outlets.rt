@@ -152,7 +152,7 @@ impl<'a, P: Drop> Outlet<'a, P, ()> {
     /// Puts a sink back into an outlet, if it is a file.
     pub(crate) fn with_sink<W: Drop>(self, sink: Option<W>) -> Outlet<'a, P, W>
         requires { is_some sink ≡ is_file self }
-        ensures { AreOutletParts self.entry sink.entry result }
+        ensures { AreOutletParts self.entry sink result }
     {
         match (self, sink) {
             (Outlet::Nowhere, None) => Outlet::Nowhere,
