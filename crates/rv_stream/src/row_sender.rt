@@ -19,6 +19,7 @@ pub struct RowSender<'t, J: StreamSpec, T: RowReporter, W: Sink + Drop> {
     alloc: Global,
     reporter: &'t T,
     pub(crate) outbox: Outbox<J, W>,
+    ghost line: { T.line reporter.now ≡ J.line },
 }
 
 impl<'t, J: StreamSpec, T: RowReporter, W: Sink + Drop> RowSender<'t, J, T, W> {
@@ -26,7 +27,7 @@ impl<'t, J: StreamSpec, T: RowReporter, W: Sink + Drop> RowSender<'t, J, T, W> {
     pub fn new(alloc: Global, reporter: &'t T, out: W) -> RowSender<'t, J, T, W>
         requires before { J.before ≡ W.taken out }
         requires failures { J.failures ≡ W.failed out }
-        ensures reporter { result.reporter.now ≡ reporter.now }
+        requires line { T.line reporter.now ≡ J.line }
         ensures sent { IsSent J.before (W.taken result.outbox.out) J.failures (W.failed result.outbox.out)
             result.outbox.failed result.outbox.unsent.items [] }
         ensures goes { result.outbox.failed ≡ None }
@@ -59,7 +60,7 @@ impl<J: StreamSpec, T: RowReporter, W: Sink + Drop> Observer<ReportedRow>
     ghost use Rattle.rv_stream.specs.Texts.{IsSent};
 
     ghost has_seen = { λ s reported. IsSent J.before (W.taken s.outbox.out) J.failures (W.failed s.outbox.out)
-        s.outbox.failed s.outbox.unsent.items (text_by_index (T.line s.reporter.now) reported) };
+        s.outbox.failed s.outbox.unsent.items (text_by_index J.line reported) };
 
     ghost stops = { λ s. is_some s.outbox.failed ≡ true };
 

@@ -6,6 +6,7 @@ use std::marker::Brand;
 pub trait StreamSpec {
     ghost use Rattle.std.specs.Prelude.{ℕ, List, Option};
     ghost use Rattle.rv_expect.specs.Judgement.{Judging};
+    ghost use Rattle.rv_rows.specs.declared_row.Row.{Row};
 
     // What the sink received before, and how many writes failed.
     ghost before: { Option (List ℕ) };
@@ -16,10 +17,13 @@ pub trait StreamSpec {
     ghost most: { Option ℕ };
 
     ghost judging: { Judging };
+
+    // What a [`crate::RowSender`] sends for the job at an index and its row.
+    ghost line: { ℕ → Row → List ℕ };
 }
 
 impl StreamSpec for Brand {
-    ghost use Rattle.std.specs.Prelude.{None};
+    ghost use Rattle.std.specs.Prelude.{None, []};
     ghost use Rattle.rv_expect.specs.Judgement.{judging_by_rule};
     ghost use Rattle.rv_expect.specs.declared.passing.Rule.TheVariants.{Strict};
 
@@ -30,4 +34,6 @@ impl StreamSpec for Brand {
     ghost most = { None };
 
     ghost judging = { judging_by_rule Strict };
+
+    ghost line = { λ _ _. [] };
 }
