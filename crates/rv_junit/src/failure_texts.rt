@@ -5,8 +5,9 @@ ghost use Rattle.rv_expect.specs.Judgement.{judging_of};
 ghost use Rattle.rv_junit.specs.KnownLines.{AreFailureTexts, IsFailureText};
 
 use rv_expect::Judge;
-use rv_stream::{Flow, Observer, ReportedRow};
+use rv_stream::{Flow, Observer, ReportedRow, StreamSpec};
 use std::alloc::Global;
+use std::marker::PhantomData;
 
 /// The most bytes that are kept.
 const MOST_KEPT: usize = 16_777_216;
@@ -14,7 +15,7 @@ const MOST_KEPT: usize = 16_777_216;
 /// Keeps the texts of rows that count as failures, up to 16 MiB, so that a document need not make them again. A text that does not fit, or
 /// for which there is no memory, is not kept.
 #[derive(Drop)]
-pub struct FailureTexts<'k> {
+pub struct FailureTexts<'k, J: StreamSpec> {
     alloc: Global,
     judge: Judge<'k>,
     texts: Vec<Option<Vec<u8>>>,
@@ -22,13 +23,15 @@ pub struct FailureTexts<'k> {
     room: usize,
     // Whether an allocation was refused: nothing is kept then.
     is_closed: bool,
+    of: PhantomData<J>,
+    ghost judging: { judging_of judge ≡ J.judging },
 }
 
-impl<'k> FailureTexts<'k> {
+impl<'k, J: StreamSpec> FailureTexts<'k, J> {
     /// It has seen no row yet. Takes no memory.
-    pub fn new(alloc: Global, judge: Judge<'k>) -> FailureTexts<'k>
-        ensures judge { judging_of result.judge ≡ judging_of judge.entry }
-        ensures none { AreFailureTexts (judging_of result.judge) result.is_closed result.texts.items [] }
+    pub fn new(alloc: Global, judge: Judge<'k>) -> FailureTexts<'k, J>
+        requires { judging_of judge ≡ J.judging }
+        ensures { AreFailureTexts J.judging result.is_closed result.texts.items [] }
     {
         FailureTexts {
             alloc,
@@ -36,19 +39,20 @@ impl<'k> FailureTexts<'k> {
             texts: Vec::new(alloc),
             room: MOST_KEPT,
             is_closed: false,
+            of: PhantomData,
         }
     }
 
-    /// The texts that are kept, by the numbers of their rows.
-    pub fn texts(&self) -> &[Option<Vec<u8>>]
-        ensures { result.now ≡ self.now.texts.items }
+    /// Returns the texts that were kept, by the numbers of their rows.
+    pub fn into_texts(self) -> Vec<Option<Vec<u8>>>
+        ensures { result.items ≡ self.entry.texts.items }
     {
-        self.texts.as_slice()
+        self.texts
     }
 
     // A copy of the text of a row, if it is to be kept.
     fn text_to_keep(&self, made: &ReportedRow) -> Option<Vec<u8>>
-        ensures { IfSome result (λ text. IsFailureText (judging_of self.now.judge) made.now text.items) }
+        ensures { IfSome result (λ text. IsFailureText J.judging made.now text.items) }
     {
         if !self.judge.fails(&made.row) || made.text.len() > self.room {
             return None;
@@ -57,11 +61,10 @@ impl<'k> FailureTexts<'k> {
     }
 }
 
-impl Observer<ReportedRow> for FailureTexts<'_> {
-    ghost use Rattle.rv_expect.specs.Judgement.{judging_of};
+impl<J: StreamSpec> Observer<ReportedRow> for FailureTexts<'_, J> {
     ghost use Rattle.rv_junit.specs.KnownLines.{AreFailureTexts};
 
-    ghost has_seen = { λ s reported. AreFailureTexts (judging_of s.judge) s.is_closed s.texts.items reported };
+    ghost has_seen = { λ s reported. AreFailureTexts J.judging s.is_closed s.texts.items reported };
 
     ghost stops = { λ _. ⊥ };
 

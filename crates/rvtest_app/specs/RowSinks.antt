@@ -1,8 +1,6 @@
--- The sink that receives the report text of each row as the row comes, and the texts of failures that are kept meanwhile.
-use Rattle.std.specs.Prelude.{◌≡◌, ℕ, Bool, true, false, List, [], Option, Some, None, Vec, ⊤}
+-- The sink that receives the report text of each row as the row comes.
+use Rattle.std.specs.Prelude.{◌≡◌, ℕ, Bool, true, false, List, [], Option, Some, None, ⊤}
 use Rattle.std.specs.Io.KnownBytes.{Appends}
-use Rattle.std.specs.declared.alloc.Global.{Global}
-use Rattle.rv_junit.specs.declared.failure_texts.FailureTexts.{FailureTexts}
 use Rattle.rvtest_app.specs.declared.outlets.Outlet.{Outlet}
 use Rattle.rvtest_app.specs.declared.outlets.Outlet.TheVariants as outlet
 
@@ -21,11 +19,6 @@ module _ {V : Type 0} where
   abbrev pub sink_failures : (V → ℕ) → Option V → ℕ
   sink_failures failed None = 0
   sink_failures failed (Some sink) = failed sink
-
--- the texts that were kept by the numbers of their rows
-abbrev pub known_texts : Option FailureTexts → List (Option (Vec ℕ Global))
-known_texts None = []
-known_texts (Some texts) = texts.texts.items
 
 module _ {P V : Type 0} where
   -- an outlet, and its parts: the outlet without its sink, and the sink, if it is a file

@@ -12,7 +12,6 @@ ghost use Rattle.rvtest_app.specs.IntoReports.{streamed_rows, run_report_text, u
 ghost use Rattle.rvtest_app.specs.Outlets.{AreFilesCommitted, AreFilesPartlyCommitted, HasTaken, file_at, has_no_failure};
 ghost use Rattle.rvtest_app.specs.Outlets.{outlet_path, stdout_at};
 ghost use Rattle.rvtest_app.specs.Puts.{IsShown};
-ghost use Rattle.rvtest_app.specs.RowSinks.{known_texts};
 ghost use Rattle.rvtest_app.specs.RunOutlets.{HaveRunOutletsTaken};
 ghost use Rattle.rvtest_app.specs.WriteStops.{IsPutStop};
 ghost use Rattle.rvtest_app.specs.RunOutput.{rows_status, run_output_text};
@@ -40,7 +39,7 @@ use rv_command::Stop;
 use rv_files::{Inputs, Outputs};
 use rv_fleet::Rows;
 use rv_job_text::{TextReporter, Verbosity};
-use rv_junit::{FailureTexts, Suite};
+use rv_junit::Suite;
 use rv_rows::Sink;
 use std::io::Write;
 use std::marker::Brand;
@@ -139,15 +138,14 @@ impl<'x, R: Threads + Wait + Sync + Clock, D: Inputs> ListRun<'x, R, D> {
         planned: &PlannedRun<'_>,
         frame: ReportFrame,
         rows: Rows,
-        texts: Option<FailureTexts<'_>>,
+        texts: Vec<Option<Vec<u8>>>,
         outlets: RunOutlets<'_, F::Place, F::File>,
         to: &mut Destinations<F, O, E>,
     ) -> Result<u8, Stop>
         requires rows { rows ≡ run_rows self.now.asked.now.stop_after (judging_of planned.now.reporter.now.judge)
             planned.now.reporter.now.plan.now planned.now.places.now }
         requires few { length rows ≤ length planned.now.places.now }
-        requires texts { AreLinesOf (failure_lines (reporter_of planned.now.reporter.now)) planned.now.places.now rows
-            (known_texts texts) }
+        requires texts { AreLinesOf (failure_lines (reporter_of planned.now.reporter.now)) planned.now.places.now rows texts.items }
         requires whole { ForSome frame.old (λ rows. length rows ≡ length planned.now.reporter.now.plan.now.jobs) }
         requires taken { HaveRunOutletsTaken F.pending_path F.File.taken F.File.failed (F.placed to.old.files) self.now.asked.now
             (streamed_rows frame.old (shown_indices planned.now.places.now rows) rows) outlets }
@@ -188,13 +186,12 @@ impl<'x, R: Threads + Wait + Sync + Clock, D: Inputs> ListRun<'x, R, D> {
         planned: &PlannedRun<'_>,
         frame: ReportFrame,
         rows: Rows,
-        texts: Option<FailureTexts<'_>>,
+        texts: Vec<Option<Vec<u8>>>,
         outlets: Outlets<'_, F::Place, F::File>,
         to: &mut Destinations<F, O, E>,
     ) -> Result<u8, Stop>
         requires counted { length rows ≡ length planned.now.places.now }
-        requires texts { AreLinesOf (failure_lines (reporter_of planned.now.reporter.now)) planned.now.places.now rows
-            (known_texts texts) }
+        requires texts { AreLinesOf (failure_lines (reporter_of planned.now.reporter.now)) planned.now.places.now rows texts.items }
         requires whole { ForSome frame.old (λ rows. length rows ≡ length planned.now.reporter.now.plan.now.jobs) }
         requires report { has_no_failure F.File.failed outlets.report }
         requires junit { has_no_failure F.File.failed outlets.junit }
@@ -243,19 +240,9 @@ impl<'x, R: Threads + Wait + Sync + Clock, D: Inputs> ListRun<'x, R, D> {
             reporter: &told,
             places,
             report: framed_report(chosen, frame),
-            texts: texts_of(&texts),
+            texts: texts.as_slice(),
         };
         put_files(self.host.alloc, to, outlets, texts)?;
         Ok(status)
-    }
-}
-
-// Returns the texts that were kept, if any were.
-fn texts_of<'t>(texts: &'t Option<FailureTexts<'_>>) -> &'t [Option<Vec<u8>>]
-    ensures { result.now ≡ known_texts texts.now }
-{
-    match texts {
-        Some(texts) => texts.texts(),
-        None => &[],
     }
 }

@@ -10,7 +10,7 @@ ghost use Rattle.rv_stream.specs.Streams.{joined_row_texts};
 ghost use Rattle.rv_stream.specs.Texts.{IsSent};
 ghost use Rattle.rvtest_app.specs.FailureLines.{failure_lines};
 ghost use Rattle.rvtest_app.specs.IntoReports.{report_row_text};
-ghost use Rattle.rvtest_app.specs.RowSinks.{AreRowsWritten, known_texts};
+ghost use Rattle.rvtest_app.specs.RowSinks.{AreRowsWritten};
 ghost use Rattle.rvtest_app.specs.RunOutput.{run_output_text};
 ghost use Rattle.rvtest_app.specs.Runs.{run_rows};
 ghost use Rattle.rvtest_app.specs.declared.run_output.ShowError.TheVariants.{ReportFailed};
@@ -45,9 +45,9 @@ pub(crate) struct ShownOn<W: Drop> {
 
 /// What a run leaves: the sink of the report, if there is one, the texts of failures that were kept, and the rows, or why there are none.
 #[derive(Drop)]
-pub(crate) struct ShownRun<'k, V: Drop> {
+pub(crate) struct ShownRun<V: Drop> {
     pub(crate) sink: Option<V>,
-    pub(crate) texts: Option<FailureTexts<'k>>,
+    pub(crate) texts: Vec<Option<Vec<u8>>>,
     pub(crate) ran: Result<Rows, ShowError>,
 }
 
@@ -67,8 +67,10 @@ impl<'x, R: Threads + Wait + Sync + Clock, D: Inputs> ListRun<'x, R, D> {
         rows: &ReportRowReporter,
         sink: Option<V>,
         terminals: Terminals<P>,
-    ) -> (W, ShownRun<'m, V>)
+    ) -> (W, ShownRun<V>)
         requires sink { IfSome sink (λ sink. (K.before ≡ V.taken sink) × (K.failures ≡ V.failed sink)) }
+        requires line { report_row_text rows.now.is_streaming ≡ K.line }
+        requires judging { judging_of planned.now.reporter.now.judge ≡ K.judging }
         ensures rows { IfOk result.1.ran (λ rows. rows ≡ run_rows self.now.asked.now.stop_after
             (judging_of planned.now.reporter.now.judge) planned.now.reporter.now.plan.now planned.now.places.now) }
         ensures few { IfOk result.1.ran (λ rows. length rows ≤ length planned.now.places.now) }
@@ -84,7 +86,7 @@ impl<'x, R: Threads + Wait + Sync + Clock, D: Inputs> ListRun<'x, R, D> {
         ensures sink { is_some result.1.sink ≡ is_some sink }
         ensures report_failed { IfErr result.1.ran (λ error. error ≡ ReportFailed → is_some sink ≡ true) }
         ensures texts { IfOk result.1.ran (λ rows. AreLinesOf (failure_lines (reporter_of planned.now.reporter.now))
-            planned.now.places.now rows (known_texts result.1.texts)) }
+            planned.now.places.now rows result.1.texts.items) }
     {
         let (rt, alloc) = (self.host.rt, self.host.alloc);
         let (reporter, places) = (planned.reporter, planned.places);
@@ -100,7 +102,7 @@ impl<'x, R: Threads + Wait + Sync + Clock, D: Inputs> ListRun<'x, R, D> {
         };
         let observer = Both {
             first: row_sender::<K, V>(alloc, rows, sink),
-            second: self.failure_texts(reporter),
+            second: self.failure_texts::<K>(reporter),
         };
         let crew = requested_crew(rt, alloc, self.asked);
         let batch = Batch::new(reporter.plan, places);
@@ -113,13 +115,14 @@ impl<'x, R: Threads + Wait + Sync + Clock, D: Inputs> ListRun<'x, R, D> {
             R,
             ProgressReporter<'_, '_, '_, '_, R, TextReporter<'_>, P>,
             TerminalSink<'_, '_, R, W, P>,
-            Both<Option<RowSender<'_, K, ReportRowReporter, V>>, Option<FailureTexts<'m>>>,
+            Both<Option<RowSender<'_, K, ReportRowReporter, V>>, Option<FailureTexts<'m, K>>>,
         >(&crew, &batch, &limit, output, observer);
         let Both {
             first: sender,
             second: texts,
         } = observer;
         let (sink, sent) = finish_sender(sender);
+        let texts = texts_of(alloc, texts);
         let ran = rows_if_written(ran, sent);
         let ran = put_totals_line(alloc, &reporter.judge, &batch, ran, &mut stream);
         let stream = stream.into_inner();
@@ -152,9 +155,12 @@ impl<'x, R: Threads + Wait + Sync + Clock, D: Inputs> ListRun<'x, R, D> {
     }
 
     // Returns where the texts of failures are kept, if the JUnit document has them, too.
-    fn failure_texts<'m>(&self, reporter: &TextReporter<'m>) -> Option<FailureTexts<'m>>
-        ensures none { IfSome result (λ texts. AreFailureTexts (judging_of texts.judge) texts.is_closed texts.texts.items []) }
-        ensures judge { IfSome result (λ texts. judging_of texts.judge ≡ judging_of reporter.now.judge) }
+    fn failure_texts<'m, K: StreamSpec>(
+        &self,
+        reporter: &TextReporter<'m>,
+    ) -> Option<FailureTexts<'m, K>>
+        requires { judging_of reporter.now.judge ≡ K.judging }
+        ensures none { IfSome result (λ texts. AreFailureTexts K.judging texts.is_closed texts.texts.items []) }
         ensures lines { IfSome result (λ _. (place : ℕ) (row : ARow) → fails (judging_of reporter.now.judge) row ≡ true
             → row_lines_at (reporter_of reporter.now) place row ≡ failure_lines (reporter_of reporter.now) place row) }
     {
@@ -176,12 +182,12 @@ fn row_sender<'t, K: StreamSpec, V: Sink + Drop>(
     rows: &'t ReportRowReporter,
     sink: Option<V>,
 ) -> Option<RowSender<'t, K, ReportRowReporter, V>>
-    requires { IfSome sink (λ sink. (K.before ≡ V.taken sink) × (K.failures ≡ V.failed sink)) }
+    requires sink { IfSome sink (λ sink. (K.before ≡ V.taken sink) × (K.failures ≡ V.failed sink)) }
+    requires line { report_row_text rows.now.is_streaming ≡ K.line }
     ensures there { is_some result ≡ is_some sink }
     ensures sent { IfSome result (λ sender. IsSent K.before (V.taken sender.outbox.out) K.failures (V.failed sender.outbox.out)
         sender.outbox.failed sender.outbox.unsent.items []) }
     ensures goes { IfSome result (λ sender. sender.outbox.failed ≡ None) }
-    ensures reporter { IfSome result (λ sender. sender.reporter.now ≡ rows.now) }
 {
     match sink {
         Some(sink) => Some(RowSender::<K, ReportRowReporter, V>::new(alloc, rows, sink)),
@@ -206,5 +212,19 @@ fn finish_sender<K: StreamSpec, V: Sink + Drop>(
             (Some(sink), sent)
         }
         None => (None, Ok(())),
+    }
+}
+
+// Returns the texts that were kept, by the numbers of their rows; none if none were to be kept.
+fn texts_of<K: StreamSpec>(
+    alloc: Global,
+    texts: Option<FailureTexts<'_, K>>,
+) -> Vec<Option<Vec<u8>>>
+    ensures some { IfSome texts.entry (λ texts. result.items ≡ texts.texts.items) }
+    ensures none { texts.entry ≡ None → result.items ≡ [] }
+{
+    match texts {
+        Some(texts) => texts.into_texts(),
+        None => Vec::new(alloc),
     }
 }
