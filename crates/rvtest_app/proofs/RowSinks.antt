@@ -1,7 +1,9 @@
 -- The sink of a report that is streamed: taken out of its outlet, and put back.
-use Rattle.std.proofs.Common.{◌≡◌, ◌∙◌, ℕ, Bool, true, false, List, [], ◌∷◌, Option, Some, None, IfSome, length, refl, subst, sym, ap, take}
+use Rattle.std.proofs.Common.{◌≡◌, ◌∙◌, ◌++◌, ℕ, Bool, true, false, List, [], ◌∷◌, Option, Some, None, IfSome, Result, Ok, Err, OnOk, length, refl, subst, sym, ap, take}
 use Rattle.std.proofs.lemmas.List.{get_or-take}
-use Rattle.std.specs.Prelude.{Vec, is_some, not, slice_index_or}
+use Rattle.std.specs.Prelude.{IfOk, Vec, is_some, not, slice_index_or}
+use Rattle.std.specs.Io.KnownBytes.{Appends}
+use Rattle.std.proofs.KnownBytes.{Appends-trans}
 use Rattle.std.specs.declared.alloc.Global.{Global}
 use Rattle.rv_junit.specs.KnownLines.{AreLinesOf}
 use Rattle.rv_report.specs.declared.row.Row.{Row}
@@ -72,3 +74,35 @@ pub lines_of_first : (line : ℕ → Row → List ℕ) (places firsts : List ℕ
 lines_of_first line places firsts rows texts are lines = λ k any below.
     subst (λ (place : ℕ). IfSome (slice_index_or texts k None) (λ text. text.items ≡ line place (slice_index_or rows k any)))
     (sym (ap (λ (all : List ℕ). slice_index_or all k 0) are ∙ get_or-take (length rows) places k 0 below)) (lines k any below)
+
+-- ---- a run that is shown
+
+-- what holds of the rows of a run holds of the rows that it hands on
+pub ran_on : {X E F : Type 0} (after : Result X E) (before : Result X F) (P : X → Type 0) → IfOk after (λ rows. before ≡ Ok rows)
+    → IfOk before P → IfOk after P
+ran_on (Ok rows) before P is holds = subst (λ (r : Result X F). IfOk r P) is holds
+ran_on (Err why) before P is holds = tt
+
+pub done_on : {X E F : Type 0} (after : Result X E) (before : Result X F) (P : Type 0) → IfOk after (λ rows. before ≡ Ok rows)
+    → OnOk before P → OnOk after P
+done_on (Ok rows) before P is holds = subst (λ (r : Result X F). OnOk r P) is holds
+done_on (Err why) before P is holds = tt
+
+-- the lines of the rows, and then the last line
+pub shown_whole : {E : Type 0} (r : Result (List Row) E) (start middle end : Option (List ℕ)) (texts : List ℕ) (totals : List Row → List ℕ)
+    (all : List Row) → IfOk r (λ rows. rows ≡ all) → OnOk r (Appends start middle texts)
+    → IfOk r (λ rows. Appends middle end (totals rows)) → OnOk r (Appends start end (texts ++ totals all))
+shown_whole (Ok rows) start middle end texts totals all is first next =
+    Appends-trans start middle end texts (totals all) first (subst (λ (rows : List Row). Appends middle end (totals rows)) is next)
+shown_whole (Err why) start middle end texts totals all is first next = tt
+
+-- what a sender has sent was written to the sink
+module _ {V : Type 0} (taken : V → Option (List ℕ)) (failed : V → ℕ) where
+  pub sent_to : (start : Option (List ℕ)) (failures : ℕ) (before after : Option V) (text : List ℕ)
+      → IfSome before (λ sink. (start ≡ taken sink) × (failures ≡ failed sink)) → is_some after ≡ is_some before
+      → IfSome after (λ sink. Appends start (taken sink) text × (failed sink ≡ failures)) → AreRowsWritten taken failed before after text
+  sent_to start failures None None text kept there sent = tt
+  sent_to start failures (Some before) (Some after) text kept there sent =
+      (subst (λ (taken : Option (List ℕ)). Appends taken _ text) kept.0 sent.0, sent.1 ∙ kept.1)
+  sent_to start failures None (Some after) text kept there sent = absurd cc
+  sent_to start failures (Some before) None text kept there sent = absurd cc

@@ -1,3 +1,4 @@
+use Rattle.std.proofs.Common.{[]}
 use Rattle.rv_expect.specs.Judgement.{judging_of}
 use Rattle.rvtest_app.proofs.run.ListRun.run_and_show.Given as goal
 
@@ -7,4 +8,5 @@ ghosts-stream_rows g a = record {
   failures = g.W.Sink.failed a.to.out.sink;
   most = a.limit.now.failures;
   judging = judging_of a.limit.now.judge;
+  line = λ _ _. [];
 }
