@@ -10,6 +10,7 @@ use rv_count_tables::{CountTable, SumError};
 use rv_engine::{Crew, run_jobs};
 use rv_fleet::Batch;
 use std::alloc::AllocError;
+use std::marker::Brand;
 use std::sync::Wait;
 use std::thread::Threads;
 
@@ -23,7 +24,7 @@ pub fn count_batch<R: Threads + Wait + Sync>(
     ensures { IfOk result (λ table. IsTableOfPlaces batch.now.plan.now batch.now.places.now table) }
 {
     let work = CountWork { batch };
-    let (sum, ran) = run_jobs::<JobTable, R, CountWork<'_>, TableSum>(
+    let (sum, ran) = run_jobs::<Brand, JobTable, R, CountWork<'_>, TableSum>(
         crew,
         &work,
         TableSum::new(crew.alloc),

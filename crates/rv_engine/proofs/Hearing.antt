@@ -6,7 +6,7 @@ use Rattle.std.proofs.lemmas.List.{get_or_append_left, length-append}
 use Rattle.std.proofs.Math.Seq.{get_or-append_seam}
 use Rattle.std.specs.Prelude.{Option, Some, None}
 use Rattle.rv_engine.specs.declared.in_order.End.{End}
-use Rattle.rv_engine.specs.declared.in_order.End.TheVariants.{OutOfMemory, Stopped}
+use Rattle.rv_engine.specs.declared.in_order.End.TheVariants.{GaveUp, Stopped}
 use Rattle.rv_engine.specs.declared.listener.Flow.{Flow}
 use Rattle.rv_engine.specs.declared.listener.Flow.TheVariants.{GoOn, Stop}
 use Rattle.rv_engine.specs.Results.{AreMade, HasReceived, HasReceivedSome, IsDelivered, HasReceivedUntil, IsPiece, piece_count}
@@ -132,4 +132,4 @@ pub until_some : {H : Type 0} (is_result : ℕ → H → Type 0) (jobs group : �
 until_some is_result jobs group has_received stops next None received =
     heard_some is_result jobs has_received (min (next * group) jobs) received.0
 until_some is_result jobs group has_received stops next (Some Stopped) received = received.0
-until_some is_result jobs group has_received stops next (Some OutOfMemory) received = received
+until_some is_result jobs group has_received stops next (Some GaveUp) received = received

@@ -5,7 +5,7 @@ use Rattle.std.specs.Int.{div_ceil}
 use Rattle.std.specs.declared.alloc.Global.{Global}
 use Rattle.rv_engine.specs.declared.engine.RunError.{RunError}
 use Rattle.rv_engine.specs.declared.in_order.End.{End}
-use Rattle.rv_engine.specs.declared.in_order.End.TheVariants.{OutOfMemory, Stopped}
+use Rattle.rv_engine.specs.declared.in_order.End.TheVariants.{GaveUp, Stopped}
 use Rattle.rv_engine.specs.declared.listener.Flow.{Flow}
 use Rattle.rv_engine.specs.declared.listener.Flow.TheVariants.{GoOn, Stop}
 
@@ -58,7 +58,7 @@ HasReceivedUpTo is_result jobs group has_received stops piece = HasReceived is_r
 abbrev pub HasReceivedUntil : {H : Type 0} → (ℕ → H → Type 0) → ℕ → ℕ → (List H → Type 0) → Type 0 → ℕ → Option End → Type 0
 HasReceivedUntil is_result jobs group has_received stops next None = HasReceivedUpTo is_result jobs group has_received stops next
 HasReceivedUntil is_result jobs group has_received stops next (Some Stopped) = HasReceivedSome is_result jobs has_received × stops
-HasReceivedUntil is_result jobs group has_received stops next (Some OutOfMemory) = HasReceivedSome is_result jobs has_received
+HasReceivedUntil is_result jobs group has_received stops next (Some GaveUp) = HasReceivedSome is_result jobs has_received
 
 -- the invariant under the lock
 pub record IsInOrder {H : Type 0} (is_result : ℕ → H → Type 0) (jobs group : ℕ) (has_received : List H → Type 0) (stops : Type 0)

@@ -14,7 +14,6 @@ use crate::threads::run_workers;
 use crate::work::Work;
 use crate::worker::WorkerContext;
 use std::alloc::{AllocError, Global};
-use std::marker::Brand;
 use std::sync::{Mutex, Wait};
 use std::thread::Threads;
 use thiserror::Error;
@@ -38,26 +37,13 @@ impl From<AllocError> for RunError {
     }
 }
 
-/// Makes the result of each job, with as many threads as the crew has, or one per chunk if there are fewer chunks. The listener receives
-/// each result as soon as it has received those of all earlier jobs, and is returned. With `GoOn` it has received the results of all jobs,
-/// each once and in order; with `Stop`, those up to the job at which it stopped the run; after an error, those of the first jobs. Each
-/// thread draws the next chunk when it is free; once the run ends, it finishes its current chunk only. All threads are joined before the
-/// function returns.
+/// Makes the result of each job, using as many threads as the crew has, or one per piece if there are fewer pieces. The listener receives
+/// each result as soon as it has received those of all earlier jobs, and is returned at the end. With `GoOn` it has received the result of
+/// every job, once and in order; with `Stop` those up to the job where it said so; after an error, those of the first jobs. A free thread
+/// draws the next piece; when the run ends, each thread finishes the piece it is making. All threads are joined.
+///
+/// `J` is the run's `Brand`: it gives the results, jobs and pieces a name that contracts can use, and the caller picks its ghost members.
 pub fn run_jobs<
-    H: Drop + Send,
-    R: Threads + Wait + Sync,
-    W: Work<H> + Sync,
-    L: Listener<H> + Drop + Send,
->(crew: &Crew<'_, R>, work: &W, listener: L) -> (L, Result<Flow, RunError>)
-    requires received { L.has_received listener [] }
-    requires goes { L.stops listener → ⊥ }
-    ensures { IsRunDelivered (W.is_made work.now) (W.jobs work.now) (L.has_received result.0) (L.stops result.0) result.1 }
-{
-    run_in_order::<Brand, H, R, W, L>(crew, work, listener)
-}
-
-// Like [`run_jobs`], with a run specification that defines the results to deliver.
-fn run_in_order<
     J: RunSpec<H> + Send + Sync,
     H: Drop + Send,
     R: Threads + Wait + Sync,
@@ -112,7 +98,8 @@ fn deliver_rest<J: RunSpec<H>, H: Drop, R, W: Work<H>, L: Listener<H>>(
     } = rest;
     match ended {
         Some(End::Stopped) => (listener, Ok(Flow::Stop)),
-        Some(End::OutOfMemory) => (listener, Err(RunError::OutOfMemory)),
+        // Out of memory: a worker gives up for that, and a refused thread has been returned already.
+        Some(End::GaveUp) => (listener, Err(RunError::OutOfMemory)),
         None => {
             let flow = deliver_from::<J, H, R, W, L>(crew, work, &mut listener, pending, next);
             (listener, flow)

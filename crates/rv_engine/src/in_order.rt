@@ -31,8 +31,8 @@ impl<H> RunSpec<H> for Brand {
 pub(crate) enum End {
     /// The listener stopped the run.
     Stopped,
-    /// An allocation failed.
-    OutOfMemory,
+    /// A growth or the start of a thread was refused.
+    GaveUp,
 }
 
 /// The state under the lock: the listener, and the results of chunks that were made before their turn.
@@ -87,11 +87,10 @@ impl<J: RunSpec<H>, H: Drop, L: Listener<H> + Drop> InOrder<J, H, L> {
         received.flow
     }
 
-    /// Stops delivering results, because an allocation failed.
+    /// Ends the run after a growth or the start of a thread was refused.
     pub(crate) fn give_up(&mut self) {
         if self.ended.is_none() {
-            // Out of memory: a worker gives up by that, or by a thread that was not started.
-            self.ended = Some(End::OutOfMemory);
+            self.ended = Some(End::GaveUp);
         }
     }
 

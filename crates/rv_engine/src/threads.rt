@@ -61,6 +61,7 @@ pub(crate) fn run_workers<R: Threads + Wait, S: Worker>(
                     return Err(RunError::NoWorker);
                 };
                 let Ok(()) = handles.push(handle) else {
+                    worker.give_up();
                     // Out of memory: `push` fails by that alone.
                     return Err(RunError::OutOfMemory);
                 };

@@ -1,15 +1,13 @@
 //! The loop of a worker: draws chunks, makes their results and delivers them.
 
 ghost use Rattle.rv_jobs.specs.Limits.{most_group};
-ghost use Rattle.std.specs.Prelude.{◌≡◌, ◌<◌, ◌≤◌, OnOk};
-ghost use Rattle.rv_engine.specs.Results.{AreMade, piece_count};
+ghost use Rattle.std.specs.Prelude.{◌≡◌, ◌<◌, ◌≤◌};
 
 use crate::in_order::{InOrder, RunSpec};
 use crate::listener::{Flow, Listener};
 use crate::piece::make_piece;
 use crate::threads::Worker;
 use crate::work::Work;
-use crate::worker_state::WorkerState;
 use rv_claims::{Claims, Pass};
 use std::alloc::{AllocError, Global};
 use std::sync::{Mutex, Wait};
@@ -44,8 +42,22 @@ impl<
         let mut pass = pass;
         let mut worker_state = self.work.new_worker_state(self.alloc);
         while let Some(piece) = claims.take(&mut pass) {
-            if let Flow::Stop = self.work_on_piece(piece, &mut worker_state)? {
-                return Ok(());
+            let made = make_piece::<H, W>(
+                self.alloc,
+                self.work,
+                self.group,
+                piece,
+                &mut worker_state,
+            );
+            let mut in_order = self.in_order.lock(self.rt);
+            match made {
+                Ok(results) => if let Flow::Stop = in_order.take_piece(piece, results) {
+                    return Ok(());
+                },
+                Err(error) => {
+                    in_order.give_up();
+                    return Err(error);
+                }
             }
         }
         Ok(())
@@ -53,32 +65,5 @@ impl<
 
     fn give_up(&self) {
         self.in_order.lock(self.rt).give_up();
-    }
-}
-
-impl<'a, J: RunSpec<H>, H: Drop, R: Wait, W: Work<H>, L: Listener<H> + Drop> WorkerContext<
-    'a,
-    J,
-    H,
-    R,
-    W,
-    L,
-> {
-    // Makes a chunk's results and delivers them. If an allocation fails, the other workers end, too.
-    fn work_on_piece(&self, piece: u64, worker_state: &mut WorkerState) -> Result<Flow, AllocError>
-        requires piece { piece < piece_count (W.jobs self.now.work.now) self.now.group }
-        requires results { AreMade (W.is_made self.now.work.now) J.is_result }
-        requires worker_state { W.is_worker_state self.now.work.now worker_state.old }
-        ensures { OnOk result (W.is_worker_state self.now.work.now worker_state.new) }
-    {
-        let made = make_piece::<H, W>(self.alloc, self.work, self.group, piece, worker_state);
-        let mut in_order = self.in_order.lock(self.rt);
-        match made {
-            Ok(results) => Ok(in_order.take_piece(piece, results)),
-            Err(error) => {
-                in_order.give_up();
-                Err(error)
-            }
-        }
     }
 }

@@ -7,6 +7,7 @@ use crate::batch::Batch;
 use rv_engine::{Crew, Flow, Listener, RunError, Work, WorkerState, run_jobs};
 use rv_rows::{Row, Rows, row_at_with_recent};
 use std::alloc::{AllocError, Global};
+use std::marker::Brand;
 use std::sync::Wait;
 use std::thread::Threads;
 
@@ -98,7 +99,8 @@ pub fn run_batch<R: Threads + Wait + Sync>(
     ensures { IfOk result (λ rows. rows ≡ batch_rows batch.now) }
 {
     let work = BatchRows { batch };
-    let (kept, ran) = run_jobs(crew, &work, CollectedRows::new(crew.alloc));
+    let kept = CollectedRows::new(crew.alloc);
+    let (kept, ran) = run_jobs::<Brand, Row, R, BatchRows<'_>, CollectedRows>(crew, &work, kept);
     match ran? {
         Flow::GoOn => Ok(Rows::new(kept.rows)),
         // Out of memory: the rows stop a run for that alone.

@@ -1,3 +1,5 @@
+pub mod Public
+mod KnownLines
 pub mod Laws
-pub mod Cases
+pub mod CaseTexts
 pub mod Documents

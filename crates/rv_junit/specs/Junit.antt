@@ -60,6 +60,10 @@ test_case_text class judging row lines =
     codes "<testcase" ++ attribute (codes "classname") class ++ attribute (codes "name") row.name
     ++ codes ">\n" ++ judged_text (judgement judging row) row lines ++ output_text row ++ codes "</testcase>\n"
 
+-- the case of the job at an index and its row, with the lines that a reporter gives of them
+abbrev pub case_text : List ℕ → Judging → (ℕ → Row → List ℕ) → ℕ → Row → List ℕ
+case_text class judging line index row = test_case_text class judging row (line index row)
+
 -- ---- the document
 
 -- the steps of a job, after its name

@@ -1,2 +1,3 @@
 pub mod Pieces
 pub mod Junit
+pub mod KnownLines

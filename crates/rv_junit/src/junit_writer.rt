@@ -7,13 +7,14 @@ ghost use Rattle.rv_rows.specs.Counts.{HasIncreased};
 ghost use Rattle.rv_stream.specs.Streams.{row_text_list};
 ghost use Rattle.rv_expect.specs.Judgement.{judging_of};
 ghost use Rattle.rv_junit.specs.Junit.{junit_text};
+ghost use Rattle.rv_junit.specs.KnownLines.{AreLinesOf};
 
-use crate::junit::{push_suite_begin, push_test_case};
+use crate::case_writes::{Cases, write_cases};
+use crate::junit::push_suite_begin;
 use crate::suite::Suite;
-use rv_rows::{Row, Sink, WriteError, put_all};
-use rv_stream::{IndexedRows, RowReporter, write_row_texts};
+use rv_rows::{RowReporter, Sink, WriteError, put_all};
 use rv_text::push_text;
-use std::alloc::{AllocError, Global};
+use std::alloc::Global;
 
 /// Writes rows as JUnit XML: one suite, and one test case per row, in order, with its steps and its console. A failed row is a failure, or
 /// an error if the job was refused, with the lines that are reported for the job at its index. A known failure is skipped, with its reason.
@@ -22,58 +23,25 @@ use std::alloc::{AllocError, Global};
 pub fn write_junit<T: RowReporter, W: Sink>(
     alloc: Global,
     suite: &Suite<'_>,
-    reporter: &T,
-    rows: &IndexedRows<'_>,
+    cases: &Cases<'_, T>,
     out: &mut W,
 ) -> Result<(), WriteError>
+    requires known { AreLinesOf (T.line cases.now.reporter.now) cases.now.places.now cases.now.rows.now cases.now.texts.now }
     ensures appended { OnOk result (Appends (W.taken out.old) (W.taken out.new)
         (junit_text suite.now.name.now (judging_of suite.now.judge)
-        (row_text_list (T.line reporter.now) rows.now.places.now rows.now.rows.now) rows.now.rows.now)) }
+        (row_text_list (T.line cases.now.reporter.now) cases.now.places.now cases.now.rows.now) cases.now.rows.now)) }
     ensures counted { OnOk result (W.failed out.new ≡ W.failed out.old) }
     ensures part { OnErr result (AppendsBeginning (W.taken out.old) (W.taken out.new)
         (junit_text suite.now.name.now (judging_of suite.now.judge)
-        (row_text_list (T.line reporter.now) rows.now.places.now rows.now.rows.now) rows.now.rows.now)) }
+        (row_text_list (T.line cases.now.reporter.now) cases.now.places.now cases.now.rows.now) cases.now.rows.now)) }
     ensures failed { IfErr result (λ error. error ≡ WriteError.Failed
         → HasIncreased (W.failed out.old) (W.failed out.new)) }
 {
     let mut begin = String::new(alloc);
-    push_suite_begin(alloc, &mut begin, suite, rows.rows)?;
+    push_suite_begin(alloc, &mut begin, suite, cases.rows)?;
     let mut text = begin.into_bytes();
-    let cases = Cases {
-        suite: *suite,
-        reporter,
-    };
-    write_row_texts(alloc, &mut text, &cases, rows, out)?;
+    write_cases(alloc, &mut text, suite, cases, out)?;
     push_text(&mut text, "</testsuite>\n</testsuites>\n")?;
     put_all(out, text.as_slice())?;
     Ok(())
-}
-
-// Reports the test case of a row, which contains the lines that another reporter makes for it.
-#[derive(Drop)]
-struct Cases<'a, 'b, T: RowReporter> {
-    suite: Suite<'a>,
-    reporter: &'b T,
-}
-
-impl<'a, 'b, T: RowReporter> RowReporter for Cases<'a, 'b, T> {
-    ghost use Rattle.rv_expect.specs.Judgement.{judging_of};
-    ghost use Rattle.rv_junit.specs.Junit.{test_case_text};
-
-    ghost line = { λ cases place row. test_case_text cases.suite.name.now (judging_of cases.suite.judge) row
-        (T.line cases.reporter.now place row) };
-
-    fn push_row_text(
-        &self,
-        alloc: Global,
-        place: usize,
-        row: &Row,
-        text: &mut Vec<u8>,
-    ) -> Result<(), AllocError> {
-        let mut lines = Vec::new(alloc);
-        self.reporter.push_row_text(alloc, place, row, &mut lines)?;
-        let mut case = String::new(alloc);
-        push_test_case(alloc, &mut case, &self.suite, row, lines.as_slice())?;
-        text.extend_from_slice(case.as_bytes())
-    }
 }

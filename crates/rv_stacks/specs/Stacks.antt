@@ -21,12 +21,12 @@ use Rattle.rv_call_tree.specs.Trees.{all_steps, arrivals_at, own_in, steps_at, H
 abbrev pub last_address : ℕ
 last_address = 0xffff_ffff
 
--- the function that stands for code without a symbol: 0, or the last address if there can be a function at 0
+-- the function that represents code without a symbol: 0, or the last address if there can be a function at 0
 abbrev pub no_function : Option (List ℕ × ℕ) → ℕ
 no_function None = 0
 no_function (Some symbol) = last_address
 
--- the address of an address's symbol, or the value that stands for none
+-- the start of the symbol at an address, or the value that represents none
 abbrev pub start_of : ℕ → ℕ → Option (List ℕ × ℕ) → ℕ
 start_of none address None = none
 start_of none address (Some symbol) = address - symbol.1

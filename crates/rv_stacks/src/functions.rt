@@ -83,8 +83,8 @@ pub(crate) fn steps_in_function(
     block.steps - 1
 }
 
-/// Returns the address of an address's symbol, or the value that stands for none: 0, or the last address if there can be a function at 0.
-/// Takes one or two searches of the symbols.
+/// Returns the start of the symbol at an address, or the value that represents none: 0, or the last address if there can be a function at
+/// 0. Takes one or two searches of the symbols.
 #[tactic(auto, unfolding(crate::specs::Stacks::function_at))]
 pub fn function_of(symbols: &CodeSymbols<'_>, address: u32) -> u32
     ensures { result ≡ function_at symbols.now.image.now symbols.now.bytes.now address }
@@ -95,7 +95,7 @@ pub fn function_of(symbols: &CodeSymbols<'_>, address: u32) -> u32
     }
 }
 
-// Returns the function that stands for code without a symbol.
+// Returns the function that represents code without a symbol.
 fn no_function(symbols: &CodeSymbols<'_>) -> u32
     ensures { result ≡ no_function (symbol_at symbols.now.image.now symbols.now.bytes.now 0) }
 {

@@ -8,6 +8,7 @@ use rv_count_tables::{CountTable, SumError};
 use rv_counting::{JobTable, TableSum};
 use rv_engine::{Crew, run_jobs};
 use rv_fleet::Batch;
+use std::marker::Brand;
 use std::sync::Wait;
 use std::thread::Threads;
 
@@ -23,7 +24,7 @@ pub fn count_batch_with_stacks<R: Threads + Wait + Sync>(
     ensures reasons { IfErr result IsOfNamesOrMemory }
 {
     let work = StackWork { batch };
-    let (sum, ran) = run_jobs::<JobTable, R, StackWork<'_>, TableSum>(
+    let (sum, ran) = run_jobs::<Brand, JobTable, R, StackWork<'_>, TableSum>(
         crew,
         &work,
         TableSum::new(crew.alloc),

@@ -1,3 +1,4 @@
+pub mod Public
 mod Tellings
 mod Sending
 mod Limits

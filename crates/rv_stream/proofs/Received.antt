@@ -1,5 +1,5 @@
 -- What is heard of a run: the first rows of a batch, and what is told of them.
-use Rattle.std.proofs.Common.{◌≡◌, ◌∙◌, ◌<◌, ◌≤◌, ℕ, suc, Bool, true, false, List, [], ◌∷◌, ◌++◌, Option, Some, Result, Ok, Err, length, map, take, drop, get_or, take-append-drop, refl, sym, ap, arith}
+use Rattle.std.proofs.Common.{◌≡◌, ◌∙◌, ◌<◌, ◌≤◌, ℕ, suc, Bool, true, false, List, [], ◌∷◌, ◌++◌, Option, Some, Result, Ok, Err, length, map, take, drop, get_or, take-append-drop, refl, sym, ap, subst, arith}
 use Rattle.std.proofs.lemmas.Bool.{false≢true}
 use Rattle.std.proofs.lemmas.List.{length-map, take_all}
 use Rattle.std.specs.Prelude.{is_ok, IfOk, OnErr, OnOk}
@@ -20,6 +20,7 @@ use Rattle.rv_rows.specs.Sinks.{AppendsBeginning}
 use Rattle.rv_stream.specs.declared.reported_row.ReportedRow.{ReportedRow}
 use Rattle.rv_stream.specs.Limits.{rows_up_to}
 use Rattle.rv_stream.specs.Streams.{joined_row_texts, row_text_list}
+use Rattle.rv_stream.specs.Seen.{text_by_index, HasSeenRows, HasSeenSomeRows, IsReportOf}
 use Rattle.rv_stream.specs.Told.{rows_of_reported, texts_of_reported, AreRowsUpToFailure, IsReportedRow}
 use Rattle.rv_stream.proofs.Limits.{ended_there, first_of}
 use Rattle.rv_stream.proofs.Tellings.{told_append}
@@ -36,14 +37,41 @@ rows_first f (p ∷ ps) (t ∷ ts) few each =
     ∷ rows_first f ps ts (omega (arith, few)) (λ k d lt. each (suc k) d (omega (arith, lt))) i)
 
 texts_first : (line : ℕ → Row → List ℕ) (ps : List ℕ) (told : List ReportedRow) → length told ≤ length ps
-    → ((k : ℕ) (d : ReportedRow) → k < length told → (get_or told k d).text.items ≡ line (get_or ps k 0) (get_or told k d).row)
+    → ((k : ℕ) (d : ReportedRow) → k < length told → IsReportOf line (get_or ps k 0) (get_or told k d))
     → texts_of_reported told ≡ row_text_list line ps (rows_of_reported told)
 texts_first line [] [] few each = refl
 texts_first line (p ∷ ps) [] few each = refl
 texts_first line [] (t ∷ ts) few each = absurd (omega (arith, few))
 texts_first line (p ∷ ps) (t ∷ ts) few each =
-    (λ i. each 0 t (omega arith) i
+    let first = each 0 t (omega arith) in
+    let text : t.text.items ≡ line p t.row = first.text ∙ ap (λ (n : ℕ). line n t.row) first.index_is in
+    (λ i. text i
     ∷ texts_first line ps ts (omega (arith, few)) (λ k d lt. each (suc k) d (omega (arith, lt))) i)
+
+by_index_first : (line : ℕ → Row → List ℕ) (ps : List ℕ) (told : List ReportedRow) → length told ≤ length ps
+    → ((k : ℕ) (d : ReportedRow) → k < length told → (get_or told k d).index ≡ get_or ps k 0)
+    → map (λ (r : ReportedRow). line r.index r.row) told ≡ row_text_list line ps (rows_of_reported told)
+by_index_first line [] [] few each = refl
+by_index_first line (p ∷ ps) [] few each = refl
+by_index_first line [] (t ∷ ts) few each = absurd (omega (arith, few))
+by_index_first line (p ∷ ps) (t ∷ ts) few each =
+    (λ i. line (each 0 t (omega arith) i) t.row
+    ∷ by_index_first line ps ts (omega (arith, few)) (λ k d lt. each (suc k) d (omega (arith, lt))) i)
+
+-- ---- what an observer has seen
+
+module _ (has_seen : List ReportedRow → Type 0) (line : ℕ → Row → List ℕ) (places : List ℕ) (rows : List Row)
+    (seen : HasSeenRows has_seen line places rows) where
+  -- the texts that it has seen
+  pub seen_texts : concat (texts_of_reported seen.reported) ≡ joined_row_texts line places rows
+  seen_texts =
+      ap concat (texts_first line places seen.reported seen.few seen.each) ∙ ap (joined_row_texts line places) seen.rows_are
+
+  -- the texts that another reporter gives of the rows
+  pub reported_texts : (other : ℕ → Row → List ℕ) → text_by_index other seen.reported ≡ joined_row_texts other places rows
+  reported_texts other =
+      ap concat (by_index_first other places seen.reported seen.few (λ k d lt. (seen.each k d lt).index_is))
+      ∙ ap (joined_row_texts other places) seen.rows_are
 
 module _ (line : ℕ → Row → List ℕ) (batch : Batch) (told : List ReportedRow) (few : length told ≤ length batch.places.now)
     (each : (k : ℕ) (any : ReportedRow) → k < length told → IsReportedRow line batch k (get_or told k any)) where
@@ -53,78 +81,97 @@ module _ (line : ℕ → Row → List ℕ) (batch : Batch) (told : List Reported
       rows_first (λ i. row_of batch.plan.now (get_or batch.plan.now.jobs i (single_job [] 0 []))) batch.places.now told few
       (λ k d lt. (each k d lt).row)
 
-  texts_are : concat (texts_of_reported told) ≡ joined_row_texts line batch.places.now (rows_of_reported told)
-  texts_are = ap concat (texts_first line batch.places.now told few (λ k d lt. (each k d lt).text))
+  are_seen : (has_seen : List ReportedRow → Type 0) → has_seen told
+      → HasSeenRows has_seen line batch.places.now (rows_of_reported told)
+  are_seen has_seen seen = record {
+    reported = told;
+    seen = seen;
+    rows_are = refl;
+    few = few;
+    each = λ k any lt. record { index_is = (each k any lt).index; text = (each k any lt).text };
+  }
 
 -- ---- the end of a run
 
--- a listener heard of the first rows that the run would have
-pub record HasBegun (line : ℕ → Row → List ℕ) (batch : Batch) (most : Option ℕ) (judging : Judging) (received : List ReportedRow → Type 0) : Type 0 where
-  pub told : List ReportedRow
-  pub is_heard : received told
-  pub few : length (rows_of_reported told) ≤ length batch.places.now
-  pub rest : List Row
-  pub rows : rows_up_to most (fails judging) (batch_rows batch) ≡ rows_of_reported told ++ rest
-  pub texts : concat (texts_of_reported told) ≡ joined_row_texts line batch.places.now (rows_of_reported told)
+-- what has been seen says less, or something else
+pub seen_as : (had has : List ReportedRow → Type 0) (line : ℕ → Row → List ℕ) (places : List ℕ) (rows : List Row)
+    → ((reported : List ReportedRow) → had reported → has reported) → HasSeenRows had line places rows → HasSeenRows has line places rows
+seen_as had has line places rows f seen = record {
+  reported = seen.reported;
+  seen = f seen.reported seen.seen;
+  rows_are = seen.rows_are;
+  few = seen.few;
+  each = seen.each;
+}
 
--- or of all of them, and kept them
-pub record HasEnded (line : ℕ → Row → List ℕ) (batch : Batch) (most : Option ℕ) (judging : Judging) (received : List ReportedRow → Type 0) (kept : List Row)
-    : Type 0 where
-  pub told : List ReportedRow
-  pub is_heard : received told
-  pub few : length (rows_of_reported told) ≤ length batch.places.now
-  pub rows : rows_up_to most (fails judging) (batch_rows batch) ≡ rows_of_reported told
-  pub kept_all : kept ≡ rows_of_reported told
-  pub texts : concat (texts_of_reported told) ≡ joined_row_texts line batch.places.now (rows_of_reported told)
+pub seen_some_as : (had has : List ReportedRow → Type 0) (line : ℕ → Row → List ℕ) (places : List ℕ) (rows : List Row)
+    → ((reported : List ReportedRow) → had reported → has reported) → HasSeenSomeRows had line places rows
+    → HasSeenSomeRows has line places rows
+seen_some_as had has line places rows f seen = record {
+  first = seen.first;
+  rest = seen.rest;
+  whole = seen.whole;
+  seen = seen_as had has line places seen.first f seen.seen;
+}
+
+-- nothing has been seen yet
+pub seen_none : (has_seen : List ReportedRow → Type 0) (line : ℕ → Row → List ℕ) (places : List ℕ) → has_seen []
+    → HasSeenRows has_seen line places []
+seen_none has_seen line places none = record {
+  reported = [];
+  seen = none;
+  rows_are = refl;
+  few = omega arith;
+  each = λ k any lt. absurd (omega (arith, lt));
+}
+
+-- all rows were received, and kept
+pub record HasEnded (received : List ReportedRow → Type 0) (line : ℕ → Row → List ℕ) (places : List ℕ) (every kept : List Row) : Type 0 where
+  pub seen : HasSeenRows received line places every
+  pub kept_all : kept ≡ every
 
 module _ (line : ℕ → Row → List ℕ) (batch : Batch) (most : Option ℕ) (judging : Judging) (left : Option ℕ) (refused : Bool) (kept : List Row)
     (received : List ReportedRow → Type 0) (stops : Type 0)
     (first : (told : List ReportedRow) → received told → AreRowsUpToFailure most judging left refused kept (rows_of_reported told)) where
-  begins : (n : ℕ) → HasReceived (IsReportedRow line batch) (length batch.places.now) received n → HasBegun line batch most judging received
+  begins : (n : ℕ) → HasReceived (IsReportedRow line batch) (length batch.places.now) received n
+      → HasSeenSomeRows received line batch.places.now (rows_up_to most (fails judging) (batch_rows batch))
   begins n hears =
       let told = hears.results in
       let long = hears.count_is in
       let within = hears.few in
       let few : length told ≤ length batch.places.now = omega (arith, long, within) in
-      let count = length-map told (λ (t : ReportedRow). t.row) in
       let k = length told in
       let are = rows_are line batch told few hears.each in
       let front = first_of (fails judging) most (rows_of_reported told) (drop k (batch_rows batch))
       (first told hears.received).within in record {
-        told = told;
-        is_heard = hears.received;
-        few = omega (arith, count, few);
+        first = rows_of_reported told;
         rest = front.0;
-        rows = ap (rows_up_to most (fails judging)) (sym (take-append-drop k (batch_rows batch)))
-            ∙ ap (λ (rs : List Row). rows_up_to most (fails judging) (rs ++ drop k (batch_rows batch))) (sym are) ∙ front.1;
-        texts = texts_are line batch told few hears.each;
+        whole = sym (ap (rows_up_to most (fails judging)) (sym (take-append-drop k (batch_rows batch)))
+            ∙ ap (λ (rs : List Row). rows_up_to most (fails judging) (rs ++ drop k (batch_rows batch))) (sym are) ∙ front.1);
+        seen = are_seen line batch told few hears.each received hears.received;
       }
 
-  -- however a run ended
+  -- however a run ended, the first rows were received
   pub has_begun : (ran : Result Flow RunError) → IsRunDelivered (IsReportedRow line batch) (length batch.places.now) received stops ran
-      → HasBegun line batch most judging received
+      → HasSeenSomeRows received line batch.places.now (rows_up_to most (fails judging) (batch_rows batch))
   has_begun (Ok GoOn) run = begins (length batch.places.now) run.0
   has_begun (Ok Stop) run = begins run.0.count run.0.hears
   has_begun (Err error) run = begins run.count run.hears
 
-  -- with all rows, or where a failure ended it
   pub has_ended : (flow : Flow) → IsRunDelivered (IsReportedRow line batch) (length batch.places.now) received stops (Ok flow)
-      → refused ≡ false → (stops → left ≡ Some 0) → HasEnded line batch most judging received kept
+      → refused ≡ false → (flow ≡ Stop → left ≡ Some 0) → HasEnded received line batch.places.now (rows_up_to most (fails judging) (batch_rows batch)) kept
   has_ended GoOn run there ends =
       let hears = run.0 in
       let told = hears.results in
       let long = hears.count_is in
       let few : length told ≤ length batch.places.now = omega (arith, long) in
-      let count = length-map told (λ (t : ReportedRow). t.row) in
       let rows = rows_count batch.plan.now batch.places.now in
-      let all = rows_are line batch told few hears.each
-      ∙ take_all (length told) (batch_rows batch) (omega (arith, rows, long)) in record {
-        told = told;
-        is_heard = hears.received;
-        few = omega (arith, count, few);
-        rows = ap (rows_up_to most (fails judging)) (sym all) ∙ (first told hears.received).within;
-        kept_all = (first told hears.received).kept_all there;
-        texts = texts_are line batch told few hears.each;
+      let every = rows_are line batch told few hears.each
+      ∙ take_all (length told) (batch_rows batch) (omega (arith, rows, long)) in
+      let is : rows_of_reported told ≡ rows_up_to most (fails judging) (batch_rows batch) =
+      sym (ap (rows_up_to most (fails judging)) (sym every) ∙ (first told hears.received).within) in record {
+        seen = subst (HasSeenRows received line batch.places.now) is (are_seen line batch told few hears.each received hears.received);
+        kept_all = (first told hears.received).kept_all there ∙ is;
       }
   has_ended Stop run there ends =
       let hears = run.0.hears in
@@ -132,51 +179,54 @@ module _ (line : ℕ → Row → List ℕ) (batch : Batch) (most : Option ℕ) (
       let long = hears.count_is in
       let within = hears.few in
       let few : length told ≤ length batch.places.now = omega (arith, long, within) in
-      let count = length-map told (λ (t : ReportedRow). t.row) in
       let k = length told in
       let are = rows_are line batch told few hears.each in
-      let told_first = first told hears.received in record {
-        told = told;
-        is_heard = hears.received;
-        few = omega (arith, count, few);
-        rows = ap (rows_up_to most (fails judging)) (sym (take-append-drop k (batch_rows batch)))
-            ∙ ap (λ (rs : List Row). rows_up_to most (fails judging) (rs ++ drop k (batch_rows batch))) (sym are)
-            ∙ ended_there (fails judging) most (rows_of_reported told) (drop k (batch_rows batch))
-            told_first.within (sym told_first.left_is ∙ ends run.1);
-        kept_all = told_first.kept_all there;
-        texts = texts_are line batch told few hears.each;
+      let told_first = first told hears.received in
+      let is : rows_of_reported told ≡ rows_up_to most (fails judging) (batch_rows batch) =
+      sym (ap (rows_up_to most (fails judging)) (sym (take-append-drop k (batch_rows batch)))
+      ∙ ap (λ (rs : List Row). rows_up_to most (fails judging) (rs ++ drop k (batch_rows batch))) (sym are)
+      ∙ ended_there (fails judging) most (rows_of_reported told) (drop k (batch_rows batch))
+      told_first.within (sym told_first.left_is ∙ ends refl)) in record {
+        seen = subst (HasSeenRows received line batch.places.now) is (are_seen line batch told few hears.each received hears.received);
+        kept_all = told_first.kept_all there ∙ is;
       }
 
-  -- the same of a run that ended well
+  -- a run that ended well
   pub has_ended_well : (ran : Result Flow RunError) → IsRunDelivered (IsReportedRow line batch) (length batch.places.now) received stops ran
-      → is_ok ran ≡ true → refused ≡ false → (stops → left ≡ Some 0) → HasEnded line batch most judging received kept
-  has_ended_well (Ok flow) run ok there ends = has_ended flow run there ends
+      → is_ok ran ≡ true → refused ≡ false → (ran ≡ Ok Stop → left ≡ Some 0) → HasEnded received line batch.places.now (rows_up_to most (fails judging) (batch_rows batch)) kept
+  has_ended_well (Ok flow) run ok there ends = has_ended flow run there (λ is. ends (ap Ok is))
   has_ended_well (Err error) run ok there ends = absurd (false≢true ok)
 
 -- ---- results
 
-pub if_all : {X E : Type 0} (r : Result X E) (A B C D : X → Type 0) → ((x : X) → A x → B x → C x → D x) → IfOk r A → IfOk r B → IfOk r C
-    → IfOk r D
-if_all (Ok x) A B C D f a b c = f x a b c
-if_all (Err e) A B C D f a b c = tt
+pub if_each : {X E : Type 0} (r : Result X E) (A B C D P : X → Type 0) → ((x : X) → A x → B x → C x → D x → P x)
+    → IfOk r A → IfOk r B → IfOk r C → IfOk r D → IfOk r P
+if_each (Ok x) A B C D P f a b c d = f x a b c d
+if_each (Err e) A B C D P f a b c d = tt
 
-pub on_both : {X E : Type 0} (r : Result X E) (A B : X → Type 0) (P : Type 0) → ((x : X) → A x → B x → P) → IfOk r A → IfOk r B
-    → OnOk r P
-on_both (Ok x) A B P f a b = f x a b
-on_both (Err e) A B P f a b = tt
+pub on_each : {X E : Type 0} (r : Result X E) (B C D : X → Type 0) (P : Type 0) → ((x : X) → B x → C x → D x → P)
+    → IfOk r B → IfOk r C → IfOk r D → OnOk r P
+on_each (Ok x) B C D P f b c d = f x b c d
+on_each (Err e) B C D P f b c d = tt
 
 pub on_error : {X E : Type 0} (r : Result X E) (P : Type 0) → P → OnErr r P
 on_error (Ok x) P p = tt
 on_error (Err e) P p = p
 
--- a beginning of what is told of these rows is one of what is told of all
-pub begun_of_all : (line other : ℕ → Row → List ℕ) (batch : Batch) (most : Option ℕ) (judging : Judging) (received : List ReportedRow → Type 0)
-    (begun : HasBegun line batch most judging received) (before now : Option (List ℕ))
-    → AppendsBeginning before now (joined_row_texts other batch.places.now (rows_of_reported begun.told))
-    → AppendsBeginning before now (joined_row_texts other batch.places.now (rows_up_to most (fails judging) (batch_rows batch)))
-begun_of_all line other batch most judging received begun before now part =
-    let rows = rows_of_reported begun.told in
-    beginning_of_longer before now (joined_row_texts other batch.places.now rows)
-    (joined_row_texts other (drop (length rows) batch.places.now) begun.rest)
-    (joined_row_texts other batch.places.now (rows_up_to most (fails judging) (batch_rows batch))) part
-    (ap (joined_row_texts other batch.places.now) begun.rows ∙ told_append other batch.places.now rows begun.rest begun.few)
+-- a beginning of the texts of the first rows is one of the texts of all
+pub begun_of_all : (has_seen : List ReportedRow → Type 0) (line : ℕ → Row → List ℕ) (places : List ℕ) (rows : List Row)
+    (seen : HasSeenSomeRows has_seen line places rows) (before now : Option (List ℕ))
+    → AppendsBeginning before now (concat (texts_of_reported seen.seen.reported))
+    → AppendsBeginning before now (joined_row_texts line places rows)
+begun_of_all has_seen line places rows seen before now part =
+    let first = seen.first in
+    let few : length first ≤ length places =
+    let same = ap length (sym seen.seen.rows_are) in
+    let count = length-map seen.seen.reported (λ (t : ReportedRow). t.row) in
+    let most = seen.seen.few in
+    omega (arith, same, count, most) in
+    beginning_of_longer before now (joined_row_texts line places first)
+    (joined_row_texts line (drop (length first) places) seen.rest)
+    (joined_row_texts line places rows)
+    (subst (AppendsBeginning before now) (seen_texts has_seen line places first seen.seen) part)
+    (ap (joined_row_texts line places) (sym seen.whole) ∙ told_append line places first seen.rest few)

@@ -11,6 +11,8 @@ use Rattle.rv_rows.specs.Sinks.{AppendsBeginning}
 use Rattle.rv_rows.specs.declared_report.WriteError.{WriteError}
 use Rattle.rv_rows.specs.declared_report.WriteError.TheVariants.{Failed, OutOfMemory}
 use Rattle.rv_stream.specs.declared.reported_row.ReportedRow.{ReportedRow}
+use Rattle.rv_rows.specs.declared_row.Row.{Row}
+use Rattle.rv_stream.specs.Seen.{text_by_index}
 use Rattle.rv_stream.specs.Texts.{IsSent, IsUnderWay}
 use Rattle.rv_stream.specs.Told.{texts_of_reported}
 
@@ -24,6 +26,14 @@ pub texts_more : (results : List ReportedRow) (made : ReportedRow)
 texts_more results made =
     let text : ReportedRow → List ℕ = λ t. t.text.items in
     ap (λ (l : List ℕ). concat (map text results) ++ l) (sym (append-nil made.text.items))
+    ∙ sym (ap concat (map-append text results (made ∷ [])) ∙ concat-append (map text results) (map text (made ∷ [])))
+
+-- the texts of one row more, each by the index of its job
+pub reports_more : (line : ℕ → Row → List ℕ) (results : List ReportedRow) (made : ReportedRow)
+    → text_by_index line results ++ line made.index made.row ≡ text_by_index line (results ++ made ∷ [])
+reports_more line results made =
+    let text : ReportedRow → List ℕ = λ r. line r.index r.row in
+    ap (λ (l : List ℕ). concat (map text results) ++ l) (sym (append-nil (line made.index made.row)))
     ∙ sym (ap concat (map-append text results (made ∷ [])) ∙ concat-append (map text results) (map text (made ∷ [])))
 
 -- nothing has failed

@@ -7,10 +7,11 @@ use Rattle.rv_stream.specs.declared.reported_row.ReportedRow.{ReportedRow}
 use Rattle.rv_stream.specs.Limits.{failures_left_after, rows_up_to}
 use Rattle.rv_expect.specs.Judgement.{Judging, fails}
 
--- the row of the job with a number, and its reported text
+-- the row of a batch's job, with the job's index and its text
 pub record IsReportedRow (line : ℕ → Row → List ℕ) (batch : Batch) (number : ℕ) (told : ReportedRow) : Type 0 where
+  pub index : told.index ≡ index_of_number batch number
   pub row : told.row ≡ row_of_number batch number
-  pub text : told.text.items ≡ line (index_of_number batch number) told.row
+  pub text : told.text.items ≡ line told.index told.row
 
 abbrev pub rows_of_reported : List ReportedRow → List Row
 rows_of_reported told = map (λ (t : ReportedRow). t.row) told

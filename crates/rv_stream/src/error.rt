@@ -21,15 +21,9 @@ pub enum StreamError {
     /// A thread could not be started.
     #[error("no worker")]
     NoWorker,
-}
-
-/// Why not all texts of the rows were written to two sinks.
-#[derive(Clone, Copy, Debug)]
-pub enum BothError {
-    /// Not all texts of the first sink were written, or the run ended early.
-    First(StreamError),
-    /// Not all texts of the second sink were written.
-    Second(StreamError),
+    /// The observer said stop before the last row.
+    #[error("observer stopped")]
+    ObserverStopped,
 }
 
 impl From<AllocError> for StreamError {

@@ -7,9 +7,11 @@ use rv_fleet::Batch;
 use rv_rows::{Row, RowReporter, row_at_with_recent};
 use std::alloc::{AllocError, Global};
 
-/// A row and its reported text.
+/// The row of a job, and the text that a reporter gives of it.
 #[derive(Drop)]
 pub struct ReportedRow {
+    /// The job's index in its list.
+    pub index: usize,
     pub row: Row,
     pub text: Vec<u8>,
 }
@@ -46,16 +48,16 @@ impl<T: RowReporter> Work<ReportedRow> for ReportedRowWork<'_, '_, T> {
         number: usize,
         worker_state: &mut WorkerState,
     ) -> Result<ReportedRow, AllocError> {
-        let place = self.batch.places[number];
+        let index = self.batch.places[number];
         let row = row_at_with_recent(
             alloc,
             self.batch.plan,
-            place,
+            index,
             &mut worker_state.spare,
             &mut worker_state.recent,
         )?;
         let mut text = Vec::new(alloc);
-        self.reporter.push_row_text(alloc, place, &row, &mut text)?;
-        Ok(ReportedRow { row, text })
+        self.reporter.push_row_text(alloc, index, &row, &mut text)?;
+        Ok(ReportedRow { index, row, text })
     }
 }

@@ -1,6 +1,8 @@
-//! An observer that reports rows and writes the texts.
+//! An observer that reports rows, and sends that.
 
-ghost use Rattle.std.specs.Prelude.{◌≡◌, [], None};
+ghost use Rattle.std.specs.Prelude.{◌≡◌, [], ℕ, List, None, OnErr, OnOk};
+ghost use Rattle.std.specs.Io.KnownBytes.{Appends};
+ghost use Rattle.rv_rows.specs.Sinks.{AppendsBeginning};
 ghost use Rattle.rv_stream.specs.Texts.{IsSent};
 
 use crate::outbox::Outbox;
@@ -11,30 +13,21 @@ use rv_fleet::Sink;
 use rv_rows::{RowReporter, WriteError};
 use std::alloc::Global;
 
-/// Reports each row with the index of its job and writes the text. Rows that arrive together are written at once.
+/// Sends what a reporter of its own says of each row: what comes together goes out in one write.
 #[derive(Drop)]
-pub(crate) struct RowSender<'t, 'p, J: StreamSpec, T: RowReporter, W: Sink + Drop> {
-    pub(crate) alloc: Global,
-    pub(crate) reporter: &'t T,
-    pub(crate) places: &'p [usize],
-    /// The number of rows reported so far.
-    pub(crate) told: usize,
+pub struct RowSender<'t, J: StreamSpec, T: RowReporter, W: Sink + Drop> {
+    alloc: Global,
+    reporter: &'t T,
     pub(crate) outbox: Outbox<J, W>,
+    ghost line: { T.line reporter.now ≡ J.line },
 }
 
-impl<'t, 'p, J: StreamSpec, T: RowReporter, W: Sink + Drop> RowSender<'t, 'p, J, T, W> {
-    /// Creates a sender that has seen no rows.
-    pub(crate) fn new(
-        alloc: Global,
-        reporter: &'t T,
-        places: &'p [usize],
-        out: W,
-    ) -> RowSender<'t, 'p, J, T, W>
+impl<'t, J: StreamSpec, T: RowReporter, W: Sink + Drop> RowSender<'t, J, T, W> {
+    /// It has seen no row yet.
+    pub fn new(alloc: Global, reporter: &'t T, out: W) -> RowSender<'t, J, T, W>
         requires before { J.before ≡ W.taken out }
         requires failures { J.failures ≡ W.failed out }
-        ensures reporter { result.reporter.now ≡ reporter.now }
-        ensures places { result.places.now ≡ places.now }
-        ensures told { result.told ≡ 0 }
+        requires line { T.line reporter.now ≡ J.line }
         ensures sent { IsSent J.before (W.taken result.outbox.out) J.failures (W.failed result.outbox.out)
             result.outbox.failed result.outbox.unsent.items [] }
         ensures goes { result.outbox.failed ≡ None }
@@ -42,38 +35,44 @@ impl<'t, 'p, J: StreamSpec, T: RowReporter, W: Sink + Drop> RowSender<'t, 'p, J,
         RowSender {
             alloc,
             reporter,
-            places,
-            told: 0,
             outbox: Outbox::<J, W>::new(alloc, out),
         }
+    }
+
+    /// Sends what waits, and returns the sink: it took all of the text, or a beginning.
+    pub fn finish(self) -> (W, Result<(), WriteError>)
+        ensures all { (text : List ℕ)
+            → IsSent J.before (W.taken self.entry.outbox.out) J.failures (W.failed self.entry.outbox.out) self.entry.outbox.failed self.entry.outbox.unsent.items text
+            → OnOk result.1 (Appends J.before (W.taken result.0) text × (W.failed result.0 ≡ J.failures)) }
+        ensures part { (text : List ℕ)
+            → IsSent J.before (W.taken self.entry.outbox.out) J.failures (W.failed self.entry.outbox.out) self.entry.outbox.failed self.entry.outbox.unsent.items text
+            → OnErr result.1 (AppendsBeginning J.before (W.taken result.0) text) }
+        ensures goes { OnOk result.1 (self.entry.outbox.failed ≡ None) }
+    {
+        self.outbox.finish()
     }
 }
 
 impl<J: StreamSpec, T: RowReporter, W: Sink + Drop> Observer<ReportedRow>
-    for RowSender<'_, '_, J, T, W> {
-    ghost use Rattle.std.specs.Prelude.{◌≡◌, true, is_some, length, min};
-    ghost use Rattle.rv_stream.specs.Streams.{joined_row_texts};
+    for RowSender<'_, J, T, W> {
+    ghost use Rattle.std.specs.Prelude.{◌≡◌, true, is_some};
+    ghost use Rattle.rv_stream.specs.Seen.{text_by_index};
     ghost use Rattle.rv_stream.specs.Texts.{IsSent};
-    ghost use Rattle.rv_stream.specs.Told.{rows_of_reported};
 
-    ghost has_seen = { λ s told. (T.line s.reporter.now ≡ J.line) × (s.places.now ≡ J.places)
-        × (s.told ≡ min (length told) (length J.places))
-        × IsSent J.before (W.taken s.outbox.out) J.failures (W.failed s.outbox.out) s.outbox.failed s.outbox.unsent.items
-        (joined_row_texts J.line J.places (rows_of_reported told)) };
+    ghost has_seen = { λ s reported. IsSent J.before (W.taken s.outbox.out) J.failures (W.failed s.outbox.out)
+        s.outbox.failed s.outbox.unsent.items (text_by_index J.line reported) };
 
     ghost stops = { λ s. is_some s.outbox.failed ≡ true };
 
     fn see(&mut self, made: &ReportedRow) -> Flow {
-        if self.told >= self.places.len() {
-            return Flow::GoOn;
-        }
-        let place = self.places[self.told];
-        self.told += 1;
         let (alloc, unsent) = (self.alloc, &mut self.outbox.unsent);
-        match self.reporter.push_row_text(alloc, place, &made.row, unsent) {
+        match self
+            .reporter
+            .push_row_text(alloc, made.index, &made.row, unsent)
+        {
             Ok(()) => Flow::GoOn,
             Err(_) => {
-                // Out of memory: a reporter fails by that alone.
+                // Out of memory: a reporter fails for that alone.
                 self.outbox.failed = Some(WriteError::OutOfMemory);
                 Flow::Stop
             }

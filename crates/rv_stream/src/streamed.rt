@@ -13,19 +13,17 @@ pub trait StreamSpec {
 
     ghost failures: { ℕ };
 
-    // The text reported for a row, and the indices of the rows.
-    ghost line: { ℕ → Row → List ℕ };
-
-    ghost places: { List ℕ };
-
     // The number of the failure that ends the run, and what counts as a failure.
     ghost most: { Option ℕ };
 
     ghost judging: { Judging };
+
+    // What a [`crate::RowSender`] sends for the job at an index and its row.
+    ghost line: { ℕ → Row → List ℕ };
 }
 
 impl StreamSpec for Brand {
-    ghost use Rattle.std.specs.Prelude.{[], None};
+    ghost use Rattle.std.specs.Prelude.{None, []};
     ghost use Rattle.rv_expect.specs.Judgement.{judging_by_rule};
     ghost use Rattle.rv_expect.specs.declared.passing.Rule.TheVariants.{Strict};
 
@@ -33,11 +31,9 @@ impl StreamSpec for Brand {
 
     ghost failures = { 0 };
 
-    ghost line = { λ _ _. [] };
-
-    ghost places = { [] };
-
     ghost most = { None };
 
     ghost judging = { judging_by_rule Strict };
+
+    ghost line = { λ _ _. [] };
 }

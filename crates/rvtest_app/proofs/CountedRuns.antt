@@ -55,7 +55,7 @@ no_counts_put stacks path plan places before after none written = rw none writte
 
 -- ---- the rows that were put before the counts
 
-placed_of_shown : (is_beside : Bool) (text : List ℕ) (before after : CommandOutputs) → IsShown is_beside text before after
+pub placed_of_shown : (is_beside : Bool) (text : List ℕ) (before after : CommandOutputs) → IsShown is_beside text before after
     → after.placed ≡ before.placed
 placed_of_shown true text before after is = is.2
 placed_of_shown false text before after is = is.3
@@ -78,13 +78,6 @@ run_put_where_told words reporter places shard old rows before after put = recor
       (placed_of_shown _ _ before put.middle put.seen) put.placed;
 }
 
-pub run_files_placed : (words : RunArgs) (reporter : RowReporter) (places : List ℕ) (shard : Option Shard)
-    (old : Option (List Row)) (rows : List Row) (before after : CommandOutputs) → IsRunWritten words reporter places shard old rows before after
-    → AreFilesCommitted before.placed after.placed
-    (Some (junit_file words reporter places rows ++ report_file words reporter places shard old rows))
-run_files_placed words reporter places shard old rows before after put =
-    rw (placed_of_shown _ _ before put.middle put.seen) at put.placed
-
 -- ---- what is left
 
 -- where the rows' files did not all go out
@@ -103,12 +96,12 @@ given_text words = of words.counts
 
 -- where the counts did not
 pub part_of_counts : (words : RunArgs) (reporter : RowReporter) (places : List ℕ) (shard : Option Shard)
-    (old : Option (List Row)) (rows : List Row) (before after : CommandOutputs) (placed : Option (List CommittedFile))
-    → is_some (optional_text words.counts) ≡ true → IsRunWritten words reporter places shard old rows before after
-    → placed ≡ after.placed
-    → (placed ≡ before.placed) ⊎ AreRunFilesPlacedInPart words reporter places shard old rows before.placed placed
-part_of_counts words reporter places shard old rows before after placed given put same =
-    inr (inr (given_text words given, rw same (run_files_placed words reporter places shard old rows before after put)))
+    (old : Option (List Row)) (rows : List Row) (before after placed : Option (List CommittedFile))
+    → is_some (optional_text words.counts) ≡ true
+    → AreFilesCommitted before after (Some (junit_file words reporter places rows ++ report_file words reporter places shard old rows))
+    → placed ≡ after → (placed ≡ before) ⊎ AreRunFilesPlacedInPart words reporter places shard old rows before placed
+part_of_counts words reporter places shard old rows before after placed given files same =
+    inr (inr (given_text words given, rw same files))
 
 -- ---- why
 

@@ -1,3 +1,4 @@
+mod RowSinks
 pub mod StepRanks
 mod StepOrder
 mod AcceptInputs

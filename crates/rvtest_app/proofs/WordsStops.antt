@@ -1,5 +1,6 @@
 -- What stops the program for its words.
-use Rattle.std.proofs.Common.{◌≡◌, ◌⊎◌, ◌∙◌, ℕ, Bool, List, [], MatchOption, Option, Some, None, Result, Ok, Err, IfErr, inl, inr, subst, ⊎_elim}
+use Rattle.std.proofs.Common.{◌≡◌, ◌⊎◌, ◌∙◌, ℕ, Bool, List, [], MatchOption, Option, Some, None, Result, Ok, Err, IfErr, OnOk, inl, inr, subst, ⊎_elim}
+use Rattle.std.specs.Prelude.{IfOk}
 use Rattle.clap.specs.Kinds.{IsAmong}
 use Rattle.clap.specs.declared.error.kind.ErrorKind.{ErrorKind}
 use Rattle.rv_base.specs.Files.{FileContents}
@@ -10,9 +11,10 @@ use Rattle.rvtest_cli.specs.declared.words_error.WordsError.TheVariants as error
 use Rattle.rv_command.specs.Stops.{IsUsageStop}
 use Rattle.rv_command.specs.declared.stop.Stop.{Stop}
 use Rattle.rv_command.specs.declared.stop.Stop.TheVariants as stop
-use Rattle.rvtest_app.specs.Answers.{AskForHelp}
+use Rattle.rvtest_app.specs.Answers.{AskForHelp, IsAnswered}
+use Rattle.rvtest_app.specs.CommandOutputs.{CommandOutputs}
 use Rattle.rvtest_app.specs.CommandStops.{IsStopFor}
-use Rattle.rvtest_app.specs.ReportedStops.{IsHelpAsked, IsHelpStop, IsWordsErrorStop}
+use Rattle.rvtest_app.specs.ReportedStops.{IsHelpAsked, IsHelpStop, IsHelpWritten, IsWordsErrorStop}
 
 pub ask_for_help : (words : List (List ℕ)) (fault : ErrorKind) → IsAmong fault (words_fault_kinds words)
     → IsHelpAsked fault → AskForHelp words
@@ -53,3 +55,18 @@ pub words_stop : (known : Option FileContents) (is_terminal : Bool) (words : Lis
 words_stop known is_terminal words told (Ok status) before after among misused is = tt
 words_stop known is_terminal words told (Err why) before after among misused is =
     stop_of_error known is_terminal words told before after why among misused is
+
+-- where the help was written, the words ask for it, and nothing went to other places
+help_asked : (words : List (List ℕ)) (told : WordsError) (before after : Option (List ℕ)) → IsToldOf (words_fault_kinds words) told
+    → IsHelpWritten told before after → AskForHelp words
+help_asked words error.OutOfMemory before after among written = absurd written
+help_asked words (error.Told fault text) before after among written = ask_for_help words fault among written.0
+
+pub words_answered : (known : Option FileContents) (input : Option (List ℕ)) (is_terminal is_colored : Bool) (words : List (List ℕ))
+    (told : WordsError) (answer : Result ℕ Stop) (before after : CommandOutputs) → IsToldOf (words_fault_kinds words) told
+    → IfOk answer (λ status. status ≡ 0) → OnOk answer (IsHelpWritten told before.out after.out)
+    → (after.errors ≡ before.errors) × (after.failures ≡ before.failures) × (after.placed ≡ before.placed)
+    → IfOk answer (λ status. IsAnswered known input is_terminal is_colored words status before after)
+words_answered known input is_terminal is_colored words told (Ok status) before after among zero written same =
+    inr (inr (help_asked words told before.out after.out among written, zero), same.0, same.1, same.2)
+words_answered known input is_terminal is_colored words told (Err why) before after among zero written same = tt

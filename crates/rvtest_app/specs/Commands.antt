@@ -57,9 +57,3 @@ check_status refused = if refused == 0 then 0 else 2
 -- the status for a single job
 abbrev pub passing_status : Bool → ℕ
 passing_status passed = if passed then 0 else 1
-
--- why a run stopped before its end
-abbrev pub stop_of_stream : StreamError → Stop
-stop_of_stream stream.OutOfMemory = stop.OutOfMemory
-stop_of_stream stream.NoWorker = stop.NoWorker
-stop_of_stream stream.Failed = stop.WriteFailed

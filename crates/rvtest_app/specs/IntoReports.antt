@@ -1,5 +1,5 @@
 -- Merging the rows of a run into the whole report of their list.
-use Rattle.std.specs.Prelude.{◌≡◌, ◌||◌, ℕ, Bool, List, [], ◌∷◌, IsSomeAnd, MatchOption, Option, Some, None, map, slice_set}
+use Rattle.std.specs.Prelude.{◌≡◌, ◌||◌, ℕ, Bool, List, [], ◌∷◌, IsSomeAnd, MatchOption, Option, Some, None, if◌then◌else◌, map, slice_set}
 use Rattle.std.specs.Option.{option_or}
 use Rattle.rv_base.specs.Files.{FileContents}
 use Rattle.rvtest_cli.specs.declared.run.RunArgs.{RunArgs}
@@ -47,6 +47,10 @@ merged_rows (place ∷ places) (row ∷ rows) old = merged_rows places rows (sli
 abbrev pub run_report_text : Option (List Row) → ℕ → List ℕ → Option Shard → List Row → List ℕ
 run_report_text (Some old) jobs places shard rows = report_text (merged_rows places rows old)
 run_report_text None jobs places shard rows = chosen_report_text jobs places shard rows
+
+-- the report text of a row that is written as the row arrives: empty if rows are not streamed
+abbrev pub report_row_text : Bool → ℕ → Row → List ℕ
+report_row_text is_streaming place row = if is_streaming then row_text place row else []
 
 -- the part of the report that is written as rows arrive: empty if they are merged into another report
 abbrev pub streamed_rows : Option (List Row) → List ℕ → List Row → List ℕ

@@ -12,11 +12,7 @@ use Rattle.rv_lists.specs.JobList.{job_list_of}
 use Rattle.rv_lists.specs.declared.job.Job.{Job}
 use Rattle.rv_report.specs.declared.row.Row.{Row}
 use Rattle.rv_report.specs.declared.saved.Shard.{Shard}
-use Rattle.rv_stream.specs.declared.error.BothError.{BothError}
-use Rattle.rv_stream.specs.declared.error.BothError.TheVariants as both
-use Rattle.rv_stream.specs.declared.error.StreamError.{StreamError}
-use Rattle.rv_stream.specs.declared.error.StreamError.TheVariants as stream
-use Rattle.rvtest_app.specs.Commands.{failure_rule, stop_of_stream}
+use Rattle.rvtest_app.specs.Commands.{failure_rule}
 use Rattle.rvtest_app.specs.IntoReports.{run_report_path}
 use Rattle.rvtest_app.specs.IntoStops.{IsIntoStop}
 use Rattle.rvtest_app.specs.KnownStops.{IsKnownStop}
@@ -25,6 +21,8 @@ use Rattle.rvtest_app.specs.Overwrites.{IsRunOverwriteStop}
 use Rattle.rvtest_app.specs.WriteStops.{IsFileStop, IsOutputStop, IsUnwrittenStop}
 use Rattle.rvtest_app.specs.Runs.{AreJobsToRun, AreRequestedJobs}
 use Rattle.rvtest_app.specs.StackStops.{IsUnstackedStop}
+use Rattle.rvtest_app.specs.declared.run_output.ShowError.{ShowError}
+use Rattle.rvtest_app.specs.declared.run_output.ShowError.TheVariants as show
 
 -- the shard is rejected; or no shard is requested, and the arguments choose no jobs
 abbrev pub IsUnmarkedStop : Option FileContents → RunArgs → List Job → Stop → Type 0
@@ -52,20 +50,12 @@ pub record IsUnknownStop (known : Option FileContents) (words : RunArgs) (why : 
   pub asked : AreRequestedJobs known words jobs marks shard old notes
   pub unknown : IsKnownStop known words jobs why
 
--- the run of the jobs stopped before its end
-abbrev pub IsStreamStop : Stop → Type 0
-IsStreamStop why = (error : StreamError) × (why ≡ stop_of_stream error)
-
--- the run stopped before its end, or the report's rows were not written to the file for the path, if there is one
-abbrev pub IsRowsStop : Option (List ℕ) → Stop → Type 0
-IsRowsStop report why = IsStreamStop why ⊎ IsSomeAnd report (λ path. IsUnwrittenStop path why)
-
--- why it stopped: the second error is that of the file for the path
-abbrev pub IsBothStop : List ℕ → BothError → Stop → Type 0
-IsBothStop path (both.First error) why = why ≡ stop_of_stream error
-IsBothStop path (both.Second stream.Failed) why = IsUnwrittenStop path why
-IsBothStop path (both.Second stream.OutOfMemory) why = why ≡ stop.OutOfMemory
-IsBothStop path (both.Second stream.NoWorker) why = why ≡ stop.NoWorker
+-- why a run that is shown stopped: the last error is that of the file at the path
+abbrev pub IsShowStop : Option (List ℕ) → ShowError → Stop → Type 0
+IsShowStop path show.OutOfMemory why = why ≡ stop.OutOfMemory
+IsShowStop path show.NoWorker why = why ≡ stop.NoWorker
+IsShowStop path show.StreamFailed why = why ≡ stop.WriteFailed
+IsShowStop path show.ReportFailed why = IsSomeAnd path (λ path. IsUnwrittenStop path why)
 
 -- the requested jobs were not run, or the results, the report or the JUnit file were not written
 abbrev pub IsRowsPutStop : RunArgs → Stop → Type 0

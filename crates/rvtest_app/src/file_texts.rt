@@ -13,5 +13,7 @@ pub(crate) struct FileTexts<'s, 't, 'p, T> {
     pub(crate) reporter: &'t T,
     pub(crate) places: &'p [usize],
     pub(crate) report: ReportText<'p>,
+    /// The lines that are known already, by the numbers of their rows.
+    pub(crate) texts: &'p [Option<Vec<u8>>],
     ghost placed: { length (report_rows report) ≤ length places.now },
 }

@@ -59,6 +59,7 @@ mod run;
 mod run_counts;
 mod run_inputs;
 mod run_into_files;
+mod run_outlets;
 mod run_output;
 mod show;
 mod shown_run;

@@ -1,6 +1,6 @@
 //! Where the texts of rows go: a report, and JUnit XML.
 
-ghost use Rattle.std.specs.Prelude.{◌≡◌, [], Some, false, IfErr, IfOk, IsErr, IsOk, IsSomeAnd, MatchResult, OnErr, OnOk};
+ghost use Rattle.std.specs.Prelude.{◌≡◌, [], Some, false, IfErr, IfOk, IsErr, IsOk, IsSomeAnd, MatchResult, OnErr, OnOk, is_some};
 ghost use Rattle.std.specs.Io.KnownBytes.{Appends};
 ghost use Rattle.rv_base.specs.Sinks.{AppendsBeginning};
 ghost use Rattle.rv_command.specs.Texts.{optional_text};
@@ -10,13 +10,15 @@ ghost use Rattle.rvtest_app.specs.Outlets.{outlet_path, stdout_part, uses_stdout
 ghost use Rattle.rvtest_app.specs.WriteStops.{IsEitherFileStop, IsTextStop, IsUnopenedStop, IsUnwrittenStop, IsWriteErrorStop, IsWriteStop};
 ghost use Rattle.rvtest_app.specs.WriteStops.{stop_of_write_error};
 ghost use Rattle.rv_junit.specs.Junit.{junit_text};
+ghost use Rattle.rv_junit.specs.KnownLines.{AreLinesOf};
 ghost use Rattle.rv_stream.specs.Streams.{row_text_list};
+ghost use Rattle.rvtest_app.specs.RowSinks.{AreOutletParts, is_file};
 ghost use Rattle.rvtest_app.specs.ReportTexts.{report_rest_of, report_text_of};
 
 use crate::report_texts::ReportText;
 use rv_command::{Stop, file_error_stop, path_message};
 use rv_files::{LastError, Outputs, write_error_text};
-use rv_junit::{IndexedRows, Suite, write_junit};
+use rv_junit::{Cases, Suite, write_junit};
 use rv_rows::{RowReporter, Sink, WriteError};
 use std::alloc::Global;
 use std::io::ErrorKind;
@@ -125,6 +127,44 @@ fn open_file<'a, F: Outputs>(
     }
 }
 
+impl<'a, P: Drop, W: Drop> Outlet<'a, P, W> {
+    /// Takes the sink out of the outlet, if it is a file.
+    pub(crate) fn take_sink(self) -> (Outlet<'a, P, ()>, Option<W>)
+        ensures parts { AreOutletParts result.0 result.1 self.entry }
+        ensures there { is_some result.1 ≡ is_file result.0 }
+    {
+        match self {
+            Outlet::Nowhere => (Outlet::Nowhere, None),
+            Outlet::Out => (Outlet::Out, None),
+            Outlet::File(OpenFile { path, place, sink }) => {
+                let file = OpenFile {
+                    path,
+                    place,
+                    sink: (),
+                };
+                (Outlet::File(file), Some(sink))
+            }
+        }
+    }
+}
+
+impl<'a, P: Drop> Outlet<'a, P, ()> {
+    /// Puts a sink back into an outlet, if it is a file.
+    pub(crate) fn with_sink<W: Drop>(self, sink: Option<W>) -> Outlet<'a, P, W>
+        requires { is_some sink ≡ is_file self }
+        ensures { AreOutletParts self.entry sink result }
+    {
+        match (self, sink) {
+            (Outlet::Nowhere, None) => Outlet::Nowhere,
+            (Outlet::Out, None) => Outlet::Out,
+            (Outlet::File(OpenFile { path, place, .. }), Some(sink)) => {
+                Outlet::File(OpenFile { path, place, sink })
+            }
+            (Outlet::Nowhere | Outlet::Out, Some(_)) | (Outlet::File(_), None) => unreachable!(),
+        }
+    }
+}
+
 impl<'a, P: Drop, W: Sink + LastError + Drop> Outlets<'a, P, W> {
     /// Whether one of them goes to standard output.
     pub(crate) fn use_stdout(&self) -> bool
@@ -182,24 +222,24 @@ impl<'a, P: Drop, W: Sink + LastError + Drop> Outlet<'a, P, W> {
         alloc: Global,
         out: &mut O,
         suite: &Suite<'_>,
-        reporter: &T,
-        rows: &IndexedRows<'_>,
+        cases: &Cases<'_, T>,
     ) -> Result<(), Stop>
+        requires known { AreLinesOf (T.line cases.now.reporter.now) cases.now.places.now cases.now.rows.now cases.now.texts.now }
         ensures put { OnOk result (IsPutInto W.taken W.failed self.old self.new
             (junit_text suite.now.name.now (judging_of suite.now.judge)
-            (row_text_list (T.line reporter.now) rows.now.places.now rows.now.rows.now) rows.now.rows.now)) }
+            (row_text_list (T.line cases.now.reporter.now) cases.now.places.now cases.now.rows.now) cases.now.rows.now)) }
         ensures out { OnOk result (Appends (O.taken out.old) (O.taken out.new) (stdout_part self.old
             (junit_text suite.now.name.now (judging_of suite.now.judge)
-            (row_text_list (T.line reporter.now) rows.now.places.now rows.now.rows.now) rows.now.rows.now))) }
+            (row_text_list (T.line cases.now.reporter.now) cases.now.places.now cases.now.rows.now) cases.now.rows.now))) }
         ensures counted { OnOk result (O.failed out.new ≡ O.failed out.old) }
         ensures path { outlet_path self.new ≡ outlet_path self.old }
         ensures stopped { IfErr result (IsTextStop (outlet_path self.old)) }
     {
         match self {
             Outlet::Nowhere => Ok(()),
-            Outlet::Out => stdout_result(write_junit(alloc, suite, reporter, rows, out)),
+            Outlet::Out => stdout_result(write_junit(alloc, suite, cases, out)),
             Outlet::File(file) => {
-                let written = write_junit(alloc, suite, reporter, rows, &mut file.sink);
+                let written = write_junit(alloc, suite, cases, &mut file.sink);
                 file_result(alloc, file.path, file.sink.last_error(), written)
             }
         }

@@ -4,15 +4,11 @@ ghost use Rattle.std.specs.Prelude.{◌≡◌, ◌≤◌, length, take};
 ghost use Rattle.std.specs.Option.{ForSome};
 ghost use Rattle.std.specs.List.Sorted.{IsStrictlyIncreasing};
 ghost use Rattle.rv_fleet.specs.Choices.{AreJobIndices};
-ghost use Rattle.rv_job_text.specs.RowReporter.{reporter_of};
-ghost use Rattle.rvtest_app.specs.FailureLines.{failure_lines};
 
 use crate::into_report::ReportFrame;
 use rv_expect::KnownJobs;
 use rv_job_text::TextReporter;
 use rv_jobs::JobList;
-use rv_kept_lines::{LinesSpec, RecordedLines};
-use std::sync::Mutex;
 
 /// The jobs of a list, and the selection of those that are requested.
 #[derive(Drop)]
@@ -39,20 +35,18 @@ pub(crate) struct SelectedJobs {
     ghost whole: { ForSome frame.old (λ rows. length rows ≡ length jobs) },
 }
 
-/// The jobs at some indices of a plan, how they are reported, and the recorded lines of those that failed.
+/// The jobs at some indices of a plan, and how they are reported.
 #[derive(Drop)]
-pub(crate) struct PlannedRun<'a, J: LinesSpec> {
+pub(crate) struct PlannedRun<'a> {
     pub(crate) reporter: &'a TextReporter<'a>,
     pub(crate) places: &'a [usize],
-    pub(crate) kept: &'a Mutex<RecordedLines<J>>,
     ghost within: { AreJobIndices reporter.now.plan.now places.now },
     ghost rising: { IsStrictlyIncreasing places.now },
-    ghost told: { J.lines ≡ failure_lines (reporter_of reporter.now) },
 }
 
-impl<'a, J: LinesSpec> PlannedRun<'a, J> {
-    /// Returns the first `count` jobs.
-    pub(crate) fn first_jobs(&self, count: usize) -> PlannedRun<'a, J>
+impl<'a> PlannedRun<'a> {
+    /// Returns the first `count` of the jobs.
+    pub(crate) fn first_jobs(&self, count: usize) -> PlannedRun<'a>
         requires { count ≤ length self.now.places.now }
         ensures places { result.places.now ≡ take count self.now.places.now }
         ensures reporter { result.reporter.now ≡ self.now.reporter.now }
@@ -60,7 +54,6 @@ impl<'a, J: LinesSpec> PlannedRun<'a, J> {
         PlannedRun {
             reporter: self.reporter,
             places: &self.places[..count],
-            kept: self.kept,
         }
     }
 }

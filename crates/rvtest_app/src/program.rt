@@ -76,44 +76,7 @@ where
         (IsStopFor (D.contents host.now.inputs.now) terminals.is_out_terminal (map T.text words.entry.now))
         result.1 (outputs_of F.placed O.taken E.taken E.failed result.0) }
 {
-    let (mut to, answer) = answer_words(host, words, to, terminals, input);
-    match answer {
-        Ok(status) => (to, status),
-        Err(stop) => {
-            let is_out_closed = to.out.is_closed();
-            let status = put_end_message(&mut to.errors, stop, is_out_closed);
-            (to, status)
-        }
-    }
-}
-
-fn answer_words<
-    'a,
-    R: Threads + Wait + Sync + Clock,
-    D: Inputs,
-    T: AsStr,
-    F: Outputs + Drop,
-    O: Sink + Drop + Send,
-    E: Sink + Drop + Send,
-    P: Write + Drop + Send,
-    I: Read + Send,
->(
-    host: &Host<'_, R, D>,
-    words: &'a [T],
-    to: Destinations<F, O, E>,
-    terminals: Terminals<P>,
-    input: &mut I,
-) -> (Destinations<F, O, E>, Result<u8, Stop>)
-where
-    F::File: Send,
-    ensures low { IfOk result.1 (λ status. status ≤ 2) }
-    ensures answered { IfOk result.1 (λ status. IsAnswered (D.contents host.now.inputs.now) (I.remaining input.old)
-        terminals.is_out_terminal terminals.is_out_colored (map T.text words.entry.now) status
-        (outputs_of F.placed O.taken E.taken E.failed to) (outputs_of F.placed O.taken E.taken E.failed result.0)) }
-    ensures stopped { IfErr result.1 (IsStopFor (D.contents host.now.inputs.now) terminals.is_out_terminal
-        (map T.text words.entry.now)) }
-{
-    match read_words(host.alloc, words) {
+    let (mut to, answer) = match read_words(host.alloc, words) {
         Ok(Some(asked)) => {
             run_in_colors::<Brand, R, D, F, O, E, P, I>(host, asked, to, terminals, input)
         }
@@ -122,6 +85,14 @@ where
             let mut to = to;
             let answer = answer_words_error(&mut to.out, error);
             (to, answer)
+        }
+    };
+    match answer {
+        Ok(status) => (to, status),
+        Err(stop) => {
+            let is_out_closed = to.out.is_closed();
+            let status = put_end_message(&mut to.errors, stop, is_out_closed);
+            (to, status)
         }
     }
 }

@@ -6,7 +6,8 @@ ghost use Rattle.rvtest_app.specs.Outlets.{AreFilesCommitted, AreFilesPartlyComm
 ghost use Rattle.rvtest_app.specs.Outlets.{outlet_path, stdout_at, stdout_part};
 ghost use Rattle.rvtest_app.specs.Puts.{IsShown, junit_of};
 ghost use Rattle.rvtest_app.specs.WriteStops.{IsPutStop};
-ghost use Rattle.rvtest_app.specs.ReportTexts.{report_rest_of, report_text_of};
+ghost use Rattle.rvtest_app.specs.ReportTexts.{report_rest_of, report_rows, report_text_of};
+ghost use Rattle.rv_junit.specs.KnownLines.{AreLinesOf};
 ghost use Rattle.rvtest_app.specs.CommandOutputs.{outputs_of};
 
 use crate::destinations::Destinations;
@@ -15,7 +16,7 @@ use crate::outlets::{Outlets, abandon_outlets};
 use crate::placing::commit_outlets;
 use rv_command::{Stop, put_message, put_results};
 use rv_files::{LastError, Outputs};
-use rv_junit::IndexedRows;
+use rv_junit::Cases;
 use rv_rows::{RowReporter, Sink};
 use std::alloc::Global;
 
@@ -45,6 +46,7 @@ pub(crate) fn put_files<F: Outputs + Drop, O: Sink + Drop, E: Sink + Drop, T: Ro
     outlets: Outlets<'_, F::Place, F::File>,
     texts: FileTexts<'_, '_, '_, T>,
 ) -> Result<(), Stop>
+    requires known { AreLinesOf (T.line texts.reporter.now) texts.places.now (report_rows texts.report) texts.texts.now }
     requires report { has_no_failure F.File.failed outlets.report }
     requires junit { has_no_failure F.File.failed outlets.junit }
     ensures errors { to.new.errors ≡ to.old.errors }
@@ -82,6 +84,7 @@ fn put_texts<P: Drop, W: Sink + LastError + Drop, O: Sink, T: RowReporter>(
     outlets: &mut Outlets<'_, P, W>,
     texts: FileTexts<'_, '_, '_, T>,
 ) -> Result<(), Stop>
+    requires known { AreLinesOf (T.line texts.reporter.now) texts.places.now (report_rows texts.report) texts.texts.now }
     ensures junit { OnOk result
         (IsPutInto W.taken W.failed outlets.old.junit outlets.new.junit (junit_of T.line texts.entry)) }
     ensures report { OnOk result (IsPutInto W.taken W.failed outlets.old.report outlets.new.report
@@ -99,14 +102,15 @@ fn put_texts<P: Drop, W: Sink + LastError + Drop, O: Sink, T: RowReporter>(
         reporter,
         places,
         report,
+        texts,
         ..
     } = texts;
-    let rows = IndexedRows {
+    let cases = Cases {
+        reporter,
         places,
         rows: report.rows(),
+        texts,
     };
-    outlets
-        .junit
-        .put_junit(alloc, out, &suite, reporter, &rows)?;
+    outlets.junit.put_junit(alloc, out, &suite, &cases)?;
     outlets.report.put_report(alloc, out, report)
 }

@@ -1,6 +1,6 @@
-//! The report text of a row, reported as the row comes.
+//! The report text of a row, written as the row comes.
 
-ghost use Rattle.rv_report.specs.Report.{row_text};
+ghost use Rattle.rvtest_app.specs.IntoReports.{report_row_text};
 
 use rv_report::push_row;
 use rv_rows::{Row, RowReporter};
@@ -8,10 +8,13 @@ use std::alloc::{AllocError, Global};
 
 /// Reports each row as a report has it.
 #[derive(Clone, Copy)]
-pub(crate) struct ReportRowReporter;
+pub(crate) struct ReportRowReporter {
+    /// Whether rows are written as they come; if not, its texts are empty.
+    pub(crate) is_streaming: bool,
+}
 
 impl RowReporter for ReportRowReporter {
-    ghost line = { λ _ place row. row_text place row };
+    ghost line = { λ s place row. report_row_text s.is_streaming place row };
 
     fn push_row_text(
         &self,
@@ -20,12 +23,15 @@ impl RowReporter for ReportRowReporter {
         row: &Row,
         text: &mut Vec<u8>,
     ) -> Result<(), AllocError> {
+        if !self.is_streaming {
+            return Ok(());
+        }
         if place == usize::MAX {
             // Out of memory: no memory has so many jobs.
             return Err(AllocError);
         }
-        let mut outputs_of = String::new(alloc);
-        push_row(alloc, &mut outputs_of, place, row)?;
-        text.extend_from_slice(outputs_of.as_bytes())
+        let mut row_text = String::new(alloc);
+        push_row(alloc, &mut row_text, place, row)?;
+        text.extend_from_slice(row_text.as_bytes())
     }
 }

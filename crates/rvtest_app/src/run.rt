@@ -14,7 +14,7 @@ use crate::destinations::Destinations;
 use crate::host::Host;
 use crate::known_file::requested_known_jobs;
 use crate::missing_images::missing_images_note;
-use crate::planned_run::{RequestedJobs, SelectedJobs};
+use crate::planned_run::{PlannedRun, RequestedJobs, SelectedJobs};
 use crate::rules::failure_rule;
 use crate::run_inputs::refuse_run_overwrites;
 use crate::terminals::Terminals;
@@ -27,7 +27,6 @@ use rv_rows::Sink;
 use rvtest_cli::{ChoosingCommand, RunArgs};
 use std::alloc::{AllocError, Global};
 use std::io::Write;
-use std::marker::Brand;
 use std::sync::Wait;
 use std::thread::Threads;
 use std::time::Clock;
@@ -167,13 +166,11 @@ impl<'x, R: Threads + Wait + Sync + Clock, D: Inputs> ListRun<'x, R, D> {
             verbosity: requested_verbosity(asked),
             last: asked.last,
         };
-        self.run_planned_jobs::<Brand, F, O, E, P>(
-            &reporter,
-            places.as_slice(),
-            frame,
-            to,
-            terminals,
-        )
+        let planned = PlannedRun {
+            reporter: &reporter,
+            places: places.as_slice(),
+        };
+        self.run_into_files(&planned, frame, to, terminals)
     }
 }
 

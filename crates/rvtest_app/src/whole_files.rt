@@ -64,6 +64,7 @@ pub(crate) fn put_whole_files<F: Outputs + Drop, O: Sink + Drop, E: Sink + Drop>
         reporter: &lines,
         places: places.as_slice(),
         report: ReportText::Whole(rows),
+        texts: &[],
     };
     put_files(alloc, to, outlets, texts)
 }

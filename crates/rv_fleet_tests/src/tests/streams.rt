@@ -4,9 +4,10 @@ ghost use Rattle.std.specs.Prelude.{None};
 use super::{chosen, crew_of, number_in};
 use rv_expect::{Judge, Rule};
 use rv_fleet::{Batch, Crew, Row, Rows, Sink, SinkFailed};
-use rv_stream::{FailureLimit, RowReporter, StreamError, stream_rows};
+use rv_stream::{FailureLimit, ReporterOutput, RowReporter, RowSender, StreamError, stream_rows};
 use samples::{agree, cell_of, has_lines};
 use std::alloc::{AllocError, Global};
+use std::marker::Brand;
 use std::sync::Wait;
 use std::sync::atomic::{AtomicU64, Ordering};
 use std::test::Fail;
@@ -163,7 +164,17 @@ fn told<R: Threads + Wait + Sync>(
         judge: Judge::by_rule(Rule::Strict),
         failures: None,
     };
-    let (out, ran) = stream_rows(&crew, &batch, &limit, &names, out);
+    let to = ReporterOutput {
+        reporter: &names,
+        out,
+    };
+    let (out, _, ran) = stream_rows::<
+        Brand,
+        R,
+        Names<'_>,
+        NotingSink<'_>,
+        Option<RowSender<'_, Brand, Names<'_>, NotingSink<'_>>>,
+    >(&crew, &batch, &limit, to, None);
     text_of(alloc, &out, &ran)
 }
 

@@ -1,5 +1,5 @@
 use Rattle.std.proofs.Common.{codes, string_bytes}
-use Rattle.rv_junit.proofs.Cases.{suite_whole}
+use Rattle.rv_junit.proofs.CaseTexts.{suite_whole}
 use Rattle.rv_text.proofs.Public.{ended, more, told}
 use Rattle.rv_expect.specs.Judgement.{judging_of}
 use Rattle.rv_job_text.specs.TotalsLine.{known_count}

@@ -5,7 +5,7 @@ use Rattle.rv_text.specs.Xml.{xml_text}
 use Rattle.rv_expect.specs.Judgement.{judgement, judging_of}
 use Rattle.rv_junit.specs.Junit.{judged_text}
 use Rattle.rv_junit.specs.Pieces.{attribute}
-use Rattle.rv_junit.proofs.Cases.{case_whole}
+use Rattle.rv_junit.proofs.CaseTexts.{case_whole}
 use Rattle.rv_text.proofs.Public.{ended, more, told}
 use Rattle.rv_junit.proofs.junit.push_test_case.Goals as goal
 

@@ -3,7 +3,7 @@ use Rattle.std.proofs.lemmas.Result.{err_from_is_err_and}
 use Rattle.rv_base.proofs.Public.{beginning_of_longer, ended_under_way, failed_under_way, stopped_under_way}
 use Rattle.rv_expect.specs.Judgement.{judging_of}
 use Rattle.rv_junit.specs.Junit.{suite_begin_text, suite_end_text}
-use Rattle.rv_junit.proofs.Cases.{junit_begun, nothing_out}
+use Rattle.rv_junit.proofs.CaseTexts.{junit_begun, nothing_out}
 use Rattle.rv_junit.proofs.junit_writer.write_junit.Goals as goal
 
 pub returns-in_err-push_suite_begin-clause-part : goal.returns-in_err-push_suite_begin-clause-part
@@ -11,54 +11,54 @@ returns-in_err-push_suite_begin-clause-part g c =
     let error = err_from_is_err_and c.from_residual.result c.from_residual.ensures.1 in
     rw error.1 (nothing_out _ _)
 
-pub returns-in_err-write_row_texts-clause-part : goal.returns-in_err-write_row_texts-clause-part
-returns-in_err-write_row_texts-clause-part g c =
+pub returns-in_err-write_cases-clause-part : goal.returns-in_err-write_cases-clause-part
+returns-in_err-write_cases-clause-part g c =
     let class = c.args.suite.now.name.now in
     let judging = judging_of c.args.suite.now.judge in
-    let rows = c.args.rows.now.rows.now in
+    let rows = c.args.cases.now.rows.now in
     let begun = ap (λ v. v.items) c.into_bytes-text.ensures.value ∙ c.in_ok-push_suite_begin.ensures
     ∙ ap (λ xs. xs ++ suite_begin_text class judging rows) c.new-begin.ensures.bytes in
-    let error = err_from_is_err_and c.from_residual-in_err-write_row_texts.result
-    c.from_residual-in_err-write_row_texts.ensures.1 in
-    rw error.1 (beginning_of_longer _ _ _ suite_end_text _ c.in_err-write_row_texts.ensures.part
-    (junit_begun class judging (g.T.RowReporter.line c.args.reporter.now) c.args.rows.now.places.now rows
+    let error = err_from_is_err_and c.from_residual-in_err-write_cases.result
+    c.from_residual-in_err-write_cases.ensures.1 in
+    rw error.1 (beginning_of_longer _ _ _ suite_end_text _ c.in_err-write_cases.ensures.part
+    (junit_begun class judging (g.T.RowReporter.line c.args.cases.now.reporter.now) c.args.cases.now.places.now rows
     c.into_bytes-text.result.items begun))
 
 pub returns-in_err-push_text-clause-part : goal.returns-in_err-push_text-clause-part
 returns-in_err-push_text-clause-part g c =
     let class = c.args.suite.now.name.now in
     let judging = judging_of c.args.suite.now.judge in
-    let rows = c.args.rows.now.rows.now in
+    let rows = c.args.cases.now.rows.now in
     let begun = ap (λ v. v.items) c.into_bytes-text.ensures.value ∙ c.in_ok-push_suite_begin.ensures
     ∙ ap (λ xs. xs ++ suite_begin_text class judging rows) c.new-begin.ensures.bytes in
     let error = err_from_is_err_and c.from_residual-in_err-push_text.result
     c.from_residual-in_err-push_text.ensures.1 in
-    rw error.1 (stopped_under_way _ _ _ _ suite_end_text _ c.in_ok-write_row_texts.ensures.under_way
-    (junit_begun class judging (g.T.RowReporter.line c.args.reporter.now) c.args.rows.now.places.now rows
+    rw error.1 (stopped_under_way _ _ _ _ suite_end_text _ c.in_ok-write_cases.ensures.under_way
+    (junit_begun class judging (g.T.RowReporter.line c.args.cases.now.reporter.now) c.args.cases.now.places.now rows
     c.into_bytes-text.result.items begun))
 
 pub returns-in_err-put_all-clause-part : goal.returns-in_err-put_all-clause-part
 returns-in_err-put_all-clause-part g c =
     let class = c.args.suite.now.name.now in
     let judging = judging_of c.args.suite.now.judge in
-    let rows = c.args.rows.now.rows.now in
+    let rows = c.args.cases.now.rows.now in
     let begun = ap (λ v. v.items) c.into_bytes-text.ensures.value ∙ c.in_ok-push_suite_begin.ensures
     ∙ ap (λ xs. xs ++ suite_begin_text class judging rows) c.new-begin.ensures.bytes in
     let error = err_from_is_err_and c.from_residual-in_err-put_all.result
     c.from_residual-in_err-put_all.ensures.1 in
-    rw error.1 (failed_under_way _ _ _ _ suite_end_text _ _ _ c.in_ok-write_row_texts.ensures.under_way
+    rw error.1 (failed_under_way _ _ _ _ suite_end_text _ _ _ c.in_ok-write_cases.ensures.under_way
     c.in_ok-push_text.ensures (rw c.as_slice.ensures.value at c.in_err-put_all.ensures.part)
-    (junit_begun class judging (g.T.RowReporter.line c.args.reporter.now) c.args.rows.now.places.now rows
+    (junit_begun class judging (g.T.RowReporter.line c.args.cases.now.reporter.now) c.args.cases.now.places.now rows
     c.into_bytes-text.result.items begun))
 
 pub returns-clause-appended : goal.returns-clause-appended
 returns-clause-appended g c =
     let class = c.args.suite.now.name.now in
     let judging = judging_of c.args.suite.now.judge in
-    let rows = c.args.rows.now.rows.now in
+    let rows = c.args.cases.now.rows.now in
     let begun = ap (λ v. v.items) c.into_bytes-text.ensures.value ∙ c.in_ok-push_suite_begin.ensures
     ∙ ap (λ xs. xs ++ suite_begin_text class judging rows) c.new-begin.ensures.bytes in
-    rw (junit_begun class judging (g.T.RowReporter.line c.args.reporter.now) c.args.rows.now.places.now rows
+    rw (junit_begun class judging (g.T.RowReporter.line c.args.cases.now.reporter.now) c.args.cases.now.places.now rows
     c.into_bytes-text.result.items begun)
-    (ended_under_way _ _ _ _ suite_end_text _ _ c.in_ok-write_row_texts.ensures.under_way
+    (ended_under_way _ _ _ _ suite_end_text _ _ c.in_ok-write_cases.ensures.under_way
     c.in_ok-push_text.ensures (rw c.as_slice.ensures.value at c.in_ok-put_all.ensures.appended))

@@ -1,12 +1,10 @@
-use Rattle.rv_expect.specs.Judgement.{judging_of}
+use Rattle.std.proofs.Common.{length}
+use Rattle.rv_stream.specs.Told.{IsReportedRow}
 use Rattle.rv_stream.proofs.stream.stream_rows.Given as goal
 
-abbrev pub ghosts-stream_first_rows : goal.ghosts-stream_first_rows
-ghosts-stream_first_rows g a = record {
-  before = g.W.Sink.taken a.to.out;
-  failures = g.W.Sink.failed a.to.out;
-  line = g.T.RowReporter.line a.to.reporter.now;
-  places = a.batch.now.places.now;
-  most = a.limit.now.failures;
-  judging = judging_of a.limit.now.judge;
+abbrev pub ghosts-run_jobs : goal.ghosts-run_jobs
+ghosts-run_jobs g a = record {
+  is_result = IsReportedRow (g.T.RowReporter.line a.work.now.reporter.now) a.work.now.batch.now;
+  jobs = length a.work.now.batch.now.places.now;
+  group = a.crew.now.group;
 }

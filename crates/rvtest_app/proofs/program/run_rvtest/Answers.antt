@@ -1,16 +1,68 @@
-use Rattle.std.proofs.Common.{inl, inr, refl}
+use Rattle.std.proofs.Common.{inl, inr, map, refl, sym, IfErr}
+use Rattle.std.specs.Prelude.{IfOk}
+use Rattle.rvtest_app.specs.Answers.{IsAnswered}
 use Rattle.rvtest_app.specs.CommandOutputs.{outputs_of}
+use Rattle.rvtest_app.specs.CommandStops.{IsStopFor}
+use Rattle.rvtest_app.proofs.Results.{IfOk-map}
+use Rattle.rvtest_app.proofs.StopLemmas.{IfErr-map}
+use Rattle.rvtest_app.proofs.WordsStops.{words_answered, words_stop}
+use Rattle.rvtest_app.proofs.program.run_rvtest.Given.{Over}
 use Rattle.rvtest_app.proofs.program.run_rvtest.Goals as goal
+use Rattle.rvtest_app.proofs.program.run_rvtest.Goals.{in-Ok-Some, in-Ok-None, in-Err}
+
+answered : (g : Over) (c : goal.Joined-drop g) → IsAnswered (g.D.Inputs.contents c.args.host.now.inputs.now)
+    (g.I.Read.remaining c.args.input.now) c.args.terminals.is_out_terminal c.args.terminals.is_out_colored
+    (map g.T.AsStr.text c.args.words.now) c.in-Ok.status
+    (outputs_of g.F.Outputs.placed g.O.Sink.taken g.E.Sink.taken g.E.Sink.failed c.args.to)
+    (outputs_of g.F.Outputs.placed g.O.Sink.taken g.E.Sink.taken g.E.Sink.failed c.match-read_words.to.0)
+answered g c =
+    let known = g.D.Inputs.contents c.args.host.now.inputs.now in
+    let rest = g.I.Read.remaining c.args.input.now in
+    let is_terminal = c.args.terminals.is_out_terminal in
+    let is_colored = c.args.terminals.is_out_colored in
+    let words = map g.T.AsStr.text c.args.words.now in
+    let before = outputs_of g.F.Outputs.placed g.O.Sink.taken g.E.Sink.taken g.E.Sink.failed c.args.to in
+    let after = outputs_of g.F.Outputs.placed g.O.Sink.taken g.E.Sink.taken g.E.Sink.failed c.match-read_words.to.0 in
+    let all : IfOk c.match-read_words.to.1 (λ status. IsAnswered known rest is_terminal is_colored words status before after) =
+    elim c.match-read_words.branch [
+      | in-Ok-Some w ↦
+          (let request = rw w.in-Ok-Some.field-0-is at w.in-Ok-Some.ensures.value in
+          rw w.to-is (IfOk-map w.run_in_colors.result.1 _ _ (λ status done. inl (w.in-Ok-Some.asked, (sym request, done)))
+          w.run_in_colors.ensures.done))
+      | in-Ok-None w ↦
+          (let request = rw w.in-Ok-None.field-0-is at w.in-Ok-None.ensures.value in
+          rw w.to-is (inr (inl (sym request, refl), refl, refl, refl)))
+      | in-Err w ↦
+          rw w.to-is (words_answered known rest is_terminal is_colored words w.in-Err.error w.answer_words_error-answer.result before _
+          w.in-Err.ensures.kinds w.answer_words_error-answer.ensures.done w.answer_words_error-answer.ensures.helped (refl, refl, refl))
+    ] in
+    rw c.in-Ok.is at all
+
+pub returns-in-Ok-clause-answered : goal.returns-in-Ok-clause-answered
+returns-in-Ok-clause-answered g c low = answered g c
 
 pub returns-in-Ok-clause-ended : goal.returns-in-Ok-clause-ended
-returns-in-Ok-clause-ended g c = inl (rw c.in-Ok.is at c.answer_words-to.ensures.answered)
+returns-in-Ok-clause-ended g c = inl (answered g c)
 
-pub returns-in-Err-clause-ended : goal.returns-in-Err-clause-ended
-returns-in-Err-clause-ended g c =
-    let before = outputs_of g.F.Outputs.placed g.O.Sink.taken g.E.Sink.taken g.E.Sink.failed c.answer_words-to.result.0 in
+pub returns-clause-ended : goal.returns-clause-ended
+returns-clause-ended g c =
+    let known = g.D.Inputs.contents c.args.host.now.inputs.now in
+    let is_terminal = c.args.terminals.is_out_terminal in
+    let words = map g.T.AsStr.text c.args.words.now in
+    let stopped : IfErr c.match-read_words.to.1 (IsStopFor known is_terminal words) = elim c.match-read_words.branch [
+      | in-Ok-Some w ↦
+          (let request = rw w.in-Ok-Some.field-0-is at w.in-Ok-Some.ensures.value in
+          rw w.to-is (IfErr-map w.run_in_colors.result.1 _ _ (λ why is. inl (w.in-Ok-Some.asked, (sym request, is)))
+          w.run_in_colors.ensures.stopped))
+      | in-Ok-None w ↦ rw w.to-is tt
+      | in-Err w ↦
+          rw w.to-is (words_stop known is_terminal words _ _ _ _ w.in-Err.ensures.kinds w.in-Err.ensures.misused
+          w.answer_words_error-answer.ensures.stopped)
+    ] in
+    let before = outputs_of g.F.Outputs.placed g.O.Sink.taken g.E.Sink.taken g.E.Sink.failed c.match-read_words.to.0 in
     inr (
-      c.in-Err.stop,
-      rw c.in-Err.is at c.answer_words-to.ensures.stopped,
+      c.in-Err-answer.stop,
+      rw c.in-Err-answer.is at stopped,
       rw c.is_closed-is_out_closed.ensures at c.put_end_message-status.ensures.status,
       (before, (refl, rw c.is_closed-is_out_closed.ensures at c.put_end_message-status.ensures.told, refl)),
     )

@@ -20,7 +20,7 @@ returns-clause-run g c =
       c.in-Ok.ensures.value,
       c.as_slice.ensures.value,
     ) at c.put_message.ensures in
-    IfOk-beside c.run_planned_jobs.result.1 _ _ _
+    IfOk-beside c.run_into_files.result.1 _ _ _
     (λ status judged put. record {
       plan = c.in-Ok-gather_jobs_at.plan;
       unread = c.unread_paths-unread.result.now;
@@ -44,7 +44,7 @@ returns-clause-run g c =
       put = put;
     })
     (rw (c.as_slice-4.ensures.value, c.in-Ok.ensures.value, c.as_slice.ensures.value, c.requires, known)
-    at c.run_planned_jobs.ensures.status)
+    at c.run_into_files.ensures.status)
     (rw (
       c.as_slice-4.ensures.value,
       c.in-Ok.ensures.value,
@@ -52,7 +52,7 @@ returns-clause-run g c =
       c.requires,
       known,
       c.requested_verbosity.ensures,
-    ) at c.run_planned_jobs.ensures.outputs_of)
+    ) at c.run_into_files.ensures.outputs_of)
 
 pub returns-clause-undone : goal.returns-clause-undone
 returns-clause-undone g c =
@@ -73,7 +73,7 @@ returns-clause-undone g c =
     let rows = run_rows asked.stop_after (run_judging asked failures) plan places in
     let rows_are = same_rows asked.stop_after told.judging (run_judging asked failures) plan c.as_slice-4.result.now places
     (ap (λ (t : RowReporter). t.judging) told_is) places_are in
-    OnErr-map c.run_planned_jobs.result.1 _ _
+    OnErr-map c.run_into_files.result.1 _ _
     (⊎_elim inl (λ part. inr (record {
       plan = plan;
       unread = unread;
@@ -92,6 +92,6 @@ returns-clause-undone g c =
       shown = refl;
       placed = same_part asked told (run_reporter asked failures plan unread) c.as_slice-4.result.now places
           c.args.marked.frame.shard c.args.marked.frame.old rows (g.F.Outputs.placed c.args.to.files)
-          (g.F.Outputs.placed c.run_planned_jobs.result.0.files) told_is places_are part;
+          (g.F.Outputs.placed c.run_into_files.result.0.files) told_is places_are part;
     })))
-    (c.run_planned_jobs.ensures.part rows rows_are)
+    (c.run_into_files.ensures.part rows rows_are)

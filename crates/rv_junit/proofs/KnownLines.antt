@@ -1,0 +1,83 @@
+-- Texts of failures that are kept: none yet, and one row more.
+use Rattle.std.proofs.Common.{◌≡◌, ◌∙◌, ◌+◌, ◌<◌, ◌≤◌, ℕ, Bool, true, false, List, [], ◌∷◌, ◌++◌, Option, Some, None, length, get_or, refl, sym, ap, subst, arith, inl, inr}
+use Rattle.std.specs.Prelude.{IfSome, Vec}
+use Rattle.std.specs.declared.alloc.Global.{Global}
+use Rattle.std.proofs.lemmas.Bool.{cases_lt, false≢true}
+use Rattle.std.proofs.lemmas.List.{get_or-map, get_or_append_left, length-append, length-map}
+use Rattle.std.proofs.Math.Seq.{get_or-append_seam}
+use Rattle.rv_expect.specs.Judgement.{Judging, fails}
+use Rattle.rv_rows.specs.declared_row.Row.{Row}
+use Rattle.rv_stream.specs.Seen.{HasSeenRows, IsReportOf}
+use Rattle.rv_stream.specs.Told.{rows_of_reported}
+use Rattle.rv_stream.specs.declared.reported_row.ReportedRow.{ReportedRow}
+use Rattle.rv_junit.specs.KnownLines.{AreFailureTexts, AreLinesOf, IsFailureText}
+
+abbrev IsKept : Judging → List (Option (Vec ℕ Global)) → List ReportedRow → ℕ → ReportedRow → Type 0
+IsKept judging texts reported k any =
+    IfSome (get_or texts k None) (λ text. IsFailureText judging (get_or reported k any) text.items)
+
+-- nothing is kept
+pub none_kept : (judging : Judging) (is_closed : Bool) (reported : List ReportedRow) → (is_closed ≡ false → 0 ≡ length reported)
+    → AreFailureTexts judging is_closed [] reported
+none_kept judging is_closed reported all = record { all = all; few = omega arith; each = λ k any lt. tt }
+
+-- the text of one row more is kept, or it is not
+pub one_more : (judging : Judging) (texts : List (Option (Vec ℕ Global))) (text : Option (Vec ℕ Global)) (reported : List ReportedRow)
+    (made : ReportedRow) → IfSome text (λ text. IsFailureText judging made text.items) → AreFailureTexts judging false texts reported
+    → AreFailureTexts judging false (texts ++ text ∷ []) (reported ++ made ∷ [])
+one_more judging texts text reported made is are =
+    let long = are.all refl in
+    let more = length-append texts (text ∷ []) in
+    let rows = length-append reported (made ∷ []) in record {
+      all = λ _. omega (arith, long, more, rows);
+      few = omega (arith, long, more, rows);
+      each = λ k any lt. elim (cases_lt k (length reported)) [
+        | inl below ↦
+            subst (λ (o : Option (Vec ℕ Global)). IfSome o (λ text. IsFailureText judging (get_or (reported ++ made ∷ []) k any) text.items))
+            (sym (get_or_append_left texts (text ∷ []) None k (omega (arith, below, long))))
+            (subst (λ (r : ReportedRow). IfSome (get_or texts k None) (λ text. IsFailureText judging r text.items))
+            (sym (get_or_append_left reported (made ∷ []) any k below)) (are.each k any below))
+        | inr past ↦
+            let here : length reported ≡ k = omega (arith, past, lt, rows) in
+            let there : length texts ≡ k = long ∙ here in
+            subst (λ (n : ℕ). IsKept judging (texts ++ text ∷ []) (reported ++ made ∷ []) n any) here
+            (subst (λ (r : ReportedRow). IfSome (get_or (texts ++ text ∷ []) (length reported) None) (λ text. IsFailureText judging r text.items))
+            (sym (get_or-append_seam reported made [] any))
+            (subst (λ (n : ℕ). IfSome (get_or (texts ++ text ∷ []) n None) (λ text. IsFailureText judging made text.items)) long
+            (subst (λ (o : Option (Vec ℕ Global)). IfSome o (λ text. IsFailureText judging made text.items))
+            (sym (get_or-append_seam texts text [] None)) is)))
+      ];
+    }
+
+lines_at : (line lines : ℕ → Row → List ℕ) (judging : Judging) (index : ℕ) (row : Row) (reported : ReportedRow) (text : Option (Vec ℕ Global))
+    → ((place : ℕ) (row : Row) → fails judging row ≡ true → line place row ≡ lines place row) → IsReportOf line index reported
+    → row ≡ reported.row → IfSome text (λ text. IsFailureText judging reported text.items)
+    → IfSome text (λ text. text.items ≡ lines index row)
+lines_at line lines judging index row reported None same report is kept = tt
+lines_at line lines judging index row reported (Some text) same report is kept =
+    kept.text_is ∙ report.text ∙ ap (λ (n : ℕ). line n reported.row) report.index_is ∙ same index reported.row kept.failed
+    ∙ ap (λ (r : Row). lines index r) (sym is)
+
+-- the texts of failures that were kept are the lines of their rows
+pub lines_known : (has_seen : List ReportedRow → Type 0) (line lines : ℕ → Row → List ℕ) (judging : Judging) (is_closed : Bool)
+    (texts : List (Option (Vec ℕ Global))) (places : List ℕ) (rows : List Row) (seen : HasSeenRows has_seen line places rows)
+    → ((place : ℕ) (row : Row) → fails judging row ≡ true → line place row ≡ lines place row)
+    → AreFailureTexts judging is_closed texts seen.reported → AreLinesOf lines places rows texts
+lines_known has_seen line lines judging is_closed texts places rows seen same are = λ k any lt.
+    let count = length-map seen.reported (λ (r : ReportedRow). r.row) in
+    let long = ap length seen.rows_are in
+    let low : k < length seen.reported = omega (arith, lt, count, long) in
+    of seen.reported refl k any low lt
+  where
+    of : (reported : List ReportedRow) → reported ≡ seen.reported → (k : ℕ) (any : Row) → k < length seen.reported → k < length rows
+        → IfSome (get_or texts k None) (λ text. text.items ≡ lines (get_or places k 0) (get_or rows k any))
+    of [] is k any low lt = absurd (omega (arith, low, ap length is))
+    of (first ∷ reported) is k any low lt =
+        lines_at line lines judging (get_or places k 0) (get_or rows k any) (get_or seen.reported k first) (get_or texts k None) same
+        (seen.each k first low)
+        (ap (λ (all : List Row). get_or all k any) (sym seen.rows_are) ∙ get_or-map (λ (r : ReportedRow). r.row) seen.reported k first any low)
+        (are.each k first low)
+
+-- nothing is known
+pub none_known : (lines : ℕ → Row → List ℕ) (places : List ℕ) (rows : List Row) → AreLinesOf lines places rows []
+none_known lines places rows = λ k any lt. tt

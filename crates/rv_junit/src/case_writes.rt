@@ -1,0 +1,124 @@
+//! The cases of a document, written in few large writes.
+
+ghost use Rattle.std.specs.Prelude.{◌≡◌, ◌++◌, ◌<◌, ◌≤◌, IfErr, IfSome, OnErr, OnOk, length, slice_index_or};
+ghost use Rattle.rv_expect.specs.Judgement.{judging_of};
+ghost use Rattle.rv_junit.specs.Junit.{case_text};
+ghost use Rattle.rv_junit.specs.KnownLines.{AreLinesOf};
+ghost use Rattle.rv_rows.specs.Counts.{one_more};
+ghost use Rattle.rv_rows.specs.declared_row.Row.{Row as ARow};
+ghost use Rattle.rv_rows.specs.Sinks.{AppendsBeginning, IsPartlySent};
+ghost use Rattle.rv_stream.specs.Streams.{joined_row_texts};
+
+use crate::junit::push_test_case;
+use crate::suite::Suite;
+use rv_rows::{Row, RowReporter, Sink, WriteError, put_all};
+use std::alloc::{AllocError, Global};
+
+// The size in bytes from which the buffered text is written.
+const ENOUGH: usize = 32_768;
+
+/// The rows of a document, each with the index of its job in the list, a reporter that gives the lines of a row, and the lines that are known
+/// already.
+#[derive(Drop)]
+pub struct Cases<'a, T: RowReporter> {
+    pub reporter: &'a T,
+    pub places: &'a [usize],
+    pub rows: &'a [Row],
+    /// The lines of a row by its number, if they are known: the reporter is not asked for them again. There may be fewer than rows.
+    pub texts: &'a [Option<Vec<u8>>],
+    pub ghost placed: { length rows.now ≤ length places.now },
+}
+
+impl<T: RowReporter> Cases<'_, T> {
+    // The lines of a row, if they are known.
+    fn known_lines(&self, number: usize) -> Option<&[u8]>
+        requires number { number < length self.now.rows.now }
+        requires known { AreLinesOf (T.line self.now.reporter.now) self.now.places.now self.now.rows.now self.now.texts.now }
+        ensures { IfSome result (λ lines. (any : ARow) → lines.now ≡ T.line self.now.reporter.now
+            (slice_index_or self.now.places.now number 0) (slice_index_or self.now.rows.now number any)) }
+    {
+        if number >= self.texts.len() {
+            return None;
+        }
+        match &self.texts[number] {
+            Some(lines) => Some(lines.as_slice()),
+            None => None,
+        }
+    }
+
+    // Appends the case of a row.
+    fn push_case(
+        &self,
+        alloc: Global,
+        suite: &Suite<'_>,
+        number: usize,
+        text: &mut Vec<u8>,
+    ) -> Result<(), AllocError>
+        requires number { number < length self.now.rows.now }
+        requires known { AreLinesOf (T.line self.now.reporter.now) self.now.places.now self.now.rows.now self.now.texts.now }
+        ensures { OnOk result ((any : ARow) → text.new.items ≡ text.old.items
+            ++ case_text suite.now.name.now (judging_of suite.now.judge) (T.line self.now.reporter.now)
+            (slice_index_or self.now.places.now number 0) (slice_index_or self.now.rows.now number any)) }
+    {
+        let row = &self.rows[number];
+        let mut case = String::new(alloc);
+        match self.known_lines(number) {
+            Some(lines) => push_test_case(alloc, &mut case, suite, row, lines)?,
+            None => {
+                let mut lines = Vec::new(alloc);
+                self.reporter
+                    .push_row_text(alloc, self.places[number], row, &mut lines)?;
+                push_test_case(alloc, &mut case, suite, row, lines.as_slice())?;
+            }
+        }
+        text.extend_from_slice(case.as_bytes())
+    }
+}
+
+/// Appends the cases of rows to the buffered `text`. The first part of the whole is sent in few large writes, the rest stays in `text`. After
+/// an error a prefix of the whole has been written.
+pub(crate) fn write_cases<T: RowReporter, W: Sink>(
+    alloc: Global,
+    text: &mut Vec<u8>,
+    suite: &Suite<'_>,
+    cases: &Cases<'_, T>,
+    out: &mut W,
+) -> Result<(), WriteError>
+    requires known { AreLinesOf (T.line cases.now.reporter.now) cases.now.places.now cases.now.rows.now cases.now.texts.now }
+    ensures under_way { OnOk result (IsPartlySent (W.taken out.old) (W.taken out.new) text.new.items
+        (text.old.items ++ joined_row_texts (case_text suite.now.name.now (judging_of suite.now.judge) (T.line cases.now.reporter.now))
+        cases.now.places.now cases.now.rows.now)) }
+    ensures counted { OnOk result (W.failed out.new ≡ W.failed out.old) }
+    ensures part { OnErr result (AppendsBeginning (W.taken out.old) (W.taken out.new)
+        (text.old.items ++ joined_row_texts (case_text suite.now.name.now (judging_of suite.now.judge) (T.line cases.now.reporter.now))
+        cases.now.places.now cases.now.rows.now)) }
+    ensures failed { IfErr result (λ error. error ≡ WriteError.Failed
+        → W.failed out.new ≡ one_more (W.failed out.old)) }
+    // If an allocation failed, no write did.
+    ensures refused { IfErr result (λ error. error ≡ WriteError.OutOfMemory
+        → W.failed out.new ≡ W.failed out.old) }
+{
+    for i in 0..cases.rows.len() {
+        cases.push_case(alloc, suite, i, text)?;
+        write_if_large(text, out)?;
+    }
+    Ok(())
+}
+
+// Writes the buffered text if it is long enough for a large write.
+fn write_if_large<W: Sink>(text: &mut Vec<u8>, out: &mut W) -> Result<(), WriteError>
+    ensures under_way { OnOk result (IsPartlySent (W.taken out.old) (W.taken out.new)
+        text.new.items text.old.items) }
+    ensures counted { OnOk result (W.failed out.new ≡ W.failed out.old) }
+    ensures part { OnErr result
+        (AppendsBeginning (W.taken out.old) (W.taken out.new) text.old.items) }
+    ensures failed { IfErr result
+        (λ error. (error ≡ WriteError.Failed) × (W.failed out.new ≡ one_more (W.failed out.old))) }
+{
+    if text.len() < ENOUGH {
+        return Ok(());
+    }
+    put_all(out, text.as_slice())?;
+    text.clear();
+    Ok(())
+}

@@ -1,0 +1,89 @@
+//! The texts of failed jobs, kept while a run reports them.
+
+ghost use Rattle.std.specs.Prelude.{◌≡◌, [], IfSome};
+ghost use Rattle.rv_expect.specs.Judgement.{judging_of};
+ghost use Rattle.rv_junit.specs.KnownLines.{AreFailureTexts, IsFailureText};
+
+use rv_expect::Judge;
+use rv_stream::{Flow, Observer, ReportedRow, StreamSpec};
+use std::alloc::Global;
+use std::marker::PhantomData;
+
+/// The most bytes that are kept.
+const MOST_KEPT: usize = 16_777_216;
+
+/// Keeps the texts of rows that count as failures, up to 16 MiB, so that a document need not make them again. A text that does not fit, or
+/// for which there is no memory, is not kept.
+#[derive(Drop)]
+pub struct FailureTexts<'k, J: StreamSpec> {
+    alloc: Global,
+    judge: Judge<'k>,
+    texts: Vec<Option<Vec<u8>>>,
+    // How many more bytes are kept.
+    room: usize,
+    // Whether an allocation was refused: nothing is kept then.
+    is_closed: bool,
+    of: PhantomData<J>,
+    ghost judging: { judging_of judge ≡ J.judging },
+}
+
+impl<'k, J: StreamSpec> FailureTexts<'k, J> {
+    /// It has seen no row yet. Takes no memory.
+    pub fn new(alloc: Global, judge: Judge<'k>) -> FailureTexts<'k, J>
+        requires { judging_of judge ≡ J.judging }
+        ensures { AreFailureTexts J.judging result.is_closed result.texts.items [] }
+    {
+        FailureTexts {
+            alloc,
+            judge,
+            texts: Vec::new(alloc),
+            room: MOST_KEPT,
+            is_closed: false,
+            of: PhantomData,
+        }
+    }
+
+    /// Returns the texts that were kept, by the numbers of their rows.
+    pub fn into_texts(self) -> Vec<Option<Vec<u8>>>
+        ensures { result.items ≡ self.entry.texts.items }
+    {
+        self.texts
+    }
+
+    // A copy of the text of a row, if it is to be kept.
+    fn text_to_keep(&self, made: &ReportedRow) -> Option<Vec<u8>>
+        ensures { IfSome result (λ text. IsFailureText J.judging made.now text.items) }
+    {
+        if !self.judge.fails(&made.row) || made.text.len() > self.room {
+            return None;
+        }
+        made.text.as_slice().to_vec(self.alloc).ok()
+    }
+}
+
+impl<J: StreamSpec> Observer<ReportedRow> for FailureTexts<'_, J> {
+    ghost use Rattle.rv_junit.specs.KnownLines.{AreFailureTexts};
+
+    ghost has_seen = { λ s reported. AreFailureTexts J.judging s.is_closed s.texts.items reported };
+
+    ghost stops = { λ _. ⊥ };
+
+    fn see(&mut self, made: &ReportedRow) -> Flow {
+        if self.is_closed {
+            return Flow::GoOn;
+        }
+        let text = self.text_to_keep(made);
+        if let Some(text) = &text {
+            self.room = self.room.saturating_sub(text.len());
+        }
+        if self.texts.push(text).is_err() {
+            self.texts.clear();
+            self.is_closed = true;
+        }
+        Flow::GoOn
+    }
+
+    fn pause(&mut self) -> Flow {
+        Flow::GoOn
+    }
+}

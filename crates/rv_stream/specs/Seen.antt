@@ -1,0 +1,30 @@
+-- What an observer has seen of a stream: rows in order, each with the index of its job and its text.
+use Rattle.std.specs.Prelude.{◌≡◌, ◌<◌, ◌≤◌, ◌++◌, ℕ, List, length, map, slice_index_or}
+use Rattle.std.specs.List.{concat}
+use Rattle.rv_rows.specs.declared_row.Row.{Row}
+use Rattle.rv_stream.specs.declared.reported_row.ReportedRow.{ReportedRow}
+use Rattle.rv_stream.specs.Told.{rows_of_reported}
+
+-- the texts that a reporter gives of rows, each by the index of its job, one after another
+abbrev pub text_by_index : (ℕ → Row → List ℕ) → List ReportedRow → List ℕ
+text_by_index line reported = concat (map (λ (r : ReportedRow). line r.index r.row) reported)
+
+-- a reported row has the job's index and the text of that job and row
+pub record IsReportOf (line : ℕ → Row → List ℕ) (index : ℕ) (reported : ReportedRow) : Type 0 where
+  pub index_is : reported.index ≡ index
+  pub text : reported.text.items ≡ line reported.index reported.row
+
+-- an observer has seen exactly these rows, in order, those of the first of the jobs at some indices
+pub record HasSeenRows (has_seen : List ReportedRow → Type 0) (line : ℕ → Row → List ℕ) (indices : List ℕ) (rows : List Row) : Type 0 where
+  pub reported : List ReportedRow
+  pub seen : has_seen reported
+  pub rows_are : rows_of_reported reported ≡ rows
+  pub few : length reported ≤ length indices
+  pub each : (k : ℕ) (any : ReportedRow) → k < length reported → IsReportOf line (slice_index_or indices k 0) (slice_index_or reported k any)
+
+-- or the first of these rows
+pub record HasSeenSomeRows (has_seen : List ReportedRow → Type 0) (line : ℕ → Row → List ℕ) (indices : List ℕ) (rows : List Row) : Type 0 where
+  pub first : List Row
+  pub rest : List Row
+  pub whole : first ++ rest ≡ rows
+  pub seen : HasSeenRows has_seen line indices first

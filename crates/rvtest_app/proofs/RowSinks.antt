@@ -1,0 +1,108 @@
+-- The sink of a report that is streamed: taken out of its outlet, and put back.
+use Rattle.std.proofs.Common.{◌≡◌, ◌∙◌, ◌++◌, ℕ, Bool, true, false, List, [], ◌∷◌, Option, Some, None, IfSome, Result, Ok, Err, OnOk, length, refl, subst, sym, ap, take}
+use Rattle.std.proofs.lemmas.List.{get_or-take}
+use Rattle.std.specs.Prelude.{IfOk, Vec, is_some, not, slice_index_or}
+use Rattle.std.specs.Io.KnownBytes.{Appends}
+use Rattle.std.proofs.KnownBytes.{Appends-trans}
+use Rattle.std.specs.declared.alloc.Global.{Global}
+use Rattle.rv_junit.specs.KnownLines.{AreLinesOf}
+use Rattle.rv_report.specs.declared.row.Row.{Row}
+use Rattle.rv_stream.specs.Streams.{joined_row_texts}
+use Rattle.rvtest_app.proofs.ChosenTexts.{ahead_of_shown}
+use Rattle.rvtest_app.specs.IntoReports.{report_row_text, streamed_rows}
+use Rattle.rvtest_app.specs.Outlets.{IsPutInto, outlet_path}
+use Rattle.rvtest_app.specs.RowSinks.{AreOutletParts, AreRowsWritten}
+use Rattle.rvtest_app.specs.Runs.{shown_indices}
+use Rattle.rvtest_app.specs.declared.outlets.Outlet.{Outlet}
+use Rattle.rvtest_app.specs.declared.outlets.Outlet.TheVariants as outlet
+
+module _ {P V : Type 0} (taken : V → Option (List ℕ)) (failed : V → ℕ) where
+  -- what was written to the sink was written to the outlet
+  pub written_into : (shell : Outlet P (Unit {0})) (before after : Option V) (whole_before whole_after : Outlet P V) (text : List ℕ)
+      → AreOutletParts shell before whole_before → AreOutletParts shell after whole_after
+      → AreRowsWritten taken failed before after text → IsPutInto taken failed whole_before whole_after text
+  written_into outlet.Nowhere None None b a text is_before is_after written = rw (is_before, is_after) tt
+  written_into outlet.Out None None b a text is_before is_after written = rw (is_before, is_after) tt
+  written_into (outlet.File file) (Some before) (Some after) b a text is_before is_after written =
+      rw (is_before, is_after) (refl, written)
+  written_into outlet.Nowhere (Some before) after b a text is_before is_after written = elim is_before [ ]
+  written_into outlet.Nowhere None (Some after) b a text is_before is_after written = elim is_after [ ]
+  written_into outlet.Out (Some before) after b a text is_before is_after written = elim is_before [ ]
+  written_into outlet.Out None (Some after) b a text is_before is_after written = elim is_after [ ]
+  written_into (outlet.File file) None after b a text is_before is_after written = elim is_before [ ]
+  written_into (outlet.File file) (Some before) None b a text is_before is_after written = elim is_after [ ]
+
+module _ {P V : Type 0} where
+  -- the path of the outlet stays
+  pub same_path : (shell : Outlet P (Unit {0})) (before after : Option V) (whole_before whole_after : Outlet P V)
+      → AreOutletParts shell before whole_before → AreOutletParts shell after whole_after → outlet_path whole_after ≡ outlet_path whole_before
+  same_path outlet.Nowhere None None b a is_before is_after = rw (is_before, is_after) refl
+  same_path outlet.Out None None b a is_before is_after = rw (is_before, is_after) refl
+  same_path (outlet.File file) (Some before) (Some after) b a is_before is_after = rw (is_before, is_after) refl
+  same_path outlet.Nowhere (Some before) after b a is_before is_after = elim is_before [ ]
+  same_path outlet.Nowhere None (Some after) b a is_before is_after = elim is_after [ ]
+  same_path outlet.Out (Some before) after b a is_before is_after = elim is_before [ ]
+  same_path outlet.Out None (Some after) b a is_before is_after = elim is_after [ ]
+  same_path (outlet.File file) None after b a is_before is_after = elim is_before [ ]
+  same_path (outlet.File file) (Some before) None b a is_before is_after = elim is_after [ ]
+
+  -- an outlet with a sink has a path
+  pub sink_has_path : (shell : Outlet P (Unit {0})) (sink : Option V) (whole : Outlet P V) → AreOutletParts shell sink whole
+      → is_some sink ≡ true → is_some (outlet_path whole) ≡ true
+  sink_has_path outlet.Nowhere None whole is there = absurd cc
+  sink_has_path outlet.Out None whole is there = absurd cc
+  sink_has_path (outlet.File file) (Some sink) whole is there = rw is refl
+  sink_has_path outlet.Nowhere (Some sink) whole is there = elim is [ ]
+  sink_has_path outlet.Out (Some sink) whole is there = elim is [ ]
+  sink_has_path (outlet.File file) None whole is there = elim is [ ]
+
+-- no texts
+empty_texts : (places : List ℕ) (rows : List Row) → joined_row_texts (report_row_text false) places rows ≡ []
+empty_texts [] rows = refl
+empty_texts (place ∷ places) [] = refl
+empty_texts (place ∷ places) (row ∷ rows) = empty_texts places rows
+
+-- the rows that are streamed are the part of the report that is written as they arrive
+pub streamed : (old : Option (List Row)) (is_streaming : Bool) (places : List ℕ) (rows : List Row) → is_streaming ≡ not (is_some old)
+    → joined_row_texts (report_row_text is_streaming) places rows ≡ streamed_rows old (shown_indices places rows) rows
+streamed (Some old) is_streaming places rows is = rw is (empty_texts places rows)
+streamed None is_streaming places rows is = rw is (sym (ahead_of_shown None places rows))
+
+-- the lines that are known of the rows of some jobs are known of the rows of the first of them
+pub lines_of_first : (line : ℕ → Row → List ℕ) (places firsts : List ℕ) (rows : List Row) (texts : List (Option (Vec ℕ Global)))
+    → firsts ≡ take (length rows) places → AreLinesOf line places rows texts → AreLinesOf line firsts rows texts
+lines_of_first line places firsts rows texts are lines = λ k any below.
+    subst (λ (place : ℕ). IfSome (slice_index_or texts k None) (λ text. text.items ≡ line place (slice_index_or rows k any)))
+    (sym (ap (λ (all : List ℕ). slice_index_or all k 0) are ∙ get_or-take (length rows) places k 0 below)) (lines k any below)
+
+-- ---- a run that is shown
+
+-- what holds of the rows of a run holds of the rows that it hands on
+pub ran_on : {X E F : Type 0} (after : Result X E) (before : Result X F) (P : X → Type 0) → IfOk after (λ rows. before ≡ Ok rows)
+    → IfOk before P → IfOk after P
+ran_on (Ok rows) before P is holds = subst (λ (r : Result X F). IfOk r P) is holds
+ran_on (Err why) before P is holds = tt
+
+pub done_on : {X E F : Type 0} (after : Result X E) (before : Result X F) (P : Type 0) → IfOk after (λ rows. before ≡ Ok rows)
+    → OnOk before P → OnOk after P
+done_on (Ok rows) before P is holds = subst (λ (r : Result X F). OnOk r P) is holds
+done_on (Err why) before P is holds = tt
+
+-- the lines of the rows, and then the last line
+pub shown_whole : {E : Type 0} (r : Result (List Row) E) (start middle end : Option (List ℕ)) (texts : List ℕ) (totals : List Row → List ℕ)
+    (all : List Row) → IfOk r (λ rows. rows ≡ all) → OnOk r (Appends start middle texts)
+    → IfOk r (λ rows. Appends middle end (totals rows)) → OnOk r (Appends start end (texts ++ totals all))
+shown_whole (Ok rows) start middle end texts totals all is first next =
+    Appends-trans start middle end texts (totals all) first (subst (λ (rows : List Row). Appends middle end (totals rows)) is next)
+shown_whole (Err why) start middle end texts totals all is first next = tt
+
+-- what a sender has sent was written to the sink
+module _ {V : Type 0} (taken : V → Option (List ℕ)) (failed : V → ℕ) where
+  pub sent_to : (start : Option (List ℕ)) (failures : ℕ) (before after : Option V) (text : List ℕ)
+      → IfSome before (λ sink. (start ≡ taken sink) × (failures ≡ failed sink)) → is_some after ≡ is_some before
+      → IfSome after (λ sink. Appends start (taken sink) text × (failed sink ≡ failures)) → AreRowsWritten taken failed before after text
+  sent_to start failures None None text kept there sent = tt
+  sent_to start failures (Some before) (Some after) text kept there sent =
+      (subst (λ (taken : Option (List ℕ)). Appends taken _ text) kept.0 sent.0, sent.1 ∙ kept.1)
+  sent_to start failures None (Some after) text kept there sent = absurd cc
+  sent_to start failures (Some before) None text kept there sent = absurd cc

@@ -1,0 +1,12 @@
+use Rattle.std.proofs.Common.{[]}
+use Rattle.rv_expect.specs.Judgement.{judging_of}
+use Rattle.rvtest_app.proofs.run.ListRun.run_and_show.Given as goal
+
+abbrev pub ghosts-stream_rows : goal.ghosts-stream_rows
+ghosts-stream_rows g a = record {
+  before = g.W.Sink.taken a.to.out.sink;
+  failures = g.W.Sink.failed a.to.out.sink;
+  most = a.limit.now.failures;
+  judging = judging_of a.limit.now.judge;
+  line = λ _ _. [];
+}

@@ -1,0 +1,60 @@
+//! The destinations of a run's files.
+
+ghost use Rattle.std.specs.Prelude.{◌≡◌, [], IfErr, IfOk};
+ghost use Rattle.rvtest_app.specs.RunOutlets.{HaveRunOutletsTaken};
+ghost use Rattle.rvtest_app.specs.RunStops.{IsRunPutStop};
+
+use crate::into_report::run_report_path;
+use crate::outlets::{Outlet, Outlets, abandon_outlet, open_outlet, open_outlets};
+use rv_command::Stop;
+use rv_files::Outputs;
+use rvtest_cli::RunArgs;
+use std::alloc::Global;
+
+/// The destinations of a run's report, of its JUnit XML, and of its table of counts.
+#[derive(Drop)]
+pub(crate) struct RunOutlets<'a, P: Drop, W: Drop> {
+    pub(crate) report: Outlet<'a, P, W>,
+    pub(crate) junit: Outlet<'a, P, W>,
+    pub(crate) counts: Outlet<'a, P, W>,
+}
+
+/// Opens all of them; after an error, none is left open.
+pub(crate) fn open_run_outlets<'a, F: Outputs>(
+    files: &mut F,
+    alloc: Global,
+    asked: &RunArgs<'a>,
+) -> Result<RunOutlets<'a, F::Place, F::File>, Stop>
+    ensures same { F.placed files.new ≡ F.placed files.old }
+    ensures open { IfOk result (HaveRunOutletsTaken F.pending_path F.File.taken F.File.failed (F.placed files.old) asked.now []) }
+    ensures stopped { IfErr result (IsRunPutStop asked.now) }
+{
+    let counts = open_outlet(files, alloc, asked.counts)?;
+    match open_outlets(files, alloc, run_report_path(asked), asked.junit) {
+        Ok(Outlets { report, junit }) => Ok(RunOutlets {
+            report,
+            junit,
+            counts,
+        }),
+        Err(stop) => {
+            abandon_outlet(files, counts);
+            Err(stop)
+        }
+    }
+}
+
+impl<'a, P: Drop, W: Drop> RunOutlets<'a, P, W> {
+    /// Abandons the files, so that none is created.
+    pub(crate) fn abandon<F: Outputs<Place = P, File = W>>(self, files: &mut F)
+        ensures { F.placed files.new ≡ F.placed files.old }
+    {
+        let RunOutlets {
+            report,
+            junit,
+            counts,
+        } = self;
+        abandon_outlet(files, report);
+        abandon_outlet(files, junit);
+        abandon_outlet(files, counts);
+    }
+}
