@@ -7,7 +7,7 @@ use Rattle.rv_lists.specs.declared.job.Job.{Job}
 use Rattle.regex.specs.Patterns.{Re, find_str}
 use Rattle.rv_choice.specs.Choice.{borrowed_names, chosen_marks, is_found_in_names, is_left, left_marks}
 
--- what is asked of one of them is asked of its text
+-- what holds for one of them holds for its text
 pub any_text : (p : List ℕ → Bool) (names : List (Bor (List ℕ)))
     → list_any (λ name. p name.now) names ≡ list_any p (borrowed_names names)
 any_text p [] = refl

@@ -97,9 +97,9 @@ stop_of_report known words rule jobs stop (inr said) =
     report some.0 some.1.0 some.1.1
 
 -- what is said of a text is said of words that have it
-pub said_of_text : (P : List ℕ → Type 0) (asked : Option (Bor (List ℕ))) (text : Bor (List ℕ)) → asked ≡ Some text
-    → P text.now → IsSomeAnd (borrowed_text asked) P
-said_of_text P asked text is holds =
+pub said_of_text : (P : List ℕ → Type 0) (args : Option (Bor (List ℕ))) (text : Bor (List ℕ)) → args ≡ Some text
+    → P text.now → IsSomeAnd (borrowed_text args) P
+said_of_text P args text is holds =
     let Says : Option (Bor (List ℕ)) → Type 0 = λ o. IsSomeAnd (borrowed_text o) P in
     subst Says (sym is) holds
 

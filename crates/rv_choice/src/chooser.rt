@@ -34,7 +34,7 @@ use std::alloc::{AllocError, Global};
 pub struct Chooser<'x, D> {
     pub inputs: &'x D,
     pub alloc: Global,
-    pub asked: &'x RunArgs<'x>,
+    pub args: &'x RunArgs<'x>,
     /// The rule by which rows are failures.
     pub rule: Rule,
     /// The command whose arguments they are.
@@ -68,10 +68,10 @@ impl Choice {
 impl<'x, D: Inputs> Chooser<'x, D> {
     /// Returns the jobs that the arguments choose.
     pub fn choose(&self, jobs: &[Job]) -> Result<Choice, Stop>
-        ensures chosen { IfOk result (λ choice. IsChoice (D.contents self.now.inputs.now) self.now.asked.now
+        ensures chosen { IfOk result (λ choice. IsChoice (D.contents self.now.inputs.now) self.now.args.now
             self.now.rule jobs.now (option_map (λ marks. marks.items) choice.marks) choice.notes.items) }
         ensures stop { IfErr result
-            (IsChoiceStop (D.contents self.now.inputs.now) self.now.asked.now self.now.rule jobs.now) }
+            (IsChoiceStop (D.contents self.now.inputs.now) self.now.args.now self.now.rule jobs.now) }
     {
         let excluded = self.requested_exclusion()?;
         let Choice { marks, notes } = self.wanted_jobs(jobs)?;
@@ -81,10 +81,10 @@ impl<'x, D: Inputs> Chooser<'x, D> {
 
     // Returns the jobs that the arguments request, before any are left out.
     fn wanted_jobs(&self, jobs: &[Job]) -> Result<Choice, Stop>
-        ensures wanted { IfOk result (λ choice. AreWanted (D.contents self.now.inputs.now) self.now.asked.now
+        ensures wanted { IfOk result (λ choice. AreWanted (D.contents self.now.inputs.now) self.now.args.now
             self.now.rule jobs.now (option_map (λ marks. marks.items) choice.marks) choice.notes.items) }
         ensures stop { IfErr result
-            (IsChoiceStop (D.contents self.now.inputs.now) self.now.asked.now self.now.rule jobs.now) }
+            (IsChoiceStop (D.contents self.now.inputs.now) self.now.args.now self.now.rule jobs.now) }
     {
         self.check_exact_names(jobs)?;
         let pattern = self.requested_pattern(jobs)?;
@@ -93,12 +93,12 @@ impl<'x, D: Inputs> Chooser<'x, D> {
 
     // Rejects an exact name that no job of the list has.
     fn check_exact_names(&self, jobs: &[Job]) -> Result<(), Stop>
-        ensures known { OnOk result (unknown_name jobs.now self.now.asked.now.only.items ≡ None) }
-        ensures unknown { IfErr result (λ stop. IsSomeAnd (unknown_name jobs.now self.now.asked.now.only.items)
-            (λ name. IsUnknownNameStop self.now.asked.now.list.now jobs.now name stop)) }
+        ensures known { OnOk result (unknown_name jobs.now self.now.args.now.only.items ≡ None) }
+        ensures unknown { IfErr result (λ stop. IsSomeAnd (unknown_name jobs.now self.now.args.now.only.items)
+            (λ name. IsUnknownNameStop self.now.args.now.list.now jobs.now name stop)) }
     {
-        match first_unknown_name(jobs, self.asked.only.as_slice()) {
-            Some(name) => Err(unknown_name_stop(self.alloc, self.asked.list, jobs, name)),
+        match first_unknown_name(jobs, self.args.only.as_slice()) {
+            Some(name) => Err(unknown_name_stop(self.alloc, self.args.list, jobs, name)),
             None => Ok(()),
         }
     }
@@ -106,33 +106,33 @@ impl<'x, D: Inputs> Chooser<'x, D> {
     // Returns the pattern for job names, if given, which must match the name of some job.
     fn requested_pattern(&self, jobs: &[Job]) -> Result<Option<Regex>, Stop>
         ensures source { IfOk result (λ pattern.
-            option_map regex_source pattern ≡ borrowed_text self.now.asked.now.pattern) }
+            option_map regex_source pattern ≡ borrowed_text self.now.args.now.pattern) }
         ensures read { IfOk result (λ pattern. IfSome pattern IsReadByDefault) }
         ensures found { IfOk result (λ pattern. IfSome pattern
             (λ regex. is_found_in_names (regex_pattern regex) jobs.now ≡ true)) }
-        ensures refused { IfErr result (λ stop. IsSomeAnd (borrowed_text self.now.asked.now.pattern)
-            (λ text. IsPatternStop self.now.asked.now.list.now text jobs.now stop)) }
+        ensures refused { IfErr result (λ stop. IsSomeAnd (borrowed_text self.now.args.now.pattern)
+            (λ text. IsPatternStop self.now.args.now.list.now text jobs.now stop)) }
     {
-        let Some(text) = self.asked.pattern else {
+        let Some(text) = self.args.pattern else {
             return Ok(None);
         };
         let pattern = self.compile_pattern("--match <REGEX>", text)?;
         if is_found_in_job_names(self.alloc, &pattern, jobs)? {
             Ok(Some(pattern))
         } else {
-            Err(unmatched_pattern_stop(self.alloc, self.asked.list, text))
+            Err(unmatched_pattern_stop(self.alloc, self.args.list, text))
         }
     }
 
     // Returns the pattern by which jobs are left out.
     fn requested_exclusion(&self) -> Result<Option<Regex>, Stop>
         ensures source { IfOk result (λ excluded.
-            option_map regex_source excluded ≡ borrowed_text self.now.asked.now.exclude) }
+            option_map regex_source excluded ≡ borrowed_text self.now.args.now.exclude) }
         ensures read { IfOk result (λ excluded. IfSome excluded IsReadByDefault) }
-        ensures refused { IfErr result (λ stop. IsSomeAnd (borrowed_text self.now.asked.now.exclude)
+        ensures refused { IfErr result (λ stop. IsSomeAnd (borrowed_text self.now.args.now.exclude)
             (λ text. (stop ≡ Stop.OutOfMemory) ⊎ IsRefusedPattern (codes "--exclude <REGEX>") text stop)) }
     {
-        match self.asked.exclude {
+        match self.args.exclude {
             Some(text) => Ok(Some(self.compile_pattern("--exclude <REGEX>", text)?)),
             None => Ok(None),
         }
@@ -150,7 +150,7 @@ impl<'x, D: Inputs> Chooser<'x, D> {
             (option_map (λ marks. marks.items) marks) (option_map (λ marks. marks.items) left)) }
         ensures stop { IfErr result (λ stop. (stop ≡ Stop.OutOfMemory)
             ⊎ IsSomeAnd excluded.entry (λ regex. IsSomeAnd marks
-            (λ marks. IsEmptiedStop self.now.asked.now.list.now jobs.now marks.items regex.now stop))) }
+            (λ marks. IsEmptiedStop self.now.args.now.list.now jobs.now marks.items regex.now stop))) }
     {
         let Some(excluded) = excluded else {
             return Ok(marks);
@@ -168,37 +168,37 @@ impl<'x, D: Inputs> Chooser<'x, D> {
         ensures left { IfOk result (λ left. left.items ≡ left_marks (regex_pattern excluded.now) jobs.now marks.now) }
         ensures some { IfOk result (λ left. are_emptied marks.now left.items ≡ false) }
         ensures stop { IfErr result (λ stop. (stop ≡ Stop.OutOfMemory)
-            ⊎ IsEmptiedStop self.now.asked.now.list.now jobs.now marks.now excluded.now stop) }
+            ⊎ IsEmptiedStop self.now.args.now.list.now jobs.now marks.now excluded.now stop) }
     {
         let left = left_marks(self.alloc, jobs, marks, excluded)?;
         if has_mark(marks) && !has_mark(left.as_slice()) {
-            return Err(emptied_choice_stop(self.alloc, self.asked.list, excluded.as_str()));
+            return Err(emptied_choice_stop(self.alloc, self.args.list, excluded.as_str()));
         }
         Ok(left)
     }
 
     // Chooses by a pattern, if one is given.
     fn choose_by_pattern(&self, pattern: Option<&Regex>, jobs: &[Job]) -> Result<Choice, Stop>
-        requires { is_some pattern ≡ is_some self.now.asked.now.pattern }
+        requires { is_some pattern ≡ is_some self.now.args.now.pattern }
         ensures chosen { IfOk result (λ choice. AreChosenBy (D.contents self.now.inputs.now)
-            (pattern_of pattern.entry) self.now.asked.now self.now.rule jobs.now
+            (pattern_of pattern.entry) self.now.args.now self.now.rule jobs.now
             (option_map (λ marks. marks.items) choice.marks) choice.notes.items) }
         ensures unread { IfErr result (λ stop. (stop ≡ Stop.OutOfMemory)
-            ⊎ IsSomeAnd (borrowed_text self.now.asked.now.failed)
-            (λ path. IsRequestedUnreadStop (D.contents self.now.inputs.now) self.now.asked.now.partial path stop)) }
+            ⊎ IsSomeAnd (borrowed_text self.now.args.now.failed)
+            (λ path. IsRequestedUnreadStop (D.contents self.now.inputs.now) self.now.args.now.partial path stop)) }
     {
-        let Some(path) = self.asked.failed else {
+        let Some(path) = self.args.failed else {
             let marks = self.combined_marks(pattern, None, jobs)?;
             return Ok(Choice {
                 marks: Some(marks),
                 notes: Vec::new(self.alloc),
             });
         };
-        let asked = RequestedReport {
+        let requested = RequestedReport {
             path,
-            partial: self.asked.partial,
+            partial: self.args.partial,
         };
-        let found = read_requested_report(self.inputs, self.alloc, asked)?;
+        let found = read_requested_report(self.inputs, self.alloc, requested)?;
         let note = cut_off_note(self.alloc, path, &found)?;
         let rows = found.report.rows.as_slice();
         let choice = self.choose_from_failed_rows(path, rows, pattern, jobs)?;
@@ -214,7 +214,7 @@ impl<'x, D: Inputs> Chooser<'x, D> {
         jobs: &[Job],
     ) -> Result<Choice, Stop>
         ensures chosen { IfOk result (λ choice. AreChosenFrom path.now (failed_job_names self.now.rule rows.now)
-            (jobs_without_row jobs.now rows.now) (pattern_of pattern.entry) self.now.asked.now jobs.now
+            (jobs_without_row jobs.now rows.now) (pattern_of pattern.entry) self.now.args.now jobs.now
             (option_map (λ marks. marks.items) choice.marks) choice.notes.items) }
         ensures memory { IfErr result (λ stop. stop ≡ Stop.OutOfMemory) }
     {
@@ -233,12 +233,12 @@ impl<'x, D: Inputs> Chooser<'x, D> {
         jobs: &[Job],
     ) -> Result<Choice, Stop>
         ensures chosen { IfOk result (λ choice. AreChosenFrom path.now (borrowed_names failed.now)
-            missing (pattern_of pattern.entry) self.now.asked.now jobs.now
+            missing (pattern_of pattern.entry) self.now.args.now jobs.now
             (option_map (λ marks. marks.items) choice.marks) choice.notes.items) }
         ensures memory { IfErr result (λ stop. stop ≡ Stop.OutOfMemory) }
     {
         let notes = failed_job_notes(self.alloc, path, jobs, failed, missing)?;
-        if failed.is_empty() && self.asked.only.is_empty() && pattern.is_none() {
+        if failed.is_empty() && self.args.only.is_empty() && pattern.is_none() {
             return Ok(Choice { marks: None, notes });
         }
         let marks = Some(self.combined_marks(pattern, Some(failed), jobs)?);
@@ -267,11 +267,11 @@ impl<'x, D: Inputs> Chooser<'x, D> {
         jobs: &[Job],
     ) -> Result<Vec<bool>, AllocError>
         ensures { IfOk result (λ marks. marks.items
-            ≡ chosen_marks (requested_names self.now.asked.now.only.items) (pattern_of pattern.entry)
+            ≡ chosen_marks (requested_names self.now.args.now.only.items) (pattern_of pattern.entry)
             (optional_names failed.entry) jobs.now) }
     {
         let wanted = Wanted {
-            only: requested_names(self.asked),
+            only: requested_names(self.args),
             pattern,
             failed,
         };
@@ -307,13 +307,13 @@ fn bad_pattern_text(
 }
 
 // Returns the exact names, if there are any.
-fn requested_names<'a>(asked: &'a RunArgs<'_>) -> Option<&'a [&'a str]>
-    ensures { optional_names result ≡ requested_names asked.now.only.items }
+fn requested_names<'a>(args: &'a RunArgs<'_>) -> Option<&'a [&'a str]>
+    ensures { optional_names result ≡ requested_names args.now.only.items }
 {
-    if asked.only.is_empty() {
+    if args.only.is_empty() {
         None
     } else {
-        Some(asked.only.as_slice())
+        Some(args.only.as_slice())
     }
 }
 

@@ -24,28 +24,28 @@ use std::alloc::{AllocError, Global};
 /// list's text.
 pub fn requested_shard(
     alloc: Global,
-    asked: &RunArgs<'_>,
+    args: &RunArgs<'_>,
     command: ChoosingCommand,
     text: &[u8],
     jobs: usize,
 ) -> Result<Option<Shard>, Stop>
     requires { jobs ≤ most_jobs }
-    ensures asked { IfOk result (IsShardOf asked.now.shard) }
+    ensures requested { IfOk result (IsShardOf args.now.shard) }
     ensures stamped { IfOk result (λ shard. IfSome shard (λ s.
-        s.stamp ≡ stamp_for asked.now.stamp text.now)) }
+        s.stamp ≡ stamp_for args.now.stamp text.now)) }
     ensures within { IfOk result (λ shard. IfSome shard (λ s.
         (s.jobs ≡ jobs) × (0 < s.number) × (s.number ≤ s.shards) × (s.shards ≤ most_jobs))) }
     ensures named { IfOk result (λ shard. IfSome shard (λ _.
-        IfSome asked.now.stamp (λ stamp. is_name stamp.now ≡ true))) }
-    ensures refused { IfErr result (IsShardStop asked.now.shard asked.now.stamp) }
+        IfSome args.now.stamp (λ stamp. is_name stamp.now ≡ true))) }
+    ensures refused { IfErr result (IsShardStop args.now.shard args.now.stamp) }
 {
-    let Some(words) = asked.shard else {
+    let Some(words) = args.shard else {
         return Ok(None);
     };
     let Some((number, shards)) = shard_numbers(words) else {
         return Err(bad_shard_stop(alloc, command, words));
     };
-    let stamp = match asked.stamp {
+    let stamp = match args.stamp {
         Some(stamp) if is_name(stamp.as_bytes()) => String::from_str(alloc, stamp)?,
         Some(stamp) => return Err(bad_stamp_stop(alloc, command, stamp)),
         None => list_digest(alloc, text)?,

@@ -26,31 +26,31 @@ pub struct RequestedReport<'a> {
 pub fn read_requested_report<D: Inputs>(
     inputs: &D,
     alloc: Global,
-    asked: RequestedReport<'_>,
+    requested: RequestedReport<'_>,
 ) -> Result<PartialReport, Stop>
-    ensures read { IfOk result (IsReportReadAt (D.contents inputs.now) asked.entry.partial asked.entry.path.now) }
+    ensures read { IfOk result (IsReportReadAt (D.contents inputs.now) requested.entry.partial requested.entry.path.now) }
     ensures few { IfOk result (λ read. length read.report.rows ≤ most_jobs) }
     ensures unread { IfErr result
-        (IsRequestedUnreadStop (D.contents inputs.now) asked.entry.partial asked.entry.path.now) }
+        (IsRequestedUnreadStop (D.contents inputs.now) requested.entry.partial requested.entry.path.now) }
 {
-    let text = read_result_file(inputs, alloc, asked.path)?;
-    parse_requested_report(alloc, asked, text.as_slice())
+    let text = read_result_file(inputs, alloc, requested.path)?;
+    parse_requested_report(alloc, requested, text.as_slice())
 }
 
 /// Parses the text of that report.
 pub fn parse_requested_report(
     alloc: Global,
-    asked: RequestedReport<'_>,
+    requested: RequestedReport<'_>,
     text: &[u8],
 ) -> Result<PartialReport, Stop>
-    ensures read { IfOk result (IsReportRead asked.entry.partial text.now) }
+    ensures read { IfOk result (IsReportRead requested.entry.partial text.now) }
     ensures few { IfOk result (λ read. length read.report.rows ≤ most_jobs) }
-    ensures fault { IfErr result (IsRequestedFaultStop asked.entry.partial asked.entry.path.now text.now) }
+    ensures fault { IfErr result (IsRequestedFaultStop requested.entry.partial requested.entry.path.now text.now) }
 {
-    if asked.partial {
-        return parse_partial_report(alloc, asked.path, text);
+    if requested.partial {
+        return parse_partial_report(alloc, requested.path, text);
     }
-    let report = parse_report(alloc, asked.path, text)?;
+    let report = parse_report(alloc, requested.path, text)?;
     Ok(PartialReport {
         report,
         is_cut_off: false,

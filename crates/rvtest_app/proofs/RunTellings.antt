@@ -34,11 +34,11 @@ known_behind (Some jobs) = refl
 -- ---- what is left of a run, told in equal words
 
 -- how a run is told is what words ask for
-pub told_as_asked : (words : RunArgs) (failures known : Option KnownJobs) (plan : Planned) (unread : List UnreadPath) (rule : Rule)
+pub reported_as_requested : (words : RunArgs) (failures known : Option KnownJobs) (plan : Planned) (unread : List UnreadPath) (rule : Rule)
     (verbosity : Verbosity) → rule ≡ failure_rule words.lenient → known ≡ failures
     → verbosity ≡ requested_verbosity words.verbose words.quiet
     → told_by words known plan unread rule verbosity ≡ run_reporter words failures plan unread
-told_as_asked words failures known plan unread rule verbosity e f h =
+reported_as_requested words failures known plan unread rule verbosity e f h =
     ap (λ (r : Rule). told_by words known plan unread r verbosity) e
     ∙ ap (λ (k : Option KnownJobs). told_by words k plan unread (failure_rule words.lenient) verbosity) f
     ∙ ap (λ (v : Verbosity). told_by words failures plan unread (failure_rule words.lenient) v) h

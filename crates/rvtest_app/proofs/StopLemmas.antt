@@ -7,7 +7,7 @@ use Rattle.rvtest_cli.specs.declared.counts.CountsArgs.{CountsArgs}
 use Rattle.rvtest_cli.specs.declared.diff.DiffArgs.{DiffArgs}
 use Rattle.rvtest_cli.specs.declared.gdb.GdbArgs.{GdbArgs}
 use Rattle.rvtest_cli.specs.declared.merge.MergeArgs.{MergeArgs}
-use Rattle.rvtest_cli.specs.declared.requests.Asked.TheVariants as asked
+use Rattle.rvtest_cli.specs.declared.requests.Request.TheVariants as request
 use Rattle.rvtest_cli.specs.declared.run.RunArgs.{RunArgs}
 use Rattle.rvtest_cli.specs.declared.show.ShowArgs.{ShowArgs}
 use Rattle.rv_command.specs.Stops.{IsResultUnreadStop}
@@ -63,30 +63,30 @@ gdb_stop known is_terminal words before after x y why =
 
 -- a run that had jobs to run may be stopped by a failed write, and one that had none put nothing
 pub unshown_run : (known : Option FileContents) (is_terminal : Bool) (words : RunArgs) (Untouched : Type 0)
-    → AreJobsToRun known words ⊎ Untouched → IsCommandStop known is_terminal (asked.Run words) stop.WriteFailed ⊎ Untouched
+    → AreJobsToRun known words ⊎ Untouched → IsCommandStop known is_terminal (request.Run words) stop.WriteFailed ⊎ Untouched
 unshown_run known is_terminal words Untouched =
     ⊎_elim (λ found. inl (inr (inr (inr (found, inl (inr (inr (inl refl)))))))) inr
 
 -- so may an acceptance, a merge and what is shown of a report
 pub unshown_accept : (known : Option FileContents) (is_terminal : Bool) (words : AcceptArgs) (status : ℕ) (before after : CommandOutputs)
-    → IsAcceptedAt known words status before after → IsCommandStop known is_terminal (asked.Accept words) stop.WriteFailed
+    → IsAcceptedAt known words status before after → IsCommandStop known is_terminal (request.Accept words) stop.WriteFailed
 unshown_accept known is_terminal words status before after done =
     inr (done.bytes, (done.read, (done.jobs, (done.listed, inr (inr (inr (inl refl)))))))
 
 pub unshown_merge : (known : Option FileContents) (is_terminal : Bool) (words : MergeArgs) (status : ℕ) (before after : CommandOutputs)
-    → IsMergedAt known words status before after → IsCommandStop known is_terminal (asked.Merge words) stop.WriteFailed
+    → IsMergedAt known words status before after → IsCommandStop known is_terminal (request.Merge words) stop.WriteFailed
 unshown_merge known is_terminal words status before after done =
     inr (inr (done.texts, (done.read, inr (done.rows, (done.parts, inr (inl refl))))))
 
 pub unshown_report : (known : Option FileContents) (is_terminal : Bool) (words : ShowArgs) (status : ℕ) (before after : CommandOutputs)
-    → IsShownAt known words status before after → IsCommandStop known is_terminal (asked.Show words) stop.WriteFailed
+    → IsShownAt known words status before after → IsCommandStop known is_terminal (request.Show words) stop.WriteFailed
 unshown_report known is_terminal words status before after done = inr (inr (done.found, (done.read, inr (inl refl))))
 
 -- a sum of tables that goes to standard output may be stopped there, and one that goes to a file put nothing there
 pub unshown_sum : (known : Option FileContents) (is_terminal : Bool) (words : CountsArgs) (status : ℕ) (before after : CommandOutputs) (Untouched : Type 0)
     → IsSumWritten known words status before after
     → (is_stdout (written_path (optional_text words.out)) ≡ true) ⊎ Untouched
-    → IsCommandStop known is_terminal (asked.Counts words) stop.WriteFailed ⊎ Untouched
+    → IsCommandStop known is_terminal (request.Counts words) stop.WriteFailed ⊎ Untouched
 unshown_sum known is_terminal words status before after Untouched put =
     ⊎_elim (λ out. inl (inr (inr (inr (
       put.sum,

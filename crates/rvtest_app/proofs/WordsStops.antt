@@ -14,10 +14,10 @@ use Rattle.rv_command.specs.declared.stop.Stop.TheVariants as stop
 use Rattle.rvtest_app.specs.Answers.{AskForHelp, IsAnswered}
 use Rattle.rvtest_app.specs.CommandOutputs.{CommandOutputs}
 use Rattle.rvtest_app.specs.CommandStops.{IsStopFor}
-use Rattle.rvtest_app.specs.ReportedStops.{IsHelpAsked, IsHelpStop, IsHelpWritten, IsWordsErrorStop}
+use Rattle.rvtest_app.specs.ReportedStops.{IsHelpRequested, IsHelpStop, IsHelpWritten, IsWordsErrorStop}
 
 pub ask_for_help : (words : List (List ℕ)) (fault : ErrorKind) → IsAmong fault (words_fault_kinds words)
-    → IsHelpAsked fault → AskForHelp words
+    → IsHelpRequested fault → AskForHelp words
 ask_for_help words fault among =
     let Among : ErrorKind → Type 0 = λ k. IsAmong k (words_fault_kinds words) in
     ⊎_elim (λ help. inl (subst Among help among)) (λ version. inr (subst Among version among))
@@ -29,8 +29,8 @@ by_option P A Q none some (Some m) p = some m p
 
 help_stop : (known : Option FileContents) (is_terminal : Bool) (words : List (List ℕ)) (before after : ℕ) (why : Stop) → AskForHelp words
     → IsHelpStop before after why → IsStopFor known is_terminal words why
-help_stop known is_terminal words before after why asked is =
-    ⊎_elim (λ memory. inr (inl memory)) (λ failed. inr (inr (inl (asked, failed.0)))) is
+help_stop known is_terminal words before after why args is =
+    ⊎_elim (λ memory. inr (inl memory)) (λ failed. inr (inr (inl (args, failed.0)))) is
 
 -- a fault of words stops the program by its kind
 stop_of_error : (known : Option FileContents) (is_terminal : Bool) (words : List (List ℕ)) (told : WordsError) (before after : ℕ) (why : Stop)
@@ -57,10 +57,10 @@ words_stop known is_terminal words told (Err why) before after among misused is 
     stop_of_error known is_terminal words told before after why among misused is
 
 -- where the help was written, the words ask for it, and nothing went to other places
-help_asked : (words : List (List ℕ)) (told : WordsError) (before after : Option (List ℕ)) → IsToldOf (words_fault_kinds words) told
+help_requested : (words : List (List ℕ)) (told : WordsError) (before after : Option (List ℕ)) → IsToldOf (words_fault_kinds words) told
     → IsHelpWritten told before after → AskForHelp words
-help_asked words error.OutOfMemory before after among written = absurd written
-help_asked words (error.Told fault text) before after among written = ask_for_help words fault among written.0
+help_requested words error.OutOfMemory before after among written = absurd written
+help_requested words (error.Told fault text) before after among written = ask_for_help words fault among written.0
 
 pub words_answered : (known : Option FileContents) (input : Option (List ℕ)) (is_terminal is_colored : Bool) (words : List (List ℕ))
     (told : WordsError) (answer : Result ℕ Stop) (before after : CommandOutputs) → IsToldOf (words_fault_kinds words) told
@@ -68,5 +68,5 @@ pub words_answered : (known : Option FileContents) (input : Option (List ℕ)) (
     → (after.errors ≡ before.errors) × (after.failures ≡ before.failures) × (after.placed ≡ before.placed)
     → IfOk answer (λ status. IsAnswered known input is_terminal is_colored words status before after)
 words_answered known input is_terminal is_colored words told (Ok status) before after among zero written same =
-    inr (inr (help_asked words told before.out after.out among written, zero), same.0, same.1, same.2)
+    inr (inr (help_requested words told before.out after.out among written, zero), same.0, same.1, same.2)
 words_answered known input is_terminal is_colored words told (Err why) before after among zero written same = tt

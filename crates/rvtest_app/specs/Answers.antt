@@ -3,9 +3,9 @@ use Rattle.std.specs.Prelude.{◌≡◌, ◌⊎◌, ℕ, Bool, List, Option, Som
 use Rattle.clap.specs.Kinds.{IsAmong}
 use Rattle.clap.specs.declared.error.kind.ErrorKind.TheVariants.{DisplayHelp, DisplayVersion}
 use Rattle.rv_base.specs.Files.{FileContents}
-use Rattle.rvtest_cli.specs.RvtestWords.{asked_words, words_fault_kinds, words_request}
-use Rattle.rvtest_cli.specs.declared.requests.Asked.{Asked}
-use Rattle.rvtest_cli.specs.declared.requests.Asked.TheVariants as asked
+use Rattle.rvtest_cli.specs.RvtestWords.{words_of_request, words_fault_kinds, words_request}
+use Rattle.rvtest_cli.specs.declared.requests.Request.{Request}
+use Rattle.rvtest_cli.specs.declared.requests.Request.TheVariants as request
 use Rattle.rvtest_app.specs.Accepts.{IsAcceptedAt}
 use Rattle.rvtest_app.specs.Colors.{IsColoredOutput, requested_colors}
 use Rattle.rvtest_app.specs.Consoles.{IsConsoleWritten}
@@ -23,46 +23,46 @@ use Rattle.rvtest_app.specs.Shows.{IsShownAt}
 
 -- a command did what was requested, given what is known of files and standard input and whether standard output is a terminal: its status,
 -- and everything written to standard output, to standard error and to files
-abbrev pub IsDone : Option FileContents → Option (List ℕ) → Bool → Asked → ℕ → CommandOutputs → CommandOutputs → Type 0
-IsDone known input is_terminal (asked.Run words) status before after =
+abbrev pub IsDone : Option FileContents → Option (List ℕ) → Bool → Request → ℕ → CommandOutputs → CommandOutputs → Type 0
+IsDone known input is_terminal (request.Run words) status before after =
     IsRunAt known words status before after
-IsDone known input is_terminal (asked.Explain words) status before after =
+IsDone known input is_terminal (request.Explain words) status before after =
     (text : List ℕ) × (IsExplanationAt known words text status
     × IsOnlyStandardOutput text before after)
-IsDone known input is_terminal (asked.List words) status before after =
+IsDone known input is_terminal (request.List words) status before after =
     IsListWritten known words status before after
-IsDone known input is_terminal (asked.Console words) status before after =
+IsDone known input is_terminal (request.Console words) status before after =
     IsConsoleWritten known words status before after
-IsDone known input is_terminal (asked.Gdb words) status before after =
+IsDone known input is_terminal (request.Gdb words) status before after =
     (rest : Option (List ℕ)) × IsGdbAnswered known is_terminal words input rest status before after
-IsDone known input is_terminal (asked.Check words) status before after =
+IsDone known input is_terminal (request.Check words) status before after =
     (text : List ℕ) × (IsCheckAt known words text status
     × IsOnlyStandardOutput text before after)
-IsDone known input is_terminal (asked.Accept words) status before after =
+IsDone known input is_terminal (request.Accept words) status before after =
     IsAcceptedAt known words status before after
-IsDone known input is_terminal (asked.Merge words) status before after =
+IsDone known input is_terminal (request.Merge words) status before after =
     IsMergedAt known words status before after
-IsDone known input is_terminal (asked.Diff words) status before after =
+IsDone known input is_terminal (request.Diff words) status before after =
     IsDiffWritten known words status before after
-IsDone known input is_terminal (asked.Show words) status before after =
+IsDone known input is_terminal (request.Show words) status before after =
     IsShownAt known words status before after
-IsDone known input is_terminal (asked.Counts words) status before after =
+IsDone known input is_terminal (request.Counts words) status before after =
     IsSumWritten known words status before after
-IsDone known input is_terminal (asked.Cover words) status before after =
+IsDone known input is_terminal (request.Cover words) status before after =
     IsCoverageWritten known words status before after
-IsDone known input is_terminal (asked.Profile words) status before after =
+IsDone known input is_terminal (request.Profile words) status before after =
     IsProfileWritten known words status before after
-IsDone known input is_terminal (asked.Help words) status before after =
+IsDone known input is_terminal (request.Help words) status before after =
     (text : List ℕ) × (IsTopicPrinted words.topic.now text status
     × IsOnlyStandardOutput text before after)
 
 -- a command did what was requested, and its results on standard output were coloured as requested, given whether standard output is a
 -- terminal that supports colours
-pub record IsDoneInColors (known : Option FileContents) (input : Option (List ℕ)) (is_terminal is_colored : Bool) (asked : Asked)
+pub record IsDoneInColors (known : Option FileContents) (input : Option (List ℕ)) (is_terminal is_colored : Bool) (args : Request)
     (status : ℕ) (before after : CommandOutputs) : Type 0 where
   pub plain : CommandOutputs
-  pub done : IsDone known input is_terminal asked status before plain
-  pub shown : IsColoredOutput (requested_colors asked is_colored) before plain after
+  pub done : IsDone known input is_terminal args status before plain
+  pub shown : IsColoredOutput (requested_colors args is_colored) before plain after
 
 -- the arguments request the help or the version
 abbrev pub AskForHelp : List (List ℕ) → Type 0
@@ -76,7 +76,7 @@ IsAnsweredAlone words status =
 -- the program responded to its arguments: it did what they request, coloured or not, or it reported how it is used
 abbrev pub IsAnswered : Option FileContents → Option (List ℕ) → Bool → Bool → List (List ℕ) → ℕ → CommandOutputs → CommandOutputs → Type 0
 IsAnswered known input is_terminal is_colored words status before after =
-    ((asked : Asked) × ((words_request words ≡ Some (asked_words asked))
-    × IsDoneInColors known input is_terminal is_colored asked status before after))
+    ((args : Request) × ((words_request words ≡ Some (words_of_request args))
+    × IsDoneInColors known input is_terminal is_colored args status before after))
     ⊎ (IsAnsweredAlone words status × (after.errors ≡ before.errors) × (after.failures ≡ before.failures)
     × (after.placed ≡ before.placed))

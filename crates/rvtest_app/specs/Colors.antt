@@ -1,8 +1,8 @@
 -- Whether results are coloured, and what the coloured output is.
 use Rattle.std.specs.Prelude.{◌≡◌, ℕ, Bool, List, Option, Some, None, codes, if◌then◌else◌}
 use Rattle.std.specs.Str.{bytes_eq}
-use Rattle.rvtest_cli.specs.declared.requests.Asked.{Asked}
-use Rattle.rvtest_cli.specs.declared.requests.Asked.TheVariants as asked
+use Rattle.rvtest_cli.specs.declared.requests.Request.{Request}
+use Rattle.rvtest_cli.specs.declared.requests.Request.TheVariants as request
 use Rattle.rv_terminal.specs.ColorSinks.{IsOut}
 use Rattle.rv_terminal.specs.declared.colors.Colors.{Colors}
 use Rattle.rv_terminal.specs.declared.colors.Colors.TheVariants as colors
@@ -22,16 +22,16 @@ colors_of_word None is_terminal = terminal_colors is_terminal
 
 -- results are not coloured if a file goes to standard output
 abbrev pub beside_file : Bool → Colors → Colors
-beside_file uses_stdout asked = if uses_stdout then colors.Without else asked
+beside_file uses_stdout args = if uses_stdout then colors.Without else args
 
 -- the requested colours, given whether standard output is a terminal that supports them; names, consoles, errors and reports are never
 -- coloured
-abbrev pub requested_colors : Asked → Bool → Colors
-requested_colors (asked.Run words) is_terminal =
+abbrev pub requested_colors : Request → Bool → Colors
+requested_colors (request.Run words) is_terminal =
     beside_file (uses_run_stdout words) (colors_of_word (optional_text words.color) is_terminal)
-requested_colors (asked.Explain words) is_terminal = colors_of_word (optional_text words.color) is_terminal
-requested_colors (asked.Diff words) is_terminal = colors_of_word (optional_text words.color) is_terminal
-requested_colors (asked.Show words) is_terminal =
+requested_colors (request.Explain words) is_terminal = colors_of_word (optional_text words.color) is_terminal
+requested_colors (request.Diff words) is_terminal = colors_of_word (optional_text words.color) is_terminal
+requested_colors (request.Show words) is_terminal =
     beside_file (is_stdout_at (optional_text words.junit)) (colors_of_word (optional_text words.color) is_terminal)
 requested_colors _ is_terminal = colors.Without
 

@@ -5,7 +5,7 @@ use Rattle.clap.specs.declared.error.kind.ErrorKind.{ErrorKind as WordsFault}
 use Rattle.rv_base.specs.Files.{FileContents}
 use Rattle.rv_choice.specs.ChoiceStops.{IsChoiceStop}
 use Rattle.rv_choice.specs.UnknownName.{IsUnknownNameStop}
-use Rattle.rvtest_cli.specs.RvtestWords.{asked_words, misuse_text, words_fault_kinds, words_faults, words_misuse, words_request}
+use Rattle.rvtest_cli.specs.RvtestWords.{words_of_request, misuse_text, words_fault_kinds, words_faults, words_misuse, words_request}
 use Rattle.rvtest_cli.specs.declared.accept.AcceptArgs.{AcceptArgs}
 use Rattle.rvtest_cli.specs.declared.check.CheckArgs.{CheckArgs}
 use Rattle.rvtest_cli.specs.declared.console.ConsoleArgs.{ConsoleArgs}
@@ -14,8 +14,8 @@ use Rattle.rvtest_cli.specs.declared.explain.ExplainArgs.{ExplainArgs}
 use Rattle.rvtest_cli.specs.declared.gdb.GdbArgs.{GdbArgs}
 use Rattle.rvtest_cli.specs.declared.run.RunArgs.{RunArgs}
 use Rattle.rvtest_cli.specs.declared.show.ShowArgs.{ShowArgs}
-use Rattle.rvtest_cli.specs.declared.requests.Asked.{Asked}
-use Rattle.rvtest_cli.specs.declared.requests.Asked.TheVariants as asked
+use Rattle.rvtest_cli.specs.declared.requests.Request.{Request}
+use Rattle.rvtest_cli.specs.declared.requests.Request.TheVariants as request
 use Rattle.rv_command.specs.Stops.{IsListFaultStop, IsListUnreadStop, IsRefusal, IsRequestedUnreadStop, IsUsageStop}
 use Rattle.rv_command.specs.Texts.{IsReportReadAt, IsTextAt, optional_text}
 use Rattle.rv_command.specs.declared.stop.Stop.{Stop}
@@ -37,7 +37,7 @@ use Rattle.rvtest_app.specs.ProfileStops.{IsProfileStop}
 use Rattle.rvtest_app.specs.WriteStops.{IsOutputStop}
 use Rattle.rvtest_app.specs.RunStops.{IsRunStop}
 use Rattle.rvtest_app.specs.CommandOutputs.{CommandOutputs}
-use Rattle.rvtest_app.specs.ReportedStops.{IsHelpAsked}
+use Rattle.rvtest_app.specs.ReportedStops.{IsHelpRequested}
 
 -- `check`: the list was not read, memory ran out, or the list has an error
 abbrev pub IsCheckStop : Option FileContents → CheckArgs → Stop → Type 0
@@ -111,25 +111,25 @@ IsShowStop known words why = IsShowOverwriteStop words why ⊎ (IsRequestedUnrea
 
 -- what stopped a command, given whether standard output is a terminal; a command that only prints a text stopped earlier or could not write
 -- it
-abbrev pub IsCommandStop : Option FileContents → Bool → Asked → Stop → Type 0
-IsCommandStop known is_terminal (asked.Explain words) why = (why ≡ stop.WriteFailed) ⊎ IsExplainStop known words why
-IsCommandStop known is_terminal (asked.List words) why = (why ≡ stop.WriteFailed) ⊎ IsListStop known words why
-IsCommandStop known is_terminal (asked.Console words) why = (why ≡ stop.WriteFailed) ⊎ IsConsoleStop known words why
-IsCommandStop known is_terminal (asked.Gdb words) why = IsGdbStop known is_terminal words why
-IsCommandStop known is_terminal (asked.Check words) why = (why ≡ stop.WriteFailed) ⊎ IsCheckStop known words why
-IsCommandStop known is_terminal (asked.Diff words) why = (why ≡ stop.WriteFailed) ⊎ IsDiffAtStop known words why
-IsCommandStop known is_terminal (asked.Help words) why = (why ≡ stop.WriteFailed) ⊎ IsNoTopicStop words.topic.now why
-IsCommandStop known is_terminal (asked.Run words) why = IsRunStop known words why
-IsCommandStop known is_terminal (asked.Accept words) why = IsAcceptStop known words why
-IsCommandStop known is_terminal (asked.Merge words) why = IsMergeStop known words why
-IsCommandStop known is_terminal (asked.Show words) why = IsShowStop known words why
-IsCommandStop known is_terminal (asked.Counts words) why = IsCountsStop known words why
-IsCommandStop known is_terminal (asked.Cover words) why = (why ≡ stop.WriteFailed) ⊎ IsCoverStop known words why
-IsCommandStop known is_terminal (asked.Profile words) why = (why ≡ stop.WriteFailed) ⊎ IsProfileStop known words why
+abbrev pub IsCommandStop : Option FileContents → Bool → Request → Stop → Type 0
+IsCommandStop known is_terminal (request.Explain words) why = (why ≡ stop.WriteFailed) ⊎ IsExplainStop known words why
+IsCommandStop known is_terminal (request.List words) why = (why ≡ stop.WriteFailed) ⊎ IsListStop known words why
+IsCommandStop known is_terminal (request.Console words) why = (why ≡ stop.WriteFailed) ⊎ IsConsoleStop known words why
+IsCommandStop known is_terminal (request.Gdb words) why = IsGdbStop known is_terminal words why
+IsCommandStop known is_terminal (request.Check words) why = (why ≡ stop.WriteFailed) ⊎ IsCheckStop known words why
+IsCommandStop known is_terminal (request.Diff words) why = (why ≡ stop.WriteFailed) ⊎ IsDiffAtStop known words why
+IsCommandStop known is_terminal (request.Help words) why = (why ≡ stop.WriteFailed) ⊎ IsNoTopicStop words.topic.now why
+IsCommandStop known is_terminal (request.Run words) why = IsRunStop known words why
+IsCommandStop known is_terminal (request.Accept words) why = IsAcceptStop known words why
+IsCommandStop known is_terminal (request.Merge words) why = IsMergeStop known words why
+IsCommandStop known is_terminal (request.Show words) why = IsShowStop known words why
+IsCommandStop known is_terminal (request.Counts words) why = IsCountsStop known words why
+IsCommandStop known is_terminal (request.Cover words) why = (why ≡ stop.WriteFailed) ⊎ IsCoverStop known words why
+IsCommandStop known is_terminal (request.Profile words) why = (why ≡ stop.WriteFailed) ⊎ IsProfileStop known words why
 
 -- the arguments have an error of some kind other than a request for help
 abbrev pub AreFaulty : List (List ℕ) → Type 0
-AreFaulty words = (kind : WordsFault) × (IsAmong kind (words_fault_kinds words) × (IsHelpAsked kind → ⊥))
+AreFaulty words = (kind : WordsFault) × (IsAmong kind (words_fault_kinds words) × (IsHelpRequested kind → ⊥))
 
 -- the message names the options that cannot be combined, if that is the error
 abbrev pub IsMisuseStop : List (List ℕ) → Stop → Type 0
@@ -150,5 +150,5 @@ IsWordsStop words why = (why ≡ stop.OutOfMemory)
 -- what stopped the program
 abbrev pub IsStopFor : Option FileContents → Bool → List (List ℕ) → Stop → Type 0
 IsStopFor known is_terminal words why =
-    ((asked : Asked) × ((words_request words ≡ Some (asked_words asked)) × IsCommandStop known is_terminal asked why))
+    ((args : Request) × ((words_request words ≡ Some (words_of_request args)) × IsCommandStop known is_terminal args why))
     ⊎ IsWordsStop words why

@@ -3,9 +3,9 @@ use Rattle.std.specs.Prelude.{◌≡◌, ◌≤◌, ℕ, max, min, Option, Some,
 
 -- the requested number of threads, limited to 1 to 64; by default the number that the system reports, with the same limits
 abbrev pub AreRequestedWorkers : Option ℕ → ℕ → Type 0
-AreRequestedWorkers (Some asked) workers = workers ≡ max 1 (min asked 64)
+AreRequestedWorkers (Some args) workers = workers ≡ max 1 (min args 64)
 AreRequestedWorkers None workers = (1 ≤ workers) × (workers ≤ 64)
 
 -- the requested number of jobs in a chunk, limited to 1 to 4,096
 abbrev pub requested_group : ℕ → ℕ
-requested_group asked = max 1 (min asked 4096)
+requested_group args = max 1 (min args 4096)

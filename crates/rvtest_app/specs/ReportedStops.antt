@@ -38,8 +38,8 @@ unreadable_words_message _ = codes "rvtest: an argument is not valid UTF-8\n"
 -- ---- help
 
 -- the help or the version is requested, which `clap` treats as an error in the arguments
-abbrev pub IsHelpAsked : WordsFault → Type 0
-IsHelpAsked fault = (fault ≡ words.DisplayHelp) ⊎ (fault ≡ words.DisplayVersion)
+abbrev pub IsHelpRequested : WordsFault → Type 0
+IsHelpRequested fault = (fault ≡ words.DisplayHelp) ⊎ (fault ≡ words.DisplayVersion)
 
 -- out of memory, or a write failed
 abbrev pub IsHelpStop : ℕ → ℕ → Stop → Type 0
@@ -49,14 +49,14 @@ IsHelpStop failures_before failures_after why = (why ≡ stop.OutOfMemory)
 -- the help or the version was requested, and its text was written
 abbrev pub IsHelpWritten : WordsError → Option (List ℕ) → Option (List ℕ) → Type 0
 IsHelpWritten error.OutOfMemory before after = ⊥
-IsHelpWritten (error.Told fault text) before after = IsHelpAsked fault × Appends before after (string_bytes text)
+IsHelpWritten (error.Told fault text) before after = IsHelpRequested fault × Appends before after (string_bytes text)
 
 -- the arguments stopped the program: the requested help was not written, or they are rejected with the message of their error
 abbrev pub IsWordsErrorStop : WordsError → ℕ → ℕ → Stop → Type 0
 IsWordsErrorStop error.OutOfMemory failures_before failures_after why = why ≡ stop.OutOfMemory
 IsWordsErrorStop (error.Told fault text) failures_before failures_after why =
-    (IsHelpAsked fault × IsHelpStop failures_before failures_after why)
-    ⊎ ((IsHelpAsked fault → ⊥) × IsRefusedAs (string_bytes text) why)
+    (IsHelpRequested fault × IsHelpStop failures_before failures_after why)
+    ⊎ ((IsHelpRequested fault → ⊥) × IsRefusedAs (string_bytes text) why)
 
 -- ---- diff
 

@@ -47,7 +47,7 @@ pub record IsUnknownStop (known : Option FileContents) (words : RunArgs) (why : 
   pub shard : Option Shard
   pub old : Option (List Row)
   pub notes : List ℕ
-  pub asked : AreRequestedJobs known words jobs marks shard old notes
+  pub args : AreRequestedJobs known words jobs marks shard old notes
   pub unknown : IsKnownStop known words jobs why
 
 -- why a run that is shown stopped: the last error is that of the file at the path

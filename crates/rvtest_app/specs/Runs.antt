@@ -70,7 +70,7 @@ pub record AreJobsToRun (known : Option FileContents) (words : RunArgs) : Type 0
   pub shard : Option Shard
   pub old : Option (List Row)
   pub notes : List ℕ
-  pub asked : AreRequestedJobs known words jobs (Some marks) shard old notes
+  pub args : AreRequestedJobs known words jobs (Some marks) shard old notes
   pub failures : Option KnownJobs
   pub known_to_fail : IsKnownAt known (optional_text words.known) jobs failures
 
@@ -182,7 +182,7 @@ pub record IsRunAt (known : Option FileContents) (words : RunArgs) (status : ℕ
   pub shard : Option Shard
   pub old : Option (List Row)
   pub notes : List ℕ
-  pub asked : AreRequestedJobs known words jobs marks shard old notes
+  pub args : AreRequestedJobs known words jobs marks shard old notes
   pub failures : Option KnownJobs
   pub known_to_fail : IsKnownAt known (optional_text words.known) jobs failures
   pub middle : CommandOutputs

@@ -132,7 +132,7 @@ pub record IsUnviewedAtStop (known : Option FileContents) (words : RunArgs) (sho
   pub shard : Option Shard
   pub old : Option (List Row)
   pub notes : List ℕ
-  pub asked : AreRequestedJobs known words jobs (Some marks) shard old notes
+  pub args : AreRequestedJobs known words jobs (Some marks) shard old notes
   pub unviewed : IsUnviewedStop known words shown jobs (places_of_marks marks) why
 
 -- the requested jobs were not found, or they were and the view of their images was not written

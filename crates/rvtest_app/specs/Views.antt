@@ -88,7 +88,7 @@ pub record IsViewWritten (known : Option FileContents) (words : RunArgs) (shown 
   pub shard : Option Shard
   pub old : Option (List Row)
   pub notes : List ℕ
-  pub asked : AreRequestedJobs known words jobs marks shard old notes
+  pub args : AreRequestedJobs known words jobs marks shard old notes
   pub middle : CommandOutputs
   pub told : IsOnlyErrorOutput notes before middle
   pub viewed : IsViewOfMarked known words shown jobs marks middle after

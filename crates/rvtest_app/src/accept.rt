@@ -87,20 +87,20 @@ pub(crate) fn accept_runs<
     F: Outputs + Drop,
     O: Sink + Drop,
     E: Sink + Drop,
->(host: &Host<'_, R, D>, asked: &AcceptArgs<'_>, to: &mut Destinations<F, O, E>) -> Result<u8, Stop>
+>(host: &Host<'_, R, D>, args: &AcceptArgs<'_>, to: &mut Destinations<F, O, E>) -> Result<u8, Stop>
     ensures low { IfOk result (λ status. status ≤ 1) }
-    ensures accepted { IfOk result (λ status. IsAcceptedAt (D.contents host.now.inputs.now) asked.now status
+    ensures accepted { IfOk result (λ status. IsAcceptedAt (D.contents host.now.inputs.now) args.now status
         (outputs_of F.placed O.taken E.taken E.failed to.old) (outputs_of F.placed O.taken E.taken E.failed to.new)) }
     // A check opens no file for writing, whatever its result.
-    ensures unwritten { asked.now.check ≡ true → to.new.files ≡ to.old.files }
-    ensures stopped { IfErr result (IsAcceptStop (D.contents host.now.inputs.now) asked.now) }
+    ensures unwritten { args.now.check ≡ true → to.new.files ≡ to.old.files }
+    ensures stopped { IfErr result (IsAcceptStop (D.contents host.now.inputs.now) args.now) }
     // No input is overwritten, except accepted files.
-    ensures kept { AreAcceptInputsKept (D.contents host.now.inputs.now) asked.now (F.placed to.old.files) (F.placed to.new.files) }
+    ensures kept { AreAcceptInputsKept (D.contents host.now.inputs.now) args.now (F.placed to.old.files) (F.placed to.new.files) }
 {
-    let list = chosen_list(host, asked)?;
+    let list = chosen_list(host, args)?;
     put_message(&mut to.errors, list.notes.as_slice());
     match &list.chosen {
-        Some(chosen) => accept_chosen(host, asked, &list, chosen.as_slice(), to),
+        Some(chosen) => accept_chosen(host, args, &list, chosen.as_slice(), to),
         None => Ok(DONE),
     }
 }
@@ -114,7 +114,7 @@ fn accept_chosen<
     E: Sink + Drop,
 >(
     host: &Host<'_, R, D>,
-    asked: &AcceptArgs<'_>,
+    args: &AcceptArgs<'_>,
     list: &ChosenList,
     chosen: &[bool],
     to: &mut Destinations<F, O, E>,
@@ -122,31 +122,31 @@ fn accept_chosen<
     requires counted { length chosen.now ≡ length list.now.jobs }
     requires listed { job_list_of list.now.text.items ≡ Ok list.now.jobs }
     ensures low { IfOk result (λ status. status ≤ 1) }
-    ensures accepted { IfOk result (λ status. IsAcceptedOfMarks (D.contents host.now.inputs.now) asked.now
+    ensures accepted { IfOk result (λ status. IsAcceptedOfMarks (D.contents host.now.inputs.now) args.now
         list.now.text.items list.now.jobs chosen.now status
         (outputs_of F.placed O.taken E.taken E.failed to.old) (outputs_of F.placed O.taken E.taken E.failed to.new)) }
-    ensures unwritten { asked.now.check ≡ true → to.new.files ≡ to.old.files }
+    ensures unwritten { args.now.check ≡ true → to.new.files ≡ to.old.files }
     ensures stopped { IfErr result
-        (IsAcceptChosenStop (D.contents host.now.inputs.now) asked.now list.now.jobs) }
+        (IsAcceptChosenStop (D.contents host.now.inputs.now) args.now list.now.jobs) }
     ensures kept { (F.placed to.new.files ≡ F.placed to.old.files) ⊎ IfSome (F.placed to.old.files) (λ _. AreAcceptFilesApart
-        asked.now list.now.jobs (jobs_to_run list.now.jobs chosen.now)) }
+        args.now list.now.jobs (jobs_to_run list.now.jobs chosen.now)) }
 {
-    let marked = guarded_jobs(host, asked, list, chosen, to)?;
-    let rows = run_marked(host, asked, marked, to)?;
+    let marked = guarded_jobs(host, args, list, chosen, to)?;
+    let rows = run_marked(host, args, marked, to)?;
     let list = ListFile {
-        path: asked.run.list,
+        path: args.run.list,
         text: list.text.as_slice(),
         jobs: list.jobs.as_slice(),
     };
-    let runs = judge_rows(host, asked, list.jobs, chosen, rows)?;
-    let outcomes = outcomes_of_runs(host, asked, &list, runs)?;
-    put_accepted(host, asked, &list, &outcomes, to)
+    let runs = judge_rows(host, args, list.jobs, chosen, rows)?;
+    let outcomes = outcomes_of_runs(host, args, &list, runs)?;
+    put_accepted(host, args, &list, &outcomes, to)
 }
 
 // Returns the jobs to run, once it is certain that no file overwrites another input.
 fn guarded_jobs<R, D, F: Outputs + Drop, O: Sink + Drop, E: Sink + Drop>(
     host: &Host<'_, R, D>,
-    asked: &AcceptArgs<'_>,
+    args: &AcceptArgs<'_>,
     list: &ChosenList,
     chosen: &[bool],
     to: &mut Destinations<F, O, E>,
@@ -160,12 +160,12 @@ fn guarded_jobs<R, D, F: Outputs + Drop, O: Sink + Drop, E: Sink + Drop>(
     ensures outside { OnOk result (AreOutsideFilesReported (outputs_of F.placed O.taken E.taken E.failed to.old)
         (outputs_of F.placed O.taken E.taken E.failed to.new)) }
     ensures apart { OnOk result (IfSome (F.placed to.old.files) (λ _. AreAcceptFilesApart
-        asked.now list.now.jobs (jobs_to_run list.now.jobs chosen.now))) }
+        args.now list.now.jobs (jobs_to_run list.now.jobs chosen.now))) }
     ensures stopped { IfErr result IsAcceptOverwriteStop }
 {
-    let marked = marked_jobs(host.alloc, asked, list, chosen)?;
+    let marked = marked_jobs(host.alloc, args, list, chosen)?;
     let (jobs, marks) = (list.jobs.as_slice(), marked.marks.as_slice());
-    let outside = refuse_accept_overwrites(&to.files, host.alloc, asked, jobs, marks)?;
+    let outside = refuse_accept_overwrites(&to.files, host.alloc, args, jobs, marks)?;
     put_message(&mut to.errors, outside.as_slice());
     Ok(marked)
 }
@@ -173,22 +173,22 @@ fn guarded_jobs<R, D, F: Outputs + Drop, O: Sink + Drop, E: Sink + Drop>(
 // Judges the runs of the jobs, some of which are chosen, by the rows of those that ran.
 fn judge_rows<R, D: Inputs>(
     host: &Host<'_, R, D>,
-    asked: &AcceptArgs<'_>,
+    args: &AcceptArgs<'_>,
     jobs: &[Job],
     chosen: &[bool],
     rows: Vec<Option<Row>>,
 ) -> Result<Vec<Option<JobRun>>, AllocError>
-    ensures { IfOk result (λ runs. AreJudged (D.contents host.now.inputs.now) asked.now jobs.now chosen.now
+    ensures { IfOk result (λ runs. AreJudged (D.contents host.now.inputs.now) args.now jobs.now chosen.now
         rows.items runs.items) }
 {
     let standpoint = CurrentFiles {
         inputs: host.inputs,
         alloc: host.alloc,
-        folder: asked.run.root,
+        folder: args.run.root,
         rows: rows.as_slice(),
     };
     let candidates = standpoint.candidates(jobs, chosen)?;
-    let acceptance = acceptance_of(asked.ends);
+    let acceptance = acceptance_of(args.ends);
     judged_runs(host.alloc, acceptance, jobs, candidates.as_slice(), rows)
 }
 
@@ -205,21 +205,21 @@ fn acceptance_of(ends: bool) -> Acceptance
 // Reads the list at the path in the arguments, and chooses its jobs.
 fn chosen_list<R, D: Inputs>(
     host: &Host<'_, R, D>,
-    asked: &AcceptArgs<'_>,
+    args: &AcceptArgs<'_>,
 ) -> Result<ChosenList, Stop>
-    ensures read { IfOk result (λ list. IsTextAt (D.contents host.now.inputs.now) asked.now.run.list.now list.text.items) }
+    ensures read { IfOk result (λ list. IsTextAt (D.contents host.now.inputs.now) args.now.run.list.now list.text.items) }
     ensures listed { IfOk result (λ list. job_list_of list.text.items ≡ Ok list.jobs) }
-    ensures chosen { IfOk result (λ list. IsChoice (D.contents host.now.inputs.now) asked.now.run
-        (failure_rule asked.now.run.lenient) list.jobs (option_map (λ marks. marks.items) list.chosen) list.notes.items) }
-    ensures stopped { IfErr result (IsListStop (D.contents host.now.inputs.now) asked.now.run) }
+    ensures chosen { IfOk result (λ list. IsChoice (D.contents host.now.inputs.now) args.now.run
+        (failure_rule args.now.run.lenient) list.jobs (option_map (λ marks. marks.items) list.chosen) list.notes.items) }
+    ensures stopped { IfErr result (IsListStop (D.contents host.now.inputs.now) args.now.run) }
 {
-    let run = &asked.run;
+    let run = &args.run;
     let text = read_list_text(host.inputs, host.alloc, run.list)?;
     let jobs = parse_list(host.alloc, run.list, text.as_slice())?;
     let chooser = Chooser {
         inputs: host.inputs,
         alloc: host.alloc,
-        asked: run,
+        args: run,
         rule: failure_rule(run.lenient),
         command: ChoosingCommand::Accept,
     };
@@ -235,7 +235,7 @@ fn chosen_list<R, D: Inputs>(
 // Returns the jobs of a list without their expectations, with the selection of those that run for the chosen ones.
 fn marked_jobs(
     alloc: Global,
-    asked: &AcceptArgs<'_>,
+    args: &AcceptArgs<'_>,
     list: &ChosenList,
     chosen: &[bool],
 ) -> Result<BareJobs, Stop>
@@ -246,7 +246,7 @@ fn marked_jobs(
         ≡ jobs_to_run list.now.jobs chosen.now) }
     ensures memory { IfErr result (λ why. why ≡ Stop.OutOfMemory) }
 {
-    let listed = parse_list(alloc, asked.run.list, list.text.as_slice())?;
+    let listed = parse_list(alloc, args.run.list, list.text.as_slice())?;
     let jobs = listed.without_expectations();
     let marks = jobs_to_run(alloc, list.jobs.as_slice(), chosen)?;
     Ok(BareJobs { jobs, marks })
@@ -261,25 +261,25 @@ fn run_marked<
     E: Sink + Drop,
 >(
     host: &Host<'_, R, D>,
-    asked: &AcceptArgs<'_>,
+    args: &AcceptArgs<'_>,
     marked: BareJobs,
     to: &mut Destinations<F, O, E>,
 ) -> Result<Vec<Option<Row>>, Stop>
     ensures files { to.new.files ≡ to.old.files }
     ensures rows { IfOk result (λ rows. AreRowsPut (D.contents host.now.inputs.now)
-        (optional_text asked.now.run.root) marked.jobs marked.marks.items rows.items
+        (optional_text args.now.run.root) marked.jobs marked.marks.items rows.items
         (outputs_of F.placed O.taken E.taken E.failed to.old) (outputs_of F.placed O.taken E.taken E.failed to.new)) }
     ensures stopped { IfErr result (λ why. (why ≡ Stop.OutOfMemory) ⊎ (why ≡ Stop.NoWorker)) }
 {
     let BareJobs { jobs, marks, .. } = marked;
-    let (alloc, root) = (host.alloc, asked.run.root);
+    let (alloc, root) = (host.alloc, args.run.root);
     let places = selected_indices(alloc, marks.as_slice())?;
     let mut store = RecordingStore::new(host.inputs, alloc, root);
     let plan = gather_jobs_at(alloc, jobs, places.as_slice(), &mut store)?;
     let count = places.as_slice().len();
     let note = missing_images_note(alloc, &plan, store.unread_paths(), count, root)?;
     put_message(&mut to.errors, note.as_slice());
-    let crew = requested_crew(host.rt, alloc, &asked.run);
+    let crew = requested_crew(host.rt, alloc, &args.run);
     let batch = Batch::new(&plan, places.as_slice());
     match run_batch(&crew, &batch) {
         Ok(rows) => Ok(indexed_rows(alloc, marks.as_slice(), rows.into_vec())?),
@@ -299,7 +299,7 @@ fn stop_of_run(error: RunError) -> Stop
 // Returns what changes if the runs are accepted, with the current contents of the files that would be written.
 fn outcomes_of_runs<R, D: Inputs>(
     host: &Host<'_, R, D>,
-    asked: &AcceptArgs<'_>,
+    args: &AcceptArgs<'_>,
     list: &ListFile<'_>,
     runs: Vec<Option<JobRun>>,
 ) -> Result<Outcomes, Stop>
@@ -307,7 +307,7 @@ fn outcomes_of_runs<R, D: Inputs>(
     ensures claims { IfOk result (λ outcomes. outcomes.claims.items
         ≡ golden_texts_of_runs 0 list.now.jobs.now outcomes.new.runs.items) }
     ensures files { IfOk result (λ outcomes. AreGoldenFiles (D.contents host.now.inputs.now)
-        (optional_text asked.now.run.root)
+        (optional_text args.now.run.root)
         (fold (with_target outcomes.new.runs.items outcomes.claims.items) [] outcomes.claims.items) outcomes.files.items) }
     ensures edited { IfOk result (λ outcomes. IfSome outcomes.new.text
         (λ new. (edits : List AnEdit) × (new.items ≡ edited_from 0 list.now.text.now edits))) }
@@ -316,30 +316,30 @@ fn outcomes_of_runs<R, D: Inputs>(
     ensures unchanged { IfOk result (λ outcomes. outcomes.new.text ≡ None
         → intended_jobs list.now.jobs.now outcomes.new.runs.items ≡ list.now.jobs.now) }
     ensures stopped { IfErr result
-        (IsGoldenUnreadStop (D.contents host.now.inputs.now) asked.now list.now.jobs.now) }
+        (IsGoldenUnreadStop (D.contents host.now.inputs.now) args.now list.now.jobs.now) }
 {
     let alloc = host.alloc;
     let new = accept_values(alloc, list.text, list.jobs, runs)?;
     let claims = golden_texts_of_runs(alloc, list.jobs, new.runs.as_slice())?;
     let targets = targets_of(alloc, new.runs.as_slice(), claims.as_slice())?;
-    let files = read_golden_files(host.inputs, alloc, asked.run.root, targets)?;
+    let files = read_golden_files(host.inputs, alloc, args.run.root, targets)?;
     Ok(Outcomes { claims, files, new })
 }
 
 // Reports what changes, and writes it.
 fn put_accepted<'x, R, D: Inputs, F: Outputs + Drop, O: Sink + Drop, E: Sink + Drop>(
     host: &Host<'_, R, D>,
-    asked: &AcceptArgs<'_>,
+    args: &AcceptArgs<'_>,
     list: &ListFile<'x>,
     outcomes: &'x Outcomes,
     to: &mut Destinations<F, O, E>,
 ) -> Result<u8, Stop>
     ensures low { IfOk result (λ status. status ≤ 1) }
-    ensures unwritten { asked.now.check ≡ true → to.new.files ≡ to.old.files }
-    ensures put { IfOk result (λ status. IsOutcomeWritten asked.now.check list.now outcomes.now.new.runs.items
+    ensures unwritten { args.now.check ≡ true → to.new.files ≡ to.old.files }
+    ensures put { IfOk result (λ status. IsOutcomeWritten args.now.check list.now outcomes.now.new.runs.items
         outcomes.now.claims.items outcomes.now.files.items outcomes.now.new status
         (outputs_of F.placed O.taken E.taken E.failed to.old) (outputs_of F.placed O.taken E.taken E.failed to.new)) }
-    ensures stopped { IfErr result (IsAcceptanceWriteStop (D.contents host.now.inputs.now) asked.now.check
+    ensures stopped { IfErr result (IsAcceptanceWriteStop (D.contents host.now.inputs.now) args.now.check
         list.now.path.now outcomes.now.files.items) }
 {
     let accepting = AcceptSummary {
@@ -350,7 +350,7 @@ fn put_accepted<'x, R, D: Inputs, F: Outputs + Drop, O: Sink + Drop, E: Sink + D
         new: &outcomes.new,
     };
     put_lines(host.alloc, &accepting, &mut to.out)?;
-    if asked.check {
+    if args.check {
         put_count(host.alloc, &accepting, Writing::Asked, &mut to.out)?;
         return Ok(accept_status(accepting.left_count(), accepting.changed_count()));
     }

@@ -38,35 +38,35 @@ struct AcceptReads<'a> {
 pub(crate) fn refuse_accept_overwrites<F: Outputs>(
     files: &F,
     alloc: Global,
-    asked: &AcceptArgs<'_>,
+    args: &AcceptArgs<'_>,
     jobs: &[Job],
     marks: &[bool],
 ) -> Result<Vec<u8>, Stop>
-    ensures apart { OnOk result (IfSome (F.placed files.now) (λ _. AreAcceptFilesApart asked.now jobs.now marks.now)) }
+    ensures apart { OnOk result (IfSome (F.placed files.now) (λ _. AreAcceptFilesApart args.now jobs.now marks.now)) }
     ensures inside { IfOk result (λ notes. IfSome (F.placed files.now) (λ _. notes.items ≡ [])) }
     ensures stopped { IfErr result IsAcceptOverwriteStop }
 {
-    let root = asked.run.root;
-    let reads = look_up_reads(files, alloc, asked, jobs)?;
+    let root = args.run.root;
+    let reads = look_up_reads(files, alloc, args, jobs)?;
     let mut golden = Vec::new(alloc);
     push_golden_of_marked(alloc, &mut golden, root, jobs, marks)?;
     refuse_golden_files(files, alloc, golden.as_slice(), &reads)?;
-    refuse_list_overwrite(files, alloc, asked.run.list, &reads)?;
-    outside_notes(files, alloc, asked, golden.as_slice())
+    refuse_list_overwrite(files, alloc, args.run.list, &reads)?;
+    outside_notes(files, alloc, args, golden.as_slice())
 }
 
 fn look_up_reads<'a, F: Outputs>(
     files: &F,
     alloc: Global,
-    asked: &AcceptArgs<'_>,
+    args: &AcceptArgs<'_>,
     jobs: &'a [Job],
 ) -> Result<AcceptReads<'a>, AllocError>
-    ensures list { IfOk result (λ reads. AreFilesOf (F.placed files.now) (asked.now.run.list.now ∷ []) reads.list) }
-    ensures inputs { IfOk result (λ reads. AreFilesOf (F.placed files.now) (inputs_of_accept asked.now jobs.now) reads.inputs) }
+    ensures list { IfOk result (λ reads. AreFilesOf (F.placed files.now) (args.now.run.list.now ∷ []) reads.list) }
+    ensures inputs { IfOk result (λ reads. AreFilesOf (F.placed files.now) (inputs_of_accept args.now jobs.now) reads.inputs) }
 {
-    let list = read_paths_of_words(alloc, &[asked.run.list], "the job list")?;
-    let inputs = inputs_of_accept(alloc, asked, jobs)?;
-    let golden = golden_of_jobs(alloc, asked.run.root, jobs)?;
+    let list = read_paths_of_words(alloc, &[args.run.list], "the job list")?;
+    let inputs = inputs_of_accept(alloc, args, jobs)?;
+    let golden = golden_of_jobs(alloc, args.run.root, jobs)?;
     Ok(AcceptReads {
         list: look_up_files(files, alloc, list)?,
         inputs: look_up_files(files, alloc, inputs)?,
@@ -76,14 +76,14 @@ fn look_up_reads<'a, F: Outputs>(
 
 fn inputs_of_accept<'a>(
     alloc: Global,
-    asked: &AcceptArgs<'_>,
+    args: &AcceptArgs<'_>,
     jobs: &'a [Job],
 ) -> Result<Vec<ReadPath<'a>>, AllocError>
-    ensures { IfOk result (λ read. read_paths read.items ≡ inputs_of_accept asked.now jobs.now) }
+    ensures { IfOk result (λ read. read_paths read.items ≡ inputs_of_accept args.now jobs.now) }
 {
-    let mut read = failed_of_run(alloc, &asked.run)?;
+    let mut read = failed_of_run(alloc, &args.run)?;
     for job in jobs {
-        push_image_path(alloc, &mut read, asked.run.root, job)?;
+        push_image_path(alloc, &mut read, args.run.root, job)?;
     }
     Ok(read)
 }
@@ -253,18 +253,18 @@ struct Bounds<'a> {
 fn outside_notes<F: Outputs>(
     files: &F,
     alloc: Global,
-    asked: &AcceptArgs<'_>,
+    args: &AcceptArgs<'_>,
     golden: &[ReadPath<'_>],
 ) -> Result<Vec<u8>, Stop>
     ensures inside { IfOk result (λ notes. IfSome (F.placed files.now) (λ _. notes.items ≡ [])) }
     ensures stopped { IfErr result IsAcceptOverwriteStop }
 {
     let bounds = Bounds {
-        directory: match asked.run.root {
+        directory: match args.run.root {
             Some(root) => root,
-            None => directory_of(asked.run.list),
+            None => directory_of(args.run.list),
         },
-        is_outside_allowed: asked.outside,
+        is_outside_allowed: args.outside,
     };
     let mut notes = Vec::new(alloc);
     push_outside_notes(files, alloc, bounds, golden, &mut notes)?;

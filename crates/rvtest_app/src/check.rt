@@ -25,36 +25,36 @@ use std::alloc::{AllocError, Global};
 pub(crate) fn check_list<D: Inputs>(
     inputs: &D,
     alloc: Global,
-    asked: CheckArgs<'_>,
+    args: CheckArgs<'_>,
 ) -> Result<Found, Stop>
-    ensures checked { IfOk result (λ found. IsCheckAt (D.contents inputs.now) asked.entry
+    ensures checked { IfOk result (λ found. IsCheckAt (D.contents inputs.now) args.entry
         found.text.items found.status) }
     ensures low { IfOk result (λ found. found.status ≤ 2) }
-    ensures stopped { IfErr result (IsCheckStop (D.contents inputs.now) asked.entry) }
+    ensures stopped { IfErr result (IsCheckStop (D.contents inputs.now) args.entry) }
 {
-    let text = read_list_text(inputs, alloc, asked.list)?;
-    check_list_text(inputs, alloc, asked, text.as_slice())
+    let text = read_list_text(inputs, alloc, args.list)?;
+    check_list_text(inputs, alloc, args, text.as_slice())
 }
 
 // Checks the text of the list.
 fn check_list_text<D: Inputs>(
     inputs: &D,
     alloc: Global,
-    asked: CheckArgs<'_>,
+    args: CheckArgs<'_>,
     text: &[u8],
 ) -> Result<Found, Stop>
     ensures check { IfOk result (λ found. IsCheckOf
-        (contents_below (optional_text asked.entry.root) (D.contents inputs.now))
-        (optional_text asked.entry.root) (list_faults text.now)
-        asked.entry.list.now text.now found.text.items found.status) }
+        (contents_below (optional_text args.entry.root) (D.contents inputs.now))
+        (optional_text args.entry.root) (list_faults text.now)
+        args.entry.list.now text.now found.text.items found.status) }
     ensures low { IfOk result (λ found. found.status ≤ 2) }
-    ensures stopped { IfErr result (IsListFaultStop asked.entry.list.now text.now) }
+    ensures stopped { IfErr result (IsListFaultStop args.entry.list.now text.now) }
 {
     let faults = read_faults(alloc, text)?;
     if faults.is_empty() {
-        return check_files(inputs, alloc, asked, text);
+        return check_files(inputs, alloc, args, text);
     }
-    let text = all_faults_text(alloc, asked.list, text, faults.as_slice())?;
+    let text = all_faults_text(alloc, args.list, text, faults.as_slice())?;
     Ok(Found {
         text,
         status: REFUSED,
@@ -65,40 +65,40 @@ fn check_list_text<D: Inputs>(
 fn check_files<D: Inputs>(
     inputs: &D,
     alloc: Global,
-    asked: CheckArgs<'_>,
+    args: CheckArgs<'_>,
     text: &[u8],
 ) -> Result<Found, Stop>
     ensures plan { IfOk result (λ found. IsPlanCheckOf
-        (contents_below (optional_text asked.entry.root) (D.contents inputs.now))
-        (optional_text asked.entry.root) asked.entry.list.now text.now found.text.items found.status) }
+        (contents_below (optional_text args.entry.root) (D.contents inputs.now))
+        (optional_text args.entry.root) args.entry.list.now text.now found.text.items found.status) }
     ensures low { IfOk result (λ found. found.status ≤ 2) }
-    ensures stopped { IfErr result (IsListFaultStop asked.entry.list.now text.now) }
+    ensures stopped { IfErr result (IsListFaultStop args.entry.list.now text.now) }
 {
-    let jobs = parse_list(alloc, asked.list, text)?;
-    let mut store = RecordingStore::new(inputs, alloc, asked.root);
+    let jobs = parse_list(alloc, args.list, text)?;
+    let mut store = RecordingStore::new(inputs, alloc, args.root);
     let plan = gather(alloc, jobs, &mut store)?;
-    check_plan(alloc, asked, text, &plan, store.unread_paths())
+    check_plan(alloc, args, text, &plan, store.unread_paths())
 }
 
 // Reports on a list whose files were read.
 #[tactic(auto, unfolding(crate::specs::CheckText::check_text))]
 fn check_plan(
     alloc: Global,
-    asked: CheckArgs<'_>,
+    args: CheckArgs<'_>,
     text: &[u8],
     plan: &Plan,
     unread: &[UnreadPath],
 ) -> Result<Found, Stop>
     ensures low { IfOk result (λ found. found.status ≤ 2) }
     ensures text { IfOk result (λ found. found.text.items
-        ≡ check_text asked.entry.list.now text.now (optional_text asked.entry.root) plan.now unread.now) }
+        ≡ check_text args.entry.list.now text.now (optional_text args.entry.root) plan.now unread.now) }
     ensures judged { IfOk result (λ found. found.status ≡ check_status (refused_job_count plan.now)) }
     ensures memory { IfErr result (λ stop. stop ≡ Stop.OutOfMemory) }
 {
     let lines = job_begin_lines(alloc, text)?;
     let jobs = plan.jobs();
     let list = CheckedList {
-        path: asked.list,
+        path: args.list,
         lines: lines.as_slice(),
         plan,
         unread,
@@ -106,7 +106,7 @@ fn check_plan(
     let mut text = Vec::new(alloc);
     let refused = list.push_refused_jobs(alloc, &mut text)?;
     let warned = list.push_warned_jobs(&mut text)?;
-    push_missing_images_line(&mut text, plan, unread, asked.root)?;
+    push_missing_images_line(&mut text, plan, unread, args.root)?;
     push_job_counts_line(&mut text, jobs, refused, warned)?;
     Ok(Found {
         text,

@@ -7,35 +7,35 @@ ghost use Rattle.rvtest_app.specs.Colors.{requested_colors, beside_file, colors_
 use crate::into_report::uses_run_stdout;
 use crate::outlets::is_stdout_at;
 use rv_terminal::Colors;
-use rvtest_cli::Asked;
+use rvtest_cli::Request;
 
 /// Returns the colours for the requested command, given whether standard output is a terminal that supports them.
-pub(crate) fn requested_colors(asked: &Asked<'_>, is_terminal: bool) -> Colors
-    ensures { result ≡ requested_colors asked.now is_terminal }
+pub(crate) fn requested_colors(request: &Request<'_>, is_terminal: bool) -> Colors
+    ensures { result ≡ requested_colors request.now is_terminal }
 {
-    match asked {
-        Asked::Run(asked) => beside_file(
-            uses_run_stdout(asked),
-            colors_of_word(asked.color, is_terminal),
+    match request {
+        Request::Run(args) => beside_file(
+            uses_run_stdout(args),
+            colors_of_word(args.color, is_terminal),
         ),
-        Asked::Explain(asked) => colors_of_word(asked.color, is_terminal),
-        Asked::Diff(asked) => colors_of_word(asked.color, is_terminal),
-        Asked::Show(asked) => {
+        Request::Explain(args) => colors_of_word(args.color, is_terminal),
+        Request::Diff(args) => colors_of_word(args.color, is_terminal),
+        Request::Show(args) => {
             beside_file(
-                is_stdout_at(asked.junit),
-                colors_of_word(asked.color, is_terminal),
+                is_stdout_at(args.junit),
+                colors_of_word(args.color, is_terminal),
             )
         }
-        Asked::List(_)
-        | Asked::Console(_)
-        | Asked::Gdb(_)
-        | Asked::Check(_)
-        | Asked::Accept(_)
-        | Asked::Merge(_)
-        | Asked::Counts(_)
-        | Asked::Cover(_)
-        | Asked::Profile(_)
-        | Asked::Help(_) => Colors::Without,
+        Request::List(_)
+        | Request::Console(_)
+        | Request::Gdb(_)
+        | Request::Check(_)
+        | Request::Accept(_)
+        | Request::Merge(_)
+        | Request::Counts(_)
+        | Request::Cover(_)
+        | Request::Profile(_)
+        | Request::Help(_) => Colors::Without,
     }
 }
 

@@ -38,16 +38,16 @@ struct ReportedRow {
 pub(crate) fn put_job_console<D: Inputs, F: Outputs + Drop, O: Sink + Drop, E: Sink + Drop>(
     inputs: &D,
     alloc: Global,
-    asked: ConsoleArgs<'_>,
+    args: ConsoleArgs<'_>,
     to: &mut Destinations<F, O, E>,
 ) -> Result<u8, Stop>
-    ensures put { IfOk result (λ status. IsConsoleWritten (D.contents inputs.now) asked.entry status
+    ensures put { IfOk result (λ status. IsConsoleWritten (D.contents inputs.now) args.entry status
         (outputs_of F.placed O.taken E.taken E.failed to.old) (outputs_of F.placed O.taken E.taken E.failed to.new)) }
     ensures low { IfOk result (λ status. status ≤ 1) }
     ensures stopped { IfErr result (λ why. (why ≡ Stop.WriteFailed)
-        ⊎ IsConsoleStop (D.contents inputs.now) asked.entry why) }
+        ⊎ IsConsoleStop (D.contents inputs.now) args.entry why) }
 {
-    let ReportedRow { row, line, status } = run_named_job(inputs, alloc, asked)?;
+    let ReportedRow { row, line, status } = run_named_job(inputs, alloc, args)?;
     put_results(&mut to.out, row.console.as_slice())?;
     put_message(&mut to.errors, line.as_slice());
     Ok(status)
@@ -57,51 +57,51 @@ pub(crate) fn put_job_console<D: Inputs, F: Outputs + Drop, O: Sink + Drop, E: S
 fn run_named_job<D: Inputs>(
     inputs: &D,
     alloc: Global,
-    asked: ConsoleArgs<'_>,
+    args: ConsoleArgs<'_>,
 ) -> Result<ReportedRow, Stop>
-    ensures told { IfOk result (λ told. IsConsoleAt (D.contents inputs.now) asked.entry
+    ensures told { IfOk result (λ told. IsConsoleAt (D.contents inputs.now) args.entry
         told.row.console told.line.items told.status) }
     ensures low { IfOk result (λ told. told.status ≤ 1) }
-    ensures stopped { IfErr result (IsConsoleStop (D.contents inputs.now) asked.entry) }
+    ensures stopped { IfErr result (IsConsoleStop (D.contents inputs.now) args.entry) }
 {
-    let text = read_list_text(inputs, alloc, asked.list)?;
-    run_job_of_text(inputs, alloc, asked, text.as_slice())
+    let text = read_list_text(inputs, alloc, args.list)?;
+    run_job_of_text(inputs, alloc, args, text.as_slice())
 }
 
 // Runs the named job of the list's text.
 fn run_job_of_text<D: Inputs>(
     inputs: &D,
     alloc: Global,
-    asked: ConsoleArgs<'_>,
+    args: ConsoleArgs<'_>,
     text: &[u8],
 ) -> Result<ReportedRow, Stop>
     ensures told { IfOk result (λ told.
-        IsConsoleOf (contents_below (optional_text asked.entry.root) (D.contents inputs.now))
-        text.now asked.entry.name.now told.row.console told.line.items told.status) }
+        IsConsoleOf (contents_below (optional_text args.entry.root) (D.contents inputs.now))
+        text.now args.entry.name.now told.row.console told.line.items told.status) }
     ensures low { IfOk result (λ told. told.status ≤ 1) }
-    ensures stopped { IfErr result (IsNoJobStop asked.entry.list.now text.now asked.entry.name.now) }
+    ensures stopped { IfErr result (IsNoJobStop args.entry.list.now text.now args.entry.name.now) }
 {
-    let NamedJob { jobs, place } = find_named_job(alloc, asked.list, asked.name, text)?;
-    run_job_at(inputs, alloc, asked, jobs, place)
+    let NamedJob { jobs, place } = find_named_job(alloc, args.list, args.name, text)?;
+    run_job_at(inputs, alloc, args, jobs, place)
 }
 
 // Runs the job at an index.
 fn run_job_at<D: Inputs>(
     inputs: &D,
     alloc: Global,
-    asked: ConsoleArgs<'_>,
+    args: ConsoleArgs<'_>,
     jobs: JobList,
     place: usize,
 ) -> Result<ReportedRow, Stop>
     requires { place < length jobs }
     ensures told { IfOk result (λ told.
-        IsJobConsole (contents_below (optional_text asked.entry.root) (D.contents inputs.now))
+        IsJobConsole (contents_below (optional_text args.entry.root) (D.contents inputs.now))
         jobs place told.row.console told.line.items told.status) }
     ensures low { IfOk result (λ told. told.status ≤ 1) }
     ensures memory { IfErr result (λ stop. stop ≡ Stop.OutOfMemory) }
 {
     let places = vec![in alloc; place; 1]?;
-    let mut store = RecordingStore::new(inputs, alloc, asked.root);
+    let mut store = RecordingStore::new(inputs, alloc, args.root);
     let plan = gather_jobs(alloc, jobs, places, &mut store)?;
     run_planned_job(alloc, &plan, store.unread_paths(), place)
 }

@@ -30,24 +30,24 @@ use std::alloc::{AllocError, Global};
 pub(crate) fn put_sum_of_tables<D: Inputs, F: Outputs + Drop, O: Sink + Drop, E: Sink + Drop>(
     inputs: &D,
     alloc: Global,
-    asked: &CountsArgs<'_>,
+    args: &CountsArgs<'_>,
     to: &mut Destinations<F, O, E>,
 ) -> Result<u8, Stop>
-    ensures put { IfOk result (λ status. IsSumWritten (D.contents inputs.now) asked.now status
+    ensures put { IfOk result (λ status. IsSumWritten (D.contents inputs.now) args.now status
         (outputs_of F.placed O.taken E.taken E.failed to.old) (outputs_of F.placed O.taken E.taken E.failed to.new)) }
     ensures low { IfOk result (λ status. status ≤ 1) }
     ensures undone { OnErr result (F.placed to.new.files ≡ F.placed to.old.files) }
     // Only the sum may go to standard output.
-    ensures untouched { (is_stdout (written_path (optional_text asked.now.out)) ≡ true) ⊎ (to.new.out ≡ to.old.out) }
-    ensures stopped { IfErr result (IsCountsStop (D.contents inputs.now) asked.now) }
+    ensures untouched { (is_stdout (written_path (optional_text args.now.out)) ≡ true) ⊎ (to.new.out ≡ to.old.out) }
+    ensures stopped { IfErr result (IsCountsStop (D.contents inputs.now) args.now) }
     // The tables are not overwritten.
-    ensures kept { IsPlacedApart (IsSumFileApart asked.now) (F.placed to.old.files) (F.placed to.new.files) }
+    ensures kept { IsPlacedApart (IsSumFileApart args.now) (F.placed to.old.files) (F.placed to.new.files) }
 {
-    refuse_sum_overwrite(&to.files, alloc, asked)?;
-    let sum = sum_of_paths(inputs, alloc, asked.tables.as_slice())?;
+    refuse_sum_overwrite(&to.files, alloc, args)?;
+    let sum = sum_of_paths(inputs, alloc, args.tables.as_slice())?;
     let text = table_text(alloc, &sum)?;
     let note = sum_note(alloc, &sum)?;
-    write_text(alloc, to, asked.out, text.as_bytes())?;
+    write_text(alloc, to, args.out, text.as_bytes())?;
     put_message(&mut to.errors, note.as_slice());
     Ok(DONE)
 }
@@ -56,17 +56,17 @@ pub(crate) fn put_sum_of_tables<D: Inputs, F: Outputs + Drop, O: Sink + Drop, E:
 fn refuse_sum_overwrite<F: Outputs>(
     files: &F,
     alloc: Global,
-    asked: &CountsArgs<'_>,
+    args: &CountsArgs<'_>,
 ) -> Result<(), Stop>
-    ensures apart { OnOk result (IfSome (F.placed files.now) (λ _. IsSumFileApart asked.now)) }
-    ensures stopped { IfErr result (IsSumOverwriteStop asked.now) }
+    ensures apart { OnOk result (IfSome (F.placed files.now) (λ _. IsSumFileApart args.now)) }
+    ensures stopped { IfErr result (IsSumOverwriteStop args.now) }
 {
     let read = look_up_files(
         files,
         alloc,
-        read_paths_of_words(alloc, asked.tables.as_slice(), "the table")?,
+        read_paths_of_words(alloc, args.tables.as_slice(), "the table")?,
     )?;
-    refuse_overwrite(files, alloc, "--out", asked.out, &read)
+    refuse_overwrite(files, alloc, "--out", args.out, &read)
 }
 
 // Returns the sum of the tables at some paths.

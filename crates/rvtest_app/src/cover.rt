@@ -22,17 +22,17 @@ pub(crate) fn cover_requested_jobs<
     F: Outputs + Drop,
     O: Sink + Drop,
     E: Sink + Drop,
->(host: &Host<'_, R, D>, asked: &CoverArgs<'_>, to: &mut Destinations<F, O, E>) -> Result<u8, Stop>
-    ensures put { IfOk result (λ status. IsCoverageWritten (D.contents host.now.inputs.now) asked.now status
+>(host: &Host<'_, R, D>, args: &CoverArgs<'_>, to: &mut Destinations<F, O, E>) -> Result<u8, Stop>
+    ensures put { IfOk result (λ status. IsCoverageWritten (D.contents host.now.inputs.now) args.now status
         (outputs_of F.placed O.taken E.taken E.failed to.old) (outputs_of F.placed O.taken E.taken E.failed to.new)) }
     ensures low { IfOk result (λ status. status ≤ 1) }
     ensures stopped { IfErr result (λ why. (why ≡ Stop.WriteFailed)
-        ⊎ IsCoverStop (D.contents host.now.inputs.now) asked.now why) }
+        ⊎ IsCoverStop (D.contents host.now.inputs.now) args.now why) }
 {
     let view = JobsView {
         host,
-        asked: &asked.run,
-        view: View::Cover { csv: asked.csv },
+        args: &args.run,
+        view: View::Cover { csv: args.csv },
     };
     view.put(ChoosingCommand::Cover, to)
 }

@@ -13,20 +13,20 @@ use std::thread::{self, Threads};
 pub(crate) fn requested_crew<'r, R: Threads>(
     rt: &'r R,
     alloc: Global,
-    asked: &RunArgs<'_>,
+    args: &RunArgs<'_>,
 ) -> Crew<'r, R>
-    ensures workers { AreRequestedWorkers asked.now.workers result.workers }
-    ensures group { result.group ≡ requested_group asked.now.group }
+    ensures workers { AreRequestedWorkers args.now.workers result.workers }
+    ensures group { result.group ≡ requested_group args.now.group }
 {
-    let group = asked.group.clamp(1, MOST_GROUP);
-    Crew::new(rt, alloc, requested_workers(rt, asked), group)
+    let group = args.group.clamp(1, MOST_GROUP);
+    Crew::new(rt, alloc, requested_workers(rt, args), group)
 }
 
 // Returns the requested number of threads, or the number of processors by default: from 1 to 64.
-fn requested_workers<R: Threads>(rt: &R, asked: &RunArgs<'_>) -> u32
-    ensures { AreRequestedWorkers asked.now.workers result }
+fn requested_workers<R: Threads>(rt: &R, args: &RunArgs<'_>) -> u32
+    ensures { AreRequestedWorkers args.now.workers result }
 {
-    match asked.workers {
+    match args.workers {
         Some(workers) => workers.clamp(1, MOST_WORKERS),
         None => match thread::available_parallelism(rt) {
             Ok(count) => count.get().clamp(1, MOST_WORKERS as usize) as u32,

@@ -35,16 +35,16 @@ struct NotedDiff {
 pub(crate) fn diff_reports<D: Inputs, F: Outputs + Drop, O: Sink + Drop, E: Sink + Drop>(
     inputs: &D,
     alloc: Global,
-    asked: DiffArgs<'_>,
+    args: DiffArgs<'_>,
     to: &mut Destinations<F, O, E>,
 ) -> Result<u8, Stop>
-    ensures put { IfOk result (λ status. IsDiffWritten (D.contents inputs.now) asked.entry status
+    ensures put { IfOk result (λ status. IsDiffWritten (D.contents inputs.now) args.entry status
         (outputs_of F.placed O.taken E.taken E.failed to.old) (outputs_of F.placed O.taken E.taken E.failed to.new)) }
     ensures low { IfOk result (λ status. status ≤ 1) }
     ensures stopped { IfErr result (λ why. (why ≡ WriteFailed)
-        ⊎ IsDiffAtStop (D.contents inputs.now) asked.entry why) }
+        ⊎ IsDiffAtStop (D.contents inputs.now) args.entry why) }
 {
-    let NotedDiff { found, notes } = diff_of_files(inputs, alloc, asked)?;
+    let NotedDiff { found, notes } = diff_of_files(inputs, alloc, args)?;
     put_message(&mut to.errors, notes.as_slice());
     put_results(&mut to.out, found.text.as_slice())?;
     Ok(found.status)
@@ -54,66 +54,66 @@ pub(crate) fn diff_reports<D: Inputs, F: Outputs + Drop, O: Sink + Drop, E: Sink
 fn diff_of_files<D: Inputs>(
     inputs: &D,
     alloc: Global,
-    asked: DiffArgs<'_>,
+    args: DiffArgs<'_>,
 ) -> Result<NotedDiff, Stop>
-    ensures diff { IfOk result (λ noted. IsDiffAt (D.contents inputs.now) asked.entry
+    ensures diff { IfOk result (λ noted. IsDiffAt (D.contents inputs.now) args.entry
         noted.found.text.items noted.notes.items noted.found.status) }
     ensures low { IfOk result (λ noted. noted.found.status ≤ 1) }
-    ensures stopped { IfErr result (IsDiffAtStop (D.contents inputs.now) asked.entry) }
+    ensures stopped { IfErr result (IsDiffAtStop (D.contents inputs.now) args.entry) }
 {
-    let old = read_result_file(inputs, alloc, asked.old)?;
-    let new = read_result_file(inputs, alloc, asked.new);
-    diff_report_texts(alloc, asked, old.as_slice(), new)
+    let old = read_result_file(inputs, alloc, args.old)?;
+    let new = read_result_file(inputs, alloc, args.new);
+    diff_report_texts(alloc, args, old.as_slice(), new)
 }
 
 // Compares two reports by their texts. An error in the old one takes precedence over a failure to read the new one.
 fn diff_report_texts(
     alloc: Global,
-    asked: DiffArgs<'_>,
+    args: DiffArgs<'_>,
     old: &[u8],
     new: Result<Vec<u8>, Stop>,
 ) -> Result<NotedDiff, Stop>
-    ensures diff { IfOk result (λ noted. MatchResult new (λ new. IsDiffOf asked.entry old.now new.items
+    ensures diff { IfOk result (λ noted. MatchResult new (λ new. IsDiffOf args.entry old.now new.items
         noted.found.text.items noted.notes.items noted.found.status) (λ stop. ⊥)) }
-    ensures blamed { IfErr result (IsDiffStop asked.entry old.now new) }
+    ensures blamed { IfErr result (IsDiffStop args.entry old.now new) }
     ensures low { IfOk result (λ noted. noted.found.status ≤ 1) }
 {
-    let old = parse_requested_report(alloc, requested(asked.old, asked), old)?;
+    let old = parse_requested_report(alloc, requested(args.old, args), old)?;
     let new_text = new?;
-    let new = parse_requested_report(alloc, requested(asked.new, asked), new_text.as_slice())?;
-    diff_read_reports(alloc, asked, old, new)
+    let new = parse_requested_report(alloc, requested(args.new, args), new_text.as_slice())?;
+    diff_read_reports(alloc, args, old, new)
 }
 
 // Returns the request for the report at one of the two paths.
-fn requested<'a>(path: &'a str, asked: DiffArgs<'_>) -> RequestedReport<'a>
+fn requested<'a>(path: &'a str, args: DiffArgs<'_>) -> RequestedReport<'a>
     ensures path { result.path.now ≡ path.entry.now }
-    ensures partial { result.partial ≡ asked.entry.partial }
+    ensures partial { result.partial ≡ args.entry.partial }
 {
     RequestedReport {
         path,
-        partial: asked.partial,
+        partial: args.partial,
     }
 }
 
 // Compares two reports that were read, possibly truncated.
 fn diff_read_reports(
     alloc: Global,
-    asked: DiffArgs<'_>,
+    args: DiffArgs<'_>,
     old: PartialReport,
     new: PartialReport,
 ) -> Result<NotedDiff, Stop>
     requires old { length old.report.rows < 2 ^ 32 }
     requires new { length new.report.rows < 2 ^ 32 }
-    ensures diff { IfOk result (λ noted. IsDiffOfReports (requested_comparison asked.entry.steps asked.entry.slower)
+    ensures diff { IfOk result (λ noted. IsDiffOfReports (requested_comparison args.entry.steps args.entry.slower)
         old.report new.report noted.found.text.items noted.found.status) }
     ensures noted { IfOk result (λ noted. noted.notes.items
-        ≡ cut_off_note asked.entry.old.now old ++ cut_off_note asked.entry.new.now new) }
+        ≡ cut_off_note args.entry.old.now old ++ cut_off_note args.entry.new.now new) }
     ensures low { IfOk result (λ noted. noted.found.status ≤ 1) }
     ensures memory { IfErr result (λ stop. stop ≡ OutOfMemory) }
 {
-    let mut notes = cut_off_note(alloc, asked.old, &old)?;
-    notes.extend_from_slice(cut_off_note(alloc, asked.new, &new)?.as_slice())?;
-    let compare = requested_comparison(asked.steps, asked.slower);
+    let mut notes = cut_off_note(alloc, args.old, &old)?;
+    notes.extend_from_slice(cut_off_note(alloc, args.new, &new)?.as_slice())?;
+    let compare = requested_comparison(args.steps, args.slower);
     let found = diff_saved_reports(alloc, compare, old.report, new.report)?;
     Ok(NotedDiff { found, notes })
 }

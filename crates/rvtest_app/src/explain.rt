@@ -28,53 +28,53 @@ use std::alloc::Global;
 pub(crate) fn explain_named_job<D: Inputs>(
     inputs: &D,
     alloc: Global,
-    asked: ExplainArgs<'_>,
+    args: ExplainArgs<'_>,
 ) -> Result<Found, Stop>
-    ensures explained { IfOk result (λ found. IsExplanationAt (D.contents inputs.now) asked.entry
+    ensures explained { IfOk result (λ found. IsExplanationAt (D.contents inputs.now) args.entry
         found.text.items found.status) }
     ensures low { IfOk result (λ found. found.status ≤ 1) }
-    ensures stopped { IfErr result (IsExplainStop (D.contents inputs.now) asked.entry) }
+    ensures stopped { IfErr result (IsExplainStop (D.contents inputs.now) args.entry) }
 {
-    let text = read_list_text(inputs, alloc, asked.list)?;
-    explain_job_of_text(inputs, alloc, asked, text.as_slice())
+    let text = read_list_text(inputs, alloc, args.list)?;
+    explain_job_of_text(inputs, alloc, args, text.as_slice())
 }
 
 // Explains the named job of the list's text.
 fn explain_job_of_text<D: Inputs>(
     inputs: &D,
     alloc: Global,
-    asked: ExplainArgs<'_>,
+    args: ExplainArgs<'_>,
     text: &[u8],
 ) -> Result<Found, Stop>
-    ensures explanation { IfOk result (λ found. IsExplanationOf (D.contents inputs.now) asked.entry text.now
+    ensures explanation { IfOk result (λ found. IsExplanationOf (D.contents inputs.now) args.entry text.now
         found.text.items found.status) }
     ensures low { IfOk result (λ found. found.status ≤ 1) }
-    ensures stopped { IfErr result (IsNoJobStop asked.entry.list.now text.now asked.entry.name.now) }
+    ensures stopped { IfErr result (IsNoJobStop args.entry.list.now text.now args.entry.name.now) }
 {
-    let NamedJob { jobs, place } = find_named_job(alloc, asked.list, asked.name, text)?;
-    explain_job_at(inputs, alloc, asked, jobs, place)
+    let NamedJob { jobs, place } = find_named_job(alloc, args.list, args.name, text)?;
+    explain_job_at(inputs, alloc, args, jobs, place)
 }
 
 // Explains the job at an index. A requested budget applies to every job.
 fn explain_job_at<D: Inputs>(
     inputs: &D,
     alloc: Global,
-    asked: ExplainArgs<'_>,
+    args: ExplainArgs<'_>,
     jobs: JobList,
     place: usize,
 ) -> Result<Found, Stop>
     requires { place < length jobs }
     ensures explained { IfOk result (λ found.
-        IsJobExplained (contents_below (optional_text asked.entry.root) (D.contents inputs.now))
-        (with_budget asked.entry.budget jobs) place asked.entry.last found.text.items found.status) }
+        IsJobExplained (contents_below (optional_text args.entry.root) (D.contents inputs.now))
+        (with_budget args.entry.budget jobs) place args.entry.last found.text.items found.status) }
     ensures low { IfOk result (λ found. found.status ≤ 1) }
     ensures memory { IfErr result (λ stop. stop ≡ Stop.OutOfMemory) }
 {
     let places = vec![in alloc; place; 1]?;
-    let jobs = jobs.with_budget(asked.budget);
-    let mut store = RecordingStore::new(inputs, alloc, asked.root);
+    let jobs = jobs.with_budget(args.budget);
+    let mut store = RecordingStore::new(inputs, alloc, args.root);
     let plan = gather_jobs(alloc, jobs, places, &mut store)?;
-    explain_planned_job(alloc, &plan, store.unread_paths(), place, asked.last)
+    explain_planned_job(alloc, &plan, store.unread_paths(), place, args.last)
 }
 
 // Explains the job at an index of a plan.

@@ -54,16 +54,16 @@ pub(crate) fn show_job_to_gdb<
     E: Sink + Drop,
 >(
     host: &Host<'_, R, D>,
-    asked: GdbArgs<'_>,
+    args: GdbArgs<'_>,
     is_terminal: bool,
     input: &mut I,
     to: &mut Destinations<F, O, E>,
 ) -> Result<u8, Stop>
-    ensures answered { IfOk result (λ status. IsGdbAnswered (D.contents host.now.inputs.now) is_terminal asked.entry
+    ensures answered { IfOk result (λ status. IsGdbAnswered (D.contents host.now.inputs.now) is_terminal args.entry
         (I.remaining input.old) (I.remaining input.new) status
         (outputs_of F.placed O.taken E.taken E.failed to.old) (outputs_of F.placed O.taken E.taken E.failed to.new)) }
     ensures done { IfOk result (λ status. status ≡ 0) }
-    ensures stopped { IfErr result (λ why. IsGdbStopped (D.contents host.now.inputs.now) is_terminal asked.entry why
+    ensures stopped { IfErr result (λ why. IsGdbStopped (D.contents host.now.inputs.now) is_terminal args.entry why
         (outputs_of F.placed O.taken E.taken E.failed to.old) (outputs_of F.placed O.taken E.taken E.failed to.new)
         (O.failed to.old.out) (O.failed to.new.out)) }
 {
@@ -71,9 +71,9 @@ pub(crate) fn show_job_to_gdb<
     if is_terminal {
         return Err(no_gdb_stop(alloc));
     }
-    let opened = session_of_named_job(host.inputs, alloc, asked)?;
+    let opened = session_of_named_job(host.inputs, alloc, args)?;
     let Opened { mut session, job } = opened;
-    set_memory(alloc, &mut session, asked.memory);
+    set_memory(alloc, &mut session, args.memory);
     let means = SessionContext {
         rt: host.rt,
         alloc,
@@ -120,51 +120,51 @@ fn broken_stop(alloc: Global, broken: SessionError) -> Stop
 fn session_of_named_job<D: Inputs>(
     inputs: &D,
     alloc: Global,
-    asked: GdbArgs<'_>,
+    args: GdbArgs<'_>,
 ) -> Result<Opened, Stop>
-    ensures opened { IfOk result (λ opened. IsOpenedAt (D.contents inputs.now) asked.entry
+    ensures opened { IfOk result (λ opened. IsOpenedAt (D.contents inputs.now) args.entry
         (job_end_text opened.job.plan opened.job.unread.items opened.job.place) opened.session) }
-    ensures stopped { IfErr result (IsUnopenedAtStop (D.contents inputs.now) asked.entry) }
+    ensures stopped { IfErr result (IsUnopenedAtStop (D.contents inputs.now) args.entry) }
 {
-    let text = read_list_text(inputs, alloc, asked.list)?;
-    session_of_text(inputs, alloc, asked, text.as_slice())
+    let text = read_list_text(inputs, alloc, args.list)?;
+    session_of_text(inputs, alloc, args, text.as_slice())
 }
 
 // Opens the session of the named job of the list's text.
 fn session_of_text<D: Inputs>(
     inputs: &D,
     alloc: Global,
-    asked: GdbArgs<'_>,
+    args: GdbArgs<'_>,
     text: &[u8],
 ) -> Result<Opened, Stop>
-    ensures opened { IfOk result (λ opened. IsOpenedOf (D.contents inputs.now) asked.entry text.now
+    ensures opened { IfOk result (λ opened. IsOpenedOf (D.contents inputs.now) args.entry text.now
         (job_end_text opened.job.plan opened.job.unread.items opened.job.place) opened.session) }
-    ensures stopped { IfErr result (λ why. IsNoJobStop asked.entry.list.now text.now asked.entry.name.now why
-        ⊎ IsUnopenedOfStop (D.contents inputs.now) asked.entry text.now why) }
+    ensures stopped { IfErr result (λ why. IsNoJobStop args.entry.list.now text.now args.entry.name.now why
+        ⊎ IsUnopenedOfStop (D.contents inputs.now) args.entry text.now why) }
 {
-    let named = find_named_job(alloc, asked.list, asked.name, text)?;
-    session_of_job(inputs, alloc, asked, named)
+    let named = find_named_job(alloc, args.list, args.name, text)?;
+    session_of_job(inputs, alloc, args, named)
 }
 
 // Opens the session of the job at the index that was found.
 fn session_of_job<D: Inputs>(
     inputs: &D,
     alloc: Global,
-    asked: GdbArgs<'_>,
+    args: GdbArgs<'_>,
     named: NamedJob,
 ) -> Result<Opened, Stop>
     requires { named.place < length named.jobs }
     ensures opened { IfOk result (λ opened. IsJobOpened
-        (contents_below (optional_text asked.entry.root) (D.contents inputs.now)) (optional_text asked.entry.root) named.jobs
+        (contents_below (optional_text args.entry.root) (D.contents inputs.now)) (optional_text args.entry.root) named.jobs
         named.place (job_end_text opened.job.plan opened.job.unread.items opened.job.place) opened.session) }
-    ensures stopped { IfErr result (IsUnopenedStop (contents_below (optional_text asked.entry.root) (D.contents inputs.now))
+    ensures stopped { IfErr result (IsUnopenedStop (contents_below (optional_text args.entry.root) (D.contents inputs.now))
         named.jobs named.place) }
 {
     let NamedJob { jobs, place } = named;
     let places = vec![in alloc; place; 1]?;
-    let mut store = RecordingStore::new(inputs, alloc, asked.root);
+    let mut store = RecordingStore::new(inputs, alloc, args.root);
     let plan = gather_jobs(alloc, jobs, places, &mut store)?;
-    match session_over_plan(alloc, &plan, place, asked.root)? {
+    match session_over_plan(alloc, &plan, place, args.root)? {
         Some(session) => {
             let unread = store.into_unread_paths();
             let job = JobEnd {

@@ -12,12 +12,12 @@ use rvtest_cli::HelpArgs;
 use std::alloc::{AllocError, Global};
 
 /// Returns the keys of a list, the only such topic.
-pub(crate) fn topic_help(alloc: Global, asked: HelpArgs<'_>) -> Result<Found, Stop>
-    ensures told { IfOk result (λ found. IsTopicPrinted asked.entry.topic.now found.text.items found.status) }
-    ensures stopped { IfErr result (IsNoTopicStop asked.entry.topic.now) }
+pub(crate) fn topic_help(alloc: Global, args: HelpArgs<'_>) -> Result<Found, Stop>
+    ensures told { IfOk result (λ found. IsTopicPrinted args.entry.topic.now found.text.items found.status) }
+    ensures stopped { IfErr result (IsNoTopicStop args.entry.topic.now) }
 {
-    if asked.topic != "keys" {
-        return Err(no_topic_stop(alloc, asked.topic));
+    if args.topic != "keys" {
+        return Err(no_topic_stop(alloc, args.topic));
     }
     let mut text = Vec::new(alloc);
     push_text(&mut text, LIST_KEYS)?;

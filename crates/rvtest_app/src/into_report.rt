@@ -56,15 +56,15 @@ fn replace_rows_at(whole: &mut Vec<Row>, places: &[usize], rows: Vec<Row>)
 }
 
 /// Returns the path to which the report of a run is written.
-pub(crate) fn run_report_path<'a>(asked: &RunArgs<'a>) -> Option<&'a str>
-    ensures { optional_text result ≡ run_report_path asked.now }
+pub(crate) fn run_report_path<'a>(args: &RunArgs<'a>) -> Option<&'a str>
+    ensures { optional_text result ≡ run_report_path args.now }
 {
-    asked.into.or(asked.report)
+    args.into.or(args.report)
 }
 
 /// Whether one of the files of a run goes to standard output.
-pub(crate) fn uses_run_stdout(asked: &RunArgs<'_>) -> bool
-    ensures { result ≡ uses_run_stdout asked.now }
+pub(crate) fn uses_run_stdout(args: &RunArgs<'_>) -> bool
+    ensures { result ≡ uses_run_stdout args.now }
 {
-    is_stdout_at(run_report_path(asked)) || is_stdout_at(asked.junit) || is_stdout_at(asked.counts)
+    is_stdout_at(run_report_path(args)) || is_stdout_at(args.junit) || is_stdout_at(args.counts)
 }

@@ -7,10 +7,10 @@ ghost use Rattle.rvtest_app.specs.JunitTexts.{junit_class, suite_name};
 use std::path::Path;
 
 /// Returns the suite name: the requested one, else one derived from the path of a file.
-pub(crate) fn suite_name<'a>(asked: Option<&'a str>, path: &'a str) -> &'a str
-    ensures { result.now ≡ suite_name (optional_text asked.entry) path.entry.now }
+pub(crate) fn suite_name<'a>(args: Option<&'a str>, path: &'a str) -> &'a str
+    ensures { result.now ≡ suite_name (optional_text args.entry) path.entry.now }
 {
-    match asked {
+    match args {
         Some(name) => name,
         None => junit_class(path),
     }

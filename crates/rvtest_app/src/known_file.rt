@@ -19,14 +19,14 @@ use std::alloc::{AllocError, Global};
 pub(crate) fn requested_known_jobs<D: Inputs>(
     inputs: &D,
     alloc: Global,
-    asked: &RunArgs<'_>,
+    args: &RunArgs<'_>,
     jobs: &[Job],
 ) -> Result<Option<KnownJobs>, Stop>
-    ensures known { IfOk result (IsKnownAt (D.contents inputs.now) (optional_text asked.now.known) jobs.now) }
-    ensures stopped { IfErr result (IsKnownStop (D.contents inputs.now) asked.now jobs.now) }
+    ensures known { IfOk result (IsKnownAt (D.contents inputs.now) (optional_text args.now.known) jobs.now) }
+    ensures stopped { IfErr result (IsKnownStop (D.contents inputs.now) args.now jobs.now) }
 {
-    match asked.known {
-        Some(path) => Ok(Some(read_known_file(inputs, alloc, path, asked.list, jobs)?)),
+    match args.known {
+        Some(path) => Ok(Some(read_known_file(inputs, alloc, path, args.list, jobs)?)),
         None => Ok(None),
     }
 }

@@ -30,52 +30,48 @@ struct ListedJobs {
 pub(crate) fn list_chosen_jobs<D: Inputs, F: Outputs + Drop, O: Sink + Drop, E: Sink + Drop>(
     inputs: &D,
     alloc: Global,
-    asked: &RunArgs<'_>,
+    args: &RunArgs<'_>,
     to: &mut Destinations<F, O, E>,
 ) -> Result<u8, Stop>
-    ensures put { IfOk result (λ status. IsListWritten (D.contents inputs.now) asked.now status
+    ensures put { IfOk result (λ status. IsListWritten (D.contents inputs.now) args.now status
         (outputs_of F.placed O.taken E.taken E.failed to.old) (outputs_of F.placed O.taken E.taken E.failed to.new)) }
     ensures low { IfOk result (λ status. status ≤ 1) }
     ensures stopped { IfErr result (λ why. (why ≡ Stop.WriteFailed)
-        ⊎ IsListStop (D.contents inputs.now) asked.now why) }
+        ⊎ IsListStop (D.contents inputs.now) args.now why) }
 {
-    let ListedJobs { names, notes } = chosen_jobs(inputs, alloc, asked)?;
+    let ListedJobs { names, notes } = chosen_jobs(inputs, alloc, args)?;
     put_message(&mut to.errors, notes.as_slice());
     put_results(&mut to.out, names.as_slice())?;
     Ok(DONE)
 }
 
 // Chooses jobs of the list at the path in the arguments.
-fn chosen_jobs<D: Inputs>(
-    inputs: &D,
-    alloc: Global,
-    asked: &RunArgs<'_>,
-) -> Result<ListedJobs, Stop>
-    ensures listed { IfOk result (λ listed. AreListedAt (D.contents inputs.now) asked.now
+fn chosen_jobs<D: Inputs>(inputs: &D, alloc: Global, args: &RunArgs<'_>) -> Result<ListedJobs, Stop>
+    ensures listed { IfOk result (λ listed. AreListedAt (D.contents inputs.now) args.now
         listed.names.items listed.notes.items) }
-    ensures stopped { IfErr result (IsListStop (D.contents inputs.now) asked.now) }
+    ensures stopped { IfErr result (IsListStop (D.contents inputs.now) args.now) }
 {
-    let text = read_list_text(inputs, alloc, asked.list)?;
-    chosen_jobs_of_text(inputs, alloc, asked, text.as_slice())
+    let text = read_list_text(inputs, alloc, args.list)?;
+    chosen_jobs_of_text(inputs, alloc, args, text.as_slice())
 }
 
 // Chooses jobs of the list's text.
 fn chosen_jobs_of_text<D: Inputs>(
     inputs: &D,
     alloc: Global,
-    asked: &RunArgs<'_>,
+    args: &RunArgs<'_>,
     text: &[u8],
 ) -> Result<ListedJobs, Stop>
-    ensures listed { IfOk result (λ listed. AreListedOf (D.contents inputs.now) asked.now text.now
+    ensures listed { IfOk result (λ listed. AreListedOf (D.contents inputs.now) args.now text.now
         listed.names.items listed.notes.items) }
-    ensures stopped { IfErr result (IsNoChoiceStop (D.contents inputs.now) asked.now text.now) }
+    ensures stopped { IfErr result (IsNoChoiceStop (D.contents inputs.now) args.now text.now) }
 {
-    let jobs = parse_list(alloc, asked.list, text)?;
+    let jobs = parse_list(alloc, args.list, text)?;
     let chooser = Chooser {
         inputs,
         alloc,
-        asked,
-        rule: failure_rule(asked.lenient),
+        args,
+        rule: failure_rule(args.lenient),
         command: ChoosingCommand::List,
     };
     let Choice { marks, notes } = chooser.choose(jobs.as_slice())?;

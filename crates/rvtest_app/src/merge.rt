@@ -48,23 +48,23 @@ struct Merged {
 pub(crate) fn merge_reports<D: Inputs, F: Outputs + Drop, O: Sink + Drop, E: Sink + Drop>(
     inputs: &D,
     alloc: Global,
-    asked: &MergeArgs<'_>,
+    args: &MergeArgs<'_>,
     to: &mut Destinations<F, O, E>,
 ) -> Result<u8, Stop>
     ensures low { IfOk result (λ status. status ≤ 1) }
-    ensures merged { IfOk result (λ status. IsMergedAt (D.contents inputs.now) asked.now status
+    ensures merged { IfOk result (λ status. IsMergedAt (D.contents inputs.now) args.now status
         (outputs_of F.placed O.taken E.taken E.failed to.old) (outputs_of F.placed O.taken E.taken E.failed to.new)) }
-    ensures undone { OnErr result (IsUndoneMergeAt (D.contents inputs.now) asked.now
+    ensures undone { OnErr result (IsUndoneMergeAt (D.contents inputs.now) args.now
         (F.placed to.old.files) (F.placed to.new.files)) }
-    ensures stopped { IfErr result (IsMergeStop (D.contents inputs.now) asked.now) }
+    ensures stopped { IfErr result (IsMergeStop (D.contents inputs.now) args.now) }
     // The shards are not overwritten.
-    ensures kept { IsPlacedApart (AreMergeFilesApart asked.now) (F.placed to.old.files) (F.placed to.new.files) }
+    ensures kept { IsPlacedApart (AreMergeFilesApart args.now) (F.placed to.old.files) (F.placed to.new.files) }
 {
-    refuse_merge_overwrites(&to.files, alloc, asked)?;
-    let texts = read_part_texts(inputs, alloc, asked)?;
-    let merged = merge_part_texts(alloc, asked, texts.as_slice())?;
+    refuse_merge_overwrites(&to.files, alloc, args)?;
+    let texts = read_part_texts(inputs, alloc, args)?;
+    let merged = merge_part_texts(alloc, args, texts.as_slice())?;
     let status = merged.status;
-    put_merged(alloc, asked, merged, to)?;
+    put_merged(alloc, args, merged, to)?;
     Ok(status)
 }
 
@@ -72,26 +72,26 @@ pub(crate) fn merge_reports<D: Inputs, F: Outputs + Drop, O: Sink + Drop, E: Sin
 fn refuse_merge_overwrites<F: Outputs>(
     files: &F,
     alloc: Global,
-    asked: &MergeArgs<'_>,
+    args: &MergeArgs<'_>,
 ) -> Result<(), Stop>
-    ensures apart { OnOk result (IfSome (F.placed files.now) (λ _. AreMergeFilesApart asked.now)) }
-    ensures stopped { IfErr result (IsMergeOverwriteStop asked.now) }
+    ensures apart { OnOk result (IfSome (F.placed files.now) (λ _. AreMergeFilesApart args.now)) }
+    ensures stopped { IfErr result (IsMergeOverwriteStop args.now) }
 {
     let read = look_up_files(
         files,
         alloc,
-        read_paths_of_words(alloc, asked.parts.as_slice(), "the part")?,
+        read_paths_of_words(alloc, args.parts.as_slice(), "the part")?,
     )?;
-    refuse_overwrite(files, alloc, "--report", asked.report, &read)?;
-    refuse_overwrite(files, alloc, "--junit", asked.junit, &read)
+    refuse_overwrite(files, alloc, "--report", args.report, &read)?;
+    refuse_overwrite(files, alloc, "--junit", args.junit, &read)
 }
 
 // Returns the path of the merged report, which goes to standard output if nothing else is requested.
-fn merged_report_path<'a>(asked: &MergeArgs<'a>) -> Option<&'a str>
-    ensures { optional_text result ≡ merged_report_path (optional_text asked.now.report)
-        (optional_text asked.now.junit) }
+fn merged_report_path<'a>(args: &MergeArgs<'a>) -> Option<&'a str>
+    ensures { optional_text result ≡ merged_report_path (optional_text args.now.report)
+        (optional_text args.now.junit) }
 {
-    match (asked.report, asked.junit) {
+    match (args.report, args.junit) {
         (None, Some("-")) => None,
         (None, _) => Some("-"),
         (path, _) => path,
@@ -99,18 +99,18 @@ fn merged_report_path<'a>(asked: &MergeArgs<'a>) -> Option<&'a str>
 }
 
 // Returns the rows of the list whose shards have these texts, with their last line and their status.
-fn merge_part_texts(alloc: Global, asked: &MergeArgs<'_>, texts: &[Vec<u8>]) -> Result<Merged, Stop>
+fn merge_part_texts(alloc: Global, args: &MergeArgs<'_>, texts: &[Vec<u8>]) -> Result<Merged, Stop>
     ensures parts { IfOk result
         (λ merged. AreParts merged.rows (map (λ text. text.items) texts.now)) }
     ensures line { IfOk result (λ merged. merged.line.items
-        ≡ totals_line (report_judging asked.now.lenient) merged.rows) }
+        ≡ totals_line (report_judging args.now.lenient) merged.rows) }
     ensures judged { IfOk result (λ merged. merged.status
-        ≡ rows_status (report_judging asked.now.lenient) merged.rows) }
+        ≡ rows_status (report_judging args.now.lenient) merged.rows) }
     ensures low { IfOk result (λ merged. merged.status ≤ 1) }
-    ensures blamed { IfErr result (ArePartsRefused asked.now.parts.items (map (λ text. text.items) texts.now)) }
+    ensures blamed { IfErr result (ArePartsRefused args.now.parts.items (map (λ text. text.items) texts.now)) }
 {
-    let judge = report_judge(asked.lenient);
-    let rows = rows_of_part_texts(alloc, asked, texts)?;
+    let judge = report_judge(args.lenient);
+    let rows = rows_of_part_texts(alloc, args, texts)?;
     let mut line = Vec::new(alloc);
     push_totals_line(&mut line, &judge, rows.as_slice())?;
     let status = rows_status(&judge, rows.as_slice());
@@ -118,15 +118,15 @@ fn merge_part_texts(alloc: Global, asked: &MergeArgs<'_>, texts: &[Vec<u8>]) -> 
 }
 
 // Returns the rows of the list whose shards have these texts.
-fn rows_of_part_texts(alloc: Global, asked: &MergeArgs<'_>, texts: &[Vec<u8>]) -> Result<Rows, Stop>
+fn rows_of_part_texts(alloc: Global, args: &MergeArgs<'_>, texts: &[Vec<u8>]) -> Result<Rows, Stop>
     ensures parts { IfOk result (λ rows. AreParts rows (map (λ text. text.items) texts.now)) }
     ensures few { IfOk result (λ rows. length rows ≤ most_jobs) }
-    ensures blamed { IfErr result (ArePartsRefused asked.now.parts.items (map (λ text. text.items) texts.now)) }
+    ensures blamed { IfErr result (ArePartsRefused args.now.parts.items (map (λ text. text.items) texts.now)) }
 {
     let parts = text_slices(alloc, texts)?;
     match merge_parts(alloc, parts.as_slice()) {
         Ok(rows) => Ok(rows),
-        Err(error) => Err(merge_error_stop(alloc, asked, parts.as_slice(), error)),
+        Err(error) => Err(merge_error_stop(alloc, args, parts.as_slice(), error)),
     }
 }
 
@@ -134,14 +134,14 @@ fn rows_of_part_texts(alloc: Global, asked: &MergeArgs<'_>, texts: &[Vec<u8>]) -
 fn read_part_texts<D: Inputs>(
     inputs: &D,
     alloc: Global,
-    asked: &MergeArgs<'_>,
+    args: &MergeArgs<'_>,
 ) -> Result<Vec<Vec<u8>>, Stop>
     ensures read { IfOk result (λ texts. AreTextsAt (D.contents inputs.now)
-        asked.now.parts.items (map (λ text. text.items) texts.items)) }
-    ensures unread { IfErr result (ArePartsUnread (D.contents inputs.now) asked.now.parts.items) }
+        args.now.parts.items (map (λ text. text.items) texts.items)) }
+    ensures unread { IfErr result (ArePartsUnread (D.contents inputs.now) args.now.parts.items) }
 {
     let mut texts = Vec::new(alloc);
-    for path in &asked.parts {
+    for path in &args.parts {
         let text = read_result_file(inputs, alloc, path)?;
         add_part_text(&mut texts, text)?;
     }
@@ -169,24 +169,24 @@ fn text_slices(alloc: Global, texts: &[Vec<u8>]) -> Result<Vec<&[u8]>, AllocErro
 // Writes the last line and the requested files.
 fn put_merged<F: Outputs + Drop, O: Sink + Drop, E: Sink + Drop>(
     alloc: Global,
-    asked: &MergeArgs<'_>,
+    args: &MergeArgs<'_>,
     merged: Merged,
     to: &mut Destinations<F, O, E>,
 ) -> Result<(), Stop>
     ensures put { OnOk result (WentOut
-        (merged_report_path (optional_text asked.now.report) (optional_text asked.now.junit))
-        (optional_text asked.now.junit) merged.line.items (report_text merged.rows)
-        (merged_junit asked.now merged.rows)
+        (merged_report_path (optional_text args.now.report) (optional_text args.now.junit))
+        (optional_text args.now.junit) merged.line.items (report_text merged.rows)
+        (merged_junit args.now merged.rows)
         (outputs_of F.placed O.taken E.taken E.failed to.old) (outputs_of F.placed O.taken E.taken E.failed to.new)) }
     ensures part { OnErr result (AreFilesPartlyCommitted (F.placed to.old.files) (F.placed to.new.files)
-        (Some (file_at (optional_text asked.now.junit) (merged_junit asked.now merged.rows)))) }
-    ensures stopped { IfErr result (IsMergedPutStop asked.now) }
+        (Some (file_at (optional_text args.now.junit) (merged_junit args.now merged.rows)))) }
+    ensures stopped { IfErr result (IsMergedPutStop args.now) }
 {
     let Merged { rows, line, .. } = merged;
-    let outlets = open_outlets(&mut to.files, alloc, merged_report_path(asked), asked.junit)?;
+    let outlets = open_outlets(&mut to.files, alloc, merged_report_path(args), args.junit)?;
     let suite = Suite {
-        name: merged_suite(asked).as_bytes(),
-        judge: report_judge(asked.lenient),
+        name: merged_suite(args).as_bytes(),
+        judge: report_judge(args.lenient),
     };
     match put_shown(to, line.as_slice(), outlets.use_stdout()) {
         Ok(()) => put_whole_files(alloc, to, outlets, suite, rows),
@@ -198,23 +198,18 @@ fn put_merged<F: Outputs + Drop, O: Sink + Drop, E: Sink + Drop>(
 }
 
 // Returns the suite name: the requested one, else one derived from the report's path, if one is given.
-fn merged_suite<'a>(asked: &MergeArgs<'a>) -> &'a str
-    ensures { result.now ≡ merged_suite (optional_text asked.now.suite) (optional_text asked.now.report) }
+fn merged_suite<'a>(args: &MergeArgs<'a>) -> &'a str
+    ensures { result.now ≡ merged_suite (optional_text args.now.suite) (optional_text args.now.report) }
 {
-    match asked.report {
-        Some(path) => suite_name(asked.suite, path),
-        None => asked.suite.unwrap_or("merged"),
+    match args.report {
+        Some(path) => suite_name(args.suite, path),
+        None => args.suite.unwrap_or("merged"),
     }
 }
 
 // Returns why these are not the shards of one run.
-fn merge_error_stop(
-    alloc: Global,
-    asked: &MergeArgs<'_>,
-    texts: &[&[u8]],
-    error: MergeError,
-) -> Stop
-    ensures { IsMergeErrorStop asked.now.parts.items (bytes_of_texts texts.now) error result }
+fn merge_error_stop(alloc: Global, args: &MergeArgs<'_>, texts: &[&[u8]], error: MergeError) -> Stop
+    ensures { IsMergeErrorStop args.now.parts.items (bytes_of_texts texts.now) error result }
 {
     match error {
         MergeError::OutOfMemory => Stop::OutOfMemory,
@@ -226,10 +221,10 @@ fn merge_error_stop(
         }
         MergeError::Text(at, flaw) => {
             let part = Part {
-                path: part_path(asked, at),
+                path: part_path(args, at),
                 text: part_text(texts, at),
             };
-            Stop::of_refusal(part_flaw_message(alloc, asked, part, flaw))
+            Stop::of_refusal(part_flaw_message(alloc, args, part, flaw))
         }
         MergeError::Missing(number) => Stop::of_refusal(missing_shard_message(alloc, number)),
     }
@@ -249,10 +244,10 @@ fn missing_shard_message(alloc: Global, number: usize) -> Result<Vec<u8>, AllocE
     )
 }
 
-fn part_path<'a>(asked: &MergeArgs<'a>, at: usize) -> &'a str
-    ensures { result.now ≡ part_path asked.now.parts.items at }
+fn part_path<'a>(args: &MergeArgs<'a>, at: usize) -> &'a str
+    ensures { result.now ≡ part_path args.now.parts.items at }
 {
-    match asked.parts.get(at) {
+    match args.parts.get(at) {
         Some(path) => path,
         None => "a part",
     }
@@ -275,12 +270,12 @@ struct Part<'a> {
 // Returns what is wrong with a shard.
 fn part_flaw_message(
     alloc: Global,
-    asked: &MergeArgs<'_>,
+    args: &MergeArgs<'_>,
     part: Part<'_>,
     flaw: Flaw,
 ) -> Result<Vec<u8>, AllocError>
     ensures { IfOk result (λ told. told.items
-        ≡ flaw_message asked.now.parts.items part.entry.path.now part.entry.text.now flaw) }
+        ≡ flaw_message args.now.parts.items part.entry.path.now part.entry.text.now flaw) }
 {
     let Part { path, text } = part;
     match flaw {
@@ -298,19 +293,19 @@ fn part_flaw_message(
         ),
         Flaw::OtherShards => other_run_message(
             alloc,
-            asked,
+            args,
             path,
             "a different number of shards than \"",
         ),
         Flaw::OtherJobs => other_run_message(
             alloc,
-            asked,
+            args,
             path,
             "a list with a different number of jobs than \"",
         ),
         Flaw::OtherStamp => other_run_message(
             alloc,
-            asked,
+            args,
             path,
             "the stamp differs from that of \"",
         ),
@@ -318,7 +313,7 @@ fn part_flaw_message(
             alloc,
             path,
             "covers the same shard as \"",
-            part_path(asked, earlier),
+            part_path(args, earlier),
             "\", but differs from it\n",
         ),
         Flaw::NameTwice(number) => {
@@ -331,13 +326,13 @@ fn part_flaw_message(
 // Returns the message that a shard belongs to another run than the first one.
 fn other_run_message(
     alloc: Global,
-    asked: &MergeArgs<'_>,
+    args: &MergeArgs<'_>,
     path: &str,
     what: &str,
 ) -> Result<Vec<u8>, AllocError>
-    ensures { IfOk result (λ text. text.items ≡ other_run_message asked.now.parts.items path.now what.now) }
+    ensures { IfOk result (λ text. text.items ≡ other_run_message args.now.parts.items path.now what.now) }
 {
-    two_parts_message(alloc, path, what, part_path(asked, 0), "\"\n")
+    two_parts_message(alloc, path, what, part_path(args, 0), "\"\n")
 }
 
 // Returns the message that one shard conflicts with another.

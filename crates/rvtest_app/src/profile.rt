@@ -23,30 +23,26 @@ pub(crate) fn profile_requested_jobs<
     F: Outputs + Drop,
     O: Sink + Drop,
     E: Sink + Drop,
->(
-    host: &Host<'_, R, D>,
-    asked: &ProfileArgs<'_>,
-    to: &mut Destinations<F, O, E>,
-) -> Result<u8, Stop>
-    ensures put { IfOk result (λ status. IsProfileWritten (D.contents host.now.inputs.now) asked.now status
+>(host: &Host<'_, R, D>, args: &ProfileArgs<'_>, to: &mut Destinations<F, O, E>) -> Result<u8, Stop>
+    ensures put { IfOk result (λ status. IsProfileWritten (D.contents host.now.inputs.now) args.now status
         (outputs_of F.placed O.taken E.taken E.failed to.old) (outputs_of F.placed O.taken E.taken E.failed to.new)) }
     ensures low { IfOk result (λ status. status ≤ 1) }
     ensures stopped { IfErr result (λ why. (why ≡ Stop.WriteFailed)
-        ⊎ IsProfileStop (D.contents host.now.inputs.now) asked.now why) }
+        ⊎ IsProfileStop (D.contents host.now.inputs.now) args.now why) }
 {
     let view = JobsView {
         host,
-        asked: &asked.run,
-        view: View::Profile(profile_format(asked)),
+        args: &args.run,
+        view: View::Profile(profile_format(args)),
     };
     view.put(ChoosingCommand::Profile, to)
 }
 
-fn profile_format(asked: &ProfileArgs<'_>) -> ProfileFormat
-    ensures { result ≡ profile_format asked.now }
+fn profile_format(args: &ProfileArgs<'_>) -> ProfileFormat
+    ensures { result ≡ profile_format args.now }
 {
     ProfileFormat {
-        csv: asked.csv,
-        top: asked.top,
+        csv: args.csv,
+        top: args.top,
     }
 }

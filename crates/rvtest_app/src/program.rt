@@ -34,7 +34,7 @@ use rv_command::{REFUSED, Stop, put_end_message, put_message, put_stop_message};
 use rv_files::{Closable, Inputs, Outputs};
 use rv_rows::{Sink, SinkFailed};
 use rv_terminal::{ColorSink, Results};
-use rvtest_cli::{Asked, read_words};
+use rvtest_cli::{Request, read_words};
 use std::convert::AsStr;
 use std::io::{self, ErrorKind, Read, Write};
 use std::marker::Brand;
@@ -77,8 +77,8 @@ where
         result.1 (outputs_of F.placed O.taken E.taken E.failed result.0) }
 {
     let (mut to, answer) = match read_words(host.alloc, words) {
-        Ok(Some(asked)) => {
-            run_in_colors::<Brand, R, D, F, O, E, P, I>(host, asked, to, terminals, input)
+        Ok(Some(request)) => {
+            run_in_colors::<Brand, R, D, F, O, E, P, I>(host, request, to, terminals, input)
         }
         Ok(None) => (to, Ok(REFUSED)),
         Err(error) => {
@@ -109,29 +109,29 @@ fn run_in_colors<
     I: Read + Send,
 >(
     host: &Host<'_, R, D>,
-    asked: Asked<'_>,
+    request: Request<'_>,
     to: Destinations<F, O, E>,
     terminals: Terminals<P>,
     input: &mut I,
 ) -> (Destinations<F, O, E>, Result<u8, Stop>)
 where
     F::File: Send,
-    requires colors { requested_colors asked terminals.is_out_colored ≡ J.colors }
+    requires colors { requested_colors request terminals.is_out_colored ≡ J.colors }
     requires before { O.taken to.out ≡ J.before }
     ensures low { IfOk result.1 (λ status. status ≤ 2) }
     ensures done { IfOk result.1 (λ status. IsDoneInColors (D.contents host.now.inputs.now) (I.remaining input.old)
-        terminals.is_out_terminal terminals.is_out_colored asked.entry status
+        terminals.is_out_terminal terminals.is_out_colored request.entry status
         (outputs_of F.placed O.taken E.taken E.failed to) (outputs_of F.placed O.taken E.taken E.failed result.0)) }
-    ensures stopped { IfErr result.1 (IsCommandStop (D.contents host.now.inputs.now) terminals.is_out_terminal asked.entry) }
+    ensures stopped { IfErr result.1 (IsCommandStop (D.contents host.now.inputs.now) terminals.is_out_terminal request.entry) }
     // Whatever the result, standard output received coloured results, followed at most by the first bytes of an escape sequence.
-    ensures shown { (plain : Option (List ℕ)) × IsOutInPart (requested_colors asked.entry terminals.is_out_colored)
+    ensures shown { (plain : Option (List ℕ)) × IsOutInPart (requested_colors request.entry terminals.is_out_colored)
         (O.taken to.out) plain (O.taken result.0.out) }
 {
-    let colors = requested_colors(&asked, terminals.is_out_colored);
+    let colors = requested_colors(&request, terminals.is_out_colored);
     let Destinations { files, out, errors } = to;
     let out = ColorSink::<J, O>::new(out, colors);
     let to = Destinations { files, out, errors };
-    let (to, answer) = run_subcommand(host, asked, to, terminals, input);
+    let (to, answer) = run_subcommand(host, request, to, terminals, input);
     let Destinations { files, out, errors } = to;
     let (out, whole) = out.finish();
     let to = Destinations { files, out, errors };
@@ -161,7 +161,7 @@ fn run_subcommand<
     I: Read + Send,
 >(
     host: &Host<'_, R, D>,
-    asked: Asked<'_>,
+    request: Request<'_>,
     to: Destinations<F, O, E>,
     terminals: Terminals<P>,
     input: &mut I,
@@ -170,35 +170,35 @@ where
     F::File: Send,
     ensures low { IfOk result.1 (λ status. status ≤ 2) }
     ensures done { IfOk result.1 (λ status. IsDone (D.contents host.now.inputs.now) (I.remaining input.old)
-        terminals.is_out_terminal asked.entry status
+        terminals.is_out_terminal request.entry status
         (outputs_of F.placed O.taken E.taken E.failed to) (outputs_of F.placed O.taken E.taken E.failed result.0)) }
     // A command that a failed write could not have stopped wrote nothing.
     ensures untouched { IfOk result.1 (λ _.
-        IsCommandStop (D.contents host.now.inputs.now) terminals.is_out_terminal asked.entry Stop.WriteFailed
+        IsCommandStop (D.contents host.now.inputs.now) terminals.is_out_terminal request.entry Stop.WriteFailed
         ⊎ (result.0.out ≡ to.out)) }
-    ensures stopped { IfErr result.1 (IsCommandStop (D.contents host.now.inputs.now) terminals.is_out_terminal asked.entry) }
+    ensures stopped { IfErr result.1 (IsCommandStop (D.contents host.now.inputs.now) terminals.is_out_terminal request.entry) }
 {
     let (inputs, alloc) = (host.inputs, host.alloc);
     let mut to = to;
-    let answer = match asked {
-        Asked::Run(asked) => return run_requested_jobs(host, &asked, to, terminals),
-        Asked::Explain(asked) => {
-            put_findings(&mut to.out, explain_named_job(inputs, alloc, asked))
+    let answer = match request {
+        Request::Run(args) => return run_requested_jobs(host, &args, to, terminals),
+        Request::Explain(args) => {
+            put_findings(&mut to.out, explain_named_job(inputs, alloc, args))
         }
-        Asked::List(asked) => list_chosen_jobs(inputs, alloc, &asked, &mut to),
-        Asked::Console(asked) => put_job_console(inputs, alloc, asked, &mut to),
-        Asked::Gdb(asked) => {
-            show_job_to_gdb(host, asked, terminals.is_out_terminal, input, &mut to)
+        Request::List(args) => list_chosen_jobs(inputs, alloc, &args, &mut to),
+        Request::Console(args) => put_job_console(inputs, alloc, args, &mut to),
+        Request::Gdb(args) => {
+            show_job_to_gdb(host, args, terminals.is_out_terminal, input, &mut to)
         }
-        Asked::Check(asked) => put_findings(&mut to.out, check_list(inputs, alloc, asked)),
-        Asked::Accept(asked) => accept_runs(host, &asked, &mut to),
-        Asked::Merge(asked) => merge_reports(inputs, alloc, &asked, &mut to),
-        Asked::Diff(asked) => diff_reports(inputs, alloc, asked, &mut to),
-        Asked::Show(asked) => show_report(inputs, alloc, asked, &mut to),
-        Asked::Counts(asked) => put_sum_of_tables(inputs, alloc, &asked, &mut to),
-        Asked::Cover(asked) => cover_requested_jobs(host, &asked, &mut to),
-        Asked::Profile(asked) => profile_requested_jobs(host, &asked, &mut to),
-        Asked::Help(asked) => put_findings(&mut to.out, topic_help(alloc, asked)),
+        Request::Check(args) => put_findings(&mut to.out, check_list(inputs, alloc, args)),
+        Request::Accept(args) => accept_runs(host, &args, &mut to),
+        Request::Merge(args) => merge_reports(inputs, alloc, &args, &mut to),
+        Request::Diff(args) => diff_reports(inputs, alloc, args, &mut to),
+        Request::Show(args) => show_report(inputs, alloc, args, &mut to),
+        Request::Counts(args) => put_sum_of_tables(inputs, alloc, &args, &mut to),
+        Request::Cover(args) => cover_requested_jobs(host, &args, &mut to),
+        Request::Profile(args) => profile_requested_jobs(host, &args, &mut to),
+        Request::Help(args) => put_findings(&mut to.out, topic_help(alloc, args)),
     };
     (to, answer)
 }

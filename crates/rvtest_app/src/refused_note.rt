@@ -20,19 +20,19 @@ use std::alloc::{AllocError, Global};
 /// those at some indices.
 pub(crate) fn refused_note(
     alloc: Global,
-    asked: &RunArgs<'_>,
+    args: &RunArgs<'_>,
     plan: &Plan,
     unread: &[UnreadPath],
     places: &[usize],
 ) -> Result<Vec<u8>, AllocError>
     requires { AreJobIndices plan.now places.now }
-    ensures { IfOk result (λ note. note.items ≡ refused_note asked.now plan.now unread.now places.now) }
+    ensures { IfOk result (λ note. note.items ≡ refused_note args.now plan.now unread.now places.now) }
 {
-    let mut note = missing_images_note(alloc, plan, unread, places.len(), asked.root)?;
+    let mut note = missing_images_note(alloc, plan, unread, places.len(), args.root)?;
     let reporter = TextReporter {
         plan,
         unread,
-        judge: Judge::by_rule(failure_rule(asked.lenient)),
+        judge: Judge::by_rule(failure_rule(args.lenient)),
         verbosity: Verbosity::All,
         last: None,
     };

@@ -28,24 +28,18 @@ use rvtest_cli::ChoosingCommand;
 impl<'x, R, D: Inputs> ListRun<'x, R, D> {
     /// Returns the jobs of the list, and the selection of those to run. If the arguments are rejected, the usage of the command is shown.
     pub(crate) fn requested_jobs(&self, command: ChoosingCommand) -> Result<RequestedJobs, Stop>
-        requires { self.now.rule ≡ failure_rule self.now.asked.now.lenient }
-        ensures asked { IfOk result (λ requested. AreRequestedJobs (D.contents self.now.host.now.inputs.now)
-            self.now.asked.now requested.jobs (option_map (λ marks. marks.items) requested.marks)
+        requires { self.now.rule ≡ failure_rule self.now.args.now.lenient }
+        ensures requested { IfOk result (λ requested. AreRequestedJobs (D.contents self.now.host.now.inputs.now)
+            self.now.args.now requested.jobs (option_map (λ marks. marks.items) requested.marks)
             requested.frame.shard requested.frame.old requested.notes.items) }
         ensures stopped { IfErr result
-            (IsUnrequestedStop (D.contents self.now.host.now.inputs.now) self.now.asked.now) }
+            (IsUnrequestedStop (D.contents self.now.host.now.inputs.now) self.now.args.now) }
     {
-        let (alloc, asked) = (self.host.alloc, self.asked);
-        let text = read_list_text(self.host.inputs, alloc, asked.list)?;
-        let jobs = parse_list(alloc, asked.list, text.as_slice())?;
+        let (alloc, args) = (self.host.alloc, self.args);
+        let text = read_list_text(self.host.inputs, alloc, args.list)?;
+        let jobs = parse_list(alloc, args.list, text.as_slice())?;
         let old = self.old_rows(jobs.as_slice())?;
-        match requested_shard(
-            alloc,
-            asked,
-            command,
-            text.as_slice(),
-            jobs.as_slice().len(),
-        )? {
+        match requested_shard(alloc, args, command, text.as_slice(), jobs.as_slice().len())? {
             Some(shard) => self.jobs_of_shard(jobs, shard, old),
             None => self.jobs_of_choice(command, jobs, old),
         }
@@ -53,15 +47,15 @@ impl<'x, R, D: Inputs> ListRun<'x, R, D> {
 
     // Returns the rows of the whole report into which those of the run are merged, if one is named.
     fn old_rows(&self, jobs: &[Job]) -> Result<Option<Rows>, Stop>
-        ensures old { IfOk result (AreOldRows (D.contents self.now.host.now.inputs.now) self.now.asked.now jobs.now) }
+        ensures old { IfOk result (AreOldRows (D.contents self.now.host.now.inputs.now) self.now.args.now jobs.now) }
         ensures counted { IfOk result (λ old. ForSome old (λ rows. length rows ≡ length jobs.now)) }
-        ensures stopped { IfErr result (IsIntoStop (D.contents self.now.host.now.inputs.now) self.now.asked.now jobs.now) }
+        ensures stopped { IfErr result (IsIntoStop (D.contents self.now.host.now.inputs.now) self.now.args.now jobs.now) }
     {
         let (inputs, alloc) = (self.host.inputs, self.host.alloc);
-        let Some(path) = self.asked.into else {
+        let Some(path) = self.args.into else {
             return Ok(None);
         };
-        let rows = read_whole_report(inputs, alloc, path, self.asked.list, jobs)?;
+        let rows = read_whole_report(inputs, alloc, path, self.args.list, jobs)?;
         Ok(Some(rows))
     }
 
@@ -101,15 +95,15 @@ impl<'x, R, D: Inputs> ListRun<'x, R, D> {
         requires { ForSome old (λ rows. length rows ≡ length jobs) }
         ensures old { IfOk result (λ requested. requested.frame.old ≡ old) }
         ensures chosen { IfOk result (λ requested. (requested.jobs ≡ jobs) × (requested.frame.shard ≡ None)
-            × IsChoice (D.contents self.now.host.now.inputs.now) self.now.asked.now self.now.rule jobs
+            × IsChoice (D.contents self.now.host.now.inputs.now) self.now.args.now self.now.rule jobs
             (option_map (λ marks. marks.items) requested.marks) requested.notes.items) }
         ensures stopped { IfErr result
-            (IsChoiceStop (D.contents self.now.host.now.inputs.now) self.now.asked.now self.now.rule jobs) }
+            (IsChoiceStop (D.contents self.now.host.now.inputs.now) self.now.args.now self.now.rule jobs) }
     {
         let chooser = Chooser {
             inputs: self.host.inputs,
             alloc: self.host.alloc,
-            asked: self.asked,
+            args: self.args,
             rule: self.rule,
             command,
         };

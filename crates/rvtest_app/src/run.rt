@@ -35,7 +35,7 @@ use std::time::Clock;
 #[derive(Drop)]
 pub(crate) struct ListRun<'x, R, D> {
     pub(crate) host: &'x Host<'x, R, D>,
-    pub(crate) asked: &'x RunArgs<'x>,
+    pub(crate) args: &'x RunArgs<'x>,
     /// The rule by which rows are failures.
     pub(crate) rule: Rule,
 }
@@ -50,27 +50,27 @@ pub(crate) fn run_requested_jobs<
     P: Write + Drop + Send,
 >(
     host: &Host<'_, R, D>,
-    asked: &RunArgs<'_>,
+    args: &RunArgs<'_>,
     to: Destinations<F, O, E>,
     terminals: Terminals<P>,
 ) -> (Destinations<F, O, E>, Result<u8, Stop>)
 where
     F::File: Send,
-    ensures run { IfOk result.1 (λ status. IsRunAt (D.contents host.now.inputs.now) asked.now status
+    ensures run { IfOk result.1 (λ status. IsRunAt (D.contents host.now.inputs.now) args.now status
         (outputs_of F.placed O.taken E.taken E.failed to) (outputs_of F.placed O.taken E.taken E.failed result.0)) }
-    ensures undone { OnErr result.1 (IsUndoneRunAt (D.contents host.now.inputs.now) asked.now
+    ensures undone { OnErr result.1 (IsUndoneRunAt (D.contents host.now.inputs.now) args.now
         (F.placed to.files) (F.placed result.0.files)) }
     ensures low { IfOk result.1 (λ status. status ≤ 1) }
-    ensures untouched { IfOk result.1 (λ _. AreJobsToRun (D.contents host.now.inputs.now) asked.now
+    ensures untouched { IfOk result.1 (λ _. AreJobsToRun (D.contents host.now.inputs.now) args.now
         ⊎ (result.0.out ≡ to.out)) }
-    ensures stopped { IfErr result.1 (IsRunStop (D.contents host.now.inputs.now) asked.now) }
+    ensures stopped { IfErr result.1 (IsRunStop (D.contents host.now.inputs.now) args.now) }
     // The inputs of the run are not overwritten.
-    ensures kept { AreRunInputsKept (D.contents host.now.inputs.now) asked.now (F.placed to.files) (F.placed result.0.files) }
+    ensures kept { AreRunInputsKept (D.contents host.now.inputs.now) args.now (F.placed to.files) (F.placed result.0.files) }
 {
     let run = ListRun {
         host,
-        asked,
-        rule: failure_rule(asked.lenient),
+        args,
+        rule: failure_rule(args.lenient),
     };
     let mut to = to;
     let RequestedJobs {
@@ -83,11 +83,11 @@ where
         Ok(requested) => requested,
         Err(stop) => return (to, Err(stop)),
     };
-    let known = match requested_known_jobs(host.inputs, host.alloc, asked, jobs.as_slice()) {
+    let known = match requested_known_jobs(host.inputs, host.alloc, args, jobs.as_slice()) {
         Ok(known) => known,
         Err(stop) => return (to, Err(stop)),
     };
-    if let Err(stop) = refuse_run_overwrites(&to.files, host.alloc, asked, jobs.as_slice()) {
+    if let Err(stop) = refuse_run_overwrites(&to.files, host.alloc, args, jobs.as_slice()) {
         return (to, Err(stop));
     }
     put_message(&mut to.errors, notes.as_slice());
@@ -120,14 +120,14 @@ impl<'x, R: Threads + Wait + Sync + Clock, D: Inputs> ListRun<'x, R, D> {
     ) -> (Destinations<F, O, E>, Result<u8, Stop>)
     where
         F::File: Send,
-        requires { self.now.rule ≡ failure_rule self.now.asked.now.lenient }
-        ensures run { IfOk result.1 (λ status. IsRunOfMarked (D.contents self.now.host.now.inputs.now) self.now.asked.now
+        requires { self.now.rule ≡ failure_rule self.now.args.now.lenient }
+        ensures run { IfOk result.1 (λ status. IsRunOfMarked (D.contents self.now.host.now.inputs.now) self.now.args.now
             marked.known marked.jobs (Some marked.marks.items) marked.frame.shard marked.frame.old status
             (outputs_of F.placed O.taken E.taken E.failed to) (outputs_of F.placed O.taken E.taken E.failed result.0)) }
-        ensures undone { OnErr result.1 (IsUndoneRunOfPlaces (D.contents self.now.host.now.inputs.now) self.now.asked.now
+        ensures undone { OnErr result.1 (IsUndoneRunOfPlaces (D.contents self.now.host.now.inputs.now) self.now.args.now
             marked.known marked.jobs (places_of_marks marked.marks.items) marked.frame.shard marked.frame.old
             (F.placed to.files) (F.placed result.0.files)) }
-        ensures stopped { IfErr result.1 (IsRunPutStop self.now.asked.now) }
+        ensures stopped { IfErr result.1 (IsRunPutStop self.now.args.now) }
     {
         let SelectedJobs {
             jobs,
@@ -136,20 +136,20 @@ impl<'x, R: Threads + Wait + Sync + Clock, D: Inputs> ListRun<'x, R, D> {
             known,
             ..
         } = marked;
-        let (alloc, asked) = (self.host.alloc, self.asked);
+        let (alloc, args) = (self.host.alloc, self.args);
         let places = match selected_indices(alloc, marks.as_slice()) {
             Ok(places) => places,
             Err(error) => return (to, Err(Stop::from(error))),
         };
-        let jobs = jobs.with_budget(asked.budget);
-        let mut store = RecordingStore::new(self.host.inputs, alloc, asked.root);
+        let jobs = jobs.with_budget(args.budget);
+        let mut store = RecordingStore::new(self.host.inputs, alloc, args.root);
         let plan = match gather_jobs_at(alloc, jobs, places.as_slice(), &mut store) {
             Ok(plan) => plan,
             Err(error) => return (to, Err(Stop::from(error))),
         };
         let unread = store.unread_paths();
         let count = places.as_slice().len();
-        let note = match missing_images_note(alloc, &plan, unread, count, asked.root) {
+        let note = match missing_images_note(alloc, &plan, unread, count, args.root) {
             Ok(note) => note,
             Err(error) => return (to, Err(Stop::from(error))),
         };
@@ -163,8 +163,8 @@ impl<'x, R: Threads + Wait + Sync + Clock, D: Inputs> ListRun<'x, R, D> {
             plan: &plan,
             unread,
             judge,
-            verbosity: requested_verbosity(asked),
-            last: asked.last,
+            verbosity: requested_verbosity(args),
+            last: args.last,
         };
         let planned = PlannedRun {
             reporter: &reporter,
@@ -193,10 +193,10 @@ pub(crate) fn gather_jobs_at<S: Store>(
     gather_jobs(alloc, jobs, Vec::from_slice(alloc, places)?, store)
 }
 
-fn requested_verbosity(asked: &RunArgs<'_>) -> Verbosity
-    ensures { result ≡ requested_verbosity asked.now.verbose asked.now.quiet }
+fn requested_verbosity(args: &RunArgs<'_>) -> Verbosity
+    ensures { result ≡ requested_verbosity args.now.verbose args.now.quiet }
 {
-    match (asked.verbose, asked.quiet) {
+    match (args.verbose, args.quiet) {
         (_, true) => Verbosity::Quiet,
         (true, false) => Verbosity::All,
         (false, false) => Verbosity::Failures,

@@ -42,14 +42,14 @@ impl<'x, R: Threads + Wait + Sync + Clock, D: Inputs> ListRun<'x, R, D> {
             × HasTaken F.pending_path F.File.taken F.File.failed None path [] outlet }
         ensures counted { (path : Option (List ℕ)) (earlier : Option (List CommittedFile))
             → HasTaken F.pending_path F.File.taken F.File.failed earlier path [] outlet.entry
-            → OnOk result (AreCountsWritten self.now.asked.now.stacks path plan.now places.now
+            → OnOk result (AreCountsWritten self.now.args.now.stacks path plan.now places.now
             (with_placed_if_reported earlier (outputs_of F.placed O.taken E.taken E.failed to.old))
             (outputs_of F.placed O.taken E.taken E.failed to.new)) }
-        ensures asked { (path : Option (List ℕ)) (earlier : Option (List CommittedFile))
+        ensures requested { (path : Option (List ℕ)) (earlier : Option (List CommittedFile))
             → HasTaken F.pending_path F.File.taken F.File.failed earlier path [] outlet.entry
             → OnErr result (is_some path ≡ true) }
         ensures same { OnErr result (F.placed to.new.files ≡ F.placed to.old.files) }
-        ensures stopped { IfErr result (IsCountsPutStop self.now.asked.now (outlet_path outlet.entry)) }
+        ensures stopped { IfErr result (IsCountsPutStop self.now.args.now (outlet_path outlet.entry)) }
     {
         if let Outlet::Nowhere = outlet {
             return Ok(());
@@ -67,8 +67,8 @@ impl<'x, R: Threads + Wait + Sync + Clock, D: Inputs> ListRun<'x, R, D> {
     fn counts_text(&self, plan: &Plan, places: &[usize]) -> Result<String, Stop>
         requires within { AreJobIndices plan.now places.now }
         requires rising { IsStrictlyIncreasing places.now }
-        ensures text { IfOk result (λ text. IsCountsText self.now.asked.now.stacks plan.now places.now (string_bytes text)) }
-        ensures stopped { IfErr result (IsUncountedRunStop self.now.asked.now) }
+        ensures text { IfOk result (λ text. IsCountsText self.now.args.now.stacks plan.now places.now (string_bytes text)) }
+        ensures stopped { IfErr result (IsUncountedRunStop self.now.args.now) }
     {
         let table = self.table_of_counts(plan, places)?;
         Ok(table_text(self.host.alloc, &table)?)
@@ -77,18 +77,18 @@ impl<'x, R: Threads + Wait + Sync + Clock, D: Inputs> ListRun<'x, R, D> {
     fn table_of_counts(&self, plan: &Plan, places: &[usize]) -> Result<CountTable, Stop>
         requires within { AreJobIndices plan.now places.now }
         requires rising { IsStrictlyIncreasing places.now }
-        ensures table { IfOk result (IsCountsTable self.now.asked.now.stacks plan.now places.now) }
-        ensures stopped { IfErr result (IsUncountedRunStop self.now.asked.now) }
+        ensures table { IfOk result (IsCountsTable self.now.args.now.stacks plan.now places.now) }
+        ensures stopped { IfErr result (IsUncountedRunStop self.now.args.now) }
     {
         let (rt, alloc) = (self.host.rt, self.host.alloc);
-        let crew = requested_crew(rt, alloc, self.asked);
+        let crew = requested_crew(rt, alloc, self.args);
         let batch = Batch::new(plan, places);
-        if !self.asked.stacks {
+        if !self.args.stacks {
             return Ok(count_batch(&crew, &batch)?);
         }
         match count_batch_with_stacks(&crew, &batch) {
             Ok(table) => Ok(table),
-            Err(error) => Err(sum_error_stop(alloc, self.asked.counts.unwrap_or("-"), error)),
+            Err(error) => Err(sum_error_stop(alloc, self.args.counts.unwrap_or("-"), error)),
         }
     }
 }

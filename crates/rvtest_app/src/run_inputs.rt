@@ -19,52 +19,52 @@ use std::alloc::{AllocError, Global};
 pub(crate) fn refuse_run_overwrites<F: Outputs>(
     files: &F,
     alloc: Global,
-    asked: &RunArgs<'_>,
+    args: &RunArgs<'_>,
     jobs: &[Job],
 ) -> Result<(), Stop>
-    ensures apart { OnOk result (IfSome (F.placed files.now) (λ _. AreRunFilesApart asked.now jobs.now)) }
-    ensures stopped { IfErr result (IsRunOverwriteStop asked.now) }
+    ensures apart { OnOk result (IfSome (F.placed files.now) (λ _. AreRunFilesApart args.now jobs.now)) }
+    ensures stopped { IfErr result (IsRunOverwriteStop args.now) }
 {
-    let inputs = look_up_files(files, alloc, inputs_of_run(alloc, asked, jobs)?)?;
-    refuse_overwrite(files, alloc, "--report", asked.report, &inputs)?;
-    refuse_overwrite(files, alloc, "--junit", asked.junit, &inputs)?;
-    refuse_overwrite(files, alloc, "--counts", asked.counts, &inputs)?;
-    refuse_overwrite(files, alloc, "--into", asked.into, &inputs)?;
-    refuse_report_overwrites(files, alloc, asked)
+    let inputs = look_up_files(files, alloc, inputs_of_run(alloc, args, jobs)?)?;
+    refuse_overwrite(files, alloc, "--report", args.report, &inputs)?;
+    refuse_overwrite(files, alloc, "--junit", args.junit, &inputs)?;
+    refuse_overwrite(files, alloc, "--counts", args.counts, &inputs)?;
+    refuse_overwrite(files, alloc, "--into", args.into, &inputs)?;
+    refuse_report_overwrites(files, alloc, args)
 }
 
 // Rejects files of a run that would overwrite a report that it reads, except the one that `--into` replaces.
 fn refuse_report_overwrites<F: Outputs>(
     files: &F,
     alloc: Global,
-    asked: &RunArgs<'_>,
+    args: &RunArgs<'_>,
 ) -> Result<(), Stop>
-    ensures apart { OnOk result (IfSome (F.placed files.now) (λ _. AreReportsKept asked.now)) }
-    ensures stopped { IfErr result (IsRunOverwriteStop asked.now) }
+    ensures apart { OnOk result (IfSome (F.placed files.now) (λ _. AreReportsKept args.now)) }
+    ensures stopped { IfErr result (IsRunOverwriteStop args.now) }
 {
-    let failed = look_up_files(files, alloc, failed_of_run(alloc, asked)?)?;
-    refuse_overwrite(files, alloc, "--report", asked.report, &failed)?;
-    let reports = look_up_files(files, alloc, reports_of_run(alloc, asked)?)?;
-    refuse_overwrite(files, alloc, "--junit", asked.junit, &reports)?;
-    refuse_overwrite(files, alloc, "--counts", asked.counts, &reports)
+    let failed = look_up_files(files, alloc, failed_of_run(alloc, args)?)?;
+    refuse_overwrite(files, alloc, "--report", args.report, &failed)?;
+    let reports = look_up_files(files, alloc, reports_of_run(alloc, args)?)?;
+    refuse_overwrite(files, alloc, "--junit", args.junit, &reports)?;
+    refuse_overwrite(files, alloc, "--counts", args.counts, &reports)
 }
 
 fn inputs_of_run<'a>(
     alloc: Global,
-    asked: &RunArgs<'_>,
+    args: &RunArgs<'_>,
     jobs: &'a [Job],
 ) -> Result<Vec<ReadPath<'a>>, AllocError>
-    ensures { IfOk result (λ read. read_paths read.items ≡ inputs_of_run asked.now jobs.now) }
+    ensures { IfOk result (λ read. read_paths read.items ≡ inputs_of_run args.now jobs.now) }
 {
     let mut read = Vec::new(alloc);
     push_read(
         alloc,
         &mut read,
         None,
-        asked.list,
+        args.list,
         ReadRole::Word("the job list"),
     )?;
-    if let Some(known) = asked.known {
+    if let Some(known) = args.known {
         push_read(
             alloc,
             &mut read,
@@ -74,7 +74,7 @@ fn inputs_of_run<'a>(
         )?;
     }
     for job in jobs {
-        push_job_paths(alloc, &mut read, asked.root, job)?;
+        push_job_paths(alloc, &mut read, args.root, job)?;
     }
     Ok(read)
 }
@@ -148,12 +148,12 @@ fn console_file(job: &Job) -> Option<&str>
 /// Returns the report whose failed jobs are chosen.
 pub(crate) fn failed_of_run<'a>(
     alloc: Global,
-    asked: &RunArgs<'_>,
+    args: &RunArgs<'_>,
 ) -> Result<Vec<ReadPath<'a>>, AllocError>
-    ensures { IfOk result (λ read. read_paths read.items ≡ failed_of_run asked.now) }
+    ensures { IfOk result (λ read. read_paths read.items ≡ failed_of_run args.now) }
 {
     let mut read = Vec::new(alloc);
-    if let Some(failed) = asked.failed {
+    if let Some(failed) = args.failed {
         push_read(
             alloc,
             &mut read,
@@ -165,11 +165,11 @@ pub(crate) fn failed_of_run<'a>(
     Ok(read)
 }
 
-fn reports_of_run<'a>(alloc: Global, asked: &RunArgs<'_>) -> Result<Vec<ReadPath<'a>>, AllocError>
-    ensures { IfOk result (λ read. read_paths read.items ≡ reports_of_run asked.now) }
+fn reports_of_run<'a>(alloc: Global, args: &RunArgs<'_>) -> Result<Vec<ReadPath<'a>>, AllocError>
+    ensures { IfOk result (λ read. read_paths read.items ≡ reports_of_run args.now) }
 {
-    let mut read = failed_of_run(alloc, asked)?;
-    if let Some(into) = asked.into {
+    let mut read = failed_of_run(alloc, args)?;
+    if let Some(into) = args.into {
         push_read(
             alloc,
             &mut read,

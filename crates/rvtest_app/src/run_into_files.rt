@@ -66,26 +66,26 @@ impl<'x, R: Threads + Wait + Sync + Clock, D: Inputs> ListRun<'x, R, D> {
         F::File: Send,
         requires whole { ForSome frame.old (λ rows. length rows ≡ length planned.now.reporter.now.plan.now.jobs) }
         ensures status { IfOk result.1 (λ status. status ≡ rows_status (judging_of planned.now.reporter.now.judge) (run_rows
-            self.now.asked.now.stop_after (judging_of planned.now.reporter.now.judge) planned.now.reporter.now.plan.now
+            self.now.args.now.stop_after (judging_of planned.now.reporter.now.judge) planned.now.reporter.now.plan.now
             planned.now.places.now)) }
-        ensures outputs_of { OnOk result.1 (IsCountedRunWritten self.now.asked.now (reporter_of planned.now.reporter.now)
-            planned.now.places.now frame.shard frame.old (run_rows self.now.asked.now.stop_after
+        ensures outputs_of { OnOk result.1 (IsCountedRunWritten self.now.args.now (reporter_of planned.now.reporter.now)
+            planned.now.places.now frame.shard frame.old (run_rows self.now.args.now.stop_after
             (judging_of planned.now.reporter.now.judge) planned.now.reporter.now.plan.now planned.now.places.now)
             (outputs_of F.placed O.taken E.taken E.failed to) (outputs_of F.placed O.taken E.taken E.failed result.0)) }
-        ensures part { (rows : List ARow) → rows ≡ run_rows self.now.asked.now.stop_after
+        ensures part { (rows : List ARow) → rows ≡ run_rows self.now.args.now.stop_after
             (judging_of planned.now.reporter.now.judge) planned.now.reporter.now.plan.now planned.now.places.now
             → OnErr result.1 ((F.placed result.0.files ≡ F.placed to.files)
-            ⊎ AreRunFilesPlacedInPart self.now.asked.now (reporter_of planned.now.reporter.now) planned.now.places.now frame.shard
+            ⊎ AreRunFilesPlacedInPart self.now.args.now (reporter_of planned.now.reporter.now) planned.now.places.now frame.shard
             frame.old rows (F.placed to.files) (F.placed result.0.files)) }
-        ensures stopped { IfErr result.1 (IsRunPutStop self.now.asked.now) }
+        ensures stopped { IfErr result.1 (IsRunPutStop self.now.args.now) }
     {
-        let (alloc, asked) = (self.host.alloc, self.asked);
+        let (alloc, args) = (self.host.alloc, self.args);
         let mut to = to;
         let RunOutlets {
             report,
             junit,
             counts,
-        } = match open_run_outlets(&mut to.files, alloc, asked) {
+        } = match open_run_outlets(&mut to.files, alloc, args) {
             Ok(outlets) => outlets,
             Err(stop) => return (to, Err(stop)),
         };
@@ -94,7 +94,7 @@ impl<'x, R: Threads + Wait + Sync + Clock, D: Inputs> ListRun<'x, R, D> {
         };
         let (report, sink) = report.take_sink();
         let Destinations { files, out, errors } = to;
-        let (mut to, run) = if uses_run_stdout(asked) {
+        let (mut to, run) = if uses_run_stdout(args) {
             let shown = ShownOn {
                 stream: errors,
                 is_terminal: terminals.is_errors_terminal,
@@ -142,24 +142,24 @@ impl<'x, R: Threads + Wait + Sync + Clock, D: Inputs> ListRun<'x, R, D> {
         outlets: RunOutlets<'_, F::Place, F::File>,
         to: &mut Destinations<F, O, E>,
     ) -> Result<u8, Stop>
-        requires rows { rows ≡ run_rows self.now.asked.now.stop_after (judging_of planned.now.reporter.now.judge)
+        requires rows { rows ≡ run_rows self.now.args.now.stop_after (judging_of planned.now.reporter.now.judge)
             planned.now.reporter.now.plan.now planned.now.places.now }
         requires few { length rows ≤ length planned.now.places.now }
         requires texts { AreLinesOf (failure_lines (reporter_of planned.now.reporter.now)) planned.now.places.now rows texts.items }
         requires whole { ForSome frame.old (λ rows. length rows ≡ length planned.now.reporter.now.plan.now.jobs) }
-        requires taken { HaveRunOutletsTaken F.pending_path F.File.taken F.File.failed (F.placed to.old.files) self.now.asked.now
+        requires taken { HaveRunOutletsTaken F.pending_path F.File.taken F.File.failed (F.placed to.old.files) self.now.args.now
             (streamed_rows frame.old (shown_indices planned.now.places.now rows) rows) outlets }
         ensures status { IfOk result (λ status. status ≡ rows_status (judging_of planned.now.reporter.now.judge) rows) }
-        ensures outputs_of { (before : CommandOutputs) → IsShown (uses_run_stdout self.now.asked.now) (run_output_text
+        ensures outputs_of { (before : CommandOutputs) → IsShown (uses_run_stdout self.now.args.now) (run_output_text
             (row_lines_at (reporter_of planned.now.reporter.now)) (judging_of planned.now.reporter.now.judge)
             planned.now.reporter.now.plan.now planned.now.places.now rows)
             before (outputs_of F.placed O.taken E.taken E.failed to.old)
-            → OnOk result (IsCountedRunWritten self.now.asked.now (reporter_of planned.now.reporter.now) planned.now.places.now
+            → OnOk result (IsCountedRunWritten self.now.args.now (reporter_of planned.now.reporter.now) planned.now.places.now
             frame.shard frame.old rows before (outputs_of F.placed O.taken E.taken E.failed to.new)) }
         ensures part { OnErr result ((F.placed to.new.files ≡ F.placed to.old.files)
-            ⊎ AreRunFilesPlacedInPart self.now.asked.now (reporter_of planned.now.reporter.now) planned.now.places.now frame.shard
+            ⊎ AreRunFilesPlacedInPart self.now.args.now (reporter_of planned.now.reporter.now) planned.now.places.now frame.shard
             frame.old rows (F.placed to.old.files) (F.placed to.new.files)) }
-        ensures stopped { IfErr result (IsRunPutStop self.now.asked.now) }
+        ensures stopped { IfErr result (IsRunPutStop self.now.args.now) }
     {
         let RunOutlets {
             report,
@@ -202,7 +202,7 @@ impl<'x, R: Threads + Wait + Sync + Clock, D: Inputs> ListRun<'x, R, D> {
             (streamed_rows frame.old planned.now.places.now rows) outlets.entry.report
             → HasTaken F.pending_path F.File.taken F.File.failed (F.placed to.old.files) junit_path [] outlets.entry.junit
             → OnOk result (Appends (O.taken to.old.out) (O.taken to.new.out)
-            (stdout_at junit_path (run_junit self.now.asked.now (reporter_of planned.now.reporter.now)
+            (stdout_at junit_path (run_junit self.now.args.now (reporter_of planned.now.reporter.now)
             planned.now.places.now rows) ++ stdout_at report_path (run_report_text frame.old
             (length planned.now.reporter.now.plan.now.jobs) planned.now.places.now frame.shard rows))) }
         ensures placed { (report_path junit_path : Option (List ℕ))
@@ -210,13 +210,13 @@ impl<'x, R: Threads + Wait + Sync + Clock, D: Inputs> ListRun<'x, R, D> {
             (streamed_rows frame.old planned.now.places.now rows) outlets.entry.report
             → HasTaken F.pending_path F.File.taken F.File.failed (F.placed to.old.files) junit_path [] outlets.entry.junit
             → OnOk result (AreFilesCommitted (F.placed to.old.files) (F.placed to.new.files)
-            (Some (file_at junit_path (run_junit self.now.asked.now (reporter_of planned.now.reporter.now)
+            (Some (file_at junit_path (run_junit self.now.args.now (reporter_of planned.now.reporter.now)
             planned.now.places.now rows) ++ file_at report_path (run_report_text frame.old
             (length planned.now.reporter.now.plan.now.jobs) planned.now.places.now frame.shard rows)))) }
         ensures part { (junit_path : Option (List ℕ))
             → HasTaken F.pending_path F.File.taken F.File.failed (F.placed to.old.files) junit_path [] outlets.entry.junit
             → OnErr result (AreFilesPartlyCommitted (F.placed to.old.files) (F.placed to.new.files)
-            (Some (file_at junit_path (run_junit self.now.asked.now (reporter_of planned.now.reporter.now)
+            (Some (file_at junit_path (run_junit self.now.args.now (reporter_of planned.now.reporter.now)
             planned.now.places.now rows)))) }
         ensures stopped { IfErr result
             (IsPutStop (outlet_path outlets.entry.report) (outlet_path outlets.entry.junit)) }
@@ -234,7 +234,7 @@ impl<'x, R: Threads + Wait + Sync + Clock, D: Inputs> ListRun<'x, R, D> {
         };
         let texts = FileTexts {
             suite: Suite {
-                name: suite_name(self.asked.suite, self.asked.list).as_bytes(),
+                name: suite_name(self.args.suite, self.args.list).as_bytes(),
                 judge: reporter.judge,
             },
             reporter: &told,

@@ -23,14 +23,14 @@ pub(crate) struct RunOutlets<'a, P: Drop, W: Drop> {
 pub(crate) fn open_run_outlets<'a, F: Outputs>(
     files: &mut F,
     alloc: Global,
-    asked: &RunArgs<'a>,
+    args: &RunArgs<'a>,
 ) -> Result<RunOutlets<'a, F::Place, F::File>, Stop>
     ensures same { F.placed files.new ≡ F.placed files.old }
-    ensures open { IfOk result (HaveRunOutletsTaken F.pending_path F.File.taken F.File.failed (F.placed files.old) asked.now []) }
-    ensures stopped { IfErr result (IsRunPutStop asked.now) }
+    ensures open { IfOk result (HaveRunOutletsTaken F.pending_path F.File.taken F.File.failed (F.placed files.old) args.now []) }
+    ensures stopped { IfErr result (IsRunPutStop args.now) }
 {
-    let counts = open_outlet(files, alloc, asked.counts)?;
-    match open_outlets(files, alloc, run_report_path(asked), asked.junit) {
+    let counts = open_outlet(files, alloc, args.counts)?;
+    match open_outlets(files, alloc, run_report_path(args), args.junit) {
         Ok(Outlets { report, junit }) => Ok(RunOutlets {
             report,
             junit,

@@ -44,29 +44,29 @@ struct SummarizedReport {
 pub(crate) fn show_report<D: Inputs, F: Outputs + Drop, O: Sink + Drop, E: Sink + Drop>(
     inputs: &D,
     alloc: Global,
-    asked: ShowArgs<'_>,
+    args: ShowArgs<'_>,
     to: &mut Destinations<F, O, E>,
 ) -> Result<u8, Stop>
     ensures low { IfOk result (λ status. status ≤ 1) }
-    ensures shown { IfOk result (λ status. IsShownAt (D.contents inputs.now) asked.entry status
+    ensures shown { IfOk result (λ status. IsShownAt (D.contents inputs.now) args.entry status
         (outputs_of F.placed O.taken E.taken E.failed to.old) (outputs_of F.placed O.taken E.taken E.failed to.new)) }
-    ensures undone { OnErr result (IsUndoneShowAt (D.contents inputs.now) asked.entry
+    ensures undone { OnErr result (IsUndoneShowAt (D.contents inputs.now) args.entry
         (F.placed to.old.files) (F.placed to.new.files)) }
-    ensures stopped { IfErr result (IsShowStop (D.contents inputs.now) asked.entry) }
+    ensures stopped { IfErr result (IsShowStop (D.contents inputs.now) args.entry) }
     // The report is not overwritten.
-    ensures kept { IsPlacedApart (IsShowFileApart asked.entry) (F.placed to.old.files) (F.placed to.new.files) }
+    ensures kept { IsPlacedApart (IsShowFileApart args.entry) (F.placed to.old.files) (F.placed to.new.files) }
 {
-    refuse_show_overwrite(&to.files, alloc, &asked)?;
+    refuse_show_overwrite(&to.files, alloc, &args)?;
     let requested = RequestedReport {
-        path: asked.report,
-        partial: asked.partial,
+        path: args.report,
+        partial: args.partial,
     };
     let found = read_requested_report(inputs, alloc, requested)?;
-    let note = cut_off_note(alloc, asked.report, &found)?;
-    let summarized = summarize_report(alloc, asked, found.report)?;
+    let note = cut_off_note(alloc, args.report, &found)?;
+    let summarized = summarize_report(alloc, args, found.report)?;
     put_message(&mut to.errors, note.as_slice());
     let status = summarized.status;
-    put_summarized_report(alloc, asked, summarized, to)?;
+    put_summarized_report(alloc, args, summarized, to)?;
     Ok(status)
 }
 
@@ -74,34 +74,34 @@ pub(crate) fn show_report<D: Inputs, F: Outputs + Drop, O: Sink + Drop, E: Sink 
 fn refuse_show_overwrite<F: Outputs>(
     files: &F,
     alloc: Global,
-    asked: &ShowArgs<'_>,
+    args: &ShowArgs<'_>,
 ) -> Result<(), Stop>
-    ensures apart { OnOk result (IfSome (F.placed files.now) (λ _. IsShowFileApart asked.now)) }
-    ensures stopped { IfErr result (IsShowOverwriteStop asked.now) }
+    ensures apart { OnOk result (IfSome (F.placed files.now) (λ _. IsShowFileApart args.now)) }
+    ensures stopped { IfErr result (IsShowOverwriteStop args.now) }
 {
     let read = look_up_files(
         files,
         alloc,
-        read_paths_of_words(alloc, &[asked.report], "the report")?,
+        read_paths_of_words(alloc, &[args.report], "the report")?,
     )?;
-    refuse_overwrite(files, alloc, "--junit", asked.junit, &read)
+    refuse_overwrite(files, alloc, "--junit", args.junit, &read)
 }
 
 // Summarizes a report, and returns it with its status.
 fn summarize_report(
     alloc: Global,
-    asked: ShowArgs<'_>,
+    args: ShowArgs<'_>,
     report: SavedReport,
 ) -> Result<SummarizedReport, AllocError>
     requires { length report.rows < 2 ^ 32 }
     ensures report { IfOk result (λ summarized. summarized.report ≡ report) }
     ensures summary { IfOk result (λ summarized. summarized.summary.items
-        ≡ summary_text (report_judging asked.entry.lenient) report.rows) }
+        ≡ summary_text (report_judging args.entry.lenient) report.rows) }
     ensures judged { IfOk result (λ summarized. summarized.status
-        ≡ rows_status (report_judging asked.entry.lenient) report.rows) }
+        ≡ rows_status (report_judging args.entry.lenient) report.rows) }
     ensures low { IfOk result (λ summarized. summarized.status ≤ 1) }
 {
-    let judge = report_judge(asked.lenient);
+    let judge = report_judge(args.lenient);
     let summary = summary_text(alloc, &judge, report.rows.as_slice())?;
     let status = rows_status(&judge, report.rows.as_slice());
     Ok(SummarizedReport {
@@ -114,27 +114,27 @@ fn summarize_report(
 // Writes the summary and, if requested, the rows as JUnit XML.
 fn put_summarized_report<F: Outputs + Drop, O: Sink + Drop, E: Sink + Drop>(
     alloc: Global,
-    asked: ShowArgs<'_>,
+    args: ShowArgs<'_>,
     summarized: SummarizedReport,
     to: &mut Destinations<F, O, E>,
 ) -> Result<(), Stop>
-    ensures put { OnOk result (WentOut None (optional_text asked.entry.junit) summarized.summary.items
+    ensures put { OnOk result (WentOut None (optional_text args.entry.junit) summarized.summary.items
         (report_text summarized.report.rows)
-        (shown_junit asked.entry summarized.report.rows)
+        (shown_junit args.entry summarized.report.rows)
         (outputs_of F.placed O.taken E.taken E.failed to.old) (outputs_of F.placed O.taken E.taken E.failed to.new)) }
     ensures part { OnErr result (AreFilesPartlyCommitted (F.placed to.old.files) (F.placed to.new.files)
-        (Some (file_at (optional_text asked.entry.junit) (shown_junit asked.entry summarized.report.rows)))) }
-    ensures stopped { IfErr result (IsOutputStop None (optional_text asked.entry.junit)) }
+        (Some (file_at (optional_text args.entry.junit) (shown_junit args.entry summarized.report.rows)))) }
+    ensures stopped { IfErr result (IsOutputStop None (optional_text args.entry.junit)) }
 {
     let SummarizedReport {
         report,
         summary,
         ..
     } = summarized;
-    let outlets = open_outlets(&mut to.files, alloc, None, asked.junit)?;
+    let outlets = open_outlets(&mut to.files, alloc, None, args.junit)?;
     let suite = Suite {
-        name: suite_name(asked.suite, asked.report).as_bytes(),
-        judge: report_judge(asked.lenient),
+        name: suite_name(args.suite, args.report).as_bytes(),
+        judge: report_judge(args.lenient),
     };
     match put_shown(to, summary.as_slice(), outlets.use_stdout()) {
         Ok(()) => put_whole_files(alloc, to, outlets, suite, report.rows),

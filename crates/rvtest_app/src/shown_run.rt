@@ -71,17 +71,17 @@ impl<'x, R: Threads + Wait + Sync + Clock, D: Inputs> ListRun<'x, R, D> {
         requires sink { IfSome sink (λ sink. (K.before ≡ V.taken sink) × (K.failures ≡ V.failed sink)) }
         requires line { report_row_text rows.now.is_streaming ≡ K.line }
         requires judging { judging_of planned.now.reporter.now.judge ≡ K.judging }
-        ensures rows { IfOk result.1.ran (λ rows. rows ≡ run_rows self.now.asked.now.stop_after
+        ensures rows { IfOk result.1.ran (λ rows. rows ≡ run_rows self.now.args.now.stop_after
             (judging_of planned.now.reporter.now.judge) planned.now.reporter.now.plan.now planned.now.places.now) }
         ensures few { IfOk result.1.ran (λ rows. length rows ≤ length planned.now.places.now) }
         ensures shown { OnOk result.1.ran (Appends (W.taken shown.stream) (W.taken result.0)
             (run_output_text (row_lines_at (reporter_of planned.now.reporter.now))
             (judging_of planned.now.reporter.now.judge) planned.now.reporter.now.plan.now planned.now.places.now
-            (run_rows self.now.asked.now.stop_after (judging_of planned.now.reporter.now.judge)
+            (run_rows self.now.args.now.stop_after (judging_of planned.now.reporter.now.judge)
             planned.now.reporter.now.plan.now planned.now.places.now))) }
         ensures counted { OnOk result.1.ran (W.failed result.0 ≡ W.failed shown.stream) }
         ensures report { OnOk result.1.ran (AreRowsWritten V.taken V.failed sink result.1.sink
-            (joined_row_texts (report_row_text rows.now.is_streaming) planned.now.places.now (run_rows self.now.asked.now.stop_after
+            (joined_row_texts (report_row_text rows.now.is_streaming) planned.now.places.now (run_rows self.now.args.now.stop_after
             (judging_of planned.now.reporter.now.judge) planned.now.reporter.now.plan.now planned.now.places.now))) }
         ensures sink { is_some result.1.sink ≡ is_some sink }
         ensures report_failed { IfErr result.1.ran (λ error. error ≡ ReportFailed → is_some sink ≡ true) }
@@ -104,11 +104,11 @@ impl<'x, R: Threads + Wait + Sync + Clock, D: Inputs> ListRun<'x, R, D> {
             first: row_sender::<K, V>(alloc, rows, sink),
             second: self.failure_texts::<K>(reporter),
         };
-        let crew = requested_crew(rt, alloc, self.asked);
+        let crew = requested_crew(rt, alloc, self.args);
         let batch = Batch::new(reporter.plan, places);
         let limit = FailureLimit {
             judge: reporter.judge,
-            failures: self.asked.stop_after,
+            failures: self.args.stop_after,
         };
         let (mut stream, observer, ran) = stream_rows::<
             Brand,
@@ -164,7 +164,7 @@ impl<'x, R: Threads + Wait + Sync + Clock, D: Inputs> ListRun<'x, R, D> {
         ensures lines { IfSome result (λ _. (place : ℕ) (row : ARow) → fails (judging_of reporter.now.judge) row ≡ true
             → row_lines_at (reporter_of reporter.now) place row ≡ failure_lines (reporter_of reporter.now) place row) }
     {
-        if self.asked.junit.is_none() {
+        if self.args.junit.is_none() {
             return None;
         }
         match reporter.verbosity {

@@ -44,7 +44,7 @@ pub(crate) enum View {
 #[derive(Drop)]
 pub(crate) struct JobsView<'x, R, D> {
     pub(crate) host: &'x Host<'x, R, D>,
-    pub(crate) asked: &'x RunArgs<'x>,
+    pub(crate) args: &'x RunArgs<'x>,
     pub(crate) view: View,
 }
 
@@ -56,17 +56,17 @@ impl<'x, R: Threads + Wait + Sync, D: Inputs> JobsView<'x, R, D> {
         command: ChoosingCommand,
         to: &mut Destinations<F, O, E>,
     ) -> Result<u8, Stop>
-        ensures put { IfOk result (λ status. IsViewWritten (D.contents self.now.host.now.inputs.now) self.now.asked.now
+        ensures put { IfOk result (λ status. IsViewWritten (D.contents self.now.host.now.inputs.now) self.now.args.now
             self.now.view status
             (outputs_of F.placed O.taken E.taken E.failed to.old) (outputs_of F.placed O.taken E.taken E.failed to.new)) }
         ensures low { IfOk result (λ status. status ≤ 1) }
         ensures stopped { IfErr result (λ why. (why ≡ Stop.WriteFailed)
-            ⊎ IsViewStop (D.contents self.now.host.now.inputs.now) self.now.asked.now self.now.view why) }
+            ⊎ IsViewStop (D.contents self.now.host.now.inputs.now) self.now.args.now self.now.view why) }
     {
         let run = ListRun {
             host: self.host,
-            asked: self.asked,
-            rule: failure_rule(self.asked.lenient),
+            args: self.args,
+            rule: failure_rule(self.args.lenient),
         };
         let requested = run.requested_jobs(command)?;
         put_message(&mut to.errors, requested.notes.as_slice());
@@ -86,17 +86,17 @@ impl<'x, R: Threads + Wait + Sync, D: Inputs> JobsView<'x, R, D> {
     ) -> Result<u8, Stop>
         requires { length marks.now ≡ length jobs }
         ensures put { IfOk result (λ status. (status ≡ 0) × IsViewOfPlaces (D.contents self.now.host.now.inputs.now)
-            self.now.asked.now self.now.view jobs (places_of_marks marks.now)
+            self.now.args.now self.now.view jobs (places_of_marks marks.now)
             (outputs_of F.placed O.taken E.taken E.failed to.old) (outputs_of F.placed O.taken E.taken E.failed to.new)) }
-        ensures stopped { IfErr result (IsUnviewedStop (D.contents self.now.host.now.inputs.now) self.now.asked.now
+        ensures stopped { IfErr result (IsUnviewedStop (D.contents self.now.host.now.inputs.now) self.now.args.now
             self.now.view jobs (places_of_marks marks.now)) }
     {
         let (alloc, inputs) = (self.host.alloc, self.host.inputs);
         let marked = selected_indices(alloc, marks)?;
         let places = marked.as_slice();
-        let mut store = RecordingStore::new(inputs, alloc, self.asked.root);
+        let mut store = RecordingStore::new(inputs, alloc, self.args.root);
         let plan = gather_jobs_at(alloc, jobs, places, &mut store)?;
-        let note = refused_note(alloc, self.asked, &plan, store.unread_paths(), places)?;
+        let note = refused_note(alloc, self.args, &plan, store.unread_paths(), places)?;
         put_message(&mut to.errors, note.as_slice());
         let text = self.text_of_places(&plan, places)?;
         put_results(&mut to.out, text.as_slice())?;
@@ -108,9 +108,9 @@ impl<'x, R: Threads + Wait + Sync, D: Inputs> JobsView<'x, R, D> {
         requires within { AreJobIndices plan.now places.now }
         requires rising { IsStrictlyIncreasing places.now }
         requires small { AreSmall plan.now.answers }
-        ensures shown { IfOk result (λ text. IsViewOfPlan (D.contents self.now.host.now.inputs.now) self.now.asked.now
+        ensures shown { IfOk result (λ text. IsViewOfPlan (D.contents self.now.host.now.inputs.now) self.now.args.now
             self.now.view plan.now places.now text.items) }
-        ensures stopped { IfErr result (IsUnshownStop (D.contents self.now.host.now.inputs.now) self.now.asked.now
+        ensures stopped { IfErr result (IsUnshownStop (D.contents self.now.host.now.inputs.now) self.now.args.now
             self.now.view plan.now places.now) }
     {
         let files = images_of_jobs(self.host.alloc, plan, places)?;
@@ -126,24 +126,24 @@ impl<'x, R, D> JobsView<'x, R, D> {
         requires { IsTable table.now }
         ensures shown { IfOk result (λ text. IsViewText self.now.view table.now (images_of_files images.now) text.items) }
         ensures stopped { IfErr result (IsTextlessStop self.now.view table.now (images_of_files images.now)
-            (counts_source self.now.asked.now)) }
+            (counts_source self.now.args.now)) }
     {
         let alloc = self.host.alloc;
         match self.view {
             View::Cover { csv } => Ok(cover_text(alloc, csv, table, images)?),
             View::Profile(format) => {
-                text_of_profile(alloc, counts_source(self.asked), format, table, images)
+                text_of_profile(alloc, counts_source(self.args), format, table, images)
             }
         }
     }
 }
 
 // Returns where counts come from: the table in the arguments, else the list.
-fn counts_source<'a>(asked: &RunArgs<'a>) -> &'a str
-    ensures { result.now ≡ counts_source asked.now }
+fn counts_source<'a>(args: &RunArgs<'a>) -> &'a str
+    ensures { result.now ≡ counts_source args.now }
 {
-    match asked.counts {
+    match args.counts {
         Some(path) => path,
-        None => asked.list,
+        None => args.list,
     }
 }

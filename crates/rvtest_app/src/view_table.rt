@@ -43,11 +43,11 @@ impl<'x, R: Threads + Wait + Sync, D: Inputs> JobsView<'x, R, D> {
         requires rising { IsStrictlyIncreasing places.now }
         requires images { images_of_files images.now ≡ images_of plan.now.answers (jobs_at plan.now places.now) }
         ensures table { IfOk result (IsTableFor (D.contents self.now.host.now.inputs.now) self.now.view
-            (optional_text self.now.asked.now.counts) plan.now places.now) }
-        ensures stopped { IfErr result (IsUntabledStop (D.contents self.now.host.now.inputs.now) self.now.asked.now
-            self.now.view (optional_text self.now.asked.now.counts) plan.now places.now) }
+            (optional_text self.now.args.now.counts) plan.now places.now) }
+        ensures stopped { IfErr result (IsUntabledStop (D.contents self.now.host.now.inputs.now) self.now.args.now
+            self.now.view (optional_text self.now.args.now.counts) plan.now places.now) }
     {
-        match self.asked.counts {
+        match self.args.counts {
             Some(path) => self.read_fit_table(path, images),
             None => self.count_jobs(plan, places),
         }
@@ -58,11 +58,11 @@ impl<'x, R: Threads + Wait + Sync, D: Inputs> JobsView<'x, R, D> {
         requires within { AreJobIndices plan.now places.now }
         requires rising { IsStrictlyIncreasing places.now }
         ensures counted { IfOk result (IsCountedFor self.now.view plan.now places.now) }
-        ensures stopped { IfErr result (IsUncountedStop self.now.view plan.now places.now self.now.asked.now.list.now) }
+        ensures stopped { IfErr result (IsUncountedStop self.now.view plan.now places.now self.now.args.now.list.now) }
     {
         match self.view {
-            View::Cover { .. } => Ok(counts_of_jobs(self.host, self.asked, plan, places)?),
-            View::Profile(_) => counts_with_stacks_of_jobs(self.host, self.asked, plan, places),
+            View::Cover { .. } => Ok(counts_of_jobs(self.host, self.args, plan, places)?),
+            View::Profile(_) => counts_with_stacks_of_jobs(self.host, self.args, plan, places),
         }
     }
 
@@ -86,7 +86,7 @@ impl<'x, R: Threads + Wait + Sync, D: Inputs> JobsView<'x, R, D> {
 // Counts how often the instructions of the jobs at some indices were executed.
 fn counts_of_jobs<R: Threads + Wait + Sync, D>(
     host: &Host<'_, R, D>,
-    asked: &RunArgs<'_>,
+    args: &RunArgs<'_>,
     plan: &Plan,
     places: &[usize],
 ) -> Result<CountTable, AllocError>
@@ -94,26 +94,26 @@ fn counts_of_jobs<R: Threads + Wait + Sync, D>(
     requires rising { IsStrictlyIncreasing places.now }
     ensures { IfOk result (IsTableOfPlaces plan.now places.now) }
 {
-    let crew = requested_crew(host.rt, host.alloc, asked);
+    let crew = requested_crew(host.rt, host.alloc, args);
     count_batch(&crew, &Batch::new(plan, places))
 }
 
 // Returns the counts of the jobs at some indices, with their stacks.
 fn counts_with_stacks_of_jobs<R: Threads + Wait + Sync, D>(
     host: &Host<'_, R, D>,
-    asked: &RunArgs<'_>,
+    args: &RunArgs<'_>,
     plan: &Plan,
     places: &[usize],
 ) -> Result<CountTable, Stop>
     requires within { AreJobIndices plan.now places.now }
     requires rising { IsStrictlyIncreasing places.now }
     ensures stacks { IfOk result (IsTableWithStacks plan.now places.now) }
-    ensures stopped { IfErr result (IsUnstackedJobsStop plan.now places.now asked.now.list.now) }
+    ensures stopped { IfErr result (IsUnstackedJobsStop plan.now places.now args.now.list.now) }
 {
-    let crew = requested_crew(host.rt, host.alloc, asked);
+    let crew = requested_crew(host.rt, host.alloc, args);
     match count_batch_with_stacks(&crew, &Batch::new(plan, places)) {
         Ok(table) => Ok(table),
-        Err(error) => Err(sum_error_stop(host.alloc, asked.list, error)),
+        Err(error) => Err(sum_error_stop(host.alloc, args.list, error)),
     }
 }
 

@@ -18,12 +18,12 @@ use Rattle.clap.specs.declared.parser.matches.ArgMatches.{ArgMatches}
 use Rattle.clap.specs.declared.parser.matches.ArgMatches.TheViews.{out-SubCommand}
 use Rattle.clap.specs.declared.parser.matches.SubCommand.{SubCommand}
 use Rattle.rvtest_cli.specs.RvtestCommand.{test_app}
-use Rattle.rvtest_cli.specs.RvtestWords.{FailsByMisuse, IsAskedInRange, IsMisuseReported, asked_words, help_words, is_command_help, is_help}
+use Rattle.rvtest_cli.specs.RvtestWords.{FailsByMisuse, IsRequestInRange, IsMisuseReported, words_of_request, help_words, is_command_help, is_help}
 use Rattle.rvtest_cli.specs.RvtestWords.{matched_misuse, matched_words, misuse_kinds, plain_fault_kinds, plain_misuse, words_fault_kinds, words_faults}
 use Rattle.rvtest_cli.specs.RvtestWords.{words_misuse, words_request}
 use Rattle.rvtest_cli.specs.WordsErrors.{FailsByKinds, IsToldOf, IsToldOfKind}
 use Rattle.rvtest_cli.specs.declared.refusals.Misuse.{Misuse}
-use Rattle.rvtest_cli.specs.declared.requests.Asked.{Asked}
+use Rattle.rvtest_cli.specs.declared.requests.Request.{Request}
 use Rattle.rvtest_cli.specs.declared.words_error.WordsError.{WordsError}
 use Rattle.rvtest_cli.specs.declared.words_error.WordsError.TheVariants as error
 
@@ -98,16 +98,16 @@ or_none [] = refl
 or_none (kind ∷ kinds) = refl
 
 -- nothing is within every range
-pub help_within : (r : Result (Option Asked) WordsError) → IfOk r (λ asked. asked ≡ None)
-    → IfOk r (λ asked. IfSome asked IsAskedInRange)
-help_within r none = IfOk-weaker r _ _ (λ asked nothing. subst (λ a. IfSome a IsAskedInRange) (sym nothing) tt) none
+pub help_within : (r : Result (Option Request) WordsError) → IfOk r (λ request. request ≡ None)
+    → IfOk r (λ request. IfSome request IsRequestInRange)
+help_within r none = IfOk-weaker r _ _ (λ request nothing. subst (λ a. IfSome a IsRequestInRange) (sym nothing) tt) none
 
 -- arguments that request it, in whose place an option requests the same help
 module _ (words help : List Text) (is : help_words words ≡ Some help) where
-  pub help_value : (r : Result (Option Asked) WordsError) → IfOk r (λ asked. asked ≡ None)
-      → IfOk r (λ asked. option_map asked_words asked ≡ words_request words)
+  pub help_value : (r : Result (Option Request) WordsError) → IfOk r (λ request. request ≡ None)
+      → IfOk r (λ request. option_map words_of_request request ≡ words_request words)
   help_value r none =
-      IfOk-weaker r _ _ (λ asked nothing. ap (option_map asked_words) nothing
+      IfOk-weaker r _ _ (λ request nothing. ap (option_map words_of_request) nothing
       ∙ sym (ap (λ found. matched_words (option_map_or (λ _. None) found (subcommand_of test_app words))) is)) none
 
   pub help_kinds : {T : Type 0} (r : Result T WordsError) → FailsByKinds (fault_of test_app help) r
@@ -126,10 +126,10 @@ module _ (words help : List Text) (is : help_words words ≡ Some help) where
 
 -- other arguments, which are parsed as they are
 module _ (words : List Text) (none : help_words words ≡ None) where
-  pub plain_value : (r : Result (Option Asked) WordsError)
-      → IfOk r (λ asked. option_map asked_words asked ≡ matched_words (subcommand_of test_app words))
-      → IfOk r (λ asked. option_map asked_words asked ≡ words_request words)
-  plain_value r asked = rw none asked
+  pub plain_value : (r : Result (Option Request) WordsError)
+      → IfOk r (λ request. option_map words_of_request request ≡ matched_words (subcommand_of test_app words))
+      → IfOk r (λ request. option_map words_of_request request ≡ words_request words)
+  plain_value r request = rw none request
 
   pub plain_kinds : {T : Type 0} (r : Result T WordsError) → FailsByKinds (plain_fault_kinds words) r
       → FailsByKinds (words_fault_kinds words) r

@@ -16,8 +16,8 @@ use Rattle.rvtest_cli.specs.WordsErrors.{IsUsageText}
 use Rattle.rvtest_cli.specs.declared.words_error.WordsError.{WordsError}
 use Rattle.rvtest_cli.specs.declared.words_error.WordsError.TheVariants as error
 use Rattle.rv_cli.specs.Values.{argument_values, is_flag_set, is_option_given, number_value}
-use Rattle.rvtest_cli.specs.declared.requests.Asked.{Asked}
-use Rattle.rvtest_cli.specs.declared.requests.Asked.TheVariants as asked
+use Rattle.rvtest_cli.specs.declared.requests.Request.{Request}
+use Rattle.rvtest_cli.specs.declared.requests.Request.TheVariants as request
 use Rattle.rvtest_cli.specs.declared.run.RunArgs.{RunArgs}
 use Rattle.rvtest_cli.specs.declared.accept.AcceptArgs.{AcceptArgs}
 use Rattle.rvtest_cli.specs.declared.counts.CountsArgs.{CountsArgs}
@@ -571,14 +571,14 @@ IsMisuseReported (Some misuse) (error.Told fault text) =
 abbrev pub FailsByMisuse : {T : Type 0} → Option Misuse → Result T WordsError → Type 0
 FailsByMisuse misuse result = MatchResult result (λ _. misuse ≡ None) (IsMisuseReported misuse)
 
--- ---- the program's own value of what is asked for
+-- ---- the request as the program has it
 
 -- the text that a reference points to, if there is one
 abbrev pub borrowed_text : Option (Bor Text) → Option Text
 borrowed_text text = option_map (λ t. t.now) text
 
-abbrev pub run_asked_words : RunArgs → RunWords
-run_asked_words value = record {
+abbrev pub run_words_of_args : RunArgs → RunWords
+run_words_of_args value = record {
   list = value.list.now;
   only = map (λ name. name.now) value.only.items;
   pattern = borrowed_text value.pattern;
@@ -606,8 +606,8 @@ run_asked_words value = record {
   color = borrowed_text value.color;
 }
 
-abbrev pub explain_asked_words : ExplainArgs → ExplainWords
-explain_asked_words value = record {
+abbrev pub explain_words_of_args : ExplainArgs → ExplainWords
+explain_words_of_args value = record {
   list = value.list.now;
   name = value.name.now;
   last = value.last;
@@ -616,8 +616,8 @@ explain_asked_words value = record {
   color = borrowed_text value.color;
 }
 
-abbrev pub merge_asked_words : MergeArgs → MergeWords
-merge_asked_words value = record {
+abbrev pub merge_words_of_args : MergeArgs → MergeWords
+merge_words_of_args value = record {
   parts = map (λ path. path.now) value.parts.items;
   report = borrowed_text value.report;
   junit = borrowed_text value.junit;
@@ -625,8 +625,8 @@ merge_asked_words value = record {
   lenient = value.lenient;
 }
 
-abbrev pub show_asked_words : ShowArgs → ShowWords
-show_asked_words value = record {
+abbrev pub show_words_of_args : ShowArgs → ShowWords
+show_words_of_args value = record {
   report = value.report.now;
   partial = value.partial;
   junit = borrowed_text value.junit;
@@ -635,8 +635,8 @@ show_asked_words value = record {
   color = borrowed_text value.color;
 }
 
-abbrev pub diff_asked_words : DiffArgs → DiffWords
-diff_asked_words value = record {
+abbrev pub diff_words_of_args : DiffArgs → DiffWords
+diff_words_of_args value = record {
   old = value.old.now;
   new = value.new.now;
   partial = value.partial;
@@ -645,66 +645,66 @@ diff_asked_words value = record {
   color = borrowed_text value.color;
 }
 
-abbrev pub counts_asked_words : CountsArgs → CountsWords
-counts_asked_words value = record {
+abbrev pub counts_words_of_args : CountsArgs → CountsWords
+counts_words_of_args value = record {
   tables = map (λ path. path.now) value.tables.items;
   out = borrowed_text value.out;
 }
 
-abbrev pub accept_asked_words : AcceptArgs → AcceptWords
-accept_asked_words value = record {
-  run = run_asked_words value.run;
+abbrev pub accept_words_of_args : AcceptArgs → AcceptWords
+accept_words_of_args value = record {
+  run = run_words_of_args value.run;
   ends = value.ends;
   check = value.check;
   outside = value.outside;
 }
 
-abbrev pub cover_asked_words : CoverArgs → CoverWords
-cover_asked_words value = record { run = run_asked_words value.run; csv = value.csv }
+abbrev pub cover_words_of_args : CoverArgs → CoverWords
+cover_words_of_args value = record { run = run_words_of_args value.run; csv = value.csv }
 
-abbrev pub profile_asked_words : ProfileArgs → ProfileWords
-profile_asked_words value = record { run = run_asked_words value.run; top = value.top; csv = value.csv }
+abbrev pub profile_words_of_args : ProfileArgs → ProfileWords
+profile_words_of_args value = record { run = run_words_of_args value.run; top = value.top; csv = value.csv }
 
-abbrev pub asked_words : Asked → Words
-asked_words (asked.Run value) = run (run_asked_words value)
-asked_words (asked.List value) = names (run_asked_words value)
-asked_words (asked.Explain value) = explain (explain_asked_words value)
-asked_words (asked.Console value) = console value.list.now value.name.now (borrowed_text value.root)
-asked_words (asked.Gdb value) = gdb value.list.now value.name.now (borrowed_text value.root) value.memory
-asked_words (asked.Check value) = check value.list.now (borrowed_text value.root)
-asked_words (asked.Accept value) = accept (accept_asked_words value)
-asked_words (asked.Merge value) = merge (merge_asked_words value)
-asked_words (asked.Diff value) = diff (diff_asked_words value)
-asked_words (asked.Show value) = show (show_asked_words value)
-asked_words (asked.Counts value) = counts (counts_asked_words value)
-asked_words (asked.Cover value) = cover (cover_asked_words value)
-asked_words (asked.Profile value) = profile (profile_asked_words value)
-asked_words (asked.Help value) = help value.topic.now
+abbrev pub words_of_request : Request → Words
+words_of_request (request.Run value) = run (run_words_of_args value)
+words_of_request (request.List value) = names (run_words_of_args value)
+words_of_request (request.Explain value) = explain (explain_words_of_args value)
+words_of_request (request.Console value) = console value.list.now value.name.now (borrowed_text value.root)
+words_of_request (request.Gdb value) = gdb value.list.now value.name.now (borrowed_text value.root) value.memory
+words_of_request (request.Check value) = check value.list.now (borrowed_text value.root)
+words_of_request (request.Accept value) = accept (accept_words_of_args value)
+words_of_request (request.Merge value) = merge (merge_words_of_args value)
+words_of_request (request.Diff value) = diff (diff_words_of_args value)
+words_of_request (request.Show value) = show (show_words_of_args value)
+words_of_request (request.Counts value) = counts (counts_words_of_args value)
+words_of_request (request.Cover value) = cover (cover_words_of_args value)
+words_of_request (request.Profile value) = profile (profile_words_of_args value)
+words_of_request (request.Help value) = help value.topic.now
 
 -- a job of a list may have this budget
 abbrev pub IsBudgetInRange : Option ℕ → Type 0
 IsBudgetInRange budget = IfSome budget (λ steps. (1 ≤ steps) × (steps ≤ most_budget))
 
 -- each number is within the range of its argument
-abbrev pub IsRunAskedInRange : RunArgs → Type 0
-IsRunAskedInRange value = IfSome value.workers (λ number. (1 ≤ number) × (number ≤ most_workers))
+abbrev pub AreRunArgsInRange : RunArgs → Type 0
+AreRunArgsInRange value = IfSome value.workers (λ number. (1 ≤ number) × (number ≤ most_workers))
     × (1 ≤ value.group) × (value.group ≤ most_group) × IfSome value.last (λ number. number ≤ most_last_instructions)
     × IsBudgetInRange value.budget × IfSome value.stop_after (λ number. (1 ≤ number) × (number ≤ most_jobs))
 
-abbrev pub IsAskedInRange : Asked → Type 0
-IsAskedInRange (asked.Run value) = IsRunAskedInRange value
-IsAskedInRange (asked.List value) = IsRunAskedInRange value
-IsAskedInRange (asked.Accept value) = IsRunAskedInRange value.run
-IsAskedInRange (asked.Cover value) = IsRunAskedInRange value.run
-IsAskedInRange (asked.Profile value) = IsRunAskedInRange value.run × IfSome value.top (λ number. (1 ≤ number) × (number ≤ most_functions))
-IsAskedInRange (asked.Explain value) = (value.last ≤ most_last_instructions) × IsBudgetInRange value.budget
-IsAskedInRange (asked.Diff value) = IfSome value.slower (λ percent. percent ≤ most_slower)
-IsAskedInRange _ = Unit {0}
+abbrev pub IsRequestInRange : Request → Type 0
+IsRequestInRange (request.Run value) = AreRunArgsInRange value
+IsRequestInRange (request.List value) = AreRunArgsInRange value
+IsRequestInRange (request.Accept value) = AreRunArgsInRange value.run
+IsRequestInRange (request.Cover value) = AreRunArgsInRange value.run
+IsRequestInRange (request.Profile value) = AreRunArgsInRange value.run × IfSome value.top (λ number. (1 ≤ number) × (number ≤ most_functions))
+IsRequestInRange (request.Explain value) = (value.last ≤ most_last_instructions) × IsBudgetInRange value.budget
+IsRequestInRange (request.Diff value) = IfSome value.slower (λ percent. percent ≤ most_slower)
+IsRequestInRange _ = Unit {0}
 
 -- the parsed request matches these words, with numbers in their ranges
-abbrev pub IsRequestFor : Option Words → Option Asked → Type 0
-IsRequestFor words asked = (option_map asked_words asked ≡ words) × IfSome asked IsAskedInRange
+abbrev pub IsRequestFor : Option Words → Option Request → Type 0
+IsRequestFor words request = (option_map words_of_request request ≡ words) × IfSome request IsRequestInRange
 
 -- the parsed request matches the words; otherwise the error says which options cannot be combined, or memory ran out
-abbrev pub ReadsRequest : Option Words → Option Misuse → Result (Option Asked) WordsError → Type 0
+abbrev pub ReadsRequest : Option Words → Option Misuse → Result (Option Request) WordsError → Type 0
 ReadsRequest words misuse result = IfOk result (IsRequestFor words) × FailsByMisuse misuse result

@@ -6,7 +6,7 @@ ghost use Rattle.rvtest_cli.specs.RvtestWords.{ReadsRequest, accept_request, cho
 
 use crate::command::accept_command;
 use crate::refusals::choice_misuse;
-use crate::requests::Asked;
+use crate::requests::Request;
 use crate::run::{RunArgs, run_args};
 use crate::words_error::WordsError;
 use clap::ArgMatches;
@@ -31,7 +31,7 @@ pub struct AcceptArgs<'a> {
 pub(crate) fn accept_request<'a>(
     alloc: Global,
     values: &ArgMatches<'a>,
-) -> Result<Option<Asked<'a>>, WordsError>
+) -> Result<Option<Request<'a>>, WordsError>
     ensures { ReadsRequest (accept_request (rows_of (found_of values.now)))
         (choice_misuse (rows_of (found_of values.now))) result }
 {
@@ -44,7 +44,7 @@ pub(crate) fn accept_request<'a>(
 fn valid_accept_request<'a>(
     alloc: Global,
     values: &ArgMatches<'a>,
-) -> Result<Option<Asked<'a>>, WordsError>
+) -> Result<Option<Request<'a>>, WordsError>
     ensures { ReadsRequest (accept_request (rows_of (found_of values.now))) None result }
 {
     let Some(list) = text_value(values, "list") else {
@@ -54,7 +54,7 @@ fn valid_accept_request<'a>(
         return Ok(None);
     };
     let run = run_args(alloc, values, list, group)?;
-    Ok(Some(Asked::Accept(AcceptArgs {
+    Ok(Some(Request::Accept(AcceptArgs {
         run,
         ends: is_flag_set(values, "ends"),
         check: is_flag_set(values, "check"),

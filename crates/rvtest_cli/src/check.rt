@@ -3,7 +3,7 @@
 ghost use Rattle.clap.specs.Words.{found_of, rows_of};
 ghost use Rattle.rvtest_cli.specs.RvtestWords.{IsRequestFor, check_request};
 
-use crate::requests::Asked;
+use crate::requests::Request;
 use clap::ArgMatches;
 use rv_cli::values::text_value;
 
@@ -17,10 +17,10 @@ pub struct CheckArgs<'a> {
 }
 
 /// Returns the request of `check` with these values.
-pub(crate) fn check_request<'a>(values: &ArgMatches<'a>) -> Option<Asked<'a>>
+pub(crate) fn check_request<'a>(values: &ArgMatches<'a>) -> Option<Request<'a>>
     ensures { IsRequestFor (check_request (rows_of (found_of values.now))) result }
 {
     let list = text_value(values, "list")?;
     let root = text_value(values, "root");
-    Some(Asked::Check(CheckArgs { list, root }))
+    Some(Request::Check(CheckArgs { list, root }))
 }

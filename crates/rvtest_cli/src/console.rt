@@ -3,7 +3,7 @@
 ghost use Rattle.clap.specs.Words.{found_of, rows_of};
 ghost use Rattle.rvtest_cli.specs.RvtestWords.{IsRequestFor, console_request};
 
-use crate::requests::Asked;
+use crate::requests::Request;
 use clap::ArgMatches;
 use rv_cli::values::text_value;
 
@@ -19,11 +19,11 @@ pub struct ConsoleArgs<'a> {
 }
 
 /// Returns the request of `console` with these values.
-pub(crate) fn console_request<'a>(values: &ArgMatches<'a>) -> Option<Asked<'a>>
+pub(crate) fn console_request<'a>(values: &ArgMatches<'a>) -> Option<Request<'a>>
     ensures { IsRequestFor (console_request (rows_of (found_of values.now))) result }
 {
     let list = text_value(values, "list")?;
     let name = text_value(values, "name")?;
     let root = text_value(values, "root");
-    Some(Asked::Console(ConsoleArgs { list, name, root }))
+    Some(Request::Console(ConsoleArgs { list, name, root }))
 }

@@ -4,7 +4,7 @@ ghost use Rattle.std.specs.Prelude.{None, Some};
 ghost use Rattle.clap.specs.Words.{found_of, rows_of};
 ghost use Rattle.rvtest_cli.specs.RvtestWords.{ReadsRequest, counts_request};
 
-use crate::requests::Asked;
+use crate::requests::Request;
 use crate::words_error::WordsError;
 use clap::ArgMatches;
 use rv_cli::values::{argument_values, text_value};
@@ -23,10 +23,10 @@ pub struct CountsArgs<'a> {
 pub(crate) fn counts_request<'a>(
     alloc: Global,
     values: &ArgMatches<'a>,
-) -> Result<Option<Asked<'a>>, WordsError>
+) -> Result<Option<Request<'a>>, WordsError>
     ensures { ReadsRequest (Some (counts_request (rows_of (found_of values.now)))) None result }
 {
     let out = text_value(values, "out");
     let tables = argument_values(alloc, values, "table")?;
-    Ok(Some(Asked::Counts(CountsArgs { tables, out })))
+    Ok(Some(Request::Counts(CountsArgs { tables, out })))
 }

@@ -6,7 +6,7 @@ ghost use Rattle.rvtest_cli.specs.RvtestWords.{ReadsRequest, cover_misuse, cover
 
 use crate::command::cover_command;
 use crate::refusals::{Misuse, choice_misuse};
-use crate::requests::Asked;
+use crate::requests::Request;
 use crate::run::{RunArgs, is_choice_given, run_args};
 use crate::words_error::WordsError;
 use clap::ArgMatches;
@@ -28,7 +28,7 @@ pub struct CoverArgs<'a> {
 pub(crate) fn cover_request<'a>(
     alloc: Global,
     values: &ArgMatches<'a>,
-) -> Result<Option<Asked<'a>>, WordsError>
+) -> Result<Option<Request<'a>>, WordsError>
     ensures { ReadsRequest (cover_request (rows_of (found_of values.now)))
         (cover_misuse (rows_of (found_of values.now))) result }
 {
@@ -41,7 +41,7 @@ pub(crate) fn cover_request<'a>(
 fn valid_cover_request<'a>(
     alloc: Global,
     values: &ArgMatches<'a>,
-) -> Result<Option<Asked<'a>>, WordsError>
+) -> Result<Option<Request<'a>>, WordsError>
     ensures { ReadsRequest (cover_request (rows_of (found_of values.now))) None result }
 {
     let Some(list) = text_value(values, "list") else {
@@ -52,7 +52,7 @@ fn valid_cover_request<'a>(
     };
     let run = run_args(alloc, values, list, group)?;
     let csv = is_flag_set(values, "csv");
-    Ok(Some(Asked::Cover(CoverArgs { run, csv })))
+    Ok(Some(Request::Cover(CoverArgs { run, csv })))
 }
 
 /// Returns the first rule that the options of `cover` break.

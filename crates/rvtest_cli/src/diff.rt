@@ -6,7 +6,7 @@ ghost use Rattle.rvtest_cli.specs.RvtestWords.{IsRequestFor, ReadsRequest, diff_
 
 use crate::command::diff_command;
 use crate::refusals::{Misuse, color_misuse};
-use crate::requests::Asked;
+use crate::requests::Request;
 use crate::words_error::WordsError;
 use clap::ArgMatches;
 use rv_cli::values::{is_flag_set, is_option_given, number_value, text_value};
@@ -33,7 +33,7 @@ pub struct DiffArgs<'a> {
 pub(crate) fn diff_request<'a>(
     alloc: Global,
     values: &ArgMatches<'a>,
-) -> Result<Option<Asked<'a>>, WordsError>
+) -> Result<Option<Request<'a>>, WordsError>
     ensures { ReadsRequest (diff_request (rows_of (found_of values.now)))
         (diff_misuse (rows_of (found_of values.now))) result }
 {
@@ -43,7 +43,7 @@ pub(crate) fn diff_request<'a>(
     }
 }
 
-fn valid_diff_request<'a>(values: &ArgMatches<'a>) -> Option<Asked<'a>>
+fn valid_diff_request<'a>(values: &ArgMatches<'a>) -> Option<Request<'a>>
     ensures { IsRequestFor (diff_request (rows_of (found_of values.now))) result }
 {
     let old = text_value(values, "old")?;
@@ -52,7 +52,7 @@ fn valid_diff_request<'a>(values: &ArgMatches<'a>) -> Option<Asked<'a>>
     let steps = is_flag_set(values, "steps");
     let slower = number_value(values, "slower", 0, 1_000);
     let color = text_value(values, "color");
-    Some(Asked::Diff(DiffArgs {
+    Some(Request::Diff(DiffArgs {
         old,
         new,
         partial,

@@ -5,7 +5,7 @@ ghost use Rattle.rvtest_cli.specs.RvtestWords.{IsRequestFor, ReadsRequest, color
 
 use crate::command::explain_command;
 use crate::refusals::color_misuse;
-use crate::requests::Asked;
+use crate::requests::Request;
 use crate::words_error::WordsError;
 use clap::ArgMatches;
 use rv_base::limits::MOST_BUDGET;
@@ -33,7 +33,7 @@ pub struct ExplainArgs<'a> {
 pub(crate) fn explain_request<'a>(
     alloc: Global,
     values: &ArgMatches<'a>,
-) -> Result<Option<Asked<'a>>, WordsError>
+) -> Result<Option<Request<'a>>, WordsError>
     ensures { ReadsRequest (explain_request (rows_of (found_of values.now)))
         (color_misuse (rows_of (found_of values.now))) result }
 {
@@ -43,7 +43,7 @@ pub(crate) fn explain_request<'a>(
     }
 }
 
-fn valid_explain_request<'a>(values: &ArgMatches<'a>) -> Option<Asked<'a>>
+fn valid_explain_request<'a>(values: &ArgMatches<'a>) -> Option<Request<'a>>
     ensures { IsRequestFor (explain_request (rows_of (found_of values.now))) result }
 {
     let list = text_value(values, "list")?;
@@ -52,7 +52,7 @@ fn valid_explain_request<'a>(values: &ArgMatches<'a>) -> Option<Asked<'a>>
     let budget = number_value(values, "budget", 1, MOST_BUDGET);
     let root = text_value(values, "root");
     let color = text_value(values, "color");
-    Some(Asked::Explain(ExplainArgs {
+    Some(Request::Explain(ExplainArgs {
         list,
         name,
         last,

@@ -3,7 +3,7 @@
 ghost use Rattle.clap.specs.Words.{found_of, rows_of};
 ghost use Rattle.rvtest_cli.specs.RvtestWords.{IsRequestFor, gdb_request};
 
-use crate::requests::Asked;
+use crate::requests::Request;
 use clap::ArgMatches;
 use rv_cli::values::{number_value, text_value};
 
@@ -21,14 +21,14 @@ pub struct GdbArgs<'a> {
 }
 
 /// Returns the request of `gdb` with these values.
-pub(crate) fn gdb_request<'a>(values: &ArgMatches<'a>) -> Option<Asked<'a>>
+pub(crate) fn gdb_request<'a>(values: &ArgMatches<'a>) -> Option<Request<'a>>
     ensures { IsRequestFor (gdb_request (rows_of (found_of values.now))) result }
 {
     let list = text_value(values, "list")?;
     let name = text_value(values, "name")?;
     let root = text_value(values, "root");
     let memory = number_value(values, "memory", 64, 4_096);
-    Some(Asked::Gdb(GdbArgs {
+    Some(Request::Gdb(GdbArgs {
         list,
         name,
         root,

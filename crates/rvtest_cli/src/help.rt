@@ -3,7 +3,7 @@
 ghost use Rattle.clap.specs.Words.{found_of, rows_of};
 ghost use Rattle.rvtest_cli.specs.RvtestWords.{IsRequestFor, help_request};
 
-use crate::requests::Asked;
+use crate::requests::Request;
 use clap::ArgMatches;
 use rv_cli::values::text_value;
 
@@ -14,9 +14,9 @@ pub struct HelpArgs<'a> {
 }
 
 /// Returns the request of `help` with these values.
-pub(crate) fn help_request<'a>(values: &ArgMatches<'a>) -> Option<Asked<'a>>
+pub(crate) fn help_request<'a>(values: &ArgMatches<'a>) -> Option<Request<'a>>
     ensures { IsRequestFor (help_request (rows_of (found_of values.now))) result }
 {
     let topic = text_value(values, "topic")?;
-    Some(Asked::Help(HelpArgs { topic }))
+    Some(Request::Help(HelpArgs { topic }))
 }

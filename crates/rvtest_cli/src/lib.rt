@@ -39,7 +39,7 @@ pub use gdb::GdbArgs;
 pub use help::HelpArgs;
 pub use merge::MergeArgs;
 pub use profile::ProfileArgs;
-pub use requests::{Asked, read_words};
+pub use requests::{Request, read_words};
 pub use run::RunArgs;
 pub use show::ShowArgs;
 pub use words_error::{WordsError, usage_error};

@@ -6,7 +6,7 @@ ghost use Rattle.rvtest_cli.specs.RvtestWords.{ReadsRequest, choice_misuse, list
 
 use crate::command::list_command;
 use crate::refusals::choice_misuse;
-use crate::requests::Asked;
+use crate::requests::Request;
 use crate::run::run_args;
 use crate::words_error::WordsError;
 use clap::ArgMatches;
@@ -17,7 +17,7 @@ use std::alloc::Global;
 pub(crate) fn list_request<'a>(
     alloc: Global,
     values: &ArgMatches<'a>,
-) -> Result<Option<Asked<'a>>, WordsError>
+) -> Result<Option<Request<'a>>, WordsError>
     ensures { ReadsRequest (list_request (rows_of (found_of values.now)))
         (choice_misuse (rows_of (found_of values.now))) result }
 {
@@ -30,11 +30,11 @@ pub(crate) fn list_request<'a>(
 fn valid_list_request<'a>(
     alloc: Global,
     values: &ArgMatches<'a>,
-) -> Result<Option<Asked<'a>>, WordsError>
+) -> Result<Option<Request<'a>>, WordsError>
     ensures { ReadsRequest (list_request (rows_of (found_of values.now))) None result }
 {
     let Some(list) = text_value(values, "list") else {
         return Ok(None);
     };
-    Ok(Some(Asked::List(run_args(alloc, values, list, 1)?)))
+    Ok(Some(Request::List(run_args(alloc, values, list, 1)?)))
 }

@@ -6,7 +6,7 @@ ghost use Rattle.rvtest_cli.specs.RvtestWords.{ReadsRequest, merge_request, file
 
 use crate::command::merge_command;
 use crate::refusals::files_misuse;
-use crate::requests::Asked;
+use crate::requests::Request;
 use crate::words_error::WordsError;
 use clap::ArgMatches;
 use rv_cli::values::{argument_values, is_flag_set, text_value};
@@ -31,7 +31,7 @@ pub struct MergeArgs<'a> {
 pub(crate) fn merge_request<'a>(
     alloc: Global,
     values: &ArgMatches<'a>,
-) -> Result<Option<Asked<'a>>, WordsError>
+) -> Result<Option<Request<'a>>, WordsError>
     ensures { ReadsRequest (Some (merge_request (rows_of (found_of values.now))))
         (files_misuse (rows_of (found_of values.now))) result }
 {
@@ -44,7 +44,7 @@ pub(crate) fn merge_request<'a>(
 fn valid_merge_request<'a>(
     alloc: Global,
     values: &ArgMatches<'a>,
-) -> Result<Option<Asked<'a>>, WordsError>
+) -> Result<Option<Request<'a>>, WordsError>
     ensures { ReadsRequest (Some (merge_request (rows_of (found_of values.now)))) None result }
 {
     let report = text_value(values, "report");
@@ -52,7 +52,7 @@ fn valid_merge_request<'a>(
     let suite = text_value(values, "suite");
     let lenient = is_flag_set(values, "lenient");
     let parts = argument_values(alloc, values, "part")?;
-    Ok(Some(Asked::Merge(MergeArgs {
+    Ok(Some(Request::Merge(MergeArgs {
         parts,
         report,
         junit,

@@ -3,13 +3,13 @@
 ghost use Rattle.std.specs.Prelude.{◌≡◌, ◌≤◌, IfOk, None, map};
 ghost use Rattle.clap.specs.Words.{found_of, rows_of};
 ghost use Rattle.rv_base.specs.Limits.{most_group};
-ghost use Rattle.rvtest_cli.specs.RvtestWords.{IsRunAskedInRange, ReadsRequest, is_name_beside_choice, named_or_only, named_run_words};
-ghost use Rattle.rvtest_cli.specs.RvtestWords.{profile_misuse, profile_request, run_asked_words};
+ghost use Rattle.rvtest_cli.specs.RvtestWords.{AreRunArgsInRange, ReadsRequest, is_name_beside_choice, named_or_only, named_run_words};
+ghost use Rattle.rvtest_cli.specs.RvtestWords.{profile_misuse, profile_request, run_words_of_args};
 
 use crate::command::profile_command;
 use crate::cover::cover_misuse;
 use crate::refusals::Misuse;
-use crate::requests::Asked;
+use crate::requests::Request;
 use crate::run::{RunArgs, is_choice_given, run_args};
 use crate::words_error::WordsError;
 use clap::ArgMatches;
@@ -36,7 +36,7 @@ pub struct ProfileArgs<'a> {
 pub(crate) fn profile_request<'a>(
     alloc: Global,
     values: &ArgMatches<'a>,
-) -> Result<Option<Asked<'a>>, WordsError>
+) -> Result<Option<Request<'a>>, WordsError>
     ensures { ReadsRequest (profile_request (rows_of (found_of values.now)))
         (profile_misuse (rows_of (found_of values.now))) result }
 {
@@ -49,7 +49,7 @@ pub(crate) fn profile_request<'a>(
 fn valid_profile_request<'a>(
     alloc: Global,
     values: &ArgMatches<'a>,
-) -> Result<Option<Asked<'a>>, WordsError>
+) -> Result<Option<Request<'a>>, WordsError>
     ensures { ReadsRequest (profile_request (rows_of (found_of values.now))) None result }
 {
     let Some(list) = text_value(values, "list") else {
@@ -61,7 +61,7 @@ fn valid_profile_request<'a>(
     let run = named_run(alloc, values, list, group)?;
     let top = number_value(values, "top", 1, MOST_FUNCTIONS);
     let csv = is_flag_set(values, "csv");
-    Ok(Some(Asked::Profile(ProfileArgs { run, top, csv })))
+    Ok(Some(Request::Profile(ProfileArgs { run, top, csv })))
 }
 
 // Returns the request of `run` for a list, with the job that is named.
@@ -72,8 +72,8 @@ fn named_run<'a>(
     group: u32,
 ) -> Result<RunArgs<'a>, AllocError>
     requires { (1 ≤ group) × (group ≤ most_group) }
-    ensures { IfOk result (λ asked. (run_asked_words asked ≡ named_run_words list.entry.now group (rows_of (found_of values.now)))
-        × IsRunAskedInRange asked) }
+    ensures { IfOk result (λ request. (run_words_of_args request ≡ named_run_words list.entry.now group (rows_of (found_of values.now)))
+        × AreRunArgsInRange request) }
 {
     let mut run = run_args(alloc, values, list, group)?;
     let only = named_or_only(alloc, values)?;

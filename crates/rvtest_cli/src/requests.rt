@@ -3,8 +3,8 @@
 ghost use Rattle.std.specs.Prelude.{◌≡◌, [], IfErr, IfOk, IfSome, None, map, option_map};
 ghost use Rattle.clap.specs.Words.{fault_of, found_of, rows_of, subcommand_of, subcommand_rows_of};
 ghost use Rattle.rvtest_cli.specs.RvtestCommand.{test_app};
-ghost use Rattle.rvtest_cli.specs.RvtestWords.{IsAskedInRange, IsMisuseReported, ReadsRequest, matched_misuse, subcommand_misuse};
-ghost use Rattle.rvtest_cli.specs.RvtestWords.{asked_words, is_command_help, is_help, matched_words, plain_fault_kinds, plain_misuse};
+ghost use Rattle.rvtest_cli.specs.RvtestWords.{IsRequestInRange, IsMisuseReported, ReadsRequest, matched_misuse, subcommand_misuse};
+ghost use Rattle.rvtest_cli.specs.RvtestWords.{words_of_request, is_command_help, is_help, matched_words, plain_fault_kinds, plain_misuse};
 ghost use Rattle.rvtest_cli.specs.RvtestWords.{subcommand_words, words_fault_kinds, words_faults, words_misuse, words_request};
 ghost use Rattle.rvtest_cli.specs.WordsErrors.{FailsByKinds};
 
@@ -30,7 +30,7 @@ use std::convert::AsStr;
 
 /// A request that arguments make.
 #[derive(Drop)]
-pub enum Asked<'a> {
+pub enum Request<'a> {
     /// Run jobs of a list.
     Run(RunArgs<'a>),
     /// List which jobs a run with these arguments would run. Values that `list` has no option for are as in a run without options.
@@ -66,12 +66,12 @@ pub enum Asked<'a> {
 pub fn read_words<'a, T: AsStr>(
     alloc: Global,
     words: &'a [T],
-) -> Result<Option<Asked<'a>>, WordsError>
+) -> Result<Option<Request<'a>>, WordsError>
     // The result is the request that the arguments make.
     ensures value { IfOk result
-        (λ asked. option_map asked_words asked ≡ words_request (map T.text words.entry.now)) }
+        (λ request. option_map words_of_request request ≡ words_request (map T.text words.entry.now)) }
     // Each number is within the range of its argument.
-    ensures within { IfOk result (λ asked. IfSome asked IsAskedInRange) }
+    ensures within { IfOk result (λ request. IfSome request IsRequestInRange) }
     // Arguments fail because of an error that is found in them or because memory runs out; otherwise they have no error.
     ensures kinds { FailsByKinds (words_fault_kinds (map T.text words.entry.now)) result }
     // If `clap` finds no error, the message says which options cannot be combined.
@@ -104,8 +104,8 @@ fn is_command_help(word: &str, topic: &str) -> bool
 }
 
 // Returns the help that the words request with an option, as an error; they request nothing else.
-fn command_help<'a, T: AsStr>(alloc: Global, words: &[T]) -> Result<Option<Asked<'a>>, WordsError>
-    ensures value { IfOk result (λ asked. asked ≡ None) }
+fn command_help<'a, T: AsStr>(alloc: Global, words: &[T]) -> Result<Option<Request<'a>>, WordsError>
+    ensures value { IfOk result (λ request. request ≡ None) }
     ensures kinds { FailsByKinds (fault_of test_app (map T.text words.entry.now)) result }
 {
     let command = test_command(alloc)?;
@@ -118,10 +118,10 @@ fn command_help<'a, T: AsStr>(alloc: Global, words: &[T]) -> Result<Option<Asked
 fn read_request<'a, T: AsStr>(
     alloc: Global,
     words: &'a [T],
-) -> Result<Option<Asked<'a>>, WordsError>
+) -> Result<Option<Request<'a>>, WordsError>
     ensures value { IfOk result
-        (λ asked. option_map asked_words asked ≡ matched_words (subcommand_of test_app (map T.text words.entry.now))) }
-    ensures within { IfOk result (λ asked. IfSome asked IsAskedInRange) }
+        (λ request. option_map words_of_request request ≡ matched_words (subcommand_of test_app (map T.text words.entry.now))) }
+    ensures within { IfOk result (λ request. IfSome request IsRequestInRange) }
     ensures kinds { FailsByKinds (plain_fault_kinds (map T.text words.entry.now)) result }
     ensures misused { fault_of test_app (map T.text words.entry.now) ≡ []
         → IfErr result (IsMisuseReported (plain_misuse (map T.text words.entry.now))) }
@@ -136,7 +136,7 @@ fn read_request<'a, T: AsStr>(
 fn matched_request<'a>(
     alloc: Global,
     matches: &ArgMatches<'a>,
-) -> Result<Option<Asked<'a>>, WordsError>
+) -> Result<Option<Request<'a>>, WordsError>
     ensures { ReadsRequest (matched_words (subcommand_rows_of matches.now))
         (matched_misuse (subcommand_rows_of matches.now)) result }
 {
@@ -150,7 +150,7 @@ fn subcommand_request<'a>(
     alloc: Global,
     name: &str,
     values: &ArgMatches<'a>,
-) -> Result<Option<Asked<'a>>, WordsError>
+) -> Result<Option<Request<'a>>, WordsError>
     ensures { ReadsRequest (subcommand_words name.now (rows_of (found_of values.now)))
         (subcommand_misuse name.now (rows_of (found_of values.now))) result }
 {

@@ -3,7 +3,7 @@
 ghost use Rattle.std.specs.Prelude.{◌≡◌, ◌≤◌, IfOk, None};
 ghost use Rattle.clap.specs.Words.{found_of, rows_of};
 ghost use Rattle.rv_base.specs.Limits.{most_group};
-ghost use Rattle.rvtest_cli.specs.RvtestWords.{IsRunAskedInRange, ReadsRequest, are_counts_overwriting, are_rows_kept, are_rows_written_twice, are_stacks_alone, is_choice_given, is_choice_overwritten, is_report_given, is_merged_into_stdout, run_asked_words};
+ghost use Rattle.rvtest_cli.specs.RvtestWords.{AreRunArgsInRange, ReadsRequest, are_counts_overwriting, are_rows_kept, are_rows_written_twice, are_stacks_alone, is_choice_given, is_choice_overwritten, is_report_given, is_merged_into_stdout, run_words_of_args};
 ghost use Rattle.rvtest_cli.specs.RvtestWords.{run_misuse, test_run_request, run_words};
 
 use crate::command::run_command;
@@ -11,7 +11,7 @@ use crate::refusals::{
     Misuse, files_misuse, is_color_unknown, is_failed_path, is_into_path, is_junit_path,
     is_partial_alone, is_report_path,
 };
-use crate::requests::Asked;
+use crate::requests::Request;
 use crate::words_error::WordsError;
 use clap::ArgMatches;
 use rv_base::limits::{MOST_BUDGET, MOST_GROUP, MOST_JOBS, MOST_WORKERS};
@@ -77,7 +77,7 @@ pub struct RunArgs<'a> {
 pub(crate) fn test_run_request<'a>(
     alloc: Global,
     values: &ArgMatches<'a>,
-) -> Result<Option<Asked<'a>>, WordsError>
+) -> Result<Option<Request<'a>>, WordsError>
     ensures { ReadsRequest (test_run_request (rows_of (found_of values.now)))
         (run_misuse (rows_of (found_of values.now))) result }
 {
@@ -90,7 +90,7 @@ pub(crate) fn test_run_request<'a>(
 fn valid_run_request<'a>(
     alloc: Global,
     values: &ArgMatches<'a>,
-) -> Result<Option<Asked<'a>>, WordsError>
+) -> Result<Option<Request<'a>>, WordsError>
     ensures { ReadsRequest (test_run_request (rows_of (found_of values.now))) None result }
 {
     let Some(list) = text_value(values, "list") else {
@@ -99,7 +99,7 @@ fn valid_run_request<'a>(
     let Some(group) = number_value(values, "group", 1, MOST_GROUP) else {
         return Ok(None);
     };
-    Ok(Some(Asked::Run(run_args(alloc, values, list, group)?)))
+    Ok(Some(Request::Run(run_args(alloc, values, list, group)?)))
 }
 
 /// Returns the request with these values, for a list, in chunks of `group` jobs.
@@ -111,8 +111,8 @@ pub(crate) fn run_args<'a>(
     group: u32,
 ) -> Result<RunArgs<'a>, AllocError>
     requires { (1 ≤ group) × (group ≤ most_group) }
-    ensures { IfOk result (λ asked. (run_asked_words asked ≡ run_words list.entry.now group (rows_of (found_of values.now)))
-        × IsRunAskedInRange asked) }
+    ensures { IfOk result (λ request. (run_words_of_args request ≡ run_words list.entry.now group (rows_of (found_of values.now)))
+        × AreRunArgsInRange request) }
 {
     Ok(RunArgs {
         list,

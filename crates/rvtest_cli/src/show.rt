@@ -5,7 +5,7 @@ ghost use Rattle.rvtest_cli.specs.RvtestWords.{IsRequestFor, ReadsRequest, show_
 
 use crate::command::show_command;
 use crate::refusals::show_misuse;
-use crate::requests::Asked;
+use crate::requests::Request;
 use crate::words_error::WordsError;
 use clap::ArgMatches;
 use rv_cli::values::{is_flag_set, text_value};
@@ -32,7 +32,7 @@ pub struct ShowArgs<'a> {
 pub(crate) fn show_request<'a>(
     alloc: Global,
     values: &ArgMatches<'a>,
-) -> Result<Option<Asked<'a>>, WordsError>
+) -> Result<Option<Request<'a>>, WordsError>
     ensures { ReadsRequest (show_request (rows_of (found_of values.now)))
         (show_misuse (rows_of (found_of values.now))) result }
 {
@@ -42,7 +42,7 @@ pub(crate) fn show_request<'a>(
     }
 }
 
-fn valid_show_request<'a>(values: &ArgMatches<'a>) -> Option<Asked<'a>>
+fn valid_show_request<'a>(values: &ArgMatches<'a>) -> Option<Request<'a>>
     ensures { IsRequestFor (show_request (rows_of (found_of values.now))) result }
 {
     let report = text_value(values, "report")?;
@@ -51,7 +51,7 @@ fn valid_show_request<'a>(values: &ArgMatches<'a>) -> Option<Asked<'a>>
     let suite = text_value(values, "suite");
     let lenient = is_flag_set(values, "lenient");
     let color = text_value(values, "color");
-    Some(Asked::Show(ShowArgs {
+    Some(Request::Show(ShowArgs {
         report,
         partial,
         junit,

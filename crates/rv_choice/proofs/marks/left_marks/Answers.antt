@@ -19,7 +19,7 @@ loop-place-preserved c =
     let place = c.loop-place.place in
     let job = c.index-jobs-place.result in
     let found = c.is_match-is_found.ensures.found
-    ∙ (ap (λ (asked : Re). is_some (find_str asked c.as_str.result.now 0)) c.loop-place.invariant.matcher
+    ∙ (ap (λ (args : Re). is_some (find_str args c.as_str.result.now 0)) c.loop-place.invariant.matcher
     ∙ (ap (λ (name : List ℕ). is_some (find_str pattern name 0)) c.as_str.ensures
     ∙ ap (λ (j : Job). is_some (find_str pattern j.name 0)) (sym c.index-jobs-place.is))) in
     record {

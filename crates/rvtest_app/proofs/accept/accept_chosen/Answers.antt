@@ -11,7 +11,7 @@ pub returns-in_err-outcomes-clause-stopped : goal.returns-in_err-outcomes-clause
 returns-in_err-outcomes-clause-stopped g c =
     let is = err_from_is_err_and c.from_residual-in_err-outcomes.result c.from_residual-in_err-outcomes.ensures.1 in
     rw (is.1, is.2)
-    (inr (stop_of_unread (g.D.Inputs.contents c.args.host.now.inputs.now) c.args.asked.now c.args.list.now.jobs _
+    (inr (stop_of_unread (g.D.Inputs.contents c.args.host.now.inputs.now) c.args.args.now c.args.list.now.jobs _
     (rw c.as_slice-2.ensures.value at c.in_err-outcomes.ensures.stopped)))
 
 pub returns-clause-accepted : goal.returns-clause-accepted
@@ -29,7 +29,7 @@ returns-clause-accepted g c =
       judging = rw c.as_slice-2.ensures.value at c.in_ok-runs.ensures;
       told = put.told;
       outcome = rw (c.as_slice.ensures.value, c.as_slice-2.ensures.value)
-          at (outcome_told known c.args.asked.now _ _ outcomes.claims.items outcomes.files.items outcomes.new put.told refl
+          at (outcome_told known c.args.args.now _ _ outcomes.claims.items outcomes.files.items outcomes.new put.told refl
           c.in_ok-outcomes.ensures.runs c.in_ok-outcomes.ensures.claims
           c.in_ok-outcomes.ensures.files c.in_ok-outcomes.ensures.edited c.in_ok-outcomes.ensures.meant
           c.in_ok-outcomes.ensures.unchanged put.of);
@@ -41,7 +41,7 @@ pub returns-clause-stopped : goal.returns-clause-stopped
 returns-clause-stopped g c =
     let outcomes = c.in_ok-outcomes.outcomes in
     IfErr-map c.put_accepted.result _ _
-    (λ why is. inr (files_unput (g.D.Inputs.contents c.args.host.now.inputs.now) c.args.asked.now c.args.list.now.jobs _
+    (λ why is. inr (files_unput (g.D.Inputs.contents c.args.host.now.inputs.now) c.args.args.now c.args.list.now.jobs _
     outcomes.new.runs.items outcomes.claims.items outcomes.files.items why refl
     (rw c.as_slice-2.ensures.value at c.in_ok-outcomes.ensures.claims)
     c.in_ok-outcomes.ensures.files is))

@@ -13,6 +13,6 @@ returns-in_err-marks-clause-stopped g c =
 
 pub invariant_of-result : goal.invariant_of-result
 invariant_of-result g c = record {
-  counted = λ marks is. choice_count _ c.args.asked.now.run _ c.as_slice-2.result.now marks.items _
+  counted = λ marks is. choice_count _ c.args.args.now.run _ c.as_slice-2.result.now marks.items _
       (rw is at c.in_ok-marks.ensures.chosen) ∙ ap length c.as_slice-2.ensures.value;
 }

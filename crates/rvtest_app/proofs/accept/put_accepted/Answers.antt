@@ -5,8 +5,8 @@ use Rattle.rvtest_app.specs.AcceptStops.{IsUncheckedStop, IsFileNotCreatedStop, 
 use Rattle.rvtest_app.proofs.AcceptStops.{files_stop}
 use Rattle.rvtest_app.proofs.accept.put_accepted.Goals as goal
 
-pub returns-then-asked-clause-put : goal.returns-then-asked-clause-put
-returns-then-asked-clause-put g c = rw c.if-asked.true (record {
+pub returns-then-args-clause-put : goal.returns-then-args-clause-put
+returns-then-args-clause-put g c = rw c.if-args.true (record {
   told = record {
     list = c.args.list.now;
     runs = c.as_slice.result;
@@ -22,7 +22,7 @@ returns-then-asked-clause-put g c = rw c.if-asked.true (record {
 })
 
 pub returns-clause-put : goal.returns-clause-put
-returns-clause-put g c = rw c.if-asked.false (record {
+returns-clause-put g c = rw c.if-args.false (record {
   told = record {
     list = c.args.list.now;
     runs = c.as_slice.result;
@@ -46,7 +46,7 @@ returns-in_err-write_accepted_files-clause-stopped g c =
     c.from_residual-in_err-write_accepted_files.ensures.1 in
     rw (is.1, is.2)
     (inr (inr (
-      c.if-asked.false,
+      c.if-args.false,
       files_stop IsFileNotCreatedStop (IsFileNotWrittenStop (g.D.Inputs.contents c.args.host.now.inputs.now))
           c.args.list.now.path.now c.args.outcomes.now.files.items _ (λ path made. inl made)
           (rw c.as_slice-3.ensures.value at c.in_err-write_accepted_files.ensures.stopped),
@@ -58,7 +58,7 @@ returns-in_err-check_written_files-clause-stopped g c =
     c.from_residual-in_err-check_written_files.ensures.1 in
     rw (is.1, is.2)
     (inr (inr (
-      c.if-asked.false,
+      c.if-args.false,
       files_stop (IsUncheckedStop (g.D.Inputs.contents c.args.host.now.inputs.now))
           (IsFileNotWrittenStop (g.D.Inputs.contents c.args.host.now.inputs.now)) c.args.list.now.path.now c.args.outcomes.now.files.items _
           (λ path checked. inr checked)
@@ -71,7 +71,7 @@ returns-in_err-check_unchanged_files-clause-stopped g c =
     c.from_residual-in_err-check_unchanged_files.ensures.1 in
     rw (is.1, is.2)
     (inr (inr (
-      c.if-asked.false,
+      c.if-args.false,
       files_stop (IsUncheckedStop (g.D.Inputs.contents c.args.host.now.inputs.now))
           (IsFileNotWrittenStop (g.D.Inputs.contents c.args.host.now.inputs.now)) c.args.list.now.path.now c.args.outcomes.now.files.items _
           (λ path checked. inr checked)

@@ -6,4 +6,4 @@ use Rattle.rvtest_app.proofs.accept_inputs.inputs_of_accept.Given as goal
 
 abbrev pub invariant-loop-job : goal.invariant-loop-job
 invariant-loop-job l = read_paths l.read.items
-    ≡ read_paths l.initial.read.items ++ flat_map (image_paths (optional_text l.asked.run.root)) (take l.job-index l.jobs)
+    ≡ read_paths l.initial.read.items ++ flat_map (image_paths (optional_text l.args.run.root)) (take l.job-index l.jobs)

@@ -10,7 +10,7 @@ returns-in_err-refuse_list_overwrite-clause-stopped g c =
     let is = err_from_is_err_and c.from_residual-in_err-refuse_list_overwrite.result
     c.from_residual-in_err-refuse_list_overwrite.ensures.1 in
     rw (is.1, is.2) (inr (
-      c.args.asked.now.run.list.now,
+      c.args.args.now.run.list.now,
       inr (inl (codes "the updated list", c.in_err-refuse_list_overwrite.ensures.stopped)),
     ))
 
@@ -18,10 +18,10 @@ pub returns-clause-apart : goal.returns-clause-apart
 returns-clause-apart g c =
     let placed = g.F.Outputs.placed c.args.files.now in
     on_ok c.outside_notes.result _
-    (accept_apart placed c.args.asked.now c.args.jobs.now c.args.marks.now c.in_ok-reads.reads.list.identities.items
+    (accept_apart placed c.args.args.now c.args.jobs.now c.args.marks.now c.in_ok-reads.reads.list.identities.items
     c.in_ok-reads.reads.inputs.identities.items c.push_golden_of_marked.new.golden.items
     (rw c.new-golden.ensures.items at c.in_ok-push_golden_of_marked.ensures) c.in_ok-reads.ensures.list
     c.in_ok-reads.ensures.inputs
-    (c.in_ok-refuse_list_overwrite.ensures.apart (inputs_of_accept c.args.asked.now c.args.jobs.now) c.in_ok-reads.ensures.inputs)
+    (c.in_ok-refuse_list_overwrite.ensures.apart (inputs_of_accept c.args.args.now c.args.jobs.now) c.in_ok-reads.ensures.inputs)
     (rw c.as_slice.ensures.value at c.in_ok-refuse_golden_files.ensures.no_list)
     (rw c.as_slice.ensures.value at c.in_ok-refuse_golden_files.ensures.no_input))

@@ -8,7 +8,7 @@ use Rattle.rvtest_app.proofs.help_topic.topic_help.Goals as goal
 
 pub returns-clause-told : goal.returns-clause-told
 returns-clause-told c =
-    let topic = c.args.asked.topic.now in
+    let topic = c.args.args.topic.now in
     let alike : not (bytes_eq topic keys_topic) ≡ false = sym c.ne.ensures ∙ c.if-ne.false in (
       (bytes_eq-Decides topic keys_topic).0 (not-false (bytes_eq topic keys_topic) alike),
       (rw c.new-text.ensures.items at c.in_ok-push_text.ensures, refl),

@@ -11,7 +11,7 @@ returns-in_err-marks-clause-stopped g c =
 
 pub marked_name_lines-requires : goal.marked_name_lines-requires
 marked_name_lines-requires g c =
-    let count = choice_count _ c.args.asked.now _ c.as_slice.result.now c.in-Some.marks.items _
+    let count = choice_count _ c.args.args.now _ c.as_slice.result.now c.in-Some.marks.items _
     (rw c.in-Some.is at c.in_ok-marks.ensures.chosen) in
     ap length c.as_slice-in-Some-2.ensures.value ∙ count
     ∙ ap length (c.as_slice.ensures.value ∙ sym c.as_slice-in-Some.ensures.value)

@@ -13,8 +13,8 @@ returns-in-Ok-clause-put g c =
     let taken = g.F.File.Sink.taken in
     let failed = g.F.File.Sink.failed in
     let outlets = c.in_ok-outlets.outlets in
-    let junit_path = optional_text c.args.asked.now.junit in
-    let report_path = merged_report_path (optional_text c.args.asked.now.report) junit_path in
+    let junit_path = optional_text c.args.args.now.junit in
+    let report_path = merged_report_path (optional_text c.args.args.now.report) junit_path in
     let report = rw c.merged_report_path.ensures at c.in_ok-outlets.ensures.report in
     let junit = c.in_ok-outlets.ensures.junit in
     let same = ap g.F.Outputs.placed c.in-Ok.ensures.files ∙ c.in_ok-outlets.ensures.same in
@@ -44,12 +44,12 @@ pub returns-in-Ok-clause-part : goal.returns-in-Ok-clause-part
 returns-in-Ok-clause-part g c =
     let same = ap g.F.Outputs.placed c.in-Ok.ensures.files ∙ c.in_ok-outlets.ensures.same in
     rw same at (rw (c.as_bytes.ensures.value, c.merged_suite.ensures, c.report_judge.ensures)
-    at (c.put_whole_files.ensures.part (optional_text c.args.asked.now.junit) (rw same c.in_ok-outlets.ensures.junit)))
+    at (c.put_whole_files.ensures.part (optional_text c.args.args.now.junit) (rw same c.in_ok-outlets.ensures.junit)))
 
 pub returns-in-Ok-clause-stopped : goal.returns-in-Ok-clause-stopped
 returns-in-Ok-clause-stopped g c =
-    let junit_path = optional_text c.args.asked.now.junit in
+    let junit_path = optional_text c.args.args.now.junit in
     let report = rw c.merged_report_path.ensures at c.in_ok-outlets.ensures.report in
     output_of_put g.F.Outputs.pending_path g.F.File.Sink.taken g.F.File.Sink.failed _
-    (merged_report_path (optional_text c.args.asked.now.report) junit_path) junit_path _ _ c.put_whole_files.result report
+    (merged_report_path (optional_text c.args.args.now.report) junit_path) junit_path _ _ c.put_whole_files.result report
     c.in_ok-outlets.ensures.junit c.put_whole_files.ensures.stopped

@@ -3,4 +3,4 @@ use Rattle.rvtest_app.specs.Merges.{AreTextsAt}
 use Rattle.rvtest_app.proofs.merge.read_part_texts.Given as goal
 
 abbrev pub invariant-loop-path : goal.invariant-loop-path
-invariant-loop-path g l = AreTextsAt (g.D.Inputs.contents l.inputs) (take l.path-index l.asked.parts.items) (map (λ text. text.items) l.texts.items)
+invariant-loop-path g l = AreTextsAt (g.D.Inputs.contents l.inputs) (take l.path-index l.args.parts.items) (map (λ text. text.items) l.texts.items)

@@ -27,7 +27,7 @@ answered g c =
     elim c.match-read_words.branch [
       | in-Ok-Some w ↦
           (let request = rw w.in-Ok-Some.field-0-is at w.in-Ok-Some.ensures.value in
-          rw w.to-is (IfOk-map w.run_in_colors.result.1 _ _ (λ status done. inl (w.in-Ok-Some.asked, (sym request, done)))
+          rw w.to-is (IfOk-map w.run_in_colors.result.1 _ _ (λ status done. inl (w.in-Ok-Some.request, (sym request, done)))
           w.run_in_colors.ensures.done))
       | in-Ok-None w ↦
           (let request = rw w.in-Ok-None.field-0-is at w.in-Ok-None.ensures.value in
@@ -52,7 +52,7 @@ returns-clause-ended g c =
     let stopped : IfErr c.match-read_words.to.1 (IsStopFor known is_terminal words) = elim c.match-read_words.branch [
       | in-Ok-Some w ↦
           (let request = rw w.in-Ok-Some.field-0-is at w.in-Ok-Some.ensures.value in
-          rw w.to-is (IfErr-map w.run_in_colors.result.1 _ _ (λ why is. inl (w.in-Ok-Some.asked, (sym request, is)))
+          rw w.to-is (IfErr-map w.run_in_colors.result.1 _ _ (λ why is. inl (w.in-Ok-Some.request, (sym request, is)))
           w.run_in_colors.ensures.stopped))
       | in-Ok-None w ↦ rw w.to-is tt
       | in-Err w ↦

@@ -16,7 +16,7 @@ returns-in-Run-clause-untouched g c =
     (λ status was. unshown_run (g.D.Inputs.contents c.args.host.now.inputs.now) c.args.terminals.is_out_terminal _ _ was) c.run_requested_jobs.ensures.untouched)
 
 pub returns-clause-stopped : goal.returns-clause-stopped
-returns-clause-stopped g c = elim c.match-asked.branch [
+returns-clause-stopped g c = elim c.match-request.branch [
   | in-Explain w ↦
       rw (w.answer-is, w.in-Explain.is)
       (put_or_found w.explain_named_job.result _ _ w.explain_named_job.ensures.stopped
@@ -46,7 +46,7 @@ returns-clause-stopped g c = elim c.match-asked.branch [
 ]
 
 pub returns-clause-untouched : goal.returns-clause-untouched
-returns-clause-untouched g c = elim c.match-asked.branch [
+returns-clause-untouched g c = elim c.match-request.branch [
   | in-Explain w ↦ rw (w.answer-is, w.in-Explain.is) (IfOk-from w.put_findings-answer.result _ (inl (inl refl)))
   | in-Check w ↦ rw (w.answer-is, w.in-Check.is) (IfOk-from w.put_findings-answer-in-Check.result _ (inl (inl refl)))
   | in-List w ↦ rw (w.answer-is, w.in-List.is) (IfOk-from w.list_chosen_jobs-answer.result _ (inl (inl refl)))

@@ -9,13 +9,13 @@ returns-in-Err-clause-stopped g c = inr (inl c.in-Err.ensures.stopped)
 
 pub returns-in-Some-clause-undone : goal.returns-in-Some-clause-undone
 returns-in-Some-clause-undone g c =
-    let found : AreJobsToRun (g.D.Inputs.contents c.args.host.now.inputs.now) c.args.asked.now = record {
+    let found : AreJobsToRun (g.D.Inputs.contents c.args.host.now.inputs.now) c.args.args.now = record {
       jobs = c.in-Ok.requested.jobs;
       marks = c.in-Some.marks.items;
       shard = c.in-Ok.requested.frame.shard;
       old = c.in-Ok.requested.frame.old;
       notes = c.in-Ok.requested.notes.items;
-      asked = rw c.in-Some.is at c.in-Ok.ensures.asked;
+      args = rw c.in-Some.is at c.in-Ok.ensures.requested;
       failures = c.in-Ok-requested_known_jobs.known;
       known_to_fail = rw c.as_slice.ensures.value at c.in-Ok-requested_known_jobs.ensures.known;
     } in
@@ -24,13 +24,13 @@ returns-in-Some-clause-undone g c =
 
 pub returns-in-Some-clause-stopped : goal.returns-in-Some-clause-stopped
 returns-in-Some-clause-stopped g c =
-    let found : AreJobsToRun (g.D.Inputs.contents c.args.host.now.inputs.now) c.args.asked.now = record {
+    let found : AreJobsToRun (g.D.Inputs.contents c.args.host.now.inputs.now) c.args.args.now = record {
       jobs = c.in-Ok.requested.jobs;
       marks = c.in-Some.marks.items;
       shard = c.in-Ok.requested.frame.shard;
       old = c.in-Ok.requested.frame.old;
       notes = c.in-Ok.requested.notes.items;
-      asked = rw c.in-Some.is at c.in-Ok.ensures.asked;
+      args = rw c.in-Some.is at c.in-Ok.ensures.requested;
       failures = c.in-Ok-requested_known_jobs.known;
       known_to_fail = rw c.as_slice.ensures.value at c.in-Ok-requested_known_jobs.ensures.known;
     } in

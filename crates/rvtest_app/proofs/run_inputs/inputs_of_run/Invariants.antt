@@ -6,4 +6,4 @@ use Rattle.rvtest_app.proofs.run_inputs.inputs_of_run.Given as goal
 
 abbrev pub invariant-loop-job : goal.invariant-loop-job
 invariant-loop-job l = read_paths l.read.items
-    ≡ read_paths l.initial.read.items ++ flat_map (paths_of_job (optional_text l.asked.root)) (take l.job-index l.jobs)
+    ≡ read_paths l.initial.read.items ++ flat_map (paths_of_job (optional_text l.args.root)) (take l.job-index l.jobs)

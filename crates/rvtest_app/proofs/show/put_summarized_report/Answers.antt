@@ -12,7 +12,7 @@ returns-in-Ok-clause-put g c =
     let taken = g.F.File.Sink.taken in
     let failed = g.F.File.Sink.failed in
     let outlets = c.in_ok-outlets.outlets in
-    let junit_path = optional_text c.args.asked.junit in
+    let junit_path = optional_text c.args.args.junit in
     let report_path = None in
     let report = c.in_ok-outlets.ensures.report in
     let junit = c.in_ok-outlets.ensures.junit in
@@ -43,10 +43,10 @@ pub returns-in-Ok-clause-part : goal.returns-in-Ok-clause-part
 returns-in-Ok-clause-part g c =
     let same = ap g.F.Outputs.placed c.in-Ok.ensures.files ∙ c.in_ok-outlets.ensures.same in
     rw same at (rw (c.as_bytes.ensures.value, c.suite_name.ensures, c.report_judge.ensures)
-    at (c.put_whole_files.ensures.part (optional_text c.args.asked.junit) (rw same c.in_ok-outlets.ensures.junit)))
+    at (c.put_whole_files.ensures.part (optional_text c.args.args.junit) (rw same c.in_ok-outlets.ensures.junit)))
 
 pub returns-in-Ok-clause-stopped : goal.returns-in-Ok-clause-stopped
 returns-in-Ok-clause-stopped g c =
     output_of_put g.F.Outputs.pending_path g.F.File.Sink.taken g.F.File.Sink.failed _ None
-    (optional_text c.args.asked.junit) _ _ c.put_whole_files.result c.in_ok-outlets.ensures.report
+    (optional_text c.args.args.junit) _ _ c.put_whole_files.result c.in_ok-outlets.ensures.report
     c.in_ok-outlets.ensures.junit c.put_whole_files.ensures.stopped

@@ -33,10 +33,10 @@ returns-in-Ok-clause-value g c =
     let words = map g.T.AsStr.text c.args.words.now in
     let is = here (app_of c.in_ok-command.command) words c.in-Ok.matches c.in_ok-command.ensures
     c.in-Ok.ensures.matches in
-    IfOk-weaker c.matched_request.result _ _ (λ asked reads. reads.0 ∙ ap matched_words is) c.matched_request.ensures.0
+    IfOk-weaker c.matched_request.result _ _ (λ request reads. reads.0 ∙ ap matched_words is) c.matched_request.ensures.0
 
 pub returns-in-Ok-clause-within : goal.returns-in-Ok-clause-within
-returns-in-Ok-clause-within g c = IfOk-weaker c.matched_request.result _ _ (λ asked reads. reads.1) c.matched_request.ensures.0
+returns-in-Ok-clause-within g c = IfOk-weaker c.matched_request.result _ _ (λ request reads. reads.1) c.matched_request.ensures.0
 
 pub returns-in-Ok-clause-kinds : goal.returns-in-Ok-clause-kinds
 returns-in-Ok-clause-kinds g c =

@@ -6,10 +6,10 @@ use Rattle.rv_choice.proofs.chooser.Chooser.requested_pattern.Goals as goal
 pub returns-else-branch-clause-refused : goal.returns-else-branch-clause-refused
 returns-else-branch-clause-refused g c =
     let Says : List ℕ → Type 0 =
-    λ text. IsPatternStop c.args.self.now.asked.now.list.now text c.args.jobs.now c.unmatched_pattern_stop.result in
+    λ text. IsPatternStop c.args.self.now.args.now.list.now text c.args.jobs.now c.unmatched_pattern_stop.result in
     let of = c.in_ok-pattern.ensures in
     let none = sym c.in_ok-is_found_in_job_names.ensures ∙ c.if-branch.false in
     let unmatched : IsUnmatched c.in-Some.text.now c.args.jobs.now =
     (c.in_ok-pattern.pattern, of.source, of.read, none) in
-    said_of_text Says c.args.self.now.asked.now.pattern c.in-Some.text c.in-Some.is
+    said_of_text Says c.args.self.now.args.now.pattern c.in-Some.text c.in-Some.is
     (inr (inr (unmatched, c.unmatched_pattern_stop.ensures)))

@@ -32,7 +32,7 @@ put_run_files-requires-clause-texts g c κs within =
 
 pub put_counts-requires-clause-open : goal.put_counts-requires-clause-open
 put_counts-requires-clause-open g c κs within =
-    let path = optional_text c.args.self.now.asked.now.counts in (
+    let path = optional_text c.args.self.now.args.now.counts in (
       path,
       untold g.F.Outputs.pending_path g.F.File.Sink.taken g.F.File.Sink.failed (g.F.Outputs.placed c.args.to.now.files) path
           c.args.outlets.counts [] c.requires.taken.counts,
@@ -40,11 +40,11 @@ put_counts-requires-clause-open g c κs within =
 
 pub returns-in_ok-put_counts-in-Ok-clause-outputs_of : goal.returns-in_ok-put_counts-in-Ok-clause-outputs_of
 returns-in_ok-put_counts-in-Ok-clause-outputs_of g c = λ before shown.
-    let asked = c.args.self.now.asked.now in
+    let args = c.args.self.now.args.now in
     let reporter = c.args.planned.now.reporter.now in
     let places = c.args.planned.now.places.now in
-    let report_path = run_report_path asked in
-    let junit_path = optional_text asked.junit in
+    let report_path = run_report_path args in
+    let junit_path = optional_text args.junit in
     let firsts : c.first_jobs-first.result.places.now ≡ shown_indices places c.args.rows =
     c.first_jobs-first.ensures.places ∙ ap (λ (rows : List Row). take (length rows) places) c.as_slice.ensures in
     let told = c.first_jobs-first.ensures.reporter in
@@ -55,7 +55,7 @@ returns-in_ok-put_counts-in-Ok-clause-outputs_of g c = λ before shown.
     let same = placed_of_shown _ _ before start shown in
     record {
       middle = with_placed_if_reported before.placed after;
-      put = run_put_where_told asked (reporter_of reporter) places c.args.frame.shard c.args.frame.old c.args.rows before after
+      put = run_put_where_told args (reporter_of reporter) places c.args.frame.shard c.args.frame.old c.args.rows before after
           (record {
             middle = start;
             seen = shown;
@@ -63,50 +63,50 @@ returns-in_ok-put_counts-in-Ok-clause-outputs_of g c = λ before shown.
             quiet = (ap g.E.Sink.taken files.errors, ap g.E.Sink.failed files.errors);
             placed = rw (told, firsts) at (files.placed report_path junit_path report c.requires.taken.junit);
           });
-      counted = rw firsts at (c.in_ok-put_counts-in-Ok.ensures.counted (optional_text asked.counts) before.placed
+      counted = rw firsts at (c.in_ok-put_counts-in-Ok.ensures.counted (optional_text args.counts) before.placed
           (rw same at c.requires.taken.counts));
     }
 
 pub returns-in_err-put_counts-in-Ok-clause-part : goal.returns-in_err-put_counts-in-Ok-clause-part
 returns-in_err-put_counts-in-Ok-clause-part g c =
-    let asked = c.args.self.now.asked.now in
+    let args = c.args.self.now.args.now in
     let places = c.args.planned.now.places.now in
-    let report_path = run_report_path asked in
-    let junit_path = optional_text asked.junit in
+    let report_path = run_report_path args in
+    let junit_path = optional_text args.junit in
     let firsts : c.first_jobs-first.result.places.now ≡ shown_indices places c.args.rows =
     c.first_jobs-first.ensures.places ∙ ap (λ (rows : List Row). take (length rows) places) c.as_slice.ensures in
     let report = rw firsts c.requires.taken.report in
     let files = rw (c.first_jobs-first.ensures.reporter, firsts)
     at (c.in-Ok.ensures.placed report_path junit_path report c.requires.taken.junit) in
     OnErr-from c.from_residual.result _
-    (part_of_counts asked (reporter_of c.args.planned.now.reporter.now) places c.args.frame.shard c.args.frame.old c.args.rows _ _ _
-    (c.in_err-put_counts-in-Ok.ensures.asked (optional_text asked.counts) (g.F.Outputs.placed c.args.to.now.files) c.requires.taken.counts)
+    (part_of_counts args (reporter_of c.args.planned.now.reporter.now) places c.args.frame.shard c.args.frame.old c.args.rows _ _ _
+    (c.in_err-put_counts-in-Ok.ensures.requested (optional_text args.counts) (g.F.Outputs.placed c.args.to.now.files) c.requires.taken.counts)
     files c.in_err-put_counts-in-Ok.ensures.same)
 
 pub returns-in_err-put_counts-in-Ok-clause-stopped : goal.returns-in_err-put_counts-in-Ok-clause-stopped
 returns-in_err-put_counts-in-Ok-clause-stopped g c =
     let is = err_from_is_err_and c.from_residual.result c.from_residual.ensures.1 in
-    let path = optional_text c.args.self.now.asked.now.counts in
+    let path = optional_text c.args.self.now.args.now.counts in
     let told = path_told g.F.Outputs.pending_path g.F.File.Sink.taken g.F.File.Sink.failed _ path c.args.outlets.counts []
     c.requires.taken.counts in
-    rw (is.1, is.2) (unput_counts c.args.self.now.asked.now _ (rw told at c.in_err-put_counts-in-Ok.ensures.stopped))
+    rw (is.1, is.2) (unput_counts c.args.self.now.args.now _ (rw told at c.in_err-put_counts-in-Ok.ensures.stopped))
 
 pub returns-in-Err-clause-part : goal.returns-in-Err-clause-part
 returns-in-Err-clause-part g c =
-    let asked = c.args.self.now.asked.now in
+    let args = c.args.self.now.args.now in
     let firsts : c.first_jobs-first.result.places.now ≡ shown_indices c.args.planned.now.places.now c.args.rows =
     c.first_jobs-first.ensures.places
     ∙ ap (λ (rows : List Row). take (length rows) c.args.planned.now.places.now) c.as_slice.ensures in
     rw c.abandon_outlet.ensures
-    (part_of_rows asked (reporter_of c.args.planned.now.reporter.now) c.args.planned.now.places.now c.args.frame.shard c.args.frame.old
+    (part_of_rows args (reporter_of c.args.planned.now.reporter.now) c.args.planned.now.places.now c.args.frame.shard c.args.frame.old
     c.args.rows _ _
-    (rw (c.first_jobs-first.ensures.reporter, firsts) at (c.in-Err.ensures.part (optional_text asked.junit) c.requires.taken.junit)))
+    (rw (c.first_jobs-first.ensures.reporter, firsts) at (c.in-Err.ensures.part (optional_text args.junit) c.requires.taken.junit)))
 
 pub returns-in-Err-clause-stopped : goal.returns-in-Err-clause-stopped
 returns-in-Err-clause-stopped g c =
-    let asked = c.args.self.now.asked.now in
-    let report_path = run_report_path asked in
-    let junit_path = optional_text asked.junit in
+    let args = c.args.self.now.args.now in
+    let report_path = run_report_path args in
+    let junit_path = optional_text args.junit in
     let report = path_told g.F.Outputs.pending_path g.F.File.Sink.taken g.F.File.Sink.failed _ report_path c.args.outlets.report _
     c.requires.taken.report in
     let junit = path_told g.F.Outputs.pending_path g.F.File.Sink.taken g.F.File.Sink.failed _ junit_path c.args.outlets.junit []

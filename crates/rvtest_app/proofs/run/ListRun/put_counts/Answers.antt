@@ -18,14 +18,14 @@ returns-in-Ok-clause-counted g c = λ path earlier has.
     (counts_put _ path _ _ _ _ _ given (rw c.as_bytes.ensures.value c.in-Ok.ensures.text))
     (c.put_into_outlet.ensures.written path earlier has)
 
-pub returns-in-Ok-clause-asked : goal.returns-in-Ok-clause-asked
-returns-in-Ok-clause-asked g c = λ path earlier has.
+pub returns-in-Ok-clause-requested : goal.returns-in-Ok-clause-requested
+returns-in-Ok-clause-requested g c = λ path earlier has.
     OnErr-from c.put_into_outlet.result _
     (path_given g.F.Outputs.pending_path g.F.File.Sink.taken g.F.File.Sink.failed earlier path c.args.outlet [] has
     c.in_default.not-Nowhere)
 
-pub returns-in-Err-clause-asked : goal.returns-in-Err-clause-asked
-returns-in-Err-clause-asked g c = λ path earlier has.
+pub returns-in-Err-clause-requested : goal.returns-in-Err-clause-requested
+returns-in-Err-clause-requested g c = λ path earlier has.
     path_given g.F.Outputs.pending_path g.F.File.Sink.taken g.F.File.Sink.failed earlier path c.args.outlet [] has
     c.in_default.not-Nowhere
 

@@ -31,8 +31,8 @@ returns-in-Ok-ran-clause-outputs_of g c =
     let failed = g.F.File.Sink.failed in
     let outlets = c.in-Ok.outlets in
     let ran = c.run_into_outlets-to.ensures in
-    let report_path = run_report_path c.args.self.now.asked.now in
-    let junit_path = optional_text c.args.self.now.asked.now.junit in
+    let report_path = run_report_path c.args.self.now.args.now in
+    let junit_path = optional_text c.args.self.now.args.now.junit in
     let same = ap g.F.Outputs.placed ran.files ∙ c.in-Ok.ensures.same in
     let rows = rw c.in-Ok-ran.is at ran.rows in
     let report = rw c.run_report_path-report.ensures at c.in-Ok.ensures.report in
@@ -42,7 +42,7 @@ returns-in-Ok-ran-clause-outputs_of g c =
     ∙ ap (λ (r : List Row). take (length r) c.args.places.now) (c.as_slice-shown.ensures ∙ rows) in
     let reporter = c.first_jobs-first.ensures.reporter in
     let ahead = ahead_of_shown c.args.frame.old c.args.places.now
-    (run_rows c.args.self.now.asked.now.stop_after (judging_of c.args.reporter.now.judge) c.args.reporter.now.plan.now c.args.places.now) in
+    (run_rows c.args.self.now.args.now.stop_after (judging_of c.args.reporter.now.judge) c.args.reporter.now.plan.now c.args.places.now) in
     let seen = rw c.in-Ok.ensures.same at (rw c.in-Ok-ran.is at ran.shown) in
     let out = rw (reporter, places, rows) at (c.put_run_files-put.ensures.put report_path junit_path (rw (same, places, rows, ahead) more) (rw same junit)) in
     let placed = rw (reporter, places, rows)
@@ -67,7 +67,7 @@ returns-in-Ok-ran-clause-part g c =
     let places = c.first_jobs-first.ensures.places
     ∙ ap (λ (r : List Row). take (length r) c.args.places.now) (c.as_slice-shown.ensures ∙ are) in
     rw same at (rw (c.first_jobs-first.ensures.reporter, places, are)
-    at (c.put_run_files-put.ensures.part (optional_text c.args.self.now.asked.now.junit) (rw same junit)))
+    at (c.put_run_files-put.ensures.part (optional_text c.args.self.now.args.now.junit) (rw same junit)))
 
 pub returns-in-Err-clause-stopped : goal.returns-in-Err-clause-stopped
 returns-in-Err-clause-stopped g c =
@@ -75,8 +75,8 @@ returns-in-Err-clause-stopped g c =
 
 pub returns-in-Ok-ran-clause-stopped : goal.returns-in-Ok-ran-clause-stopped
 returns-in-Ok-ran-clause-stopped g c =
-    let report_path = run_report_path c.args.self.now.asked.now in
-    let junit_path = optional_text c.args.self.now.asked.now.junit in
+    let report_path = run_report_path c.args.self.now.args.now in
+    let junit_path = optional_text c.args.self.now.args.now.junit in
     let report = rw c.run_report_path-report.ensures at c.in-Ok.ensures.report in
     IfErr-map c.put_run_files-put.result _ _ (λ why is. inr is)
     (output_of_put g.F.Outputs.pending_path g.F.File.Sink.taken g.F.File.Sink.failed _ report_path junit_path _ _

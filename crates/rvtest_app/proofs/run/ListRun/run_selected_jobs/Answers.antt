@@ -5,7 +5,7 @@ use Rattle.rv_job_text.specs.RowReporter.{RowReporter}
 use Rattle.rv_expect.specs.declared.known_jobs.KnownJobs.{KnownJobs}
 use Rattle.rvtest_app.specs.Runs.{places_of_marks, run_judging, run_rows, run_reporter}
 use Rattle.rvtest_app.specs.CommandOutputs.{outputs_of}
-use Rattle.rvtest_app.proofs.RunTellings.{known_behind, same_part, same_rows, told_as_asked, told_by}
+use Rattle.rvtest_app.proofs.RunTellings.{known_behind, same_part, same_rows, reported_as_requested, told_by}
 use Rattle.rvtest_app.proofs.Results.{IfOk-beside, OnErr-map}
 use Rattle.rvtest_app.proofs.run.ListRun.run_selected_jobs.Goals as goal
 
@@ -56,7 +56,7 @@ returns-clause-run g c =
 
 pub returns-clause-undone : goal.returns-clause-undone
 returns-clause-undone g c =
-    let asked = c.args.self.now.asked.now in
+    let args = c.args.self.now.args.now in
     let plan = c.in-Ok-gather_jobs_at.plan in
     let unread = c.unread_paths-unread.result.now in
     let failures = c.args.marked.known in
@@ -64,14 +64,14 @@ returns-clause-undone g c =
     let found = c.in-Ok-gather_jobs_at.ensures in
     let behind = option_map (λ (jobs : Bor KnownJobs). jobs.now) c.as_ref.result in
     let known : behind ≡ failures = known_behind c.as_ref.result ∙ c.as_ref.ensures.value in
-    let told = told_by asked behind plan unread c.args.self.now.rule c.requested_verbosity.result in
-    let told_is : told ≡ run_reporter asked failures plan unread =
-    told_as_asked asked failures behind plan unread c.args.self.now.rule c.requested_verbosity.result c.requires known
+    let told = told_by args behind plan unread c.args.self.now.rule c.requested_verbosity.result in
+    let told_is : told ≡ run_reporter args failures plan unread =
+    reported_as_requested args failures behind plan unread c.args.self.now.rule c.requested_verbosity.result c.requires known
     c.requested_verbosity.ensures in
     let places_are : c.as_slice-4.result.now ≡ places =
     rw (c.as_slice-4.ensures.value, c.in-Ok.ensures.value, c.as_slice.ensures.value) refl in
-    let rows = run_rows asked.stop_after (run_judging asked failures) plan places in
-    let rows_are = same_rows asked.stop_after told.judging (run_judging asked failures) plan c.as_slice-4.result.now places
+    let rows = run_rows args.stop_after (run_judging args failures) plan places in
+    let rows_are = same_rows args.stop_after told.judging (run_judging args failures) plan c.as_slice-4.result.now places
     (ap (λ (t : RowReporter). t.judging) told_is) places_are in
     OnErr-map c.run_into_files.result.1 _ _
     (⊎_elim inl (λ part. inr (record {
@@ -90,7 +90,7 @@ returns-clause-undone g c =
       };
       rows = rows;
       shown = refl;
-      placed = same_part asked told (run_reporter asked failures plan unread) c.as_slice-4.result.now places
+      placed = same_part args told (run_reporter args failures plan unread) c.as_slice-4.result.now places
           c.args.marked.frame.shard c.args.marked.frame.old rows (g.F.Outputs.placed c.args.to.files)
           (g.F.Outputs.placed c.run_into_files.result.0.files) told_is places_are part;
     })))

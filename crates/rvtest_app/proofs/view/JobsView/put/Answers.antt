@@ -19,7 +19,7 @@ returns-in-Some-clause-put g c =
       shard = c.in_ok-requested.requested.frame.shard;
       old = c.in_ok-requested.requested.frame.old;
       notes = c.in_ok-requested.requested.notes.items;
-      asked = rw c.in-Some.is at c.in_ok-requested.ensures.asked;
+      args = rw c.in-Some.is at c.in_ok-requested.ensures.requested;
       middle = outputs_of g.F.Outputs.placed g.O.Sink.taken g.E.Sink.taken g.E.Sink.failed
           (record c.args.to.now { errors = c.put_message.new.errors });
       told = (refl, rw c.as_slice.ensures.value at c.put_message.ensures, refl);
@@ -41,7 +41,7 @@ returns-in-Some-clause-stopped g c =
       shard = c.in_ok-requested.requested.frame.shard;
       old = c.in_ok-requested.requested.frame.old;
       notes = c.in_ok-requested.requested.notes.items;
-      asked = rw c.in-Some.is at c.in_ok-requested.ensures.asked;
+      args = rw c.in-Some.is at c.in_ok-requested.ensures.requested;
       unviewed = is;
     })))
     (rw c.as_slice-in-Some.ensures.value at c.put_of_marked.ensures.stopped)
@@ -53,7 +53,7 @@ returns-clause-put g c = record {
   shard = c.in_ok-requested.requested.frame.shard;
   old = c.in_ok-requested.requested.frame.old;
   notes = c.in_ok-requested.requested.notes.items;
-  asked = rw c.in-None.is at c.in_ok-requested.ensures.asked;
+  args = rw c.in-None.is at c.in_ok-requested.ensures.requested;
   middle = outputs_of g.F.Outputs.placed g.O.Sink.taken g.E.Sink.taken g.E.Sink.failed
       (record c.args.to.now { errors = c.put_message.new.errors });
   told = (refl, rw c.as_slice.ensures.value at c.put_message.ensures, refl);

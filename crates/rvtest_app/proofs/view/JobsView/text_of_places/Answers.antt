@@ -12,7 +12,7 @@ use Rattle.rvtest_app.proofs.view.JobsView.text_of_places.Goals as goal
 pub text_of_table-requires : goal.text_of_table-requires
 text_of_table-requires g c =
     table_of_view (g.D.Inputs.contents c.args.self.now.host.now.inputs.now) c.args.self.now.view
-    (optional_text c.args.self.now.asked.now.counts) c.args.plan.now c.args.places.now c.in_ok-table.table c.in_ok-table.ensures.table
+    (optional_text c.args.self.now.args.now.counts) c.args.plan.now c.args.places.now c.in_ok-table.table c.in_ok-table.ensures.table
 
 pub returns-in_err-table-clause-stopped : goal.returns-in_err-table-clause-stopped
 returns-in_err-table-clause-stopped g c =
@@ -39,7 +39,7 @@ returns-clause-stopped g c =
       c.in_ok-table.table,
       (
         c.in_ok-table.ensures.table,
-        subst (λ (images : List FileImage). IsTextlessStop c.args.self.now.view c.in_ok-table.table images (counts_source c.args.self.now.asked.now) why)
+        subst (λ (images : List FileImage). IsTextlessStop c.args.self.now.view c.in_ok-table.table images (counts_source c.args.self.now.args.now) why)
             (ap images_of_files c.as_slice-images.ensures.value ∙ c.in_ok-files.ensures) textless,
       ),
     )))
