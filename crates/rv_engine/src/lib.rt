@@ -10,7 +10,6 @@ mod crew;
 mod engine;
 mod in_order;
 mod listener;
-mod optional;
 mod piece;
 mod threads;
 mod work;

@@ -19,7 +19,7 @@ IsKept judging texts reported k any =
 -- nothing is kept
 pub none_kept : (judging : Judging) (is_closed : Bool) (reported : List ReportedRow) → (is_closed ≡ false → 0 ≡ length reported)
     → AreFailureTexts judging is_closed [] reported
-none_kept judging is_closed reported all = record { all = all; few = omega arith; each = λ k any lt. tt }
+none_kept judging is_closed reported all = record { all = all; none = λ _. refl; few = omega arith; each = λ k any lt. tt }
 
 -- the text of one row more is kept, or it is not
 pub one_more : (judging : Judging) (texts : List (Option (Vec ℕ Global))) (text : Option (Vec ℕ Global)) (reported : List ReportedRow)
@@ -30,6 +30,7 @@ one_more judging texts text reported made is are =
     let more = length-append texts (text ∷ []) in
     let rows = length-append reported (made ∷ []) in record {
       all = λ _. omega (arith, long, more, rows);
+      none = λ closed. absurd (false≢true closed);
       few = omega (arith, long, more, rows);
       each = λ k any lt. elim (cases_lt k (length reported)) [
         | inl below ↦
@@ -81,3 +82,14 @@ lines_known has_seen line lines judging is_closed texts places rows seen same ar
 -- nothing is known
 pub none_known : (lines : ℕ → Row → List ℕ) (places : List ℕ) (rows : List Row) → AreLinesOf lines places rows []
 none_known lines places rows = λ k any lt. tt
+
+-- the kept texts are the lines of their rows, if texts are kept only while the two reporters report failures alike
+pub kept_known : (has_seen : List ReportedRow → Type 0) (line lines : ℕ → Row → List ℕ) (judging : Judging) (is_closed keeps : Bool)
+    (texts : List (Option (Vec ℕ Global))) (places : List ℕ) (rows : List Row) (seen : HasSeenRows has_seen line places rows)
+    → (is_closed ≡ false → keeps ≡ true)
+    → (keeps ≡ true → (place : ℕ) (row : Row) → fails judging row ≡ true → line place row ≡ lines place row)
+    → AreFailureTexts judging is_closed texts seen.reported → AreLinesOf lines places rows texts
+kept_known has_seen line lines judging true keeps texts places rows seen needed same are =
+    subst (AreLinesOf lines places rows) (sym (are.none refl)) (none_known lines places rows)
+kept_known has_seen line lines judging false keeps texts places rows seen needed same are =
+    lines_known has_seen line lines judging false texts places rows seen (same (needed refl)) are

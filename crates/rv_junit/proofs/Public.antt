@@ -1,2 +1,2 @@
 -- The lemmas that proofs of other crates may cite.
-pub use Rattle.rv_junit.proofs.KnownLines.{lines_known, none_known}
+pub use Rattle.rv_junit.proofs.KnownLines.{kept_known}

@@ -1,5 +1,5 @@
 -- Lines of rows that are known before a document is written.
-use Rattle.std.specs.Prelude.{◌≡◌, ◌<◌, ◌≤◌, ℕ, Bool, false, true, List, Option, None, IfSome, length, slice_index_or, Vec}
+use Rattle.std.specs.Prelude.{◌≡◌, ◌<◌, ◌≤◌, ℕ, Bool, false, true, List, [], Option, None, IfSome, length, slice_index_or, Vec}
 use Rattle.std.specs.declared.alloc.Global.{Global}
 use Rattle.rv_expect.specs.Judgement.{Judging, fails}
 use Rattle.rv_rows.specs.declared_row.Row.{Row}
@@ -15,9 +15,10 @@ pub record IsFailureText (judging : Judging) (reported : ReportedRow) (text : Li
   pub failed : fails judging reported.row ≡ true
   pub text_is : text ≡ reported.text.items
 
--- the texts that are kept of reported rows, by their numbers; none after an allocation was refused
+-- the texts that are kept of reported rows, each at the number of its row; none if they are closed
 pub record AreFailureTexts (judging : Judging) (is_closed : Bool) (texts : List (Option (Vec ℕ Global))) (reported : List ReportedRow) : Type 0 where
   pub all : is_closed ≡ false → length texts ≡ length reported
+  pub none : is_closed ≡ true → texts ≡ []
   pub few : length texts ≤ length reported
   pub each : (k : ℕ) (any : ReportedRow) → k < length reported → IfSome (slice_index_or texts k None)
       (λ text. IsFailureText judging (slice_index_or reported k any) text.items)

@@ -1,6 +1,6 @@
 //! The texts of failed jobs, kept while a run reports them.
 
-ghost use Rattle.std.specs.Prelude.{◌≡◌, [], IfSome};
+ghost use Rattle.std.specs.Prelude.{◌≡◌, [], IfSome, false, true};
 ghost use Rattle.rv_expect.specs.Judgement.{judging_of};
 ghost use Rattle.rv_junit.specs.KnownLines.{AreFailureTexts, IsFailureText};
 
@@ -21,16 +21,18 @@ pub struct FailureTexts<'k, J: StreamSpec> {
     texts: Vec<Option<Vec<u8>>>,
     // How many more bytes are kept.
     room: usize,
-    // Whether an allocation was refused: nothing is kept then.
+    // Whether nothing is kept: texts are not needed, or an allocation failed.
     is_closed: bool,
     of: PhantomData<J>,
     ghost judging: { judging_of judge ≡ J.judging },
+    ghost needed: { is_closed ≡ false → J.keeps ≡ true },
 }
 
 impl<'k, J: StreamSpec> FailureTexts<'k, J> {
-    /// It has seen no row yet. Takes no memory.
-    pub fn new(alloc: Global, judge: Judge<'k>) -> FailureTexts<'k, J>
-        requires { judging_of judge ≡ J.judging }
+    /// Creates an observer that has seen no rows, and keeps texts only if they are needed. Allocates nothing.
+    pub fn new(alloc: Global, judge: Judge<'k>, is_needed: bool) -> FailureTexts<'k, J>
+        requires judging { judging_of judge ≡ J.judging }
+        requires needed { is_needed ≡ J.keeps }
         ensures { AreFailureTexts J.judging result.is_closed result.texts.items [] }
     {
         FailureTexts {
@@ -38,19 +40,20 @@ impl<'k, J: StreamSpec> FailureTexts<'k, J> {
             judge,
             texts: Vec::new(alloc),
             room: MOST_KEPT,
-            is_closed: false,
+            is_closed: !is_needed,
             of: PhantomData,
         }
     }
 
-    /// Returns the texts that were kept, by the numbers of their rows.
+    /// Returns the kept texts, each at the number of its row. There are none unless texts were needed.
     pub fn into_texts(self) -> Vec<Option<Vec<u8>>>
-        ensures { result.items ≡ self.entry.texts.items }
+        ensures items { result.items ≡ self.entry.texts.items }
+        ensures needed { self.entry.is_closed ≡ false → J.keeps ≡ true }
     {
         self.texts
     }
 
-    // A copy of the text of a row, if it is to be kept.
+    // Returns a copy of a row's text, if it is to be kept.
     fn text_to_keep(&self, made: &ReportedRow) -> Option<Vec<u8>>
         ensures { IfSome result (λ text. IsFailureText J.judging made.now text.items) }
     {

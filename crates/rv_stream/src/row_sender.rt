@@ -1,6 +1,6 @@
-//! An observer that reports rows, and sends that.
+//! An observer that sends another text of each row.
 
-ghost use Rattle.std.specs.Prelude.{◌≡◌, [], ℕ, List, None, OnErr, OnOk};
+ghost use Rattle.std.specs.Prelude.{◌≡◌, [], ℕ, List, None, IfSome, OnErr, OnOk, is_some, true};
 ghost use Rattle.std.specs.Io.KnownBytes.{Appends};
 ghost use Rattle.rv_rows.specs.Sinks.{AppendsBeginning};
 ghost use Rattle.rv_stream.specs.Texts.{IsSent};
@@ -13,73 +13,90 @@ use rv_fleet::Sink;
 use rv_rows::{RowReporter, WriteError};
 use std::alloc::Global;
 
-/// Sends what a reporter of its own says of each row: what comes together goes out in one write.
+/// Sends the text that a reporter of its own gives of each row to a sink. Rows that arrive together are written at once. Without a sink it
+/// sends nothing.
 #[derive(Drop)]
 pub struct RowSender<'t, J: StreamSpec, T: RowReporter, W: Sink + Drop> {
     alloc: Global,
     reporter: &'t T,
-    pub(crate) outbox: Outbox<J, W>,
+    pub(crate) outbox: Option<Outbox<J, W>>,
     ghost line: { T.line reporter.now ≡ J.line },
+    ghost there: { is_some outbox ≡ J.sends },
 }
 
 impl<'t, J: StreamSpec, T: RowReporter, W: Sink + Drop> RowSender<'t, J, T, W> {
-    /// It has seen no row yet.
-    pub fn new(alloc: Global, reporter: &'t T, out: W) -> RowSender<'t, J, T, W>
-        requires before { J.before ≡ W.taken out }
-        requires failures { J.failures ≡ W.failed out }
+    /// Creates a sender that has seen no rows.
+    pub fn new(alloc: Global, reporter: &'t T, out: Option<W>) -> RowSender<'t, J, T, W>
+        requires there { is_some out ≡ J.sends }
+        requires before { IfSome out (λ out. (J.before ≡ W.taken out) × (J.failures ≡ W.failed out)) }
         requires line { T.line reporter.now ≡ J.line }
-        ensures sent { IsSent J.before (W.taken result.outbox.out) J.failures (W.failed result.outbox.out)
-            result.outbox.failed result.outbox.unsent.items [] }
-        ensures goes { result.outbox.failed ≡ None }
+        ensures sent { IfSome result.outbox (λ box. IsSent J.before (W.taken box.out) J.failures (W.failed box.out) box.failed box.unsent.items []) }
+        ensures goes { IfSome result.outbox (λ box. box.failed ≡ None) }
     {
+        let outbox = match out {
+            Some(out) => Some(Outbox::<J, W>::new(alloc, out)),
+            None => None,
+        };
         RowSender {
             alloc,
             reporter,
-            outbox: Outbox::<J, W>::new(alloc, out),
+            outbox,
         }
     }
 
-    /// Sends what waits, and returns the sink: it took all of the text, or a beginning.
-    pub fn finish(self) -> (W, Result<(), WriteError>)
+    /// Writes the buffered text, and returns the sink, if there is one: it has received the whole text, or after an error a prefix.
+    pub fn finish(self) -> (Option<W>, Result<(), WriteError>)
+        ensures there { is_some result.0 ≡ J.sends }
         ensures all { (text : List ℕ)
-            → IsSent J.before (W.taken self.entry.outbox.out) J.failures (W.failed self.entry.outbox.out) self.entry.outbox.failed self.entry.outbox.unsent.items text
-            → OnOk result.1 (Appends J.before (W.taken result.0) text × (W.failed result.0 ≡ J.failures)) }
+            → IfSome self.entry.outbox (λ box. IsSent J.before (W.taken box.out) J.failures (W.failed box.out) box.failed box.unsent.items text)
+            → OnOk result.1 (IfSome result.0 (λ out. Appends J.before (W.taken out) text × (W.failed out ≡ J.failures))) }
         ensures part { (text : List ℕ)
-            → IsSent J.before (W.taken self.entry.outbox.out) J.failures (W.failed self.entry.outbox.out) self.entry.outbox.failed self.entry.outbox.unsent.items text
-            → OnErr result.1 (AppendsBeginning J.before (W.taken result.0) text) }
-        ensures goes { OnOk result.1 (self.entry.outbox.failed ≡ None) }
+            → IfSome self.entry.outbox (λ box. IsSent J.before (W.taken box.out) J.failures (W.failed box.out) box.failed box.unsent.items text)
+            → OnErr result.1 (IfSome result.0 (λ out. AppendsBeginning J.before (W.taken out) text)) }
+        ensures goes { OnOk result.1 (IfSome self.entry.outbox (λ box. box.failed ≡ None)) }
+        ensures failed { OnErr result.1 (J.sends ≡ true) }
     {
-        self.outbox.finish()
+        let RowSender { outbox, .. } = self;
+        match outbox {
+            Some(outbox) => {
+                let (out, sent) = outbox.finish();
+                (Some(out), sent)
+            }
+            None => (None, Ok(())),
+        }
     }
 }
 
 impl<J: StreamSpec, T: RowReporter, W: Sink + Drop> Observer<ReportedRow>
     for RowSender<'_, J, T, W> {
-    ghost use Rattle.std.specs.Prelude.{◌≡◌, true, is_some};
+    ghost use Rattle.std.specs.Prelude.{◌≡◌, true, is_some, IfSome, IsSomeAnd};
     ghost use Rattle.rv_stream.specs.Seen.{text_by_index};
     ghost use Rattle.rv_stream.specs.Texts.{IsSent};
 
-    ghost has_seen = { λ s reported. IsSent J.before (W.taken s.outbox.out) J.failures (W.failed s.outbox.out)
-        s.outbox.failed s.outbox.unsent.items (text_by_index J.line reported) };
+    ghost has_seen = { λ s reported. IfSome s.outbox (λ box. IsSent J.before (W.taken box.out) J.failures (W.failed box.out)
+        box.failed box.unsent.items (text_by_index J.line reported)) };
 
-    ghost stops = { λ s. is_some s.outbox.failed ≡ true };
+    ghost stops = { λ s. IsSomeAnd s.outbox (λ box. is_some box.failed ≡ true) };
 
     fn see(&mut self, made: &ReportedRow) -> Flow {
-        let (alloc, unsent) = (self.alloc, &mut self.outbox.unsent);
-        match self
-            .reporter
-            .push_row_text(alloc, made.index, &made.row, unsent)
-        {
+        let (alloc, reporter) = (self.alloc, self.reporter);
+        let Some(outbox) = &mut self.outbox else {
+            return Flow::GoOn;
+        };
+        match reporter.push_row_text(alloc, made.index, &made.row, &mut outbox.unsent) {
             Ok(()) => Flow::GoOn,
             Err(_) => {
                 // Out of memory: a reporter fails for that alone.
-                self.outbox.failed = Some(WriteError::OutOfMemory);
+                outbox.failed = Some(WriteError::OutOfMemory);
                 Flow::Stop
             }
         }
     }
 
     fn pause(&mut self) -> Flow {
-        self.outbox.send()
+        match &mut self.outbox {
+            Some(outbox) => outbox.send(),
+            None => Flow::GoOn,
+        }
     }
 }

@@ -4,11 +4,11 @@ use std::marker::Brand;
 
 /// Specifies a stream before it begins. All members are ghosts, and each stream chooses its own.
 pub trait StreamSpec {
-    ghost use Rattle.std.specs.Prelude.{ℕ, List, Option};
+    ghost use Rattle.std.specs.Prelude.{ℕ, Bool, List, Option};
     ghost use Rattle.rv_expect.specs.Judgement.{Judging};
     ghost use Rattle.rv_rows.specs.declared_row.Row.{Row};
 
-    // What the sink received before, and how many writes failed.
+    // What the sink received before, and how many writes failed: the sink of the stream, or that of a [`crate::RowSender`].
     ghost before: { Option (List ℕ) };
 
     ghost failures: { ℕ };
@@ -18,12 +18,17 @@ pub trait StreamSpec {
 
     ghost judging: { Judging };
 
-    // What a [`crate::RowSender`] sends for the job at an index and its row.
+    // Whether a [`crate::RowSender`] has a sink, and what it sends for the job at an index and its row.
+    ghost sends: { Bool };
+
+    // Whether an observer may keep the texts of rows that count as failures.
+    ghost keeps: { Bool };
+
     ghost line: { ℕ → Row → List ℕ };
 }
 
 impl StreamSpec for Brand {
-    ghost use Rattle.std.specs.Prelude.{None, []};
+    ghost use Rattle.std.specs.Prelude.{None, [], false};
     ghost use Rattle.rv_expect.specs.Judgement.{judging_by_rule};
     ghost use Rattle.rv_expect.specs.declared.passing.Rule.TheVariants.{Strict};
 
@@ -34,6 +39,10 @@ impl StreamSpec for Brand {
     ghost most = { None };
 
     ghost judging = { judging_by_rule Strict };
+
+    ghost sends = { false };
+
+    ghost keeps = { false };
 
     ghost line = { λ _ _. [] };
 }

@@ -1,13 +1,18 @@
 -- The sink of a report that is streamed: taken out of its outlet, and put back.
-use Rattle.std.proofs.Common.{◌≡◌, ◌∙◌, ◌++◌, ℕ, Bool, true, false, List, [], ◌∷◌, Option, Some, None, IfSome, Result, Ok, Err, OnOk, length, refl, subst, sym, ap, take}
+use Rattle.std.proofs.Common.{◌≡◌, ◌∙◌, ◌++◌, ℕ, Bool, true, false, List, [], ◌∷◌, Option, Some, None, IfSome, Result, Ok, Err, IfErr, OnErr, OnOk, ◌⊎◌, ⊎_elim, length, refl, subst, sym, ap, take}
 use Rattle.std.proofs.lemmas.List.{get_or-take}
-use Rattle.std.specs.Prelude.{IfOk, Vec, is_some, not, slice_index_or}
+use Rattle.std.specs.Prelude.{IfOk, IsSomeAnd, Vec, is_ok, is_some, not, slice_index_or}
+use Rattle.std.proofs.lemmas.Bool.{false≢true}
 use Rattle.std.specs.Io.KnownBytes.{Appends}
 use Rattle.std.proofs.KnownBytes.{Appends-trans}
 use Rattle.std.specs.declared.alloc.Global.{Global}
 use Rattle.rv_junit.specs.KnownLines.{AreLinesOf}
 use Rattle.rv_report.specs.declared.row.Row.{Row}
 use Rattle.rv_stream.specs.Streams.{joined_row_texts}
+use Rattle.rv_stream.specs.declared.error.StreamError.{StreamError}
+use Rattle.rv_stream.specs.declared.error.StreamError.TheVariants.{ObserverStopped}
+use Rattle.rvtest_app.specs.declared.run_output.ShowError.{ShowError}
+use Rattle.rvtest_app.specs.declared.run_output.ShowError.TheVariants.{ReportFailed}
 use Rattle.rvtest_app.proofs.ChosenTexts.{ahead_of_shown}
 use Rattle.rvtest_app.specs.IntoReports.{report_row_text, streamed_rows}
 use Rattle.rvtest_app.specs.Outlets.{IsPutInto, outlet_path}
@@ -88,6 +93,12 @@ pub done_on : {X E F : Type 0} (after : Result X E) (before : Result X F) (P : T
 done_on (Ok rows) before P is holds = subst (λ (r : Result X F). OnOk r P) is holds
 done_on (Err why) before P is holds = tt
 
+-- and so does what follows for the rows from what an observer has seen
+pub known_on : {X E F : Type 0} (after : Result X E) (before : Result X F) (S : Type 0) (P : X → Type 0) (all : X)
+    → IfOk after (λ rows. before ≡ Ok rows) → IfOk after (λ rows. rows ≡ all) → OnOk before S → (S → P all) → IfOk after P
+known_on (Ok rows) before S P all is same seen f = subst P (sym same) (f (subst (λ (r : Result X F). OnOk r S) is seen))
+known_on (Err why) before S P all is same seen f = tt
+
 -- the lines of the rows, and then the last line
 pub shown_whole : {E : Type 0} (r : Result (List Row) E) (start middle end : Option (List ℕ)) (texts : List ℕ) (totals : List Row → List ℕ)
     (all : List Row) → IfOk r (λ rows. rows ≡ all) → OnOk r (Appends start middle texts)
@@ -95,6 +106,40 @@ pub shown_whole : {E : Type 0} (r : Result (List Row) E) (start middle end : Opt
 shown_whole (Ok rows) start middle end texts totals all is first next =
     Appends-trans start middle end texts (totals all) first (subst (λ (rows : List Row). Appends middle end (totals rows)) is next)
 shown_whole (Err why) start middle end texts totals all is first next = tt
+
+-- ---- the sender of the report's rows
+
+-- a sender that has not failed does not stop a run
+module _ {B F : Type 0} (failed : B → Option F) where
+  pub goes_on : (box : Option B) → IfSome box (λ box. failed box ≡ None) → IsSomeAnd box (λ box. is_some (failed box) ≡ true) ⊎ ⊥ → ⊥
+  goes_on None none stops = ⊎_elim (λ is. elim is [ ]) (λ never. never) stops
+  goes_on (Some box) none stops =
+      ⊎_elim (λ is. false≢true (ap is_some (sym none) ∙ is)) (λ never. never) stops
+
+  -- a run that it stopped was not sent
+  pub unsent : {X U H : Type 0} (ran : Result X StreamError) (sent : Result U H) (box : Option B)
+      → IfErr ran (λ error. error ≡ ObserverStopped → IsSomeAnd box (λ box. is_some (failed box) ≡ true) ⊎ ⊥)
+      → OnOk sent (IfSome box (λ box. failed box ≡ None)) → ran ≡ Err ObserverStopped → is_ok sent ≡ false
+  unsent ran (Err why) box stops goes is = refl
+  unsent ran (Ok done) box stops goes is =
+      absurd (goes_on box goes (subst (λ (r : Result X StreamError). IfErr r (λ error. error ≡ ObserverStopped
+      → IsSomeAnd box (λ box. is_some (failed box) ≡ true) ⊎ ⊥)) is stops refl))
+
+-- what was sent while a run went well
+pub sent_on : {X E F U H : Type 0} (after : Result X E) (before : Result X F) (sent : Result U H) (S P : Type 0)
+    → IfOk after (λ rows. before ≡ Ok rows) → OnOk after (is_ok sent ≡ true) → OnOk before S → (S → OnOk sent P) → OnOk after P
+sent_on (Ok rows) before (Ok done) S P is ok seen f = f (subst (λ (r : Result X F). OnOk r S) is seen)
+sent_on (Ok rows) before (Err why) S P is ok seen f = absurd (false≢true ok)
+sent_on (Err why) before sent S P is ok seen f = tt
+
+-- the file of the report failed only if there is one
+pub report_of_failure : {X U H : Type 0} (after before : Result X ShowError) (sent : Result U H) (P : Type 0)
+    → IfErr after (λ error. error ≡ ReportFailed → before ≡ Err ReportFailed)
+    → IfErr before (λ error. error ≡ ReportFailed → is_ok sent ≡ false) → OnErr sent P → IfErr after (λ error. error ≡ ReportFailed → P)
+report_of_failure (Ok rows) before sent P is was failed = tt
+report_of_failure (Err why) before (Err error) P is was failed = λ same. failed
+report_of_failure (Err why) before (Ok done) P is was failed = λ same.
+    absurd (false≢true (sym (subst (λ (r : Result X ShowError). IfErr r (λ error. error ≡ ReportFailed → true ≡ false)) (is same) was refl)))
 
 -- what a sender has sent was written to the sink
 module _ {V : Type 0} (taken : V → Option (List ℕ)) (failed : V → ℕ) where

@@ -2,6 +2,7 @@
 use Rattle.std.proofs.Common.{◌≡◌, ◌≢◌, ◌⊎◌, ℕ, List, [], Option, Some, None, Result, Ok, Err, IfErr, inl, inr, refl, ⊎_elim}
 use Rattle.std.specs.Prelude.{IsSomeAnd, MatchResult}
 use Rattle.std.specs.declared.io.ErrorKind.TheVariants as io
+use Rattle.rvtest_cli.specs.declared.run.RunArgs.{RunArgs}
 use Rattle.rv_command.specs.Stops.{IsFileErrorStop}
 use Rattle.rv_command.specs.declared.stop.Stop.{Stop}
 use Rattle.rv_command.specs.declared.stop.Stop.TheVariants as stop
@@ -10,12 +11,12 @@ use Rattle.rv_files.specs.declared.file_error.FileError.TheVariants as file
 use Rattle.rv_files.specs.Placed.{CommittedFile}
 use Rattle.rv_report.specs.declared.report.WriteError.{WriteError}
 use Rattle.rv_report.specs.declared.report.WriteError.TheVariants as write
-use Rattle.rv_stream.specs.declared.error.BothError.{BothError}
-use Rattle.rv_stream.specs.declared.error.BothError.TheVariants as both
-use Rattle.rv_stream.specs.declared.error.StreamError.TheVariants as stream
-use Rattle.rvtest_app.specs.Outlets.{HasTaken, outlet_path}
+use Rattle.rvtest_app.specs.Outlets.{HasTaken, file_path_at, outlet_path}
 use Rattle.rvtest_app.specs.WriteStops.{IsFileStop, IsOutputStop, IsPutStop, IsTextStop, IsUnopenedStop, IsUnplacedStop, IsUnwrittenStop, IsWriteErrorStop, stop_of_write_error}
-use Rattle.rvtest_app.specs.RunStops.{IsBothStop, IsRowsStop, IsStreamStop}
+use Rattle.rvtest_app.specs.IntoReports.{run_report_path}
+use Rattle.rvtest_app.specs.RunStops.{IsRunPutStop, IsShowStop}
+use Rattle.rvtest_app.specs.declared.run_output.ShowError.{ShowError}
+use Rattle.rvtest_app.specs.declared.run_output.ShowError.TheVariants as show
 use Rattle.rvtest_app.specs.declared.outlets.Outlet.{Outlet}
 use Rattle.rvtest_app.proofs.PutTexts.{path_told}
 use Rattle.rvtest_app.proofs.StopLemmas.{IfErr-map}
@@ -89,26 +90,15 @@ module _ {P W : Type 0} (pending_path : P → List ℕ) (taken : W → Option (L
 
 -- ---- runs
 
--- a run that ended on its way
-pub put_of_stream : (report junit : Option (List ℕ)) (why : Stop) → IsStreamStop why
-    → (why ≡ stop.NoWorker) ⊎ IsPutStop report junit why
-put_of_stream report junit why (stream.OutOfMemory, is) = inr (inl is)
-put_of_stream report junit why (stream.NoWorker, is) = inl is
-put_of_stream report junit why (stream.Failed, is) = inr (inr (inl is))
-
--- a run whose rows did not all go out
-pub put_of_rows : (report junit : Option (List ℕ)) (why : Stop) → IsRowsStop report why
-    → (why ≡ stop.NoWorker) ⊎ IsPutStop report junit why
-put_of_rows report junit why = ⊎_elim (put_of_stream report junit why) (of_rows report)
+-- a run whose rows were not all shown and written, with the outlet of its report at the requested path
+pub run_of_show : (words : RunArgs) (path : Option (List ℕ)) (error : ShowError) (why : Stop) → path ≡ file_path_at (run_report_path words)
+    → IsShowStop path error why → IsRunPutStop words why
+run_of_show words path show.OutOfMemory why is stopped = inl (inr (inl stopped))
+run_of_show words path show.NoWorker why is stopped = inl (inl stopped)
+run_of_show words path show.StreamFailed why is stopped = inl (inr (inr (inl stopped)))
+run_of_show words path show.ReportFailed why is stopped =
+    inl (inr (inr (inr (inl (of (file_path_at (run_report_path words)) (rw is at stopped))))))
   where
-    of_rows : (report : Option (List ℕ)) → IsSomeAnd report (λ path. IsUnwrittenStop path why)
-        → (why ≡ stop.NoWorker) ⊎ IsPutStop report junit why
-    of_rows (Some path) is = inr (inr (inr (inl (inr is))))
-    of_rows None is = elim is [ ]
-
--- a run that stopped beside the file for a path
-pub rows_of_both : (path : List ℕ) (error : BothError) (why : Stop) → IsBothStop path error why → IsRowsStop (Some path) why
-rows_of_both path (both.First error) why is = inl (error, is)
-rows_of_both path (both.Second stream.Failed) why is = inr is
-rows_of_both path (both.Second stream.OutOfMemory) why is = inl (stream.OutOfMemory, is)
-rows_of_both path (both.Second stream.NoWorker) why is = inl (stream.NoWorker, is)
+    of : (path : Option (List ℕ)) → IsSomeAnd path (λ path. IsUnwrittenStop path why) → IsFileStop path why
+    of (Some path) is = inr is
+    of None is = elim is [ ]

@@ -1,14 +1,13 @@
 //! A run whose rows are shown and written as they come.
 
-ghost use Rattle.std.specs.Prelude.{◌≡◌, ◌≤◌, [], ℕ, List, IfErr, IfOk, IfSome, None, OnErr, OnOk, is_some, length, true};
+ghost use Rattle.std.specs.Prelude.{◌≡◌, ◌≤◌, [], ℕ, List, IfErr, IfOk, IfSome, None, OnOk, is_some, length, true};
 ghost use Rattle.std.specs.Io.KnownBytes.{Appends};
-ghost use Rattle.rv_expect.specs.Judgement.{fails, judging_of};
+ghost use Rattle.rv_expect.specs.Judgement.{judging_of};
 ghost use Rattle.rv_job_text.specs.RowReporter.{row_lines_at, reporter_of};
 ghost use Rattle.rv_junit.specs.KnownLines.{AreFailureTexts, AreLinesOf};
 ghost use Rattle.rv_rows.specs.declared_row.Row.{Row as ARow};
 ghost use Rattle.rv_stream.specs.Streams.{joined_row_texts};
-ghost use Rattle.rv_stream.specs.Texts.{IsSent};
-ghost use Rattle.rvtest_app.specs.FailureLines.{failure_lines};
+ghost use Rattle.rvtest_app.specs.FailureLines.{failure_lines, keeps_failures};
 ghost use Rattle.rvtest_app.specs.IntoReports.{report_row_text};
 ghost use Rattle.rvtest_app.specs.RowSinks.{AreRowsWritten};
 ghost use Rattle.rvtest_app.specs.RunOutput.{run_output_text};
@@ -26,7 +25,7 @@ use rv_files::Inputs;
 use rv_fleet::{Batch, Rows};
 use rv_job_text::{TextReporter, Verbosity};
 use rv_junit::FailureTexts;
-use rv_rows::{Sink, WriteError};
+use rv_rows::Sink;
 use rv_stream::{FailureLimit, ReporterOutput, RowSender, StreamSpec, stream_rows};
 use rv_terminal::{Progress, ProgressReporter, TerminalSink};
 use std::alloc::Global;
@@ -68,9 +67,11 @@ impl<'x, R: Threads + Wait + Sync + Clock, D: Inputs> ListRun<'x, R, D> {
         sink: Option<V>,
         terminals: Terminals<P>,
     ) -> (W, ShownRun<V>)
+        requires there { is_some sink ≡ K.sends }
         requires sink { IfSome sink (λ sink. (K.before ≡ V.taken sink) × (K.failures ≡ V.failed sink)) }
         requires line { report_row_text rows.now.is_streaming ≡ K.line }
         requires judging { judging_of planned.now.reporter.now.judge ≡ K.judging }
+        requires keeps { keeps_failures self.now.args.now planned.now.reporter.now.verbosity ≡ K.keeps }
         ensures rows { IfOk result.1.ran (λ rows. rows ≡ run_rows self.now.args.now.stop_after
             (judging_of planned.now.reporter.now.judge) planned.now.reporter.now.plan.now planned.now.places.now) }
         ensures few { IfOk result.1.ran (λ rows. length rows ≤ length planned.now.places.now) }
@@ -96,12 +97,14 @@ impl<'x, R: Threads + Wait + Sync + Clock, D: Inputs> ListRun<'x, R, D> {
             stream,
             is_terminal,
         } = shown;
+        let out = TerminalSink::new(rt, alloc, stream, is_terminal, &progress);
         let output = ReporterOutput {
             reporter: &counting,
-            out: TerminalSink::new(rt, alloc, stream, is_terminal, &progress),
+            out,
         };
+        let sender = RowSender::<K, ReportRowReporter, V>::new(alloc, rows, sink);
         let observer = Both {
-            first: row_sender::<K, V>(alloc, rows, sink),
+            first: sender,
             second: self.failure_texts::<K>(reporter),
         };
         let crew = requested_crew(rt, alloc, self.args);
@@ -115,14 +118,14 @@ impl<'x, R: Threads + Wait + Sync + Clock, D: Inputs> ListRun<'x, R, D> {
             R,
             ProgressReporter<'_, '_, '_, '_, R, TextReporter<'_>, P>,
             TerminalSink<'_, '_, R, W, P>,
-            Both<Option<RowSender<'_, K, ReportRowReporter, V>>, Option<FailureTexts<'m, K>>>,
+            Both<RowSender<'_, K, ReportRowReporter, V>, FailureTexts<'m, K>>,
         >(&crew, &batch, &limit, output, observer);
         let Both {
             first: sender,
             second: texts,
         } = observer;
-        let (sink, sent) = finish_sender(sender);
-        let texts = texts_of(alloc, texts);
+        let (sink, sent) = sender.finish();
+        let texts = texts.into_texts();
         let ran = rows_if_written(ran, sent);
         let ran = put_totals_line(alloc, &reporter.judge, &batch, ran, &mut stream);
         let stream = stream.into_inner();
@@ -154,77 +157,16 @@ impl<'x, R: Threads + Wait + Sync + Clock, D: Inputs> ListRun<'x, R, D> {
         )
     }
 
-    // Returns where the texts of failures are kept, if the JUnit document has them, too.
-    fn failure_texts<'m, K: StreamSpec>(
-        &self,
-        reporter: &TextReporter<'m>,
-    ) -> Option<FailureTexts<'m, K>>
-        requires { judging_of reporter.now.judge ≡ K.judging }
-        ensures none { IfSome result (λ texts. AreFailureTexts K.judging texts.is_closed texts.texts.items []) }
-        ensures lines { IfSome result (λ _. (place : ℕ) (row : ARow) → fails (judging_of reporter.now.judge) row ≡ true
-            → row_lines_at (reporter_of reporter.now) place row ≡ failure_lines (reporter_of reporter.now) place row) }
+    // Returns an observer that keeps the texts of failures, if the JUnit document needs them.
+    fn failure_texts<'m, K: StreamSpec>(&self, reporter: &TextReporter<'m>) -> FailureTexts<'m, K>
+        requires judging { judging_of reporter.now.judge ≡ K.judging }
+        requires keeps { keeps_failures self.now.args.now reporter.now.verbosity ≡ K.keeps }
+        ensures { AreFailureTexts K.judging result.is_closed result.texts.items [] }
     {
-        if self.args.junit.is_none() {
-            return None;
-        }
-        match reporter.verbosity {
-            Verbosity::Quiet => None,
-            Verbosity::Failures | Verbosity::All => {
-                Some(FailureTexts::new(self.host.alloc, reporter.judge))
-            }
-        }
-    }
-}
-
-// Returns a sender of the rows' report texts to a sink, if there is one.
-fn row_sender<'t, K: StreamSpec, V: Sink + Drop>(
-    alloc: Global,
-    rows: &'t ReportRowReporter,
-    sink: Option<V>,
-) -> Option<RowSender<'t, K, ReportRowReporter, V>>
-    requires sink { IfSome sink (λ sink. (K.before ≡ V.taken sink) × (K.failures ≡ V.failed sink)) }
-    requires line { report_row_text rows.now.is_streaming ≡ K.line }
-    ensures there { is_some result ≡ is_some sink }
-    ensures sent { IfSome result (λ sender. IsSent K.before (V.taken sender.outbox.out) K.failures (V.failed sender.outbox.out)
-        sender.outbox.failed sender.outbox.unsent.items []) }
-    ensures goes { IfSome result (λ sender. sender.outbox.failed ≡ None) }
-{
-    match sink {
-        Some(sink) => Some(RowSender::<K, ReportRowReporter, V>::new(alloc, rows, sink)),
-        None => None,
-    }
-}
-
-// Sends what waits in a sender, if there is one, and returns its sink.
-fn finish_sender<K: StreamSpec, V: Sink + Drop>(
-    sender: Option<RowSender<'_, K, ReportRowReporter, V>>,
-) -> (Option<V>, Result<(), WriteError>)
-    ensures there { is_some result.0 ≡ is_some sender.entry }
-    ensures all { (text : List ℕ) → IfSome sender.entry (λ sender. IsSent K.before (V.taken sender.outbox.out) K.failures
-        (V.failed sender.outbox.out) sender.outbox.failed sender.outbox.unsent.items text)
-        → OnOk result.1 (IfSome result.0 (λ sink. Appends K.before (V.taken sink) text × (V.failed sink ≡ K.failures))) }
-    ensures goes { OnOk result.1 (IfSome sender.entry (λ sender. sender.outbox.failed ≡ None)) }
-    ensures failed { OnErr result.1 (is_some sender.entry ≡ true) }
-{
-    match sender {
-        Some(sender) => {
-            let (sink, sent) = sender.finish();
-            (Some(sink), sent)
-        }
-        None => (None, Ok(())),
-    }
-}
-
-// Returns the texts that were kept, by the numbers of their rows; none if none were to be kept.
-fn texts_of<K: StreamSpec>(
-    alloc: Global,
-    texts: Option<FailureTexts<'_, K>>,
-) -> Vec<Option<Vec<u8>>>
-    ensures some { IfSome texts.entry (λ texts. result.items ≡ texts.texts.items) }
-    ensures none { texts.entry ≡ None → result.items ≡ [] }
-{
-    match texts {
-        Some(texts) => texts.into_texts(),
-        None => Vec::new(alloc),
+        let is_needed = match reporter.verbosity {
+            Verbosity::Quiet => false,
+            Verbosity::Failures | Verbosity::All => self.args.junit.is_some(),
+        };
+        FailureTexts::new(self.host.alloc, reporter.judge, is_needed)
     }
 }

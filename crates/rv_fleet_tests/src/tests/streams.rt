@@ -4,7 +4,10 @@ ghost use Rattle.std.specs.Prelude.{None};
 use super::{chosen, crew_of, number_in};
 use rv_expect::{Judge, Rule};
 use rv_fleet::{Batch, Crew, Row, Rows, Sink, SinkFailed};
-use rv_stream::{FailureLimit, ReporterOutput, RowReporter, RowSender, StreamError, stream_rows};
+use rv_stream::{
+    FailureLimit, Flow, Observer, ReportedRow, ReporterOutput, RowReporter, StreamError,
+    stream_rows,
+};
 use samples::{agree, cell_of, has_lines};
 use std::alloc::{AllocError, Global};
 use std::marker::Brand;
@@ -13,7 +16,7 @@ use std::sync::atomic::{AtomicU64, Ordering};
 use std::test::Fail;
 use std::thread::Threads;
 
-/// Reports the name of each row of two or more steps, and nothing for others; counts the rows that it is asked for.
+/// Reports the name of each row of two or more steps, and nothing for others; counts the rows whose text was requested.
 #[derive(Drop)]
 struct Names<'a> {
     asked: &'a AtomicU64,
@@ -37,6 +40,26 @@ impl<'a> RowReporter for Names<'a> {
         }
         text.extend_from_slice(row.name.as_str().as_bytes())?;
         text.extend_from_slice(b";")
+    }
+}
+
+/// An observer that does nothing.
+#[derive(Drop)]
+struct Unobserved;
+
+impl Observer<ReportedRow> for Unobserved {
+    ghost use Rattle.std.specs.Prelude.{⊤};
+
+    ghost has_seen = { λ _ _. ⊤ };
+
+    ghost stops = { λ _. ⊥ };
+
+    fn see(&mut self, _made: &ReportedRow) -> Flow {
+        Flow::GoOn
+    }
+
+    fn pause(&mut self) -> Flow {
+        Flow::GoOn
     }
 }
 
@@ -168,13 +191,9 @@ fn told<R: Threads + Wait + Sync>(
         reporter: &names,
         out,
     };
-    let (out, _, ran) = stream_rows::<
-        Brand,
-        R,
-        Names<'_>,
-        NotingSink<'_>,
-        Option<RowSender<'_, Brand, Names<'_>, NotingSink<'_>>>,
-    >(&crew, &batch, &limit, to, None);
+    let (out, _, ran) = stream_rows::<Brand, R, Names<'_>, NotingSink<'_>, Unobserved>(
+        &crew, &batch, &limit, to, Unobserved,
+    );
     text_of(alloc, &out, &ran)
 }
 

@@ -1,11 +1,30 @@
-use Rattle.std.proofs.Common.{◌≡◌, ◌∙◌, ℕ, List, IfOk, OnOk, ap, sym}
+use Rattle.std.proofs.Common.{◌≡◌, ◌∙◌, ◌-◌, ℕ, List, IfSome, OnOk, ap, length, subst, sym}
 use Rattle.rv_expect.specs.Judgement.{judging_of}
 use Rattle.rv_job_text.specs.RowReporter.{row_lines_at, reporter_of}
 use Rattle.rv_job_text.specs.TotalsLine.{run_totals_line}
+use Rattle.rv_junit.proofs.Public.{kept_known}
+use Rattle.rv_junit.specs.KnownLines.{AreFailureTexts, AreLinesOf}
 use Rattle.rv_rows.specs.declared_row.Row.{Row}
-use Rattle.rvtest_app.proofs.RowSinks.{done_on, ran_on, sent_to, shown_whole}
+use Rattle.rv_stream.proofs.Public.{reported_texts}
+use Rattle.rv_stream.specs.Seen.{text_by_index}
+use Rattle.rv_stream.specs.Streams.{joined_row_texts}
+use Rattle.rv_stream.specs.Texts.{IsSent}
+use Rattle.rvtest_app.proofs.FailedRows.{lines_of_kept}
+use Rattle.rvtest_app.proofs.Results.{OnOk-both, OnOk-map}
+use Rattle.rvtest_app.proofs.RowSinks.{done_on, goes_on, known_on, ran_on, report_of_failure, sent_on, sent_to, shown_whole, unsent}
+use Rattle.rvtest_app.specs.FailureLines.{failure_lines}
+use Rattle.rvtest_app.specs.IntoReports.{report_row_text}
 use Rattle.rvtest_app.specs.Runs.{run_rows}
 use Rattle.rvtest_app.proofs.run.ListRun.run_and_show.Goals as goal
+
+pub stream_rows-stream-requires-clause-goes : goal.stream_rows-stream-requires-clause-goes
+stream_rows-stream-requires-clause-goes g c κs within =
+    goes_on (λ box. box.failed) c.new-sender.result.outbox c.new-sender.ensures.goes
+
+pub rows_if_written-ran-requires : goal.rows_if_written-ran-requires
+rows_if_written-ran-requires g c =
+    unsent (λ box. box.failed) c.stream_rows-stream.result.2 c.finish-sink.result.1 c.stream_rows-stream.result.1.first.outbox
+    c.stream_rows-stream.ensures.stopped c.finish-sink.ensures.goes
 
 pub returns-clause-rows : goal.returns-clause-rows
 returns-clause-rows g c =
@@ -20,13 +39,77 @@ returns-clause-few g c =
     (rw c.new-batch.ensures.places at c.stream_rows-stream.ensures.few))
 
 pub returns-clause-shown : goal.returns-clause-shown
-returns-clause-shown g c = ?
+returns-clause-shown g c =
+    let planned = c.args.planned.now in
+    let plan = planned.reporter.now.plan.now in
+    let places = planned.places.now in
+    let judging = judging_of planned.reporter.now.judge in
+    let taken = g.W.Sink.taken in
+    let all = run_rows c.args.self.now.args.now.stop_after judging plan places in
+    let texts = rw (c.new-batch.ensures.plan, c.new-batch.ensures.places, c.new-out.ensures.sink, c.new-counting.ensures)
+    at c.stream_rows-stream.ensures.all in
+    let line = rw (c.new-batch.ensures.plan, c.new-batch.ensures.places) at c.put_totals_line-ran.ensures.line in
+    rw c.into_inner-stream.ensures
+    (shown_whole c.put_totals_line-ran.result (taken c.args.shown.stream) (taken c.stream_rows-stream.result.0.sink)
+    (taken c.put_totals_line-ran.new.out.sink) (joined_row_texts (row_lines_at (reporter_of planned.reporter.now)) places all)
+    (λ (rows : List Row). run_totals_line judging plan places rows (length places - length rows)) all
+    (returns-clause-rows g c)
+    (done_on c.put_totals_line-ran.result c.rows_if_written-ran.result _ c.put_totals_line-ran.ensures.rows
+    (done_on c.rows_if_written-ran.result c.stream_rows-stream.result.2 _ c.rows_if_written-ran.ensures.rows texts))
+    line)
 
 pub returns-clause-counted : goal.returns-clause-counted
-returns-clause-counted g c = ?
+returns-clause-counted g c =
+    let counted = rw c.new-out.ensures.sink at c.stream_rows-stream.ensures.counted in
+    rw c.into_inner-stream.ensures
+    (OnOk-both c.put_totals_line-ran.result _ _ _ (λ before after. after ∙ before)
+    (done_on c.put_totals_line-ran.result c.rows_if_written-ran.result _ c.put_totals_line-ran.ensures.rows
+    (done_on c.rows_if_written-ran.result c.stream_rows-stream.result.2 _ c.rows_if_written-ran.ensures.rows counted))
+    c.put_totals_line-ran.ensures.counted)
 
 pub returns-clause-report : goal.returns-clause-report
-returns-clause-report g c = ?
+returns-clause-report g c =
+    let planned = c.args.planned.now in
+    let places = planned.places.now in
+    let all = run_rows c.args.self.now.args.now.stop_after (judging_of planned.reporter.now.judge) planned.reporter.now.plan.now places in
+    let line = report_row_text c.args.rows.now.is_streaming in
+    let text = joined_row_texts line places all in
+    let sender = c.stream_rows-stream.result.1.first in
+    let seen = rw (c.new-batch.ensures.plan, c.new-batch.ensures.places) at c.stream_rows-stream.ensures.seen in
+    done_on c.put_totals_line-ran.result c.rows_if_written-ran.result _ c.put_totals_line-ran.ensures.rows
+    (sent_on c.rows_if_written-ran.result c.stream_rows-stream.result.2 c.finish-sink.result.1 _ _
+    c.rows_if_written-ran.ensures.rows c.rows_if_written-ran.ensures.sent seen
+    (λ seen. OnOk-map c.finish-sink.result.1 _ _
+    (sent_to g.V.Sink.taken g.V.Sink.failed g.K.StreamSpec.before g.K.StreamSpec.failures c.args.sink c.finish-sink.result.0 text
+    c.requires.sink (c.finish-sink.ensures.there ∙ sym c.requires.there))
+    (c.finish-sink.ensures.all text
+    (subst (λ (text : List ℕ). IfSome sender.outbox (λ box. IsSent g.K.StreamSpec.before (g.V.Sink.taken box.out)
+    g.K.StreamSpec.failures (g.V.Sink.failed box.out) box.failed box.unsent.items text))
+    (ap (λ (line : ℕ → Row → List ℕ). text_by_index line seen.reported) (sym c.requires.line) ∙ reported_texts _ _ places all seen line)
+    seen.seen.0))))
+
+pub returns-clause-sink : goal.returns-clause-sink
+returns-clause-sink g c = c.finish-sink.ensures.there ∙ sym c.requires.there
+
+pub returns-clause-report_failed : goal.returns-clause-report_failed
+returns-clause-report_failed g c =
+    report_of_failure c.put_totals_line-ran.result c.rows_if_written-ran.result c.finish-sink.result.1 _
+    c.put_totals_line-ran.ensures.report c.rows_if_written-ran.ensures.report (rw (sym c.requires.there) at c.finish-sink.ensures.failed)
 
 pub returns-clause-texts : goal.returns-clause-texts
-returns-clause-texts g c = ?
+returns-clause-texts g c =
+    let planned = c.args.planned.now in
+    let places = planned.places.now in
+    let judging = judging_of planned.reporter.now.judge in
+    let all = run_rows c.args.self.now.args.now.stop_after judging planned.reporter.now.plan.now places in
+    let kept = c.stream_rows-stream.result.1.second in
+    let lines = failure_lines (reporter_of planned.reporter.now) in
+    let seen = rw (c.new-batch.ensures.plan, c.new-batch.ensures.places, c.new-counting.ensures) at c.stream_rows-stream.ensures.seen in
+    rw c.into_texts-texts.ensures.items
+    (known_on c.put_totals_line-ran.result c.rows_if_written-ran.result _ (λ rows. AreLinesOf lines places rows kept.texts.items) all
+    c.put_totals_line-ran.ensures.rows (returns-clause-rows g c)
+    (done_on c.rows_if_written-ran.result c.stream_rows-stream.result.2 _ c.rows_if_written-ran.ensures.rows seen)
+    (λ seen. kept_known _ (row_lines_at (reporter_of planned.reporter.now)) lines judging kept.is_closed g.K.StreamSpec.keeps kept.texts.items
+    places all seen c.into_texts-texts.ensures.needed
+    (λ keeps. lines_of_kept c.args.self.now.args.now (reporter_of planned.reporter.now) (c.requires.keeps ∙ keeps))
+    (rw (sym c.requires.judging) at seen.seen.1)))

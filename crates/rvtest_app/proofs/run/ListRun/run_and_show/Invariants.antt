@@ -1,4 +1,4 @@
-use Rattle.std.proofs.Common.{[]}
+use Rattle.std.proofs.Common.{[], false}
 use Rattle.rv_expect.specs.Judgement.{judging_of}
 use Rattle.rvtest_app.proofs.run.ListRun.run_and_show.Given as goal
 
@@ -6,6 +6,8 @@ abbrev pub ghosts-stream_rows : goal.ghosts-stream_rows
 ghosts-stream_rows g a = record {
   before = g.W.Sink.taken a.to.out.sink;
   failures = g.W.Sink.failed a.to.out.sink;
+  sends = false;
+  keeps = false;
   most = a.limit.now.failures;
   judging = judging_of a.limit.now.judge;
   line = λ _ _. [];

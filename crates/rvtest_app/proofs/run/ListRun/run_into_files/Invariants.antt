@@ -1,5 +1,7 @@
 use Rattle.std.proofs.Common.{None}
+use Rattle.std.specs.Prelude.{is_some}
 use Rattle.rv_expect.specs.Judgement.{judging_of}
+use Rattle.rvtest_app.specs.FailureLines.{keeps_failures}
 use Rattle.rvtest_app.specs.IntoReports.{report_row_text}
 use Rattle.rvtest_app.specs.RowSinks.{sink_failures, sink_taken}
 use Rattle.rvtest_app.proofs.run.ListRun.run_into_files.Given as goal
@@ -8,6 +10,8 @@ abbrev pub ghosts-run_and_show-errors : goal.ghosts-run_and_show-errors
 ghosts-run_and_show-errors g a = record {
   before = sink_taken g.F.File.Sink.taken a.sink;
   failures = sink_failures g.F.File.Sink.failed a.sink;
+  sends = is_some a.sink;
+  keeps = keeps_failures a.self.now.args.now a.planned.now.reporter.now.verbosity;
   most = None;
   judging = judging_of a.planned.now.reporter.now.judge;
   line = report_row_text a.rows.now.is_streaming;
@@ -17,6 +21,8 @@ abbrev pub ghosts-run_and_show-out : goal.ghosts-run_and_show-out
 ghosts-run_and_show-out g a = record {
   before = sink_taken g.F.File.Sink.taken a.sink;
   failures = sink_failures g.F.File.Sink.failed a.sink;
+  sends = is_some a.sink;
+  keeps = keeps_failures a.self.now.args.now a.planned.now.reporter.now.verbosity;
   most = None;
   judging = judging_of a.planned.now.reporter.now.judge;
   line = report_row_text a.rows.now.is_streaming;
