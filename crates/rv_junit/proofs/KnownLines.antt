@@ -60,7 +60,7 @@ lines_at line lines judging index row reported (Some text) same report is kept =
     ∙ ap (λ (r : Row). lines index r) (sym is)
 
 -- the texts of failures that were kept are the lines of their rows
-pub lines_known : (has_seen : List ReportedRow → Type 0) (line lines : ℕ → Row → List ℕ) (judging : Judging) (is_closed : Bool)
+lines_known : (has_seen : List ReportedRow → Type 0) (line lines : ℕ → Row → List ℕ) (judging : Judging) (is_closed : Bool)
     (texts : List (Option (Vec ℕ Global))) (places : List ℕ) (rows : List Row) (seen : HasSeenRows has_seen line places rows)
     → ((place : ℕ) (row : Row) → fails judging row ≡ true → line place row ≡ lines place row)
     → AreFailureTexts judging is_closed texts seen.reported → AreLinesOf lines places rows texts
@@ -80,7 +80,7 @@ lines_known has_seen line lines judging is_closed texts places rows seen same ar
         (are.each k first low)
 
 -- nothing is known
-pub none_known : (lines : ℕ → Row → List ℕ) (places : List ℕ) (rows : List Row) → AreLinesOf lines places rows []
+none_known : (lines : ℕ → Row → List ℕ) (places : List ℕ) (rows : List Row) → AreLinesOf lines places rows []
 none_known lines places rows = λ k any lt. tt
 
 -- the kept texts are the lines of their rows, if texts are kept only while the two reporters report failures alike

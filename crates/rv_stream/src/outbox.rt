@@ -1,15 +1,16 @@
 //! A sink, and the text that is buffered for it.
 
-ghost use Rattle.std.specs.Prelude.{◌≡◌, [], ℕ, List, None, OnErr, OnOk, is_some, true};
+ghost use Rattle.std.specs.Prelude.{◌≡◌, ◌++◌, [], ℕ, List, None, OnErr, OnOk, is_some, true};
 ghost use Rattle.std.specs.Io.KnownBytes.{Appends};
 ghost use Rattle.rv_engine.specs.declared.listener.Flow.TheVariants.{GoOn, Stop};
 ghost use Rattle.rv_rows.specs.Sinks.{AppendsBeginning};
 ghost use Rattle.rv_stream.specs.Texts.{IsSent};
 
+use crate::reported_row::ReportedRow;
 use crate::streamed::StreamSpec;
 use rv_engine::Flow;
 use rv_fleet::{Sink, put_all};
-use rv_rows::WriteError;
+use rv_rows::{RowReporter, WriteError};
 use std::alloc::Global;
 use std::marker::PhantomData;
 
@@ -37,6 +38,31 @@ impl<J: StreamSpec, W: Sink + Drop> Outbox<J, W> {
             unsent: Vec::new(alloc),
             failed: None,
             of: PhantomData,
+        }
+    }
+
+    /// Buffers the text that a reporter gives of a row, and returns whether to continue.
+    pub(crate) fn push_text<T: RowReporter>(
+        &mut self,
+        alloc: Global,
+        reporter: &T,
+        made: &ReportedRow,
+    ) -> Flow
+        requires { self.old.failed ≡ None }
+        ensures sent { (text : List ℕ)
+            → IsSent J.before (W.taken self.old.out) J.failures (W.failed self.old.out) self.old.failed self.old.unsent.items text
+            → IsSent J.before (W.taken self.new.out) J.failures (W.failed self.new.out) self.new.failed self.new.unsent.items
+            (text ++ T.line reporter.now made.now.index made.now.row) }
+        ensures goes { result ≡ GoOn → self.new.failed ≡ None }
+        ensures stops { result ≡ Stop → is_some self.new.failed ≡ true }
+    {
+        match reporter.push_row_text(alloc, made.index, &made.row, &mut self.unsent) {
+            Ok(()) => Flow::GoOn,
+            Err(_) => {
+                // Out of memory: a reporter fails for that alone.
+                self.failed = Some(WriteError::OutOfMemory);
+                Flow::Stop
+            }
         }
     }
 

@@ -80,16 +80,9 @@ impl<J: StreamSpec, T: RowReporter, W: Sink + Drop> Observer<ReportedRow>
 
     fn see(&mut self, made: &ReportedRow) -> Flow {
         let (alloc, reporter) = (self.alloc, self.reporter);
-        let Some(outbox) = &mut self.outbox else {
-            return Flow::GoOn;
-        };
-        match reporter.push_row_text(alloc, made.index, &made.row, &mut outbox.unsent) {
-            Ok(()) => Flow::GoOn,
-            Err(_) => {
-                // Out of memory: a reporter fails for that alone.
-                outbox.failed = Some(WriteError::OutOfMemory);
-                Flow::Stop
-            }
+        match &mut self.outbox {
+            Some(outbox) => outbox.push_text(alloc, reporter, made),
+            None => Flow::GoOn,
         }
     }
 

@@ -1,5 +1,5 @@
--- The sink of a report that is streamed: taken out of its outlet, and put back.
-use Rattle.std.proofs.Common.{◌≡◌, ◌∙◌, ◌++◌, ℕ, Bool, true, false, List, [], ◌∷◌, Option, Some, None, IfSome, Result, Ok, Err, IfErr, OnErr, OnOk, ◌⊎◌, ⊎_elim, length, refl, subst, sym, ap, take}
+-- The sink of a report that is streamed, and what a run that is shown leaves in it.
+use Rattle.std.proofs.Common.{◌≡◌, ◌∙◌, ◌++◌, ℕ, Bool, true, false, List, [], ◌∷◌, Option, Some, None, IfSome, Result, Ok, Err, IfErr, OnErr, OnOk, ◌⊎◌, ⊎_elim, inl, length, refl, subst, sym, ap, take}
 use Rattle.std.proofs.lemmas.List.{get_or-take}
 use Rattle.std.specs.Prelude.{IfOk, IsSomeAnd, Vec, is_ok, is_some, not, slice_index_or}
 use Rattle.std.proofs.lemmas.Bool.{false≢true}
@@ -13,17 +13,23 @@ use Rattle.rv_stream.specs.declared.error.StreamError.{StreamError}
 use Rattle.rv_stream.specs.declared.error.StreamError.TheVariants.{ObserverStopped}
 use Rattle.rvtest_app.specs.declared.run_output.ShowError.{ShowError}
 use Rattle.rvtest_app.specs.declared.run_output.ShowError.TheVariants.{ReportFailed}
+use Rattle.rv_files.specs.Placed.{CommittedFile}
+use Rattle.rvtest_cli.specs.declared.run.RunArgs.{RunArgs}
 use Rattle.rvtest_app.proofs.ChosenTexts.{ahead_of_shown}
-use Rattle.rvtest_app.specs.IntoReports.{report_row_text, streamed_rows}
-use Rattle.rvtest_app.specs.Outlets.{IsPutInto, outlet_path}
-use Rattle.rvtest_app.specs.RowSinks.{AreOutletParts, AreRowsWritten}
+use Rattle.rvtest_app.proofs.PutTexts.{taken_more}
+use Rattle.rvtest_app.specs.CommandOutputs.{CommandOutputs}
+use Rattle.rvtest_app.specs.IntoReports.{report_row_text, run_report_path, streamed_rows}
+use Rattle.rvtest_app.specs.Outlets.{IsPutInto, has_no_failure, outlet_path}
+use Rattle.rvtest_app.specs.Puts.{IsShown}
+use Rattle.rvtest_app.specs.RowSinks.{AreOutletParts, AreRowsWritten, sink_failures, sink_taken}
+use Rattle.rvtest_app.specs.RunOutlets.{HaveRunOutletsTaken}
 use Rattle.rvtest_app.specs.Runs.{shown_indices}
 use Rattle.rvtest_app.specs.declared.outlets.Outlet.{Outlet}
 use Rattle.rvtest_app.specs.declared.outlets.Outlet.TheVariants as outlet
 
 module _ {P V : Type 0} (taken : V → Option (List ℕ)) (failed : V → ℕ) where
   -- what was written to the sink was written to the outlet
-  pub written_into : (shell : Outlet P (Unit {0})) (before after : Option V) (whole_before whole_after : Outlet P V) (text : List ℕ)
+  written_into : (shell : Outlet P (Unit {0})) (before after : Option V) (whole_before whole_after : Outlet P V) (text : List ℕ)
       → AreOutletParts shell before whole_before → AreOutletParts shell after whole_after
       → AreRowsWritten taken failed before after text → IsPutInto taken failed whole_before whole_after text
   written_into outlet.Nowhere None None b a text is_before is_after written = rw (is_before, is_after) tt
@@ -67,11 +73,61 @@ empty_texts [] rows = refl
 empty_texts (place ∷ places) [] = refl
 empty_texts (place ∷ places) (row ∷ rows) = empty_texts places rows
 
+negated : (a b : Bool) → a ≡ not b → b ≡ not a
+negated a true is = rw is refl
+negated a false is = rw is refl
+
 -- the rows that are streamed are the part of the report that is written as they arrive
-pub streamed : (old : Option (List Row)) (is_streaming : Bool) (places : List ℕ) (rows : List Row) → is_streaming ≡ not (is_some old)
+streamed : (old : Option (List Row)) (is_streaming : Bool) (places : List ℕ) (rows : List Row) → is_streaming ≡ not (is_some old)
     → joined_row_texts (report_row_text is_streaming) places rows ≡ streamed_rows old (shown_indices places rows) rows
 streamed (Some old) is_streaming places rows is = rw is (empty_texts places rows)
 streamed None is_streaming places rows is = rw is (sym (ahead_of_shown None places rows))
+
+-- ---- the outlets of a run
+
+-- what the sink of a stream has received before the run, if there is one
+module _ {V : Type 0} (taken : V → Option (List ℕ)) (failed : V → ℕ) where
+  pub sink_known : (sink : Option V) → IfSome sink (λ s. (sink_taken taken sink ≡ taken s) × (sink_failures failed sink ≡ failed s))
+  sink_known None = tt
+  sink_known (Some s) = (refl, refl)
+
+module _ {P V : Type 0} (pending_path : P → List ℕ) (taken : V → Option (List ℕ)) (failed : V → ℕ) where
+  still_whole : (before after : Outlet P V) (text : List ℕ) → IsPutInto taken failed before after text → has_no_failure failed before
+      → has_no_failure failed after
+  still_whole outlet.Nowhere outlet.Nowhere text put none = tt
+  still_whole outlet.Out outlet.Out text put none = tt
+  still_whole (outlet.File before) (outlet.File after) text put none = put.1.1 ∙ none
+  still_whole outlet.Nowhere outlet.Out text put none = elim put [ ]
+  still_whole outlet.Nowhere (outlet.File after) text put none = elim put [ ]
+  still_whole outlet.Out outlet.Nowhere text put none = elim put [ ]
+  still_whole outlet.Out (outlet.File after) text put none = elim put [ ]
+  still_whole (outlet.File before) outlet.Nowhere text put none = elim put [ ]
+  still_whole (outlet.File before) outlet.Out text put none = elim put [ ]
+
+  -- the outlet of the report has received the rows that were streamed, the others nothing
+  pub taken_of_run : {G : Type 0} (placed : Option (List CommittedFile)) (args : RunArgs) (old : Option (List Row)) (is_streaming : Bool)
+      (places : List ℕ) (all : List Row) (ran : Result (List Row) G) (shell : Outlet P (Unit {0})) (before after : Option V)
+      (whole_before whole_after junit counts : Outlet P V)
+      → HaveRunOutletsTaken pending_path taken failed placed args [] (record { report = whole_before; junit = junit; counts = counts })
+      → AreOutletParts shell before whole_before → AreOutletParts shell after whole_after → is_some old ≡ not is_streaming
+      → IfOk ran (λ rows. rows ≡ all)
+      → OnOk ran (AreRowsWritten taken failed before after (joined_row_texts (report_row_text is_streaming) places all))
+      → IfOk ran (λ rows. HaveRunOutletsTaken pending_path taken failed placed args (streamed_rows old (shown_indices places rows) rows)
+      (record { report = whole_after; junit = junit; counts = counts }))
+  taken_of_run placed args old is_streaming places all (Err why) shell before after wb wa junit counts has was is streams same written = tt
+  taken_of_run placed args old is_streaming places all (Ok rows) shell before after wb wa junit counts has was is streams same written =
+      let text = streamed_rows old (shown_indices places all) all in
+      let put = written_into taken failed shell before after wb wa text was is
+      (subst (AreRowsWritten taken failed before after) (streamed old is_streaming places all (negated (is_some old) is_streaming streams))
+      written) in
+      rw same (record {
+        report = taken_more pending_path taken failed placed (run_report_path args) [] text wb wa has.report put
+            (same_path shell before after wb wa was is);
+        junit = has.junit;
+        counts = has.counts;
+        report_whole = still_whole wb wa text put has.report_whole;
+        junit_whole = has.junit_whole;
+      })
 
 -- the lines that are known of the rows of some jobs are known of the rows of the first of them
 pub lines_of_first : (line : ℕ → Row → List ℕ) (places firsts : List ℕ) (rows : List Row) (texts : List (Option (Vec ℕ Global)))
@@ -151,3 +207,17 @@ module _ {V : Type 0} (taken : V → Option (List ℕ)) (failed : V → ℕ) whe
       (subst (λ (taken : Option (List ℕ)). Appends taken _ text) kept.0 sent.0, sent.1 ∙ kept.1)
   sent_to start failures None (Some after) text kept there sent = absurd cc
   sent_to start failures (Some before) None text kept there sent = absurd cc
+
+-- ---- where a run is shown
+
+pub shown_on_errors : {X G : Type 0} (ran : Result X G) (is_beside : Bool) (text : List ℕ) (before after : CommandOutputs) → is_beside ≡ true
+    → after.out ≡ before.out → OnOk ran (Appends before.errors after.errors text) → OnOk ran (after.failures ≡ before.failures)
+    → after.placed ≡ before.placed → OnOk ran (IsShown is_beside text before after)
+shown_on_errors (Err why) is_beside text before after is out appended counted placed = tt
+shown_on_errors (Ok rows) is_beside text before after is out appended counted placed = rw is (out, inl (appended, counted), placed)
+
+pub shown_on_out : {X G : Type 0} (ran : Result X G) (is_beside : Bool) (text : List ℕ) (before after : CommandOutputs) → is_beside ≡ false
+    → OnOk ran (Appends before.out after.out text) → after.errors ≡ before.errors → after.failures ≡ before.failures
+    → after.placed ≡ before.placed → OnOk ran (IsShown is_beside text before after)
+shown_on_out (Err why) is_beside text before after is appended errors failures placed = tt
+shown_on_out (Ok rows) is_beside text before after is appended errors failures placed = rw is (appended, errors, failures, placed)

@@ -1,6 +1,6 @@
 //! Running jobs into the requested files.
 
-ghost use Rattle.std.specs.Prelude.{◌≡◌, ◌⊎◌, ◌≤◌, ◌++◌, [], ℕ, List, None, Option, Some, IfErr, IfOk, OnErr, OnOk, length};
+ghost use Rattle.std.specs.Prelude.{◌≡◌, ◌⊎◌, ◌≤◌, ◌++◌, [], ℕ, List, Option, Some, IfErr, IfOk, OnErr, OnOk, is_some, length, true};
 ghost use Rattle.std.specs.Io.KnownBytes.{Appends};
 ghost use Rattle.std.specs.Option.{ForSome};
 ghost use Rattle.rv_expect.specs.Judgement.{judging_of};
@@ -10,7 +10,7 @@ ghost use Rattle.rv_rows.specs.declared_row.Row.{Row as ARow};
 ghost use Rattle.rvtest_app.specs.FailureLines.{failure_lines};
 ghost use Rattle.rvtest_app.specs.IntoReports.{streamed_rows, run_report_text, uses_run_stdout};
 ghost use Rattle.rvtest_app.specs.Outlets.{AreFilesCommitted, AreFilesPartlyCommitted, HasTaken, file_at, has_no_failure};
-ghost use Rattle.rvtest_app.specs.Outlets.{outlet_path, stdout_at};
+ghost use Rattle.rvtest_app.specs.Outlets.{file_path_at, outlet_path, stdout_at};
 ghost use Rattle.rvtest_app.specs.Puts.{IsShown};
 ghost use Rattle.rvtest_app.specs.RunOutlets.{HaveRunOutletsTaken};
 ghost use Rattle.rvtest_app.specs.WriteStops.{IsPutStop};
@@ -18,6 +18,7 @@ ghost use Rattle.rvtest_app.specs.RunOutput.{rows_status, run_output_text};
 ghost use Rattle.rvtest_app.specs.RunStops.{IsRunPutStop};
 ghost use Rattle.rvtest_app.specs.Runs.{AreRunFilesPlacedInPart, IsCountedRunWritten, run_junit, run_rows, shown_indices};
 ghost use Rattle.rvtest_app.specs.CommandOutputs.{CommandOutputs, outputs_of};
+ghost use Rattle.rvtest_app.specs.declared.run_output.ShowError.TheVariants.{ReportFailed};
 
 use crate::chosen_rows::ChosenRows;
 use crate::destinations::Destinations;
@@ -94,38 +95,84 @@ impl<'x, R: Threads + Wait + Sync + Clock, D: Inputs> ListRun<'x, R, D> {
         };
         let (report, sink) = report.take_sink();
         let Destinations { files, out, errors } = to;
-        let (mut to, run) = if uses_run_stdout(args) {
+        if uses_run_stdout(args) {
             let shown = ShownOn {
                 stream: errors,
                 is_terminal: terminals.is_errors_terminal,
             };
-            let (errors, run) = self.run_and_show::<Brand, F::File, E, P>(
+            let (errors, sink, run) = self.run_and_show::<Brand, F::File, E, P>(
                 planned, shown, &rows, sink, terminals,
             );
-            (Destinations { files, out, errors }, run)
+            let outlets = RunOutlets {
+                report: report.with_sink(sink),
+                junit,
+                counts,
+            };
+            let to = Destinations { files, out, errors };
+            self.finish_run(planned, frame, run, outlets, to)
         } else {
             let shown = ShownOn {
                 stream: out,
                 is_terminal: terminals.is_out_terminal,
             };
-            let (out, run) = self.run_and_show::<Brand, F::File, O, P>(
+            let (out, sink, run) = self.run_and_show::<Brand, F::File, O, P>(
                 planned, shown, &rows, sink, terminals,
             );
-            (Destinations { files, out, errors }, run)
-        };
-        let ShownRun { sink, texts, ran } = run;
-        let outlets = RunOutlets {
-            report: report.with_sink(sink),
-            junit,
-            counts,
-        };
-        match ran {
+            let outlets = RunOutlets {
+                report: report.with_sink(sink),
+                junit,
+                counts,
+            };
+            let to = Destinations { files, out, errors };
+            self.finish_run(planned, frame, run, outlets, to)
+        }
+    }
+
+    // Writes the files of a run that was shown, or abandons them if it was not shown completely.
+    fn finish_run<F: Outputs + Drop, O: Sink + Drop, E: Sink + Drop>(
+        &self,
+        planned: &PlannedRun<'_>,
+        frame: ReportFrame,
+        run: ShownRun,
+        outlets: RunOutlets<'_, F::Place, F::File>,
+        to: Destinations<F, O, E>,
+    ) -> (Destinations<F, O, E>, Result<u8, Stop>)
+        requires rows { IfOk run.ran (λ rows. rows ≡ run_rows self.now.args.now.stop_after (judging_of planned.now.reporter.now.judge)
+            planned.now.reporter.now.plan.now planned.now.places.now) }
+        requires few { IfOk run.ran (λ rows. length rows ≤ length planned.now.places.now) }
+        requires texts { IfOk run.ran (λ rows. AreLinesOf (failure_lines (reporter_of planned.now.reporter.now))
+            planned.now.places.now rows run.texts.items) }
+        requires failed { IfErr run.ran (λ error. error ≡ ReportFailed → is_some (outlet_path outlets.report) ≡ true) }
+        requires whole { ForSome frame.old (λ rows. length rows ≡ length planned.now.reporter.now.plan.now.jobs) }
+        requires path { outlet_path outlets.report ≡ file_path_at (run_report_path self.now.args.now) }
+        requires taken { IfOk run.ran (λ rows. HaveRunOutletsTaken F.pending_path F.File.taken F.File.failed (F.placed to.files)
+            self.now.args.now (streamed_rows frame.old (shown_indices planned.now.places.now rows) rows) outlets) }
+        ensures status { IfOk result.1 (λ status. status ≡ rows_status (judging_of planned.now.reporter.now.judge) (run_rows
+            self.now.args.now.stop_after (judging_of planned.now.reporter.now.judge) planned.now.reporter.now.plan.now
+            planned.now.places.now)) }
+        ensures outputs_of { (before : CommandOutputs) → OnOk run.ran (IsShown (uses_run_stdout self.now.args.now) (run_output_text
+            (row_lines_at (reporter_of planned.now.reporter.now)) (judging_of planned.now.reporter.now.judge)
+            planned.now.reporter.now.plan.now planned.now.places.now (run_rows self.now.args.now.stop_after
+            (judging_of planned.now.reporter.now.judge) planned.now.reporter.now.plan.now planned.now.places.now))
+            before (outputs_of F.placed O.taken E.taken E.failed to))
+            → OnOk result.1 (IsCountedRunWritten self.now.args.now (reporter_of planned.now.reporter.now) planned.now.places.now
+            frame.shard frame.old (run_rows self.now.args.now.stop_after (judging_of planned.now.reporter.now.judge)
+            planned.now.reporter.now.plan.now planned.now.places.now) before
+            (outputs_of F.placed O.taken E.taken E.failed result.0)) }
+        ensures part { OnErr result.1 ((F.placed result.0.files ≡ F.placed to.files)
+            ⊎ AreRunFilesPlacedInPart self.now.args.now (reporter_of planned.now.reporter.now) planned.now.places.now frame.shard
+            frame.old (run_rows self.now.args.now.stop_after (judging_of planned.now.reporter.now.judge)
+            planned.now.reporter.now.plan.now planned.now.places.now) (F.placed to.files) (F.placed result.0.files)) }
+        ensures stopped { IfErr result.1 (IsRunPutStop self.now.args.now) }
+    {
+        let mut to = to;
+        match run.ran {
             Ok(rows) => {
-                let put = self.put_all_files(planned, frame, rows, texts, outlets, &mut to);
-                (to, put)
+                let status = self.put_all_files(planned, frame, rows, run.texts, outlets, &mut to);
+                (to, status)
             }
             Err(error) => {
-                let stop = show_stop(alloc, &outlets.report, error);
+                let stop = show_stop(self.host.alloc, &outlets.report, error);
                 outlets.abandon(&mut to.files);
                 (to, Err(stop))
             }

@@ -42,17 +42,16 @@ pub(crate) struct ShownOn<W: Drop> {
     pub(crate) is_terminal: bool,
 }
 
-/// What a run leaves: the sink of the report, if there is one, the texts of failures that were kept, and the rows, or why there are none.
+/// The result of a run that was shown: the kept texts of failures, and the rows, or why not all were shown and written.
 #[derive(Drop)]
-pub(crate) struct ShownRun<V: Drop> {
-    pub(crate) sink: Option<V>,
+pub(crate) struct ShownRun {
     pub(crate) texts: Vec<Option<Vec<u8>>>,
     pub(crate) ran: Result<Rows, ShowError>,
 }
 
 impl<'x, R: Threads + Wait + Sync + Clock, D: Inputs> ListRun<'x, R, D> {
     /// Runs jobs and shows their lines on a stream, and the progress on standard error. The report text of each row goes to a sink as the row
-    /// comes, if there is one and the rows are not to be merged into another report.
+    /// comes, if there is one and the rows are not to be merged into another report. Returns both sinks with the result.
     pub(crate) fn run_and_show<
         'm,
         K: StreamSpec + Send,
@@ -66,28 +65,28 @@ impl<'x, R: Threads + Wait + Sync + Clock, D: Inputs> ListRun<'x, R, D> {
         rows: &ReportRowReporter,
         sink: Option<V>,
         terminals: Terminals<P>,
-    ) -> (W, ShownRun<V>)
+    ) -> (W, Option<V>, ShownRun)
         requires there { is_some sink ≡ K.sends }
         requires sink { IfSome sink (λ sink. (K.before ≡ V.taken sink) × (K.failures ≡ V.failed sink)) }
         requires line { report_row_text rows.now.is_streaming ≡ K.line }
         requires judging { judging_of planned.now.reporter.now.judge ≡ K.judging }
         requires keeps { keeps_failures self.now.args.now planned.now.reporter.now.verbosity ≡ K.keeps }
-        ensures rows { IfOk result.1.ran (λ rows. rows ≡ run_rows self.now.args.now.stop_after
+        ensures rows { IfOk result.2.ran (λ rows. rows ≡ run_rows self.now.args.now.stop_after
             (judging_of planned.now.reporter.now.judge) planned.now.reporter.now.plan.now planned.now.places.now) }
-        ensures few { IfOk result.1.ran (λ rows. length rows ≤ length planned.now.places.now) }
-        ensures shown { OnOk result.1.ran (Appends (W.taken shown.stream) (W.taken result.0)
+        ensures few { IfOk result.2.ran (λ rows. length rows ≤ length planned.now.places.now) }
+        ensures shown { OnOk result.2.ran (Appends (W.taken shown.stream) (W.taken result.0)
             (run_output_text (row_lines_at (reporter_of planned.now.reporter.now))
             (judging_of planned.now.reporter.now.judge) planned.now.reporter.now.plan.now planned.now.places.now
             (run_rows self.now.args.now.stop_after (judging_of planned.now.reporter.now.judge)
             planned.now.reporter.now.plan.now planned.now.places.now))) }
-        ensures counted { OnOk result.1.ran (W.failed result.0 ≡ W.failed shown.stream) }
-        ensures report { OnOk result.1.ran (AreRowsWritten V.taken V.failed sink result.1.sink
+        ensures counted { OnOk result.2.ran (W.failed result.0 ≡ W.failed shown.stream) }
+        ensures report { OnOk result.2.ran (AreRowsWritten V.taken V.failed sink result.1
             (joined_row_texts (report_row_text rows.now.is_streaming) planned.now.places.now (run_rows self.now.args.now.stop_after
             (judging_of planned.now.reporter.now.judge) planned.now.reporter.now.plan.now planned.now.places.now))) }
-        ensures sink { is_some result.1.sink ≡ is_some sink }
-        ensures report_failed { IfErr result.1.ran (λ error. error ≡ ReportFailed → is_some sink ≡ true) }
-        ensures texts { IfOk result.1.ran (λ rows. AreLinesOf (failure_lines (reporter_of planned.now.reporter.now))
-            planned.now.places.now rows result.1.texts.items) }
+        ensures sink { is_some result.1 ≡ is_some sink }
+        ensures report_failed { IfErr result.2.ran (λ error. error ≡ ReportFailed → is_some sink ≡ true) }
+        ensures texts { IfOk result.2.ran (λ rows. AreLinesOf (failure_lines (reporter_of planned.now.reporter.now))
+            planned.now.places.now rows result.2.texts.items) }
     {
         let (rt, alloc) = (self.host.rt, self.host.alloc);
         let (reporter, places) = (planned.reporter, planned.places);
@@ -130,7 +129,7 @@ impl<'x, R: Threads + Wait + Sync + Clock, D: Inputs> ListRun<'x, R, D> {
         let ran = put_totals_line(alloc, &reporter.judge, &batch, ran, &mut stream);
         let stream = stream.into_inner();
         progress.finish();
-        (stream, ShownRun { sink, texts, ran })
+        (stream, sink, ShownRun { texts, ran })
     }
 
     // Returns the progress line for the jobs.

@@ -1,19 +1,17 @@
+use Rattle.std.proofs.Common.{◌∙◌, ◌++◌, ℕ, List, ap, subst}
+use Rattle.rv_rows.specs.declared_row.Row.{Row}
+use Rattle.rv_stream.specs.Seen.{text_by_index}
+use Rattle.rv_stream.specs.Texts.{IsSent}
+use Rattle.rv_stream.proofs.Sending.{reports_more}
 use Rattle.rv_stream.proofs.row_sender.RowSenderObserverReportedRow.see.Goals as goal
 
-pub invariant_of-self-in-Ok : goal.invariant_of-self-in-Ok
-invariant_of-self-in-Ok g c = ?
-
-pub invariant_of-self-in-Err : goal.invariant_of-self-in-Err
-invariant_of-self-in-Err g c = ?
-
-pub returns-in-Ok-clause-seen : goal.returns-in-Ok-clause-seen
-returns-in-Ok-clause-seen g c = ?
-
-pub returns-in-Ok-clause-goes : goal.returns-in-Ok-clause-goes
-returns-in-Ok-clause-goes g c = ?
-
-pub returns-in-Err-clause-seen : goal.returns-in-Err-clause-seen
-returns-in-Err-clause-seen g c = ?
-
-pub returns-in-Err-clause-stops : goal.returns-in-Err-clause-stops
-returns-in-Err-clause-stops g c = ?
+pub returns-in-Some-clause-seen : goal.returns-in-Some-clause-seen
+returns-in-Some-clause-seen g c = λ results sent.
+    let made = c.args.made.now in
+    let line = g.J.StreamSpec.line in
+    let box = c.push_text.new.self in
+    subst (λ (text : List ℕ). IsSent g.J.StreamSpec.before (g.W.Sink.taken box.out) g.J.StreamSpec.failures (g.W.Sink.failed box.out)
+    box.failed box.unsent.items text)
+    (ap (λ (own : ℕ → Row → List ℕ). text_by_index line results ++ own made.index made.row) c.args.self.now.line
+    ∙ reports_more line results made)
+    (c.push_text.ensures.sent (text_by_index line results) (rw c.in-Some.is at sent))
