@@ -141,18 +141,18 @@ lines_of_first line places firsts rows texts are lines = λ k any below.
 -- what holds of the rows of a run holds of the rows that it hands on
 pub ran_on : {X E F : Type 0} (after : Result X E) (before : Result X F) (P : X → Type 0) → IfOk after (λ rows. before ≡ Ok rows)
     → IfOk before P → IfOk after P
-ran_on (Ok rows) before P is holds = subst (λ (r : Result X F). IfOk r P) is holds
+ran_on {X = X} {F = F} (Ok rows) before P is holds = subst (λ (r : Result X F). IfOk r P) is holds
 ran_on (Err why) before P is holds = tt
 
 pub done_on : {X E F : Type 0} (after : Result X E) (before : Result X F) (P : Type 0) → IfOk after (λ rows. before ≡ Ok rows)
     → OnOk before P → OnOk after P
-done_on (Ok rows) before P is holds = subst (λ (r : Result X F). OnOk r P) is holds
+done_on {X = X} {F = F} (Ok rows) before P is holds = subst (λ (r : Result X F). OnOk r P) is holds
 done_on (Err why) before P is holds = tt
 
 -- and so does what follows for the rows from what an observer has seen
 pub known_on : {X E F : Type 0} (after : Result X E) (before : Result X F) (S : Type 0) (P : X → Type 0) (all : X)
     → IfOk after (λ rows. before ≡ Ok rows) → IfOk after (λ rows. rows ≡ all) → OnOk before S → (S → P all) → IfOk after P
-known_on (Ok rows) before S P all is same seen f = subst P (sym same) (f (subst (λ (r : Result X F). OnOk r S) is seen))
+known_on {X = X} {F = F} (Ok rows) before S P all is same seen f = subst P (sym same) (f (subst (λ (r : Result X F). OnOk r S) is seen))
 known_on (Err why) before S P all is same seen f = tt
 
 -- the lines of the rows, and then the last line
@@ -177,14 +177,14 @@ module _ {B F : Type 0} (failed : B → Option F) where
       → IfErr ran (λ error. error ≡ ObserverStopped → IsSomeAnd box (λ box. is_some (failed box) ≡ true) ⊎ ⊥)
       → OnOk sent (IfSome box (λ box. failed box ≡ None)) → ran ≡ Err ObserverStopped → is_ok sent ≡ false
   unsent ran (Err why) box stops goes is = refl
-  unsent ran (Ok done) box stops goes is =
+  unsent {X = X} ran (Ok done) box stops goes is =
       absurd (goes_on box goes (subst (λ (r : Result X StreamError). IfErr r (λ error. error ≡ ObserverStopped
       → IsSomeAnd box (λ box. is_some (failed box) ≡ true) ⊎ ⊥)) is stops refl))
 
 -- what was sent while a run went well
 pub sent_on : {X E F U H : Type 0} (after : Result X E) (before : Result X F) (sent : Result U H) (S P : Type 0)
     → IfOk after (λ rows. before ≡ Ok rows) → OnOk after (is_ok sent ≡ true) → OnOk before S → (S → OnOk sent P) → OnOk after P
-sent_on (Ok rows) before (Ok done) S P is ok seen f = f (subst (λ (r : Result X F). OnOk r S) is seen)
+sent_on {X = X} {F = F} (Ok rows) before (Ok done) S P is ok seen f = f (subst (λ (r : Result X F). OnOk r S) is seen)
 sent_on (Ok rows) before (Err why) S P is ok seen f = absurd (false≢true ok)
 sent_on (Err why) before sent S P is ok seen f = tt
 
@@ -194,7 +194,7 @@ pub report_of_failure : {X U H : Type 0} (after before : Result X ShowError) (se
     → IfErr before (λ error. error ≡ ReportFailed → is_ok sent ≡ false) → OnErr sent P → IfErr after (λ error. error ≡ ReportFailed → P)
 report_of_failure (Ok rows) before sent P is was failed = tt
 report_of_failure (Err why) before (Err error) P is was failed = λ same. failed
-report_of_failure (Err why) before (Ok done) P is was failed = λ same.
+report_of_failure {X = X} (Err why) before (Ok done) P is was failed = λ same.
     absurd (false≢true (sym (subst (λ (r : Result X ShowError). IfErr r (λ error. error ≡ ReportFailed → true ≡ false)) (is same) was refl)))
 
 -- what a sender has sent was written to the sink
@@ -204,7 +204,7 @@ module _ {V : Type 0} (taken : V → Option (List ℕ)) (failed : V → ℕ) whe
       → IfSome after (λ sink. Appends start (taken sink) text × (failed sink ≡ failures)) → AreRowsWritten taken failed before after text
   sent_to start failures None None text kept there sent = tt
   sent_to start failures (Some before) (Some after) text kept there sent =
-      (subst (λ (taken : Option (List ℕ)). Appends taken _ text) kept.0 sent.0, sent.1 ∙ kept.1)
+      (subst (λ (start : Option (List ℕ)). Appends start (taken after) text) kept.0 sent.0, sent.1 ∙ kept.1)
   sent_to start failures None (Some after) text kept there sent = absurd cc
   sent_to start failures (Some before) None text kept there sent = absurd cc
 

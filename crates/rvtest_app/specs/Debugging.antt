@@ -89,7 +89,7 @@ pub record IsGdbAnswered (known : Option FileContents) (is_terminal : Bool) (wor
   pub may_end : Bool
   pub at_end : may_end ≡ true → IsAtEnd rest
   pub fed : IsFed end_text may_end first heard told last
-  pub made : last.args ≡ None
+  pub made : last.asked ≡ None
   pub ended : IsEnded last rest
   pub put : IsOnlyStandardOutput told before after
   pub done : status ≡ 0

@@ -8,7 +8,7 @@ ghost use Rattle.rv_job_text.specs.RowReporter.{row_lines_at, reporter_of};
 ghost use Rattle.rv_junit.specs.KnownLines.{AreLinesOf};
 ghost use Rattle.rv_rows.specs.declared_row.Row.{Row as ARow};
 ghost use Rattle.rvtest_app.specs.FailureLines.{failure_lines};
-ghost use Rattle.rvtest_app.specs.IntoReports.{streamed_rows, run_report_text, uses_run_stdout};
+ghost use Rattle.rvtest_app.specs.IntoReports.{run_report_path, run_report_text, streamed_rows, uses_run_stdout};
 ghost use Rattle.rvtest_app.specs.Outlets.{AreFilesCommitted, AreFilesPartlyCommitted, HasTaken, file_at, has_no_failure};
 ghost use Rattle.rvtest_app.specs.Outlets.{file_path_at, outlet_path, stdout_at};
 ghost use Rattle.rvtest_app.specs.Puts.{IsShown};
@@ -165,10 +165,11 @@ impl<'x, R: Threads + Wait + Sync + Clock, D: Inputs> ListRun<'x, R, D> {
             planned.now.reporter.now.plan.now planned.now.places.now) (F.placed to.files) (F.placed result.0.files)) }
         ensures stopped { IfErr result.1 (IsRunPutStop self.now.args.now) }
     {
+        let ShownRun { texts, ran } = run;
         let mut to = to;
-        match run.ran {
+        match ran {
             Ok(rows) => {
-                let status = self.put_all_files(planned, frame, rows, run.texts, outlets, &mut to);
+                let status = self.put_all_files(planned, frame, rows, texts, outlets, &mut to);
                 (to, status)
             }
             Err(error) => {

@@ -1,4 +1,4 @@
-use Rattle.std.proofs.Common.{◌≡◌, ◌∙◌, List, [], ap, arith, inl, inr, length, take}
+use Rattle.std.proofs.Common.{◌≡◌, ◌∙◌, ℕ, List, [], ap, arith, inl, inr, length, subst, sym, take}
 use Rattle.std.proofs.lemmas.List.{length-take}
 use Rattle.std.proofs.lemmas.Result.{err_from_is_err_and}
 use Rattle.rv_command.specs.Texts.{optional_text}
@@ -9,7 +9,9 @@ use Rattle.rvtest_app.proofs.PutTexts.{path_told}
 use Rattle.rvtest_app.proofs.Results.{OnErr-from}
 use Rattle.rvtest_app.proofs.RowSinks.{lines_of_first}
 use Rattle.rvtest_app.specs.CommandOutputs.{outputs_of, with_placed_if_reported}
-use Rattle.rvtest_app.specs.IntoReports.{run_report_path}
+use Rattle.rvtest_app.specs.FailureLines.{failure_lines}
+use Rattle.rvtest_app.specs.IntoReports.{run_report_path, streamed_rows}
+use Rattle.rvtest_app.specs.Outlets.{HasTaken}
 use Rattle.rvtest_app.specs.Runs.{shown_indices}
 use Rattle.rvtest_app.proofs.run.ListRun.put_all_files.Goals as goal
 
@@ -26,7 +28,8 @@ put_run_files-requires-clause-counted g c κs within =
 pub put_run_files-requires-clause-texts : goal.put_run_files-requires-clause-texts
 put_run_files-requires-clause-texts g c κs within =
     rw c.first_jobs-first.ensures.reporter
-    (lines_of_first _ c.args.planned.now.places.now _ c.args.rows _
+    (lines_of_first (failure_lines (reporter_of c.args.planned.now.reporter.now)) c.args.planned.now.places.now
+    c.first_jobs-first.result.places.now c.args.rows c.args.texts.items
     (c.first_jobs-first.ensures.places ∙ ap (λ (rows : List Row). take (length rows) c.args.planned.now.places.now) c.as_slice.ensures)
     c.requires.texts)
 
@@ -51,7 +54,9 @@ returns-in_ok-put_counts-in-Ok-clause-outputs_of g c = λ before shown.
     let files = c.in-Ok.ensures in
     let start = outputs_of g.F.Outputs.placed g.O.Sink.taken g.E.Sink.taken g.E.Sink.failed c.args.to.now in
     let after = outputs_of g.F.Outputs.placed g.O.Sink.taken g.E.Sink.taken g.E.Sink.failed c.put_run_files.new.to in
-    let report = rw firsts c.requires.taken.report in
+    let report = subst (λ (ps : List ℕ). HasTaken g.F.Outputs.pending_path g.F.File.Sink.taken g.F.File.Sink.failed
+    (g.F.Outputs.placed c.args.to.now.files) report_path (streamed_rows c.args.frame.old ps c.args.rows) c.args.outlets.report)
+    (sym firsts) c.requires.taken.report in
     let same = placed_of_shown _ _ before start shown in
     record {
       middle = with_placed_if_reported before.placed after;
@@ -75,7 +80,9 @@ returns-in_err-put_counts-in-Ok-clause-part g c =
     let junit_path = optional_text args.junit in
     let firsts : c.first_jobs-first.result.places.now ≡ shown_indices places c.args.rows =
     c.first_jobs-first.ensures.places ∙ ap (λ (rows : List Row). take (length rows) places) c.as_slice.ensures in
-    let report = rw firsts c.requires.taken.report in
+    let report = subst (λ (ps : List ℕ). HasTaken g.F.Outputs.pending_path g.F.File.Sink.taken g.F.File.Sink.failed
+    (g.F.Outputs.placed c.args.to.now.files) report_path (streamed_rows c.args.frame.old ps c.args.rows) c.args.outlets.report)
+    (sym firsts) c.requires.taken.report in
     let files = rw (c.first_jobs-first.ensures.reporter, firsts)
     at (c.in-Ok.ensures.placed report_path junit_path report c.requires.taken.junit) in
     OnErr-from c.from_residual.result _
