@@ -6,8 +6,8 @@ use Rattle.rvtest_app.specs.IntoReports.{report_row_text}
 use Rattle.rvtest_app.specs.RowSinks.{sink_failures, sink_taken}
 use Rattle.rvtest_app.proofs.run.ListRun.run_into_files.Given as goal
 
-abbrev pub ghosts-run_and_show-errors : goal.ghosts-run_and_show-errors
-ghosts-run_and_show-errors g a = record {
+abbrev pub ghosts-run_and_show : goal.ghosts-run_and_show
+ghosts-run_and_show g a = record {
   before = sink_taken g.F.File.Sink.taken a.sink;
   failures = sink_failures g.F.File.Sink.failed a.sink;
   sends = is_some a.sink;
@@ -17,8 +17,8 @@ ghosts-run_and_show-errors g a = record {
   line = report_row_text a.rows.now.is_streaming;
 }
 
-abbrev pub ghosts-run_and_show-out : goal.ghosts-run_and_show-out
-ghosts-run_and_show-out g a = record {
+abbrev pub ghosts-run_and_show-2 : goal.ghosts-run_and_show-2
+ghosts-run_and_show-2 g a = record {
   before = sink_taken g.F.File.Sink.taken a.sink;
   failures = sink_failures g.F.File.Sink.failed a.sink;
   sends = is_some a.sink;
