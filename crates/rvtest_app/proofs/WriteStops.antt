@@ -5,7 +5,6 @@ use Rattle.std.specs.declared.io.ErrorKind.TheVariants as io
 use Rattle.rvtest_cli.specs.declared.run.RunArgs.{RunArgs}
 use Rattle.rv_command.specs.Stops.{IsFileErrorStop}
 use Rattle.rv_command.specs.declared.stop.Stop.{Stop}
-use Rattle.rv_command.specs.declared.stop.Stop.TheVariants as stop
 use Rattle.rv_files.specs.declared.file_error.FileError.{FileError}
 use Rattle.rv_files.specs.declared.file_error.FileError.TheVariants as file
 use Rattle.rv_files.specs.Placed.{CommittedFile}

@@ -12,10 +12,6 @@ use Rattle.rv_rows.specs.Outcome.{refusal_in}
 use Rattle.rv_rows.specs.Rows.{outcome_in}
 use Rattle.rv_job_text.specs.declared.verbosity.Verbosity.{Verbosity}
 use Rattle.rv_job_text.specs.declared.verbosity.Verbosity.TheVariants.{Quiet, Failures, All}
-use Rattle.rv_command.specs.declared.stop.Stop.{Stop}
-use Rattle.rv_command.specs.declared.stop.Stop.TheVariants as stop
-use Rattle.rv_stream.specs.declared.error.StreamError.{StreamError}
-use Rattle.rv_stream.specs.declared.error.StreamError.TheVariants as stream
 use Rattle.rv_diff.specs.Diff.{differing_count}
 use Rattle.rv_diff.specs.declared.diff.Differing.{Differing}
 

@@ -1,5 +1,5 @@
 -- What was received of a run: by the sink, by the observer, and as the rows that are kept.
-use Rattle.std.proofs.Common.{◌≡◌, ◌∙◌, ◌⊎◌, ◌≤◌, true, false, List, None, Some, Option, Ok, ℕ, length, inl, inr, sym, ap, subst, arith}
+use Rattle.std.proofs.Common.{◌≡◌, ◌∙◌, ◌⊎◌, true, false, List, None, Some, Option, Ok, ℕ, length, sym, ap, subst, arith}
 use Rattle.std.proofs.lemmas.Bool.{false≢true}
 use Rattle.std.proofs.lemmas.List.{length-map}
 use Rattle.std.specs.Prelude.{is_ok, is_some}
@@ -9,7 +9,6 @@ use Rattle.rv_engine.specs.declared.listener.Flow.TheVariants.{Stop}
 use Rattle.rv_expect.specs.Judgement.{fails, judging_of}
 use Rattle.rv_fleet.specs.Batches.{batch_rows}
 use Rattle.rv_rows.specs.declared_report.WriteError.{WriteError}
-use Rattle.rv_rows.specs.declared_row.Row.{Row}
 use Rattle.rv_rows.specs.Sinks.{AppendsBeginning}
 use Rattle.rv_stream.specs.declared.reported_row.ReportedRow.{ReportedRow}
 use Rattle.rv_stream.specs.Limits.{rows_up_to, rows_within}

@@ -1,9 +1,9 @@
-use Rattle.std.proofs.Common.{◌≡◌, ◌∙◌, ◌-◌, ℕ, List, IfSome, OnOk, ap, length, subst, sym}
+use Rattle.std.proofs.Common.{◌∙◌, ◌-◌, ℕ, List, IfSome, ap, length, subst, sym}
 use Rattle.rv_expect.specs.Judgement.{judging_of}
 use Rattle.rv_job_text.specs.RowReporter.{row_lines_at, reporter_of}
 use Rattle.rv_job_text.specs.TotalsLine.{run_totals_line}
 use Rattle.rv_junit.proofs.Public.{kept_known}
-use Rattle.rv_junit.specs.KnownLines.{AreFailureTexts, AreLinesOf}
+use Rattle.rv_junit.specs.KnownLines.{AreLinesOf}
 use Rattle.rv_rows.specs.declared_row.Row.{Row}
 use Rattle.rv_stream.proofs.Public.{reported_texts}
 use Rattle.rv_stream.specs.Seen.{text_by_index}
