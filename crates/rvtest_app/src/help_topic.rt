@@ -11,7 +11,7 @@ use rv_text::{Span, push_text, text_of_spans};
 use rvtest_cli::HelpArgs;
 use std::alloc::{AllocError, Global};
 
-/// Returns the keys of a list, the only such topic.
+/// Returns the help for the keys of a job list, the only topic that is not a command.
 pub(crate) fn topic_help(alloc: Global, args: HelpArgs<'_>) -> Result<Found, Stop>
     ensures told { IfOk result (λ found. IsTopicPrinted args.entry.topic.now found.text.items found.status) }
     ensures stopped { IfErr result (IsNoTopicStop args.entry.topic.now) }

@@ -15,7 +15,7 @@ use rv_text::{Span, push_spans, push_text};
 use rvtest_cli::RunArgs;
 use std::alloc::{AllocError, Global};
 
-/// Reads the known failures among the jobs of a list, if the arguments name a file.
+/// Reads which jobs of the list are known to fail. Returns `None` without `--known`.
 pub(crate) fn requested_known_jobs<D: Inputs>(
     inputs: &D,
     alloc: Global,

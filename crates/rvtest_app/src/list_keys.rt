@@ -1,6 +1,6 @@
 //! What `rvtest help keys` prints. packaging/pages writes this file from README.md's table of keys.
 
-/// The keys of a list.
+/// The help for the keys of a job list.
 pub(crate) const LIST_KEYS: &str = "\
 The keys of a job, a table of the array job:
 

@@ -16,7 +16,7 @@ use rv_files::{Outputs, resolved_path};
 use rv_text::{Span, push_spans, push_text, text_of_spans};
 use std::alloc::{AllocError, Global};
 
-/// Looks up the identities of the files.
+/// Returns the input files at these paths with their identities.
 pub(crate) fn look_up_files<'a, F: Outputs>(
     files: &F,
     alloc: Global,
@@ -43,7 +43,7 @@ fn file_identities<F: Outputs>(
     Ok(found)
 }
 
-/// Rejects the file of an option, if it has one, if it would replace or remove an input.
+/// Returns an error if an option names a file that would overwrite an input.
 pub(crate) fn refuse_overwrite<F: Outputs>(
     files: &F,
     alloc: Global,
@@ -61,7 +61,7 @@ pub(crate) fn refuse_overwrite<F: Outputs>(
     }
 }
 
-/// Rejects the file at a path if it would replace or remove an input.
+/// Returns an error if writing the file at the path would overwrite an input.
 pub(crate) fn refuse_file<F: Outputs>(
     files: &F,
     alloc: Global,
@@ -98,14 +98,14 @@ impl<'a> ReadFiles<'a> {
     }
 }
 
-/// Whether a file is one of some files, by the identity that the system gives each.
+/// Whether a file is one of `files`, by the identity that the system gives each file.
 pub(crate) fn is_among(files: &[Text], identity: &Text) -> bool
     ensures { result ≡ is_among files.now identity.now }
 {
     files.iter().any(|file| file.as_str() == identity.as_str())
 }
 
-/// Returns the error that a file would overwrite an input.
+/// Returns the error that the file of an option would overwrite the input `read`.
 pub(crate) fn overwrite_stop<'a>(
     alloc: Global,
     option: &'a str,
@@ -199,7 +199,7 @@ pub(crate) fn push_read<'a>(
     Ok(())
 }
 
-/// Returns the inputs at some paths, each of which a placeholder of the usage represents.
+/// Returns the inputs at these paths; `word` is how messages call them.
 pub(crate) fn read_paths_of_words<'a>(
     alloc: Global,
     paths: &[&str],
