@@ -1,6 +1,6 @@
 //! What `rvtest help keys` prints. packaging/pages writes this file from README.md's table of keys.
 
-/// The help for the keys of a job list.
+/// The keys of a list.
 pub(crate) const LIST_KEYS: &str = "\
 The keys of a job, a table of the array job:
 
