@@ -13,7 +13,7 @@ use crate::arguments::{
 use crate::number::{behind, until};
 use crate::request::{Move, Refusal, Request};
 
-/// Returns the request of a body, unless it is a packet that carries bytes.
+/// Parses a packet whose arguments contain no data bytes. Returns `None` for any other packet.
 #[tactic(auto, unfolding(crate::specs::Packets::request_without_bytes))]
 pub(crate) fn request_without_bytes(body: &[u8]) -> Option<Request>
     ensures { result ≡ request_without_bytes body.now }
@@ -38,6 +38,7 @@ fn is(body: &[u8], name: &[u8]) -> bool
     body == name
 }
 
+// Parses a packet without arguments that reads something.
 #[tactic(auto, unfolding(crate::specs::Packets::bare_query))]
 fn bare_query(body: &[u8]) -> Option<Request>
     ensures { result ≡ bare_query body.now }
@@ -61,6 +62,7 @@ fn bare_query(body: &[u8]) -> Option<Request>
     }
 }
 
+// Parses a packet without arguments that has an effect.
 #[tactic(auto, unfolding(crate::specs::Packets::bare_order))]
 fn bare_order(body: &[u8]) -> Option<Request>
     ensures { result ≡ bare_order body.now }
@@ -111,6 +113,7 @@ fn image_path_request(body: &[u8]) -> Option<Request>
     Some(image_path(args))
 }
 
+// Parses a packet that reads or writes a register, or reads memory.
 #[tactic(auto, unfolding(crate::specs::Packets::reading))]
 fn reading(body: &[u8]) -> Option<Request>
     ensures { result ≡ reading body.now }
@@ -125,6 +128,7 @@ fn reading(body: &[u8]) -> Option<Request>
     Some(read_memory(args))
 }
 
+// Parses a packet that sets or clears a breakpoint or watchpoint.
 #[tactic(auto, unfolding(crate::specs::Packets::stoppoint_request))]
 fn stoppoint_request(body: &[u8]) -> Option<Request>
     ensures { result ≡ stoppoint_request body.now }
@@ -158,6 +162,7 @@ fn clear_trap(args: &[u8]) -> Request
     }
 }
 
+// Parses a packet that moves forwards in the run.
 #[tactic(auto, unfolding(crate::specs::Packets::moving))]
 fn moving(body: &[u8]) -> Option<Request>
     ensures { result ≡ moving body.now }
@@ -178,7 +183,7 @@ fn moving(body: &[u8]) -> Option<Request>
     Some(signal_move(Move::Step, args))
 }
 
-// Only the first action counts, since there is one thread.
+// Parses the arguments of `vCont;`, of which only the first action counts, since there is one thread.
 #[tactic(auto, unfolding(crate::specs::Packets::first_action))]
 fn first_action(args: &[u8]) -> Request
     ensures { result ≡ first_action args.now }
@@ -189,7 +194,7 @@ fn first_action(args: &[u8]) -> Request
     }
 }
 
-// Parses an action without its thread.
+// Parses an action of `vCont;` without its thread.
 #[tactic(auto, unfolding(crate::specs::Packets::action_of))]
 fn action_of(text: &[u8]) -> Option<Move>
     ensures { result ≡ action_of text.now }
@@ -225,7 +230,7 @@ fn range_action(text: &[u8]) -> Option<Move>
     move_within(behind(b"r", text)?)
 }
 
-// Parses the packets that are accepted whatever follows their name.
+// Parses a packet that is accepted whatever follows its name.
 #[tactic(auto, unfolding(crate::specs::Packets::granted))]
 fn granted(body: &[u8]) -> Option<Request>
     ensures { result ≡ granted body.now }
@@ -246,7 +251,7 @@ fn detach_request(body: &[u8]) -> Option<Request>
     Some(detach(args))
 }
 
-// Parses nothing, or `;` and a process.
+// Returns a request to detach if nothing follows `D`, or `;` and any text; otherwise the refusal of an unknown packet.
 #[tactic(auto, unfolding(crate::specs::Packets::detach))]
 fn detach(args: &[u8]) -> Request
     ensures { result ≡ detach args.now }
@@ -258,7 +263,7 @@ fn detach(args: &[u8]) -> Request
     }
 }
 
-// 5 is the only file descriptor.
+// Parses a packet that reads from file descriptor 5, the only one.
 fn file_reading(body: &[u8]) -> Option<Request>
     ensures { result ≡ file_reading body.now }
 {
@@ -266,6 +271,7 @@ fn file_reading(body: &[u8]) -> Option<Request>
     Some(read_file(args))
 }
 
+// Returns the refusal of a call on a file descriptor other than 5; `None` for any other packet.
 fn other_file(body: &[u8]) -> Option<Request>
     ensures { result ≡ other_file body.now }
 {
@@ -276,7 +282,7 @@ fn other_file(body: &[u8]) -> Option<Request>
     }
 }
 
-// Whether a packet is a call on a file whose descriptor is the first argument.
+// Whether a packet is a call whose first argument is a file descriptor.
 #[tactic(auto, unfolding(crate::specs::Packets::is_file_call))]
 fn is_file_call(body: &[u8]) -> bool
     ensures { result ≡ is_file_call body.now }

@@ -65,7 +65,7 @@ fn watch_text(kind: Watched) -> &'static str
     }
 }
 
-// Returns the signal of a fault.
+// Returns the stop reply for a fault.
 fn fault_text(kind: FaultKind) -> &'static str
     ensures { result.now ≡ fault_text kind }
 {
