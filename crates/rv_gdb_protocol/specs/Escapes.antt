@@ -39,7 +39,7 @@ abbrev pub is_escape : Bool → ℕ → Bool
 is_escape true byte = false
 is_escape false byte = byte == escape
 
--- the data that a byte stands for, given whether the previous byte is an escape; none for an escape
+-- the data that a byte represents, given whether the previous byte is an escape; none for an escape
 abbrev pub data_byte : Bool → ℕ → List ℕ
 data_byte true byte = changed byte ∷ []
 data_byte false byte = if byte == escape then [] else byte ∷ []

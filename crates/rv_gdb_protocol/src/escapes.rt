@@ -53,7 +53,7 @@ pub fn push_data(out: &mut Vec<u8>, text: &[u8]) -> Result<bool, AllocError>
     Ok(!behind_escape)
 }
 
-// Appends the data that a byte stands for. Returns whether the byte is an escape.
+// Appends the data that a byte represents. Returns whether the byte is an escape.
 fn push_data_byte(out: &mut Vec<u8>, behind_escape: bool, byte: u8) -> Result<bool, AllocError>
     ensures bytes { OnOk result (out.new.items ≡ out.old.items ++ data_byte behind_escape byte) }
     ensures escape { IfOk result (λ is. is ≡ is_escape behind_escape byte) }
