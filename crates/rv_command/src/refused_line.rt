@@ -10,8 +10,8 @@ use rv_lists::{JobError, What, read_faults};
 use rv_text::{Span, text_of_spans};
 use std::alloc::{AllocError, Global};
 
-/// Returns the message that the text at a path is not a report, or what `noun` names, because of the numbered line, which is invalid there:
-/// it shows the line and what was expected instead. If the text is a job list, the message says so.
+/// Returns the message about the invalid line with this number in a report or a part, as `noun` says: the line, and what was expected
+/// instead. If the text is a job list, the message says so.
 pub fn refused_line_message<'a>(
     alloc: Global,
     noun: &'a str,
@@ -70,7 +70,7 @@ fn line_message<'a>(
     )
 }
 
-// Whether a text is a document with jobs, valid or not.
+// Whether a text is a TOML document with jobs, valid or not.
 fn is_job_list(alloc: Global, text: &[u8]) -> Result<bool, AllocError>
     ensures { IfOk result (λ is_list. is_list ≡ is_job_list text.now) }
 {
@@ -87,7 +87,7 @@ fn are_faults_of_list(faults: &[JobError]) -> bool
     }
 }
 
-// Returns the line with a number, counted from 1, without its line feed; empty if there is no such line.
+// Returns the line with this number, counted from 1, without its line feed; empty if there is no such line.
 fn numbered_line(text: &[u8], number: usize) -> &[u8]
     ensures { result.now ≡ numbered_line text.now number }
 {
@@ -140,7 +140,7 @@ fn line_feed_place(text: &[u8]) -> Option<usize>
     text.iter().position(|byte| *byte == b'\n')
 }
 
-// Returns what a report has after a line, and at its beginning.
+// Returns what a report must have after this line, or at its beginning if the line is empty.
 #[tactic(auto, unfolding(crate::specs::RefusedLines::expected_after))]
 fn expected_after(line: &[u8]) -> &'static str
     ensures { result.now ≡ expected_after line.now }
