@@ -90,7 +90,7 @@ impl History {
     }
 
     /// Moves forwards to the next stop or to the end of the run. The move does not stop at a breakpoint at its current step, and can begin
-    /// outside of the bounds. After an interrupt it is at a later step, and there is no stop before it.
+    /// outside of the bounds. After an interrupt it is at a later step, up to which there is no stop.
     pub fn go_on<I: Interrupt>(
         &mut self,
         alloc: Global,
