@@ -8,20 +8,20 @@ use crate::claims::GoldenText;
 use rv_jobs::Bytes;
 use std::alloc::{AllocError, Global};
 
-/// The outcome for a golden file.
+/// What happens to a golden file.
 #[derive(Drop)]
 pub enum GoldenFileOutcome {
-    /// No job that was run names it.
+    /// Nothing: no job that was run names it.
     Unclaimed,
-    /// The job at this index names it, and is rejected.
+    /// It is skipped, since the job at this index names it and was skipped.
     LeftBy(usize),
-    /// The jobs at these two indices give it different texts.
+    /// It is skipped, since the jobs at these two indices give it different texts.
     Differ(usize, usize),
-    /// All jobs that name it give it this text.
+    /// It gets this text, which all jobs that name it give it.
     Agreed(Bytes),
 }
 
-/// Returns the outcome for the file at a path: all jobs that name it give it the same text, or it is rejected.
+/// Returns the outcome for the golden file at the path: the text that all jobs that name it give it, or why it is skipped.
 #[tactic(auto, unfolding(crate::specs::Fates::outcome_of_golden_file))]
 pub fn outcome_of_golden_file(
     alloc: Global,
@@ -75,14 +75,14 @@ fn first_of_left_job<'a>(path: &str, claims: &'a [GoldenText]) -> Option<&'a Gol
     claims.iter().find(|claim| is_of_left_job(path, claim))
 }
 
-/// Returns the first claim on the file at a path.
+/// Returns the first golden text for the file at the path.
 pub fn first_on_file<'a>(path: &str, claims: &'a [GoldenText]) -> Option<&'a GoldenText>
     ensures { option_map (λ claim. claim.now) result ≡ find (names_file path.now) claims.now }
 {
     claims.iter().find(|claim| names_file(path, claim))
 }
 
-/// Returns the first claim that gives the file at a path a different text, or none.
+/// Returns the first golden text for the file at the path that differs from `text`.
 pub fn first_of_another_text<'a>(
     path: &str,
     text: &[u8],
