@@ -1,4 +1,4 @@
-//! The lines of golden files.
+//! The lines about golden files.
 
 ghost use Rattle.std.specs.Prelude.{◌≡◌, ◌++◌, OnOk, option_map};
 ghost use Rattle.rv_accept_text.specs.FileLines.{changed_file_line, disagreement_text, file_head, file_line, left_file_line, left_head};
@@ -15,7 +15,7 @@ use rv_jobs::{Bytes, Job};
 use rv_text::{Span, push_spans, push_text};
 use std::alloc::AllocError;
 
-/// Appends what changes in a golden file, if it is written.
+/// Appends the lines about a golden file that is written; nothing if it is not.
 #[tactic(auto, unfolding(crate::specs::FileLines::file_line))]
 pub(crate) fn push_file_line(
     out: &mut Vec<u8>,
@@ -91,7 +91,7 @@ fn push_made_file_line(
     )
 }
 
-// Appends which file it is, and which part of which job's results it contains.
+// Appends the beginning of the line about a golden file: the sign, its path, and which result of which job it contains.
 fn push_file_head<'x>(
     out: &mut Vec<u8>,
     sign: &'static str,
@@ -121,7 +121,7 @@ fn part_text(part: Part) -> &'static str
     }
 }
 
-/// Appends why a golden file is rejected, if it is.
+/// Appends the line about a skipped golden file; nothing if it is not skipped.
 #[tactic(auto, unfolding(crate::specs::FileLines::left_file_line))]
 pub(crate) fn push_left_file_line(
     out: &mut Vec<u8>,
@@ -138,7 +138,7 @@ pub(crate) fn push_left_file_line(
     push_why_file_is_left(out, list.jobs, claims, &file.target)
 }
 
-/// Appends what is rejected.
+/// Appends the beginning of the line about a skipped job or golden file.
 pub(crate) fn push_left_head(out: &mut Vec<u8>, name: &str) -> Result<(), AllocError>
     ensures { OnOk result (out.new.items ≡ out.old.items ++ left_head name.now) }
 {
@@ -178,7 +178,7 @@ fn push_why_file_is_left(
     }
 }
 
-// Appends which two jobs disagree on the file at a path.
+// Appends the message that two jobs give the golden file at the path different texts.
 fn push_disagreement(
     out: &mut Vec<u8>,
     jobs: &[Job],
