@@ -8,7 +8,7 @@ use rv_hang::{BudgetUse, Repetition};
 use rv_text::{Span, push_spans};
 use std::alloc::AllocError;
 
-/// Appends the explanation of the used-up budget of a run with this many steps, if there is one.
+/// Appends the line about a used-up budget of a run with this many steps; nothing if the run was not analysed.
 pub(crate) fn push_budget_use_line(
     text: &mut Vec<u8>,
     steps: u32,

@@ -16,7 +16,7 @@ pub(crate) struct ExpectedText<'a> {
     pub(crate) text: &'a [u8],
 }
 
-/// Returns the expected text of an unmet expectation, if the difference is shown by lines.
+/// Returns the expected text of an unmet expectation, if the difference from it is shown line by line.
 pub(crate) fn expected_by_lines<'a>(
     comparison: &Comparison<'a, '_>,
     unmet: Unmet,

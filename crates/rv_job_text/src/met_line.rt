@@ -12,7 +12,7 @@ use rv_rows::Row;
 use rv_text::{Span, push_spans, push_text};
 use std::alloc::AllocError;
 
-/// Appends a line, after five spaces, for each expectation of a job that its run meets: those that are not among the unmet ones.
+/// Appends a line for each expectation of a job that its run meets: for those that are not among the unmet ones.
 #[tactic(auto, unfolding(crate::specs::MetLines::met_lines))]
 pub(crate) fn push_met_lines(
     bytes: &mut Vec<u8>,
@@ -89,7 +89,7 @@ fn push_met_expectation(
     }
 }
 
-// Appends what is met, with its path if it has one.
+// Appends which expectation is met, with the path of its file if it has one.
 fn push_met_file<'a>(
     bytes: &mut Vec<u8>,
     what: &'a str,

@@ -17,7 +17,7 @@ use rv_rows::{Refusal, RowEnd, expected_console_bytes, signature_reference_bytes
 use rv_trace::image_bytes;
 use std::alloc::{AllocError, Global};
 
-/// Returns why the job at an index was refused, if it was.
+/// Returns why the job at index `place` is refused; `None` if it is not.
 #[tactic(auto, unfolding(crate::specs::RefusalReasons::ending_reason))]
 pub fn ending_reason(
     alloc: Global,
@@ -105,7 +105,7 @@ fn image_refusal_text(
     Ok(Some(text))
 }
 
-// Returns the path of the reference or of the console file, whichever is the first that was not read.
+// Returns the path of the first expectation file that was not read: of the signature, or else of the console.
 #[tactic(auto, unfolding(crate::specs::RefusalReasons::unread_reference_path))]
 fn unread_reference_path(plan: &Plan, place: usize) -> Option<&str>
     requires { place < length plan.now.jobs }
