@@ -1,21 +1,22 @@
--- Lines of rows that are known before a document is written.
+-- The lines about rows that are known before a document is written.
 use Rattle.std.specs.Prelude.{◌≡◌, ◌<◌, ◌≤◌, ℕ, Bool, false, true, List, Option, None, IfSome, length, slice_index_or, Vec}
 use Rattle.std.specs.declared.alloc.Global.{Global}
 use Rattle.rv_expect.specs.Judgement.{Judging, fails}
 use Rattle.rv_rows.specs.declared_row.Row.{Row}
 use Rattle.rv_stream.specs.declared.reported_row.ReportedRow.{ReportedRow}
 
--- the lines that are known of rows, by the rows' numbers, are those that the reporter gives of these rows and the jobs at some indices
+-- `texts` has, by the number of the row, the lines that `line` makes of the row and its job's index, or none if they are not known
 abbrev pub AreLinesOf : (ℕ → Row → List ℕ) → List ℕ → List Row → List (Option (Vec ℕ Global)) → Type 0
 AreLinesOf line indices rows texts = (k : ℕ) (any : Row) → k < length rows → IfSome (slice_index_or texts k None)
     (λ text. text.items ≡ line (slice_index_or indices k 0) (slice_index_or rows k any))
 
--- the text of a reported row that counts as a failure
+-- the reported row is a failure, and this is its text
 pub record IsFailureText (judging : Judging) (reported : ReportedRow) (text : List ℕ) : Type 0 where
   pub failed : fails judging reported.row ≡ true
   pub text_is : text ≡ reported.text.items
 
--- the texts that are kept of reported rows, by their numbers; none after an allocation was refused
+-- `texts` are the texts that are kept of the reported rows, by their numbers; only failures are kept, and nothing after an allocation
+-- failed, as `is_closed` says
 pub record AreFailureTexts (judging : Judging) (is_closed : Bool) (texts : List (Option (Vec ℕ Global))) (reported : List ReportedRow) : Type 0 where
   pub all : is_closed ≡ false → length texts ≡ length reported
   pub few : length texts ≤ length reported

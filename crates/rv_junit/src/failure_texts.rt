@@ -9,26 +9,26 @@ use rv_stream::{Flow, Observer, ReportedRow, StreamSpec};
 use std::alloc::Global;
 use std::marker::PhantomData;
 
-/// The most bytes that are kept.
+/// The maximum number of bytes that are kept.
 const MOST_KEPT: usize = 16_777_216;
 
-/// Keeps the texts of rows that count as failures, up to 16 MiB, so that a document need not make them again. A text that does not fit, or
-/// for which there is no memory, is not kept.
+/// Keeps the texts of failures, up to 16 MiB, so that a document need not make them again. A text that does not fit, or for which there is
+/// no memory, is not kept.
 #[derive(Drop)]
 pub struct FailureTexts<'k, J: StreamSpec> {
     alloc: Global,
     judge: Judge<'k>,
     texts: Vec<Option<Vec<u8>>>,
-    // How many more bytes are kept.
+    // How many more bytes can be kept.
     room: usize,
-    // Whether an allocation was refused: nothing is kept then.
+    // Whether an allocation failed; nothing is kept then.
     is_closed: bool,
     of: PhantomData<J>,
     ghost judging: { judging_of judge ≡ J.judging },
 }
 
 impl<'k, J: StreamSpec> FailureTexts<'k, J> {
-    /// It has seen no row yet. Takes no memory.
+    /// Creates an observer that has seen no rows. Takes no memory.
     pub fn new(alloc: Global, judge: Judge<'k>) -> FailureTexts<'k, J>
         requires { judging_of judge ≡ J.judging }
         ensures { AreFailureTexts J.judging result.is_closed result.texts.items [] }
@@ -43,14 +43,14 @@ impl<'k, J: StreamSpec> FailureTexts<'k, J> {
         }
     }
 
-    /// Returns the texts that were kept, by the numbers of their rows.
+    /// Returns the kept texts, by the numbers of their rows.
     pub fn into_texts(self) -> Vec<Option<Vec<u8>>>
         ensures { result.items ≡ self.entry.texts.items }
     {
         self.texts
     }
 
-    // A copy of the text of a row, if it is to be kept.
+    // Returns a copy of the text of a row, if it is a failure and there is room.
     fn text_to_keep(&self, made: &ReportedRow) -> Option<Vec<u8>>
         ensures { IfSome result (λ text. IsFailureText J.judging made.now text.items) }
     {

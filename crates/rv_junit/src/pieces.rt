@@ -8,7 +8,7 @@ use rv_text::{Within, push_xml_text};
 use std::alloc::{AllocError, Global};
 use std::fmt::Write;
 
-/// A part of a document.
+/// A piece of a document.
 #[derive(Clone, Copy)]
 pub(crate) enum Piece<'a> {
     /// Text as it is, including markup.
@@ -23,7 +23,7 @@ pub(crate) enum Piece<'a> {
     Element(&'a [u8]),
 }
 
-/// Appends parts one after another.
+/// Appends pieces one after another.
 pub(crate) fn push_pieces(
     alloc: Global,
     text: &mut String,
