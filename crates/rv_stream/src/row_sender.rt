@@ -1,4 +1,4 @@
-//! An observer that reports rows, and sends that.
+//! An observer that writes the texts of its own reporter.
 
 ghost use Rattle.std.specs.Prelude.{◌≡◌, [], ℕ, List, None, OnErr, OnOk};
 ghost use Rattle.std.specs.Io.KnownBytes.{Appends};
@@ -13,7 +13,7 @@ use rv_fleet::Sink;
 use rv_rows::{RowReporter, WriteError};
 use std::alloc::Global;
 
-/// Sends what a reporter of its own says of each row: what comes together goes out in one write.
+/// An observer that writes the text of its own reporter about each row. Rows that arrive together are written at once.
 #[derive(Drop)]
 pub struct RowSender<'t, J: StreamSpec, T: RowReporter, W: Sink + Drop> {
     alloc: Global,
@@ -23,7 +23,7 @@ pub struct RowSender<'t, J: StreamSpec, T: RowReporter, W: Sink + Drop> {
 }
 
 impl<'t, J: StreamSpec, T: RowReporter, W: Sink + Drop> RowSender<'t, J, T, W> {
-    /// It has seen no row yet.
+    /// Creates an observer that has seen no rows.
     pub fn new(alloc: Global, reporter: &'t T, out: W) -> RowSender<'t, J, T, W>
         requires before { J.before ≡ W.taken out }
         requires failures { J.failures ≡ W.failed out }
@@ -39,7 +39,7 @@ impl<'t, J: StreamSpec, T: RowReporter, W: Sink + Drop> RowSender<'t, J, T, W> {
         }
     }
 
-    /// Sends what waits, and returns the sink: it took all of the text, or a beginning.
+    /// Writes the buffered text and returns the sink, which has received the whole text, or a prefix after an error.
     pub fn finish(self) -> (W, Result<(), WriteError>)
         ensures all { (text : List ℕ)
             → IsSent J.before (W.taken self.entry.outbox.out) J.failures (W.failed self.entry.outbox.out) self.entry.outbox.failed self.entry.outbox.unsent.items text
