@@ -59,12 +59,13 @@ abbrev pub is_failure_of_list : Failure → Bool
 is_failure_of_list failure.ReadFailed = false
 is_failure_of_list _ = true
 
--- if reading a list failed, running a job list can fail in this way; no claim about a list with an error
+-- the failure of reading a list is one that running a job list can have; no claim about a list with an error
 abbrev pub IsListFailure : ListError → Type 0
 IsListFailure (Refused error) = Unit {0}
 IsListFailure (Failed failure) = is_failure_of_list failure ≡ true
 
--- reading a list ended in this way because of this error of its parser: the list is rejected, but out of memory is a failure of the program
+-- the result of reading a list for this error of its parser: the list is rejected for it, but running out of memory is a failure of the
+-- program
 abbrev pub IsListError : JobError → ListError → Type 0
 IsListError error (Refused why) = (why ≡ error) × (error.what ≡ what.OutOfMemory → ⊥)
 IsListError error (Failed why) = (why ≡ failure.OutOfMemory) × (error.what ≡ what.OutOfMemory)
