@@ -178,17 +178,17 @@ with_into app = with_rule app (file_rule (codes "into"))
 abbrev pub with_results : App → App
 with_results app = with_color (with_rule (with_rule (with_rule app verbose_rule) quiet_rule) last_rule)
 
--- the command `name` with the positional argument <LIST>
+-- the rules of a command `name` with the positional argument <LIST>
 abbrev pub app_of_list : Text → App
 app_of_list name = with_rule (new_app name) (word_rule (codes "list"))
 
--- the command `run <LIST>` with its options
+-- the rules of `run <LIST>` with its options
 abbrev pub test_run_app : App
 test_run_app =
     with_results (with_stop_after (with_known (with_counts (with_files (with_into (with_machine (with_shard (with_choice
     (app_of_list (codes "run"))))))))))
 
--- list <LIST> [--only <NAME>].. [--match <REGEX>] [--exclude <REGEX>] [--failed <REPORT>] [--partial] [--lenient]
+-- the rules of `list <LIST> [--only <NAME>].. [--match <REGEX>] [--exclude <REGEX>] [--failed <REPORT>] [--partial] [--lenient]`
 abbrev pub list_app : App
 list_app = with_rule (with_choice (app_of_list (codes "list"))) (flag_rule (codes "lenient"))
 
@@ -196,14 +196,14 @@ list_app = with_rule (with_choice (app_of_list (codes "list"))) (flag_rule (code
 abbrev pub with_threads : App → App
 with_threads app = with_rule (with_rule (with_rule app test_workers_rule) group_rule) (option_rule (codes "root"))
 
--- accept <LIST> [--only <NAME>].. [--match <REGEX>] [--exclude <REGEX>] [--failed <REPORT>] [--partial] [--ends] [--check] [--outside]
--- [--workers <N>] [--group <N>] [--root <DIR>]
+-- the rules of `accept <LIST> [--only <NAME>].. [--match <REGEX>] [--exclude <REGEX>] [--failed <REPORT>] [--partial] [--ends] [--check]
+-- [--outside] [--workers <N>] [--group <N>] [--root <DIR>]`
 abbrev pub accept_app : App
 accept_app = with_threads (with_rule (with_rule (with_rule (with_choice (app_of_list (codes "accept"))) (flag_rule (codes "ends")))
     (flag_rule (codes "check"))) (flag_rule (codes "outside")))
 
--- cover <LIST> [--only <NAME>].. [--match <REGEX>] [--exclude <REGEX>] [--failed <REPORT>] [--partial] [--shard <K/N>] [--lenient]
--- [--workers <N>] [--group <N>] [--root <DIR>] [--counts <TABLE>] [--csv]
+-- the rules of `cover <LIST> [--only <NAME>].. [--match <REGEX>] [--exclude <REGEX>] [--failed <REPORT>] [--partial] [--shard <K/N>]
+-- [--lenient] [--workers <N>] [--group <N>] [--root <DIR>] [--counts <TABLE>] [--csv]`
 abbrev pub cover_app : App
 cover_app = with_rule (with_rule (with_threads (with_rule (with_rule (with_choice (app_of_list (codes "cover")))
     (option_rule (codes "shard"))) (flag_rule (codes "lenient")))) (option_rule (codes "counts"))) (flag_rule (codes "csv"))
@@ -212,8 +212,8 @@ cover_app = with_rule (with_rule (with_threads (with_rule (with_rule (with_choic
 abbrev pub most_functions : ℕ
 most_functions = 1000000
 
--- profile <LIST> [NAME] [--only <NAME>].. [--match <REGEX>] [--exclude <REGEX>] [--failed <REPORT>] [--partial] [--shard <K/N>] [--lenient]
--- [--workers <N>] [--group <N>] [--root <DIR>] [--counts <TABLE>] [--top <N>] [--csv]
+-- the rules of `profile <LIST> [NAME] [--only <NAME>].. [--match <REGEX>] [--exclude <REGEX>] [--failed <REPORT>] [--partial] [--shard
+-- <K/N>] [--lenient] [--workers <N>] [--group <N>] [--root <DIR>] [--counts <TABLE>] [--top <N>] [--csv]`
 abbrev pub profile_app : App
 profile_app = with_rule (with_rule (with_rule (with_threads (with_rule (with_rule (with_choice (with_rule (app_of_list (codes "profile"))
     (optional_word_rule (codes "name")))) (option_rule (codes "shard"))) (flag_rule (codes "lenient")))) (option_rule (codes "counts")))
@@ -227,25 +227,25 @@ choosing_app choosing.Accept = accept_app
 choosing_app choosing.Cover = cover_app
 choosing_app choosing.Profile = profile_app
 
--- explain <LIST> <NAME> [--last <N>] [--budget <N>] [--root <DIR>] [--color <WHEN>]
+-- the rules of `explain <LIST> <NAME> [--last <N>] [--budget <N>] [--root <DIR>] [--color <WHEN>]`
 abbrev pub explain_app : App
 explain_app = with_color (with_rule (with_rule (with_rule (with_rule (app_of_list (codes "explain"))
     (word_rule (codes "name"))) explain_last_rule) job_budget_rule) (option_rule (codes "root")))
 
--- console <LIST> <NAME> [--root <DIR>]
+-- the rules of `console <LIST> <NAME> [--root <DIR>]`
 abbrev pub console_app : App
 console_app = with_rule (with_rule (app_of_list (codes "console")) (word_rule (codes "name"))) (option_rule (codes "root"))
 
--- gdb <LIST> <NAME> [--root <DIR>] [--memory <MB>]
+-- the rules of `gdb <LIST> <NAME> [--root <DIR>] [--memory <MB>]`
 abbrev pub gdb_app : App
 gdb_app = with_rule (with_rule (with_rule (app_of_list (codes "gdb")) (word_rule (codes "name"))) (option_rule (codes "root")))
     memory_rule
 
--- check <LIST> [--root <DIR>]
+-- the rules of `check <LIST> [--root <DIR>]`
 abbrev pub check_app : App
 check_app = with_rule (app_of_list (codes "check")) (option_rule (codes "root"))
 
--- merge <PART>.. [--report <FILE>] [--junit <FILE>] [--suite <NAME>] [--lenient]
+-- the rules of `merge <PART>.. [--report <FILE>] [--junit <FILE>] [--suite <NAME>] [--lenient]`
 abbrev pub merge_app : App
 merge_app = with_files (with_rule (new_app (codes "merge")) parts_rule)
 
@@ -253,21 +253,21 @@ merge_app = with_files (with_rule (new_app (codes "merge")) parts_rule)
 abbrev pub most_slower : ℕ
 most_slower = 1000
 
--- diff <OLD> <NEW> [--partial] [--steps | --slower <N>] [--color <WHEN>]
+-- the rules of `diff <OLD> <NEW> [--partial] [--steps | --slower <N>] [--color <WHEN>]`
 abbrev pub diff_app : App
 diff_app = with_color (with_rule (with_rule (with_partial (with_rule (with_rule (new_app (codes "diff"))
     (word_rule (codes "old"))) (word_rule (codes "new")))) (flag_rule (codes "steps")))
     (number_rule (codes "slower") (pos 0) (pos most_slower) []))
 
--- show <REPORT> [--partial] [--junit <FILE>] [--suite <NAME>] [--lenient] [--color <WHEN>]
+-- the rules of `show <REPORT> [--partial] [--junit <FILE>] [--suite <NAME>] [--lenient] [--color <WHEN>]`
 abbrev pub show_app : App
 show_app = with_color (with_junit (with_partial (with_rule (new_app (codes "show")) (word_rule (codes "report")))))
 
--- counts <TABLE>.. [--out <FILE>]
+-- the rules of `counts <TABLE>.. [--out <FILE>]`
 abbrev pub counts_app : App
 counts_app = with_rule (with_rule (new_app (codes "counts")) (repeated_rule (word_rule (codes "table")))) (file_rule (codes "out"))
 
--- `rvtest` without its subcommands: a subcommand is required, `clap` adds no `help` subcommand, and there is a version
+-- the rules of `rvtest` without its subcommands: a subcommand is required, `clap` adds no `help` subcommand, and there is a version
 abbrev pub test_top_app : App
 test_top_app = let app = new_app (codes "rvtest") in
     record app {
@@ -292,7 +292,7 @@ abbrev pub with_reports : App → App
 with_reports app = with_subcommand (with_subcommand (with_subcommand app merge_app.top)
     diff_app.top) show_app.top
 
--- help [TOPIC]
+-- the rules of `help [TOPIC]`
 abbrev pub help_app : App
 help_app = with_rule (new_app (codes "help")) (optional_word_rule (codes "topic"))
 
