@@ -80,7 +80,8 @@ pub record IsGoldenFile (known : Option FileContents) (root : Option (List ℕ))
   pub leads : file.place ≡ resolved_path root target.path
   pub stands : IsOldAt known file.place file.old
 
--- the golden files of the targets, in order
+-- the files are the golden files of the targets, in order: with the targets' paths, resolved against `root`, and the contents of the files
+-- there
 abbrev pub AreGoldenFiles : Option FileContents → Option (List ℕ) → List Target → List GoldenFile → Type 0
 AreGoldenFiles known root [] [] = ⊤
 AreGoldenFiles known root (target ∷ targets) (file ∷ files) =

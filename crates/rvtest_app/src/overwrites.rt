@@ -84,7 +84,7 @@ pub(crate) fn refuse_file<F: Outputs>(
 }
 
 impl<'a> ReadFiles<'a> {
-    /// Returns the index of the first input that is one of `files`.
+    /// Returns the index of the first input that is one of `files`; `None` if there is none.
     pub(crate) fn first_of(&self, files: &[Text]) -> Option<usize>
         ensures within { IfSome result (λ at. at < length self.now.identities.items) }
         ensures none { result ≡ None → list_any (is_among files.now) self.now.identities.items ≡ false }
