@@ -61,7 +61,7 @@ registers_here session = registers_text (here session).registers (here session).
 abbrev pub memory_reply : List ℕ → Reply
 memory_reply bytes = if length bytes == 0 then refused refusal.Failed else with_body (encode_lower bytes)
 
--- `F`, a number of eight hexadecimal digits, and `;`
+-- the beginning of a file reply: `F`, a number of eight hexadecimal digits, and `;`
 abbrev pub counted : ℕ → List ℕ
 counted number = codes "F" ++ (encode_lower (to_be_bytes w32 number) ++ codes ";")
 
@@ -124,8 +124,8 @@ command_text session text =
 
 -- ---- requests that change the session
 
--- the session is at the first step at which `count` has this value if the Bool is true; otherwise no step has it, and the session is
--- unchanged
+-- if the Bool is true, `next` is the session at the first step at which `count` has this value; otherwise no step has it, and the session
+-- is unchanged
 abbrev pub IsSoughtAs : Bool → Session → Count → ℕ → Session → Type 0
 IsSoughtAs true session count value next =
     IsFirstWith count value session.history.budget session.history.start next.history.place

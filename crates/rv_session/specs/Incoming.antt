@@ -78,7 +78,7 @@ pub record IsTaken (session : Session) (body out : List ℕ) (next : Session) : 
   pub out_is : out ≡ acknowledgement session ++ packets_of reply
   pub next_is : next ≡ with_sent behind reply
 
--- a packet is rejected if the Bool is true: `-` requests it again; otherwise it is answered
+-- what is sent for a packet: `-`, which requests it again, if the Bool says that it must be rejected; otherwise it is answered
 abbrev pub IsJudged : Session → Bool → List ℕ → List ℕ → Session → Type 0
 IsJudged session true body out next = (out ≡ 45 ∷ []) × (next ≡ session)
 IsJudged session false body out next = IsTaken session body out next
@@ -98,7 +98,7 @@ IsResponse session heard.TooLong out next =
 IsResponse session (heard.Packet body sum) out next =
     IsJudged session (session.acknowledges && is_wrong sum) body out next
 
--- what is sent for a received item, and the session after it; nothing if the Bool is true, since the session is over
+-- what is sent for a received item, and the session after it; nothing if the Bool says that the session is over
 abbrev pub IsResponseUnless : Bool → Session → Incoming → List ℕ → Session → Type 0
 IsResponseUnless true session heard out next = (out ≡ []) × (next ≡ session)
 IsResponseUnless false session heard out next = IsResponse session heard out next

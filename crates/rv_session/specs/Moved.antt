@@ -31,7 +31,7 @@ is_forward (move.StepWithin low high) = true
 is_forward move.ContinueBack = false
 is_forward move.StepBack = false
 
--- a move from the step `from` of the run from `start` ends at the step `place`, and finds `found` there
+-- a move from the step `from` of the run from `start` ends at the step `place` with the result `found`
 abbrev pub IsMoveResult : Move → Stops → ℕ → State → ℕ → ℕ → Found → Type 0
 IsMoveResult move.Continue stops budget start from place found = IsNextStop stops bounds.All budget start from place found
 IsMoveResult move.Step stops budget start from place found = IsNextStep stops budget start from place found

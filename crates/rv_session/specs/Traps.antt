@@ -82,7 +82,7 @@ abbrev pub IsAdded : Stops → Stoppoint → Stops → Type 0
 IsAdded stops (trap.Break address) next = next ≡ record stops { breaks = stops.breaks ++ address ∷ [] }
 IsAdded stops (trap.Watch kind range) next = IsKindAdded stops kind range next
 
--- `next` are the stops with this stoppoint added, or the unchanged stops if the Bool is true
+-- `next` are the stops with this stoppoint added, or the unchanged stops if the Bool says that it is already set
 abbrev pub IsAddedUnless : Bool → Stops → Stoppoint → Stops → Type 0
 IsAddedUnless true stops place next = next ≡ stops
 IsAddedUnless false stops place next = IsAdded stops place next
