@@ -87,7 +87,7 @@ signal_action name step text = behind name text >>= move_with_signal step
 abbrev pub range_action : List ℕ → Option Move
 range_action text = behind (codes "r") text >>= move_within
 
--- an action of `vCont;`, without its thread
+-- the move that an action of `vCont;` requests, after its thread was removed; none for an unknown action
 unfoldable pub action_of : List ℕ → Option Move
 action_of text = bare_action text <|> signal_action (codes "C") move.Continue text <|> signal_action (codes "S") move.Step text
     <|> range_action text
