@@ -10,11 +10,11 @@ use Rattle.rv_history.specs.declared.access.Access.{Access}
 use Rattle.rv_history.specs.declared.access.Reach.{Reach}
 use Rattle.rv_history.specs.declared.stops.Watch.{Watch}
 
--- an instruction reads this many bytes
+-- an access that reads this many bytes
 abbrev pub read_of : ℕ → Option Reach
 read_of count = Some (record { is_read = true; count = count })
 
--- an instruction writes this many bytes
+-- an access that writes this many bytes
 abbrev pub write_of : ℕ → Option Reach
 write_of count = Some (record { is_read = false; count = count })
 

@@ -24,7 +24,7 @@ const MEGABYTES: u32 = 256;
 
 const MEGABYTE: usize = 1 << 20;
 
-// The number of these megabytes reserved for everything except machines.
+// How many megabytes of the memory limit are reserved for everything except machines.
 const MEGABYTES_BESIDE: usize = 32;
 
 // The number of machines that exist during a move without being stored.
@@ -33,9 +33,10 @@ const MACHINES_BESIDE: usize = 4;
 // One in this many of the states is stored before the end of the last backward move, seek or move to a watchpoint.
 const NEAR_SHARE: usize = 8;
 
-// The memory that a machine takes for each byte of its regions, and the maximum that it takes in addition.
+// How many bytes of memory a machine takes for each byte of its regions.
 const BYTES_OF_BYTE: usize = 3;
 
+/// The maximum number of bytes that a machine takes in addition to those for its regions.
 const BYTES_BESIDE: usize = 1 << 18;
 
 /// A run from its start, with some of its states stored so that a move need not begin at the start. Which states are stored affects only
