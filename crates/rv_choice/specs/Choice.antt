@@ -59,7 +59,7 @@ pattern_of pattern = option_map (λ regex. regex_pattern regex.now) pattern
 abbrev pub IsReadByDefault : Regex → Type 0
 IsReadByDefault regex = (regex_config regex ≡ default_config) × IsReadFromSource regex
 
--- the names of the failed rows, in order
+-- the names of the rows that failed by this rule, in order
 abbrev pub failed_job_names : Rule → List Row → List (List ℕ)
 failed_job_names rule rows =
     map (λ (row : Row). row.name) (filter (λ (row : Row). not (has_passed rule row)) rows)
