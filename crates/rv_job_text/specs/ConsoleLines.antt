@@ -119,7 +119,7 @@ abbrev pub lines_heading : List ℕ → ℕ → ℕ → List ℕ
 lines_heading source number count = codes "     console differs from " ++ source ++ codes " at line "
     ++ decimal number ++ codes " of " ++ decimal count ++ codes ":\n"
 
--- the last of the equal leading lines, of which there are `equal`
+-- the equal lines that are shown before the first difference: the last of the `equal` leading lines
 abbrev pub equal_lines : ℕ → List (List ℕ) → List ℕ
 equal_lines equal lines = let earlier = equal - most_equal_lines in
     side_lines (codes "       ") (equal - earlier) (drop earlier lines) []

@@ -21,13 +21,13 @@ use Rattle.rv_text.specs.Words.{word_digits}
 
 -- ---- addresses
 
--- the last of `count` addresses from `from` on
+-- the last of `count` addresses from `from` on; `past ffffffff` if it does not fit in 32 bits
 unfoldable pub last_address_text : ℕ → ℕ → List ℕ
 last_address_text from count =
     if nat_lt (from + (count - 1)) (2 ^ 32) then word_digits (from + (count - 1))
     else codes "past ffffffff"
 
--- the first and the last of `count` addresses from `from` on
+-- the first and the last of `count` addresses from `from` on, in words
 abbrev pub address_range_text : ℕ → ℕ → List ℕ
 address_range_text from count = word_digits from ++ codes " to " ++ last_address_text from count
 
@@ -41,7 +41,8 @@ regions_text regions = flat_map region_text regions
 
 -- ---- segments
 
--- the part of a segment that does not fit: its memory if its file bytes fit, as the Bool says, and otherwise its file bytes
+-- the addresses of the part of a segment that does not fit: of its memory if the Bool says that its file bytes fit, and otherwise of its
+-- file bytes
 unfoldable pub outside_segment_text : Bool → LoadAt → Segment → List ℕ
 outside_segment_text true at segment =
     codes "a segment's bytes in memory, " ++ address_range_text segment.vaddr segment.memsz
@@ -56,7 +57,7 @@ unfit_segment_text job (Some segment) =
     job.load segment
     ++ codes ", do not fit in one region:" ++ regions_text job.regions
 
--- the first segment that overlaps a later one, with the first one that it overlaps
+-- the first segment that overlaps a later one, and the first later one that it overlaps; none if there is no overlap
 abbrev pub overlapping_segments : LoadAt → List Segment → Option (Segment × Segment)
 overlapping_segments at [] = None
 overlapping_segments at (one ∷ others) =
@@ -151,6 +152,6 @@ abbrev pub image_reason_text : Job → List ℕ → Result Image ImageError → 
 image_reason_text job file (Ok there) why = image_details_text job file there why
 image_reason_text job file (Err other) why = image_error_sentence why
 
--- the message why the image of the job, with the contents `file`, is refused
+-- the reason why the image of the job, with the contents `file`, is refused
 unfoldable pub image_reason : Job → List ℕ → ImageError → List ℕ
 image_reason job file why = image_reason_text job file (image_of job.isa file) why

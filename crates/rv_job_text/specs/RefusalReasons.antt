@@ -27,13 +27,13 @@ unread_reference_path answers job =
     option_or (path_if_unread (signature_reference_bytes answers job) job.expect_signature)
     (path_if_unread (expected_console_bytes answers job) (console_path job.expect_console))
 
--- the message why an image that was read is refused; none if it was not read
+-- the reason why an image that was read is refused; none if it was not read
 abbrev pub image_refusal_text : List Answer → Job → ImageError → Option (List ℕ)
 image_refusal_text answers job why =
     option_map (λ file. image_reason job file why)
     (content_if_read (Some (kept_for answers job.image)))
 
--- the message why a job is refused; `unread` has the reasons why files could not be read
+-- the reason why a job is refused; `unread` says why files could not be read
 unfoldable pub refusal_reason : List Answer → List UnreadPath → Job → Refusal → Option (List ℕ)
 refusal_reason answers unread job refusal.ImageUnreadable = Some (unread_file_text unread job.image)
 refusal_reason answers unread job refusal.ImageTooLong = Some (too_long_file_text job.image)
@@ -43,7 +43,7 @@ refusal_reason answers unread job refusal.ReferenceTooLong =
     option_map too_long_file_text (unread_reference_path answers job)
 refusal_reason answers unread job (refusal.Image why) = image_refusal_text answers job why
 
--- the message why a job is refused; none if it is not
+-- the reason why a job is refused; none if it is not
 unfoldable pub ending_reason : List Answer → List UnreadPath → Job → RowEnd → Option (List ℕ)
 ending_reason answers unread job (ending.Refused why) = refusal_reason answers unread job why
 ending_reason answers unread job _ = None

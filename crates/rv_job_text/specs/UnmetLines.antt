@@ -161,7 +161,7 @@ rows_difference_text first row other (same.Signature difference) =
     codes ": signature differs" ++ signatures_difference_text first row.signature other.signature difference
 rows_difference_text first row other same.Absent = codes ", which was not run"
 
--- the message that a job has not the same result as the job that it names by `same_as`
+-- the message that the result of a job differs from that of the job that it names by `same_as`
 unfoldable pub same_difference_text : Option ℕ → Row → Option Row → SameDifference → List ℕ
 same_difference_text first row None difference = codes "the same result as another job, which was not run"
 same_difference_text first row (Some other) difference =

@@ -33,7 +33,7 @@ pub(crate) fn push_unfit_segment(
     }
 }
 
-// Appends the part of a segment that does not fit: its memory if its file bytes fit, and otherwise its file bytes.
+// Appends the addresses of the part of a segment that does not fit: of its memory if its file bytes fit, and otherwise of its file bytes.
 #[tactic(auto, unfolding(crate::specs::ImageReasons::outside_segment_text))]
 fn push_outside_segment(bytes: &mut Vec<u8>, job: &Job, segment: &Segment) -> Result<(), AllocError>
     ensures { OnOk result (bytes.new.items ≡ bytes.old.items
@@ -142,7 +142,7 @@ fn push_segment_pair(
     )
 }
 
-// Returns the first segment that overlaps a later one, with the first one that it overlaps.
+// Returns the first segment that overlaps a later one, and the first later one that it overlaps; `None` if there is no overlap.
 fn overlapping_segments(at: LoadAt, segments: &[Segment]) -> Option<(Segment, Segment)>
     ensures { result ≡ overlapping_segments at segments.now }
 {

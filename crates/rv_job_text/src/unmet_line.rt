@@ -145,7 +145,7 @@ pub(crate) fn push_expected_end(
     }
 }
 
-// Appends the message that a job has not the same result as the job that it names by `same_as`.
+// Appends the message that the result of a job differs from that of the job that it names by `same_as`.
 #[tactic(auto, unfolding(crate::specs::UnmetLines::same_difference_text))]
 fn push_same_difference(
     bytes: &mut Vec<u8>,
