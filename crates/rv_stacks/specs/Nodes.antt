@@ -35,11 +35,11 @@ weighed_behind weight paths (n ∷ ns) =
 abbrev pub weighed : (List ℕ → Node → ℕ) → List Node → ℕ
 weighed weight nodes = weighed_behind weight ([] ∷ []) nodes
 
--- how often a run entered a path
+-- how often a run entered the path `path`, by the counts of the nodes
 abbrev pub arrivals_at : List ℕ → List Node → ℕ
 arrivals_at path nodes = weighed (λ p n. if bytes_eq p path then n.arrivals else 0) nodes
 
--- how many instructions a run executed on a path
+-- how many instructions a run executed on the path `path`, by the counts of the nodes
 abbrev pub steps_at : List ℕ → List Node → ℕ
 steps_at path nodes = weighed (λ p n. if bytes_eq p path then n.steps else 0) nodes
 
