@@ -64,7 +64,7 @@ fn valid_profile_request<'a>(
     Ok(Some(Request::Profile(ProfileArgs { run, top, csv })))
 }
 
-// Returns the arguments of a run of the named job, or of the chosen jobs if none is named.
+// Returns the arguments of a run of the job NAME, or of the chosen jobs if NAME is not given.
 fn named_run<'a>(
     alloc: Global,
     values: &ArgMatches<'a>,
@@ -81,7 +81,7 @@ fn named_run<'a>(
     Ok(run)
 }
 
-// Returns the name of the named job, or the names that `--only` chooses if none is named.
+// Returns the argument NAME, or the values of `--only` if NAME is not given.
 fn named_or_only<'a>(alloc: Global, values: &ArgMatches<'a>) -> Result<Vec<&'a str>, AllocError>
     ensures { IfOk result (λ names. map (λ name. name.now) names.items
         ≡ named_or_only (rows_of (found_of values.now))) }
