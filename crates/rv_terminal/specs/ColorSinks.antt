@@ -20,7 +20,7 @@ pub record IsColored (before plain out : List ℕ) : Type 0 where
   pub put : plain ≡ before ++ text
   pub shown : out ≡ before ++ colored beginning text
 
--- the first bytes of an escape sequence, or all of them
+-- `part` is the first bytes of an escape sequence, or all of them
 pub record IsMarkBegun (part : List ℕ) : Type 0 where
   pub mark : Mark
   pub rest : List ℕ

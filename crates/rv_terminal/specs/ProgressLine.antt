@@ -10,7 +10,8 @@ jobs_and_failed_text jobs failed = decimal jobs ++ codes " jobs done, " ++ decim
 abbrev pub progress_text : ℕ → ℕ → ℕ → List ℕ
 progress_text done jobs failed = decimal done ++ codes " of " ++ jobs_and_failed_text jobs failed
 
--- whether other output ends in the middle of a line after a text with this last byte, or none; `held` says whether it did before
+-- whether other output ends in the middle of a line after one more text, given the text's last byte; an empty text leaves it as it was,
+-- `held`
 abbrev pub is_mid_line : Bool → Option ℕ → Bool
 is_mid_line held None = held
 is_mid_line held (Some last) = not (last == 10)

@@ -25,8 +25,8 @@ pub struct TerminalSink<'a, 'k, R: Wait, S: Sink + Drop, W: Drop> {
 }
 
 impl<'a, 'k, R: Wait, S: Sink + Drop, W: Write + Drop> TerminalSink<'a, 'k, R, S, W> {
-    /// Creates a sink that writes to `sink`, which is on the terminal or not. If it is, and the progress line is shown there, the line is
-    /// removed during each write.
+    /// Creates a sink that writes to `sink`; `is_terminal` says whether that is a terminal. If it is, and the progress line is shown there,
+    /// the line is removed during each write.
     pub fn new(
         rt: &'a R,
         alloc: Global,
