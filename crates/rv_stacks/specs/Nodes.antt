@@ -83,7 +83,7 @@ pub record HasChild (parent function : ℕ) (old : List Node) (number : ℕ) (ne
 
 -- ---- counting in a node
 
--- the nodes `new` are as many as the nodes `old`, and have unchanged paths
+-- `new` has as many nodes as `old`, each with an unchanged path
 pub record KeepsPaths (old new : List Node) : Type 0 where
   pub long : length new ≡ length old
   pub paths : paths_of new ≡ paths_of old

@@ -186,7 +186,7 @@ AreTablesWithStacksOfParts plan [] [] = Unit {0}
 AreTablesWithStacksOfParts plan (p ∷ ps) (t ∷ ts) = IsTableWithStacks plan p t × AreTablesWithStacksOfParts plan ps ts
 AreTablesWithStacksOfParts plan _ _ = ⊥
 
--- the indices of the shard with this number: those that leave it as the remainder when divided by the number of shards
+-- the indices of one shard: those that leave the remainder `number` when divided by `shards`
 abbrev pub places_of_shard : ℕ → List ℕ → ℕ → List ℕ
 places_of_shard shards places number = filter (λ place. place % shards == number) places
 

@@ -60,7 +60,7 @@ abbrev pub calls_to : (ℕ → ℕ) → List ℕ → List Frame → Transfer →
 calls_to function path frames t = is_pushed (popped frames t) t
     && bytes_eq (path_at function (after_transfer frames t) t.to) path
 
--- how often a transfer enters a path: by continuing in another function, and by a call
+-- how often a transfer enters a path, at most twice: by continuing in another function, and by a call
 abbrev pub arrivals_by : (ℕ → ℕ) → List ℕ → List Frame → Transfer → ℕ
 arrivals_by function path frames t = once_if (jumps_to function path frames t) + once_if (calls_to function path frames t)
 

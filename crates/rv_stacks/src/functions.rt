@@ -83,8 +83,8 @@ pub(crate) fn steps_in_function(
     block.steps - 1
 }
 
-/// Returns the function of a code address: the start of its symbol, or without one 0, or the last address if there is a symbol at 0. Takes
-/// one or two searches of the symbols.
+/// Returns the function of a code address: the start of its symbol. Without a symbol it is 0, or the last address if there is a symbol at
+/// 0. Takes one or two searches of the symbols.
 #[tactic(auto, unfolding(crate::specs::Stacks::function_at))]
 pub fn function_of(symbols: &CodeSymbols<'_>, address: u32) -> u32
     ensures { result ≡ function_at symbols.now.image.now symbols.now.bytes.now address }

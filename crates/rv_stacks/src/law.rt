@@ -28,7 +28,7 @@ pub fn run_has_one_list_of_spots()
     one_tree_has_these_counts();
 }
 
-/// The instructions of the nodes that end in a function are as many as the counts of the function's addresses.
+/// The call-tree nodes that end in a function have as many instructions as the counts of the function's addresses.
 pub fn own_steps_are_the_counts_of_addresses()
     ensures { (function : ℕ → ℕ) (f n : ℕ) (s : State) (cs : List AddressCounts) (spots : List Spot)
         → AreCountsOf n s cs → AreStacksOf function n s spots → own_in f spots ≡ counts_of_function function f cs }
@@ -52,7 +52,7 @@ pub fn tables_with_stacks_of_parts_sum_to_that_of_all()
 {}
 
 /// The tables of all shards, with call trees, add up in any order to the table of all indices, and the sum has the text of that table. A
-/// shard has the indices that leave one remainder when divided by the number of shards.
+/// shard has the indices with the same remainder modulo the number of shards.
 pub fn tables_with_stacks_of_shards_sum_to_that_of_all()
     ensures table { (plan : Planned) (shards : ℕ) (places numbers : List ℕ) (ts : List CountTable) (sum : CountTable)
         → 0 < shards → IsPermutation (range_with_len 0 shards) numbers
@@ -70,8 +70,8 @@ pub fn table_without_stacks_is_that_of_counts()
         → IsTableOfPlaces plan places (without_stacks t) }
 {}
 
-/// For at most `most_jobs` jobs there is no table with call trees only if memory ran out or a function has two names: no number reaches
-/// 2^64.
+/// For at most `most_jobs` jobs, a table with call trees can be missing for two reasons only: memory ran out, or a function has two names.
+/// No number reaches 2^64.
 pub fn names_alone_refuse_a_table_with_stacks()
     ensures { (plan : Planned) (places : List ℕ) (error : Refused) → length places ≤ most_jobs
         → HaveNoTableWithStacks plan places error → IsOfNamesOrMemory error }
