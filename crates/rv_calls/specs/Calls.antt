@@ -38,7 +38,7 @@ transfer_of s t = transfer_by (code_at s.bus s.pc) s t
 
 -- ---- a run
 
--- the transfer of the step in state `s`, followed by `rest` of the next state; none if the step does not complete
+-- the transfer of the step in state `s`, followed by the transfers that `rest` gives for the next state; none if the step does not complete
 abbrev pub transfer_and_more : Result State Ending → State → (State → List Transfer) → List Transfer
 transfer_and_more (Ok t) s rest = transfer_of s t ∷ rest t
 transfer_and_more (Err e) s rest = []
