@@ -7,7 +7,7 @@ use Rattle.rv_fleet.specs.Flat.{flat_row_of}
 abbrev pub most_read : ℕ
 most_read = 1048577
 
--- the bytes are the first ones of the input, up to the maximum that is read, if its contents are known
+-- the bytes are the first ones of the input, up to the maximum that is read; any bytes if the input is not known
 abbrev pub IsInputBeginning : Option (List ℕ) → List ℕ → Type 0
 IsInputBeginning input bytes = IfSome input (λ known. bytes ≡ take most_read known)
 

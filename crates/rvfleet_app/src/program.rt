@@ -82,7 +82,7 @@ pub fn run_words<'a, R: Threads + Wait, T: AsStr, S: Store, I: Read, O: Sink, E:
     }
 }
 
-/// What the program runs on.
+/// What the program runs on: threads, an allocator, and a gate.
 #[derive(Drop)]
 struct Host<'a, R, G> {
     rt: &'a R,
