@@ -44,7 +44,8 @@ reason_attribute why = if length why == 0 then [] else attribute (codes "message
 unfoldable pub skipped_text : List ℕ → List ℕ
 skipped_text why = codes "<skipped" ++ reason_attribute why ++ codes "/>\n"
 
--- the XML element in the test case of a row: for a failure or a known failure; empty if the row passed
+-- the XML element in the test case of a row: for a failure, for a job that passes although it is known to fail, or for a known failure;
+-- empty if the row passed
 abbrev pub judged_text : Judged → Row → List ℕ → List ℕ
 judged_text passed row lines = []
 judged_text failed row lines = problem_text row lines

@@ -151,7 +151,8 @@ pub(crate) fn push_test_case<'a>(
     )
 }
 
-// Appends the XML element in the test case of a row: for a failure or a known failure; nothing if the row passed.
+// Appends the XML element in the test case of a row: for a failure, for a job that passes although it is known to fail, or for a known
+// failure; nothing if the row passed.
 fn push_judged(
     alloc: Global,
     text: &mut String,
