@@ -212,7 +212,7 @@ fn session_of(alloc: Global, code: &str, budget: u32) -> Result<Talk, Fail> {
     })
 }
 
-// Returns bodies, separated by ` & `, in their frames: `empty` is a body of no bytes, and `nothing` is no body.
+// Returns bodies, separated by ` & `, in their frames: `empty` represents a body without bytes, and `nothing` that there is no body.
 fn framed(alloc: Global, bodies: &str) -> Result<Vec<u8>, Fail> {
     let mut out = Vec::new(alloc);
     for body in bodies.split(" & ") {
