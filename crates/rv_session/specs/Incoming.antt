@@ -123,7 +123,8 @@ pub record IsWorked (end_text : List ℕ) (may_break : Bool) (session : Session)
   pub out_is : out ≡ packets_of reply
   pub next_is : next ≡ with_sent behind reply
 
--- whether the next byte is 0x03, which gdb sends for Ctrl-C; `behind` says it for what follows the bytes
+-- whether a move that is made before these bytes can be interrupted: the first byte is 0x03, which gdb sends for Ctrl-C; without bytes, as
+-- `behind` says
 abbrev pub is_interrupted : List ℕ → Bool → Bool
 is_interrupted [] behind = behind
 is_interrupted (byte ∷ rest) behind = byte == 3
