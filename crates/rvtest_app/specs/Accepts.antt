@@ -140,12 +140,12 @@ IsAcceptanceWritten false told status before after =
     × (after.errors ≡ before.errors) × (after.failures ≡ before.failures)
     × AreFilesCommitted before.placed after.placed (Some (written_files told))
 
--- the summary `told` has these five parts
+-- the summary has this list, these runs, golden texts and golden files, and this new list
 abbrev pub IsAcceptSummaryOf : ListFile → List (Option JobRun) → List GoldenText → List GoldenFile → NewList → AcceptSummary → Type 0
 IsAcceptSummaryOf list runs claims files new told = (told.list ≡ list) × (told.runs.now ≡ runs) × (told.claims.now ≡ claims)
     × (told.files.now ≡ files) × (told.new.now ≡ new)
 
--- the summary with these five parts was written as `IsAcceptanceWritten` says
+-- the summary of this list, these runs, golden texts and golden files, and this new list was written as `IsAcceptanceWritten` says
 pub record IsOutcomeWritten (check : Bool) (list : ListFile) (runs : List (Option JobRun)) (claims : List GoldenText)
     (files : List GoldenFile) (new : NewList) (status : ℕ) (before after : CommandOutputs) : Type 0 where
   pub told : AcceptSummary

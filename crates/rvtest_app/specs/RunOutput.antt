@@ -26,7 +26,7 @@ rows_status judging rows = if list_any (fails judging) rows then 1 else 0
 abbrev pub job_numbers : List ℕ → List ℕ
 job_numbers places = map (λ place. place + 1) places
 
--- the report of some jobs of a list: their extent, their indices and their rows
+-- the report of the jobs at these indices, with these rows; the extent `jobs` says whether they are a shard, all jobs or chosen jobs
 abbrev pub part_text : Extent → List ℕ → List Row → List ℕ
 part_text jobs places rows = saved_text (record {
   extent = jobs;
