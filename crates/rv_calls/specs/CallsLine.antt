@@ -31,7 +31,7 @@ most_told = 31
 unfoldable pub more_text : ℕ → List ℕ
 more_text count = if count == 0 then [] else codes " <- " ++ decimal count ++ codes " more"
 
--- the number of frames that are not shown; empty if all are
+-- the number of frames that are not shown; empty if all are shown
 abbrev pub rest_text : List Frame → List ℕ
 rest_text frames = more_text (length frames - most_told)
 
