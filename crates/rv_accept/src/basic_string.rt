@@ -18,6 +18,7 @@ pub fn push_basic_string(alloc: Global, out: &mut Vec<u8>, text: &[u8]) -> Resul
     Ok(())
 }
 
+// Appends a byte as it is written in a TOML string.
 fn push_byte(alloc: Global, out: &mut Vec<u8>, byte: u8) -> Result<(), AllocError>
     ensures { OnOk result (out.new.items ≡ out.old.items ++ byte_text byte) }
 {
@@ -55,6 +56,7 @@ fn push_unless_short(alloc: Global, out: &mut Vec<u8>, byte: u8) -> Result<(), A
     out.extend_from_slice(digits.as_bytes())
 }
 
+// Whether a byte is a control character of ASCII.
 fn is_other_control(byte: u8) -> bool
     ensures { result ≡ is_other_control byte }
 {

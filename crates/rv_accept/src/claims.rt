@@ -89,6 +89,7 @@ fn push_claims_of_runs(
     }
 }
 
+// Appends the texts that a job gives its golden files; nothing if it was not run, and no texts if it was skipped.
 fn push_claims_of_run(
     alloc: Global,
     claims: &mut Vec<GoldenText>,

@@ -26,6 +26,7 @@ pub fn is_accepted_end(acceptance: Acceptance, job: &Job, ending: RowEnd) -> boo
     }
 }
 
+// Whether the job ran and ended as expected: with exit 0 if no end is expected.
 fn ended_as_expected(job: &Job, ending: RowEnd) -> bool
     ensures { result ≡ ended_as_expected job.now.expect_exit job.now.expect_end ending }
 {

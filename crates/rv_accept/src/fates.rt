@@ -36,6 +36,7 @@ pub fn outcome_of_golden_file(
     }
 }
 
+// Returns the outcome for the golden file at the path, given its first golden text; `Unclaimed` if there is none.
 fn fate_of_first(
     alloc: Global,
     path: &str,
@@ -50,6 +51,7 @@ fn fate_of_first(
     }
 }
 
+// Returns the outcome for the golden file at the path, given its first golden text.
 fn fate_of_given_text(
     alloc: Global,
     path: &str,
@@ -69,6 +71,7 @@ fn fate_of_given_text(
     }
 }
 
+// Returns the first golden text for the file at the path whose job was skipped.
 fn first_of_left_job<'a>(path: &str, claims: &'a [GoldenText]) -> Option<&'a GoldenText>
     ensures { option_map (λ claim. claim.now) result ≡ find (is_of_left_job path.now) claims.now }
 {
@@ -96,24 +99,28 @@ pub fn first_of_another_text<'a>(
         .find(|claim| gives_another_text(path, text, claim))
 }
 
+// Whether the golden text is for the file at the path.
 fn names_file(path: &str, claim: &GoldenText) -> bool
     ensures { result ≡ names_file path.now claim.now }
 {
     path == claim.path.as_str()
 }
 
+// Whether the golden text is for the file at the path, and is missing since its job was skipped.
 fn is_of_left_job(path: &str, claim: &GoldenText) -> bool
     ensures { result ≡ is_of_left_job path.now claim.now }
 {
     names_file(path, claim) && claim.text.is_none()
 }
 
+// Whether the golden text is for the file at the path, and is not `text`.
 fn gives_another_text(path: &str, text: &[u8], claim: &GoldenText) -> bool
     ensures { result ≡ gives_another_text path.now text.now claim.now }
 {
     names_file(path, claim) && !is_text(text, &claim.text)
 }
 
+// Whether there is a text and it equals `text`.
 fn is_text(text: &[u8], given: &Option<Bytes>) -> bool
     ensures { result ≡ is_text text.now given.now }
 {

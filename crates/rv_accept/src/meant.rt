@@ -34,6 +34,7 @@ fn accepted_row(run: &Option<JobRun>) -> Option<&Row>
     }
 }
 
+// Returns the row of a run, if its job is chosen and was not skipped.
 fn row_if_accepted(run: &JobRun) -> Option<&Row>
     ensures { option_map (λ row. row.now) result ≡ row_if_accepted run.now }
 {
@@ -54,6 +55,7 @@ fn is_meant_job(job: &Job, accepted: Option<&Row>, other: &Job) -> bool
         && are_meant_values(job, accepted, other)
 }
 
+// Whether `other` expects the end and the console of the row if there is one, and otherwise those that `job` expects.
 fn are_meant_values(job: &Job, accepted: Option<&Row>, other: &Job) -> bool
     ensures exit { IsTrue result → other.now.expect_exit
         ≡ (meant_job job.now (option_map (λ row. row.now) accepted.entry)).expect_exit }
@@ -80,6 +82,7 @@ fn are_meant_values(job: &Job, accepted: Option<&Row>, other: &Job) -> bool
     }
 }
 
+// Returns the new value of `expect_exit`: the actual exit code, if an exit code is expected and the run exited; otherwise the old value.
 fn actual_exit(expected: Option<u32>, ending: RowEnd) -> Option<u32>
     ensures { result ≡ actual_exit expected ending }
 {
@@ -89,6 +92,7 @@ fn actual_exit(expected: Option<u32>, ending: RowEnd) -> Option<u32>
     }
 }
 
+// Returns the new value of `expect_end`: the actual kind of fault, if a fault is expected and the run faulted; otherwise the old value.
 fn actual_end(expected: Option<ExpectedEnd>, ending: RowEnd) -> Option<ExpectedEnd>
     ensures { result ≡ actual_end expected ending }
 {
@@ -98,6 +102,7 @@ fn actual_end(expected: Option<ExpectedEnd>, ending: RowEnd) -> Option<ExpectedE
     }
 }
 
+// Whether `other` is the new value of `expect_console`: the actual console if the list contains the expected text, otherwise the old value.
 fn is_met_console(
     expected: &Option<ExpectedConsole>,
     console: &[u8],

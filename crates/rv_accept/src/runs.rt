@@ -63,6 +63,7 @@ pub fn indexed_rows(
     Ok(placed)
 }
 
+// Appends the rows of the selected jobs, each at the index of its job.
 #[tactic(auto, unfolding(crate::specs::Runs::indexed_rows))]
 fn push_placed_rows(
     placed: &mut Vec<Option<Row>>,
@@ -106,6 +107,7 @@ pub fn judged_runs(
     Ok(runs)
 }
 
+// Appends the runs of the jobs, each accepted or skipped; none for a job without a row.
 #[tactic(auto, unfolding(crate::specs::Runs::judged_runs))]
 fn push_judged_runs(
     runs: &mut Vec<Option<JobRun>>,

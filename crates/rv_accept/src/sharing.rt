@@ -55,6 +55,7 @@ fn is_compared_with(place: usize, jobs: &[Job], marks: &[bool]) -> bool
     }
 }
 
+// Whether an index is named and equals `place`.
 fn is_place(place: usize, named: Option<usize>) -> bool
     ensures { result ≡ is_place place named }
 {
@@ -94,6 +95,7 @@ fn shares_with_marked(jobs: &[Job], marks: &[bool], job: &Job) -> bool
         || is_file_of_marked(jobs, marks, signature_path(job))
 }
 
+// Whether a path is given, and a selected job names the golden file there.
 fn is_file_of_marked(jobs: &[Job], marks: &[bool], path: Option<&str>) -> bool
     ensures { result ≡ is_file_of_marked jobs.now marks.now (option_map (λ path. path.now) path.entry) }
 {
@@ -117,12 +119,14 @@ fn is_named_by_marked(path: &str, jobs: &[Job], marks: &[bool]) -> bool
     }
 }
 
+// Whether the job names the golden file at the path, for its console or its signature.
 fn names_golden_file(path: &str, job: &Job) -> bool
     ensures { result ≡ names_golden_file path.now job.now }
 {
     is_path(path, console_path(job)) || is_path(path, signature_path(job))
 }
 
+// Whether a path is named and equals `path`.
 fn is_path(path: &str, named: Option<&str>) -> bool
     ensures { result ≡ is_path path.now (option_map (λ path. path.now) named.entry) }
 {

@@ -52,6 +52,7 @@ fn add_target(
     Ok(())
 }
 
+// Returns the golden file that a golden text is for, with its outcome.
 fn target_of(alloc: Global, claim: &GoldenText, claims: &[GoldenText]) -> Result<Target, AllocError>
     ensures { IfOk result (λ target. target ≡ target_of claims.now claim.now) }
 {
@@ -73,6 +74,7 @@ fn is_of_accepted(run: Option<&Option<JobRun>>) -> bool
     }
 }
 
+// Whether the golden file at the path is already in the list.
 fn is_target(path: &str, targets: &[Target]) -> bool
     ensures { result ≡ is_target path.now targets.now }
 {
