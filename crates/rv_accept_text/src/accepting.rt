@@ -68,6 +68,7 @@ impl<'a> AcceptSummary<'a> {
         Ok(())
     }
 
+    // Appends the lines about a changed value of the list.
     fn push_value_line(&self, out: &mut Vec<u8>, value: &ChangedValue) -> Result<(), AllocError>
         ensures { OnOk result (out.new.items ≡ out.old.items ++ value_line_in self.now value.now) }
     {
@@ -141,6 +142,7 @@ impl<'a> AcceptSummary<'a> {
     }
 }
 
+// Whether files were written or would be, in words.
 fn writing_word(writing: Writing) -> &'static str
     ensures { result.now ≡ writing_word writing }
 {
@@ -150,6 +152,7 @@ fn writing_word(writing: Writing) -> &'static str
     }
 }
 
+// Appends the lines about a changed value of the list; nothing if its job or the job's run is missing.
 fn push_value_line_of(
     out: &mut Vec<u8>,
     path: &str,
@@ -200,6 +203,7 @@ fn left_job_count(runs: &[Option<JobRun>]) -> usize
     count
 }
 
+// Whether there is a run, and its job is chosen and was skipped.
 fn is_left_job(run: &Option<JobRun>) -> bool
     ensures { result ≡ is_left_job run.now }
 {

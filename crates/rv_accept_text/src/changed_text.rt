@@ -37,6 +37,7 @@ pub(crate) fn push_byte_change(out: &mut Vec<u8>, old: &[u8], new: &[u8]) -> Res
     push_values_from(out, equal_len(old, new), old, new)
 }
 
+// Appends the line end with the offset `place`, and what the old and the new text have from there on.
 fn push_values_from<'x>(
     out: &mut Vec<u8>,
     place: usize,
@@ -71,6 +72,7 @@ pub(crate) fn push_byte_difference(
     push_values_of_both(out, equal_len(one, other), one, other)
 }
 
+// Appends the line end with the offset `place`, and what two different texts have from there on.
 fn push_values_of_both<'x>(
     out: &mut Vec<u8>,
     place: usize,

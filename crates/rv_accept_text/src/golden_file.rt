@@ -69,6 +69,7 @@ impl GoldenFile {
     }
 }
 
+// Returns the text, unless the file already has it.
 fn another_text<'a>(text: &'a [u8], old: &Option<Bytes>) -> Option<&'a [u8]>
     ensures { option_map (λ text. text.now) result ≡ another_text text.now old.now }
 {
@@ -78,6 +79,7 @@ fn another_text<'a>(text: &'a [u8], old: &Option<Bytes>) -> Option<&'a [u8]>
     }
 }
 
+// Whether the path is that of a job's image.
 fn is_image_path(path: &str, jobs: &[Job]) -> bool
     ensures { result ≡ is_image_path path.now jobs.now }
 {

@@ -39,6 +39,7 @@ pub(crate) fn push_value_line(
     push_value_change(out, value.key, job, row)
 }
 
+// Appends the beginning of the line about a changed value: the list's path and line, and the job and the key.
 fn push_value_head<'x>(
     out: &mut Vec<u8>,
     path: &'x str,
@@ -62,6 +63,7 @@ fn push_value_head<'x>(
     )
 }
 
+// Appends the line end that shows how the value of the key changes.
 fn push_value_change(
     out: &mut Vec<u8>,
     key: ValueKey,
@@ -82,6 +84,7 @@ fn push_value_change(
     }
 }
 
+// Appends the line end that shows the old and the new exit code.
 fn push_exit_change(
     out: &mut Vec<u8>,
     expected: Option<u32>,
@@ -101,6 +104,7 @@ fn push_exit_change(
     )
 }
 
+// Returns the exit code of a run; 0 for any other end.
 fn exit_code(ending: RowEnd) -> u32
     ensures { result ≡ exit_code ending }
 {
@@ -110,6 +114,7 @@ fn exit_code(ending: RowEnd) -> u32
     }
 }
 
+// Appends the line end that shows the old and the new kind of fault.
 fn push_end_change(
     out: &mut Vec<u8>,
     expected: Option<ExpectedEnd>,
@@ -140,6 +145,7 @@ fn expected_end_word(end: Option<ExpectedEnd>) -> &'static str
     }
 }
 
+// Returns the kind of fault that ended a run; empty for any other end.
 fn fault_word(ending: RowEnd) -> &'static str
     ensures { result.now ≡ fault_word ending }
 {
@@ -149,6 +155,7 @@ fn fault_word(ending: RowEnd) -> &'static str
     }
 }
 
+// Returns the expected console that the list contains; empty if it does not contain it.
 fn text_of_list(expected: &Option<ExpectedConsole>) -> &[u8]
     ensures { result.now ≡ text_of_list expected.now }
 {
@@ -174,6 +181,7 @@ pub(crate) fn push_left_job_line(
     }
 }
 
+// Appends the line about a skipped job; nothing if it is not skipped.
 fn push_left_line(
     alloc: Global,
     out: &mut Vec<u8>,
@@ -191,6 +199,7 @@ fn push_left_line(
     push_text(out, "\n")
 }
 
+// Appends the reason to skip a job, in words.
 fn push_why_left(
     alloc: Global,
     out: &mut Vec<u8>,
@@ -291,6 +300,7 @@ fn push_wanted(
     }
 }
 
+// Appends the expected end in words, if it is not an exit code: exit 0 if none is specified.
 fn push_wanted_end(out: &mut Vec<u8>, end: Option<ExpectedEnd>) -> Result<(), AllocError>
     ensures { OnOk result (out.new.items ≡ out.old.items ++ wanted_end_text end) }
 {

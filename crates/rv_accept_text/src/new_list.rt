@@ -130,6 +130,7 @@ fn push_whys_changed(
     }
 }
 
+// Returns the reason to skip a job of which a value changes; `None` if it was not run.
 fn why_changed_if_run(job: &Job, run: &Option<JobRun>) -> Option<RejectReason>
     ensures { result ≡ why_changed_if_run job.now run.now }
 {
@@ -139,6 +140,7 @@ fn why_changed_if_run(job: &Job, run: &Option<JobRun>) -> Option<RejectReason>
     }
 }
 
+// Returns the reason to skip a job of which a value changes: the first value that does; `None` if no value changes.
 fn why_changed(job: &Job, row: &Row) -> Option<RejectReason>
     ensures { result ≡ why_changed job.now row.now }
 {
@@ -187,6 +189,7 @@ fn left_runs(
     Ok(left)
 }
 
+// Appends the runs, in which each accepted run that has a reason is skipped.
 #[tactic(auto, unfolding(crate::specs::NewLists::left_runs))]
 fn push_left_runs(
     left: &mut Vec<Option<JobRun>>,
@@ -216,6 +219,7 @@ fn next_run(runs: &mut IntoIter<Option<JobRun>>) -> Option<JobRun>
     }
 }
 
+// Returns the run of a job, skipped for the reason `why` if it was accepted and a reason is given; `None` if the job was not run.
 fn left_if_run(why: Option<RejectReason>, run: Option<JobRun>) -> Option<JobRun>
     ensures { result ≡ option_map (left_run why) run }
 {
@@ -225,6 +229,7 @@ fn left_if_run(why: Option<RejectReason>, run: Option<JobRun>) -> Option<JobRun>
     }
 }
 
+// Returns the run, skipped for the reason `why` if it was accepted and a reason is given.
 fn left_run(why: Option<RejectReason>, run: JobRun) -> JobRun
     ensures { result ≡ left_run why run }
 {
@@ -242,6 +247,7 @@ fn left_run(why: Option<RejectReason>, run: JobRun) -> JobRun
 // The beginning of a list that mklist generated.
 const MADE: &[u8] = b"# Made by mklist";
 
+// Returns where the values of a list can be edited: nowhere in a list that mklist generated.
 fn places_in(alloc: Global, text: &[u8]) -> Result<Places, AllocError> {
     let is_made = text.starts_with(MADE);
     let spans = match str::from_utf8(text) {
@@ -283,6 +289,7 @@ fn why_unplaced(at: usize, job: &Job, run: &JobRun, places: &Places) -> Option<R
     None
 }
 
+// Whether the value of a key can be edited for the job at index `at`.
 fn has_span(at: usize, key: ValueKey, spans: &[ValueSpan]) -> bool {
     spans
         .iter()
