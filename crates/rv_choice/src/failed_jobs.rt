@@ -39,6 +39,7 @@ pub(crate) fn jobs_without_row(jobs: &[Job], rows: &[Row]) -> usize
         .count()
 }
 
+// Whether a row has this name.
 fn has_row_named(rows: &[Row], name: &str) -> bool
     ensures { result ≡ has_row_named rows.now name.now }
 {
@@ -87,6 +88,7 @@ fn missing_rows_note(alloc: Global, path: &str, missing: usize) -> Result<Vec<u8
     path_number_message(alloc, path, ": note: ", missing, missing_rows_text(missing))
 }
 
+// Returns the end of the note about jobs without a row, by their number.
 fn missing_rows_text(missing: usize) -> &'static str
     ensures { result.now ≡ missing_rows_text missing }
 {
@@ -97,6 +99,7 @@ fn missing_rows_text(missing: usize) -> &'static str
     }
 }
 
+// Returns the notes about the failed jobs that are no longer in the list.
 fn removed_job_notes(
     alloc: Global,
     path: &str,
@@ -128,6 +131,7 @@ fn push_note_of_failed_job(
     push_removed_job_note(notes, path, name)
 }
 
+// Appends the note that a job failed in the report at the path, but is no longer in the list.
 fn push_removed_job_note<'a>(
     notes: &mut Vec<u8>,
     path: &'a str,

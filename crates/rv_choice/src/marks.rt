@@ -74,6 +74,7 @@ fn matcher_of(alloc: Global, pattern: Option<&Regex>) -> Result<Option<Matcher<'
     }
 }
 
+// Whether a job of this name is chosen: by the names of `--only`, by the pattern, or by the names of failed jobs.
 fn is_chosen_name(wanted: Wanted<'_>, matcher: &mut Option<Matcher<'_>>, name: &str) -> bool
     requires { option_map matcher_pattern matcher.old ≡ pattern_of wanted.pattern }
     ensures chosen { result ≡ is_chosen_name (optional_names wanted.entry.only)
@@ -99,6 +100,7 @@ fn is_chosen(by_name: Option<bool>, by_pattern: Option<bool>, by_report: Option<
     }
 }
 
+// Whether the names contain this name; `None` without names.
 fn choice_by_names(names: Option<&[&str]>, name: &str) -> Option<bool>
     ensures { result ≡ choice_by_names (optional_names names.entry) name.now }
 {
@@ -108,12 +110,14 @@ fn choice_by_names(names: Option<&[&str]>, name: &str) -> Option<bool>
     }
 }
 
+// Whether a name is one of these names.
 fn is_among_names(names: &[&str], name: &str) -> bool
     ensures { result ≡ is_among_names (borrowed_names names.now) name.now }
 {
     names.contains(&name)
 }
 
+// Whether the pattern matches anywhere in this name; `None` without a pattern.
 fn choice_by_pattern(matcher: &mut Option<Matcher<'_>>, name: &str) -> Option<bool>
     ensures found { result ≡ choice_by_pattern (option_map matcher_pattern matcher.old) name.now }
     ensures same { option_map matcher_pattern matcher.new ≡ option_map matcher_pattern matcher.old }

@@ -117,6 +117,7 @@ fn push_name<'a>(
     push_text(message, name)
 }
 
+// Returns the text before the name at index `place` in a message with `count` names.
 fn text_before_name(place: usize, count: usize) -> &'static str
     requires { place < count }
     ensures { result.now ≡ text_before_name place count }
