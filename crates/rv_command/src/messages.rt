@@ -105,6 +105,7 @@ pub fn put_stop_message<E: Sink>(errors: &mut E, stop: Stop) -> u8
     }
 }
 
+// Returns the exit status for these lines: 2 if the request is rejected, 3 if the system failed.
 fn lines_status(lines: Lines) -> u8
     ensures { result ≡ lines_status lines }
 {

@@ -53,6 +53,7 @@ impl Stop {
         Stop::of_lines(Lines::Failure, told)
     }
 
+    // Returns the stop with these lines, or out of memory if they could not be made.
     fn of_lines(lines: Lines, told: Result<Vec<u8>, AllocError>) -> Stop
         ensures { result ≡ stop_of_lines lines told }
     {
