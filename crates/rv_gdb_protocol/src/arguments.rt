@@ -64,12 +64,14 @@ pub(crate) fn read_register(args: &[u8]) -> Request
     }
 }
 
+// Parses the number of a register in the target description.
 fn register_at(text: &[u8]) -> Option<Register>
     ensures { result ≡ register_at text.now }
 {
     register_of(number_of(text)?)
 }
 
+// Returns the register with this number in the target description, if there is one.
 #[tactic(auto, unfolding(crate::specs::Requests::register_of))]
 fn register_of(number: u32) -> Option<Register>
     ensures { result ≡ register_of number }
@@ -91,6 +93,7 @@ pub(crate) fn write_register(args: &[u8]) -> Request
     register_write(args).unwrap_or(Request::Refused(Refusal::Malformed))
 }
 
+// Parses `NUMBER=VALUE`.
 fn register_write(args: &[u8]) -> Option<Request>
     ensures { result ≡ register_write args.now }
 {
@@ -168,6 +171,7 @@ fn kind_at(args: &[u8]) -> Option<Option<Stoppoint>>
     Some(watch_at(Watched::Accesses, fields))
 }
 
+// Parses `,ADDRESS,KIND` as a breakpoint.
 fn break_at(text: &[u8]) -> Option<Stoppoint>
     ensures { result ≡ break_at text.now }
 {
@@ -175,6 +179,7 @@ fn break_at(text: &[u8]) -> Option<Stoppoint>
     Some(Stoppoint::Break(range.address))
 }
 
+// Parses `,ADDRESS,COUNT` as a watchpoint of this kind.
 #[tactic(auto, unfolding(crate::specs::Requests::watch_at))]
 fn watch_at(kind: Watched, text: &[u8]) -> Option<Stoppoint>
     ensures { result ≡ watch_at kind text.now }
@@ -182,12 +187,14 @@ fn watch_at(kind: Watched, text: &[u8]) -> Option<Stoppoint>
     watched(kind, trap_range(text)?)
 }
 
+// Parses `,ADDRESS,COUNT`.
 fn trap_range(text: &[u8]) -> Option<Range>
     ensures { result ≡ trap_range text.now }
 {
     range_at(behind(b",", text)?)
 }
 
+// Returns the watchpoint for a range of 1 to 65,536 bytes within the address space; `None` for any other range.
 fn watched(kind: Watched, range: Range) -> Option<Stoppoint>
     ensures { result ≡ watched kind range }
 {

@@ -32,6 +32,7 @@ pub(crate) fn request_without_bytes(body: &[u8]) -> Option<Request>
         .or(other_file(body))
 }
 
+// Whether the body of a packet is this name, without arguments.
 fn is(body: &[u8], name: &[u8]) -> bool
     ensures { result ≡ bytes_eq body.now name.now }
 {
@@ -86,6 +87,7 @@ fn bare_order(body: &[u8]) -> Option<Request>
     }
 }
 
+// Parses a `qSupported` or `qAttached` packet, whose arguments are ignored.
 #[tactic(auto, unfolding(crate::specs::Packets::query))]
 fn query(body: &[u8]) -> Option<Request>
     ensures { result ≡ query body.now }
@@ -99,6 +101,7 @@ fn query(body: &[u8]) -> Option<Request>
     }
 }
 
+// Parses a packet that reads a part of the target description.
 fn description_request(body: &[u8]) -> Option<Request>
     ensures { result ≡ description_request body.now }
 {
@@ -106,6 +109,7 @@ fn description_request(body: &[u8]) -> Option<Request>
     Some(description(args))
 }
 
+// Parses a packet that reads a part of the image's path.
 fn image_path_request(body: &[u8]) -> Option<Request>
     ensures { result ≡ image_path_request body.now }
 {
@@ -140,6 +144,7 @@ fn stoppoint_request(body: &[u8]) -> Option<Request>
     Some(clear_trap(args))
 }
 
+// Parses the arguments of `Z`, which sets a breakpoint or watchpoint.
 #[tactic(auto, unfolding(crate::specs::Requests::trap_of))]
 fn set_trap(args: &[u8]) -> Request
     ensures { result ≡ trap_of ask.Set args.now }
@@ -151,6 +156,7 @@ fn set_trap(args: &[u8]) -> Request
     }
 }
 
+// Parses the arguments of `z`, which clears a breakpoint or watchpoint.
 #[tactic(auto, unfolding(crate::specs::Requests::trap_of))]
 fn clear_trap(args: &[u8]) -> Request
     ensures { result ≡ trap_of ask.Clear args.now }
@@ -205,6 +211,7 @@ fn action_of(text: &[u8]) -> Option<Move>
         .or(range_action(text))
 }
 
+// Parses the action `c` or `s` of `vCont;`.
 #[tactic(auto, unfolding(crate::specs::Packets::bare_action))]
 fn bare_action(text: &[u8]) -> Option<Move>
     ensures { result ≡ bare_action text.now }
@@ -218,12 +225,14 @@ fn bare_action(text: &[u8]) -> Option<Move>
     }
 }
 
+// Parses the action `name` of `vCont;`, followed by a signal, which is ignored.
 fn signal_action(name: &[u8], step: Move, text: &[u8]) -> Option<Move>
     ensures { result ≡ signal_action name.now step text.now }
 {
     move_with_signal(step, behind(name, text)?)
 }
 
+// Parses the action `r` of `vCont;`, which steps while the pc is in a range of addresses.
 fn range_action(text: &[u8]) -> Option<Move>
     ensures { result ≡ range_action text.now }
 {
@@ -244,6 +253,7 @@ fn granted(body: &[u8]) -> Option<Request>
     }
 }
 
+// Parses a packet that begins with `D`.
 fn detach_request(body: &[u8]) -> Option<Request>
     ensures { result ≡ detach_request body.now }
 {

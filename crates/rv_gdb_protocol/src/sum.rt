@@ -28,6 +28,7 @@ pub(crate) fn judged_sum(text: &[u8], high: u8, low: u8) -> Sum
     }
 }
 
+// Returns the checksum that two hexadecimal digits represent; `None` if one is not a digit.
 fn received_sum(high: u8, low: u8) -> Option<u8>
     ensures { result ≡ sum_of_digits (hex_digit_value high) (hex_digit_value low) }
 {
