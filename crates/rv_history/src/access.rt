@@ -36,6 +36,7 @@ pub(crate) fn access_at(machine: &Machine) -> Option<Access>
     access_by(machine, instr)
 }
 
+// Returns the bytes that an instruction of a machine reads or writes; `None` if it does not access memory.
 fn access_by(machine: &Machine, instr: Instr) -> Option<Access>
     requires { IsWellFormed instr }
     ensures { result ≡ access_by (state_of machine.now) instr }

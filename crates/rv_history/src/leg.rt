@@ -83,6 +83,7 @@ impl ForwardMove {
     }
 }
 
+// Whether a forward move stops before an instruction at this address: at a breakpoint, or outside of the bounds.
 fn is_halt(stops: &Stops, bounds: Bounds, pc: u32) -> bool
     ensures { result ≡ is_halt stops.now bounds pc }
 {
