@@ -43,12 +43,14 @@ pub fn push_console_lines(
     push_differing_lines(bytes, parting.met, parting.wanted)
 }
 
+// Returns the larger of two numbers.
 fn larger(count: usize, other: usize) -> usize
     ensures { result ≡ larger count other }
 {
     if count < other { other } else { count }
 }
 
+// Appends the line that says at which line the console differs from the expected text `source`, and how many lines there are.
 fn push_lines_heading(
     bytes: &mut Vec<u8>,
     source: Span<'_>,

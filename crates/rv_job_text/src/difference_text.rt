@@ -74,6 +74,7 @@ pub(crate) fn push_bytes_difference(
     }
 }
 
+// Appends the first byte in which the actual text `met` and the expected text `wanted` differ, at offset `place`.
 #[tactic(auto, unfolding(crate::specs::UnmetLines::byte_difference_text))]
 fn push_byte_difference<'a>(
     bytes: &mut Vec<u8>,

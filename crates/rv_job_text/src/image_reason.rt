@@ -36,6 +36,7 @@ pub(crate) fn push_image_reason(
     }
 }
 
+// Appends the message about a refused image that can be parsed, with details about its segments or symbols.
 #[tactic(auto, unfolding(crate::specs::ImageReasons::image_details_text))]
 fn push_image_details(
     bytes: &mut Vec<u8>,
@@ -117,6 +118,7 @@ fn end_symbol_name(signature: &Option<Symbols>) -> Option<&[u8]>
     }
 }
 
+// Appends the message that the symbol of a signature is not defined.
 #[tactic(auto, unfolding(crate::specs::ImageReasons::missing_symbol_text))]
 fn push_missing_symbol(bytes: &mut Vec<u8>, name: Option<&[u8]>) -> Result<(), AllocError>
     ensures { OnOk result (bytes.new.items ≡ bytes.old.items
@@ -135,6 +137,7 @@ fn push_missing_symbol(bytes: &mut Vec<u8>, name: Option<&[u8]>) -> Result<(), A
     }
 }
 
+// Appends the message that a signature is not a sequence of words in one region, with its symbols and the regions.
 #[tactic(auto, unfolding(crate::specs::ImageReasons::signature_range_text))]
 fn push_signature_range(
     bytes: &mut Vec<u8>,

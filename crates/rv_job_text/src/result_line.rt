@@ -54,6 +54,7 @@ pub fn push_result_line(
     push_text(bytes, "\n")
 }
 
+// Returns the first word of the line about a row: PASS, FAIL or KNOWN.
 fn judged_word(judgement: Judgement<'_>) -> &'static str
     ensures { result.now ≡ judged_word (judged_of judgement.entry) }
 {
@@ -64,6 +65,7 @@ fn judged_word(judgement: Judgement<'_>) -> &'static str
     }
 }
 
+// Appends how a run ended, with the reason of a known failure, or the message that a job known to fail passes.
 fn push_judged_ending(
     alloc: Global,
     bytes: &mut Vec<u8>,
@@ -88,6 +90,7 @@ fn push_judged_ending(
     }
 }
 
+// Appends the reason of a known failure, in brackets; nothing without a reason.
 fn push_known_reason(bytes: &mut Vec<u8>, why: &[u8]) -> Result<(), AllocError>
     ensures { OnOk result (bytes.new.items ≡ bytes.old.items ++ known_reason_text why.now) }
 {
@@ -100,6 +103,7 @@ fn push_known_reason(bytes: &mut Vec<u8>, why: &[u8]) -> Result<(), AllocError>
     )
 }
 
+// Appends the message that a job passes although the file at the path lists it as known to fail.
 fn push_now_passes(bytes: &mut Vec<u8>, path: &str) -> Result<(), AllocError>
     ensures { OnOk result (bytes.new.items ≡ bytes.old.items ++ now_passes_text path.now) }
 {
@@ -112,6 +116,7 @@ fn push_now_passes(bytes: &mut Vec<u8>, path: &str) -> Result<(), AllocError>
     )
 }
 
+// Appends how a run ended, with its steps; for a fault also the pc, with its symbol `place`, and the value; for a refusal the reason.
 #[tactic(auto, unfolding(crate::specs::ResultLine::result_ending_text))]
 fn push_result_ending(
     alloc: Global,

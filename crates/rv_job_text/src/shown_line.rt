@@ -63,6 +63,7 @@ fn push_text_from(bytes: &mut Vec<u8>, begin: usize, text: &[u8]) -> Result<(), 
     push_printable_text(bytes, &rest[..characters_len(LINE_CHARACTERS, rest)])
 }
 
+// Returns the offset from which a line with a difference at offset `place` is shown: 0, or for a longer line shortly before the difference.
 fn shown_begin(place: usize, text: &[u8]) -> usize
     ensures { result ≡ shown_begin place text.now }
 {
@@ -103,6 +104,7 @@ fn characters_len(most: usize, text: &[u8]) -> usize
     text.len()
 }
 
+// Whether a UTF-8 character begins with this byte.
 fn begins_character(byte: u8) -> bool
     ensures { result ≡ begins_character byte }
 {

@@ -34,6 +34,7 @@ pub(crate) fn push_signature_difference(
     push_reference_difference(bytes, address, words, reference, difference)
 }
 
+// Appends the first difference between the words of a signature and the text of a signature file.
 #[tactic(auto, unfolding(crate::specs::UnmetLines::reference_difference_text))]
 fn push_reference_difference(
     bytes: &mut Vec<u8>,
@@ -67,6 +68,7 @@ fn push_reference_difference(
     }
 }
 
+// Appends the message that a line of a signature file is invalid.
 #[tactic(auto, unfolding(crate::specs::UnmetLines::bad_reference_line_text))]
 fn push_bad_reference_line(bytes: &mut Vec<u8>, number: usize) -> Result<(), AllocError>
     ensures { OnOk result (bytes.new.items ≡ bytes.old.items ++ bad_reference_line_text number) }

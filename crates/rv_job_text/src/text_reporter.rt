@@ -63,6 +63,7 @@ impl<'a> RowReporter for TextReporter<'a> {
 }
 
 impl<'a> TextReporter<'a> {
+    // Appends all lines about a row of the job; nothing if the row is not shown.
     #[tactic(auto, unfolding(crate::specs::RowReporter::row_lines))]
     fn push_row_lines(
         &self,
@@ -302,6 +303,7 @@ impl<'a> JobRow<'a> {
     }
 }
 
+// Appends the lines about the unmet expectations and, if `Detail` says so, about the met ones.
 fn push_compared_lines(
     comparison: &Comparison<'_, '_>,
     address: Option<u32>,

@@ -54,6 +54,7 @@ pub fn push_run_totals_line(
     push_text(bytes, "\n")
 }
 
+// Appends the last line for rows with these failures, without its line feed.
 #[tactic(auto, unfolding(crate::specs::TotalsLine::totals_text))]
 fn push_totals_text(
     bytes: &mut Vec<u8>,
@@ -118,6 +119,7 @@ fn push_known_count(bytes: &mut Vec<u8>, count: usize) -> Result<(), AllocError>
     )
 }
 
+// Returns the number of rows that passed.
 fn passed_count(judge: &Judge<'_>, rows: &[Row]) -> usize
     ensures { result ≡ passed_count (judging_of judge.now) rows.now }
 {
@@ -126,6 +128,7 @@ fn passed_count(judge: &Judge<'_>, rows: &[Row]) -> usize
         .count()
 }
 
+// Returns the number of rows that are failures.
 fn failed_count(judge: &Judge<'_>, rows: &[Row]) -> usize
     ensures { result ≡ failed_count (judging_of judge.now) rows.now }
 {

@@ -75,6 +75,7 @@ fn unmet_margin(unmet: Unmet) -> &'static str
     }
 }
 
+// Appends an unmet expectation, in words; `address` is that of the first word of the signature, if it is known.
 #[tactic(auto, unfolding(crate::specs::UnmetLines::unmet_expectation_text))]
 fn push_unmet_expectation(
     bytes: &mut Vec<u8>,
@@ -164,6 +165,7 @@ fn push_same_difference(
     push_rows_difference(bytes, first, row, other, difference)
 }
 
+// Appends the first difference between the row of a job and the row `other` of the job that it names by `same_as`.
 #[tactic(auto, unfolding(crate::specs::UnmetLines::rows_difference_text))]
 fn push_rows_difference(
     bytes: &mut Vec<u8>,

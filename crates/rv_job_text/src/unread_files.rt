@@ -47,6 +47,7 @@ fn unread_note<'a>(unread: &'a [UnreadPath], path: &str) -> Option<&'a UnreadPat
     unread.iter().find(|one| path == one.path.as_str())
 }
 
+// Returns why a file could not be read, in words.
 fn unread_note_text(noted: Option<&UnreadPath>) -> &'static str
     ensures { result.now ≡ unread_note_text (option_map (λ one. one.now) noted.entry) }
 {
