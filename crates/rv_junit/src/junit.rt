@@ -76,6 +76,7 @@ fn push_each_steps_property(
     Ok(())
 }
 
+// Appends the XML property `steps.NAME` of a job, whose value is the number of its steps.
 #[tactic(auto, unfolding(crate::specs::Junit::steps_property))]
 fn push_steps_property(alloc: Global, text: &mut String, row: &Row) -> Result<(), AllocError>
     ensures { OnOk result (string_bytes text.new ≡ string_bytes text.old ++ steps_property row.now) }
@@ -170,6 +171,7 @@ fn push_judged(
     }
 }
 
+// Appends the XML element for a known failure with this reason.
 #[tactic(auto, unfolding(crate::specs::Junit::skipped_text))]
 fn push_skipped(alloc: Global, text: &mut String, why: &[u8]) -> Result<(), AllocError>
     ensures { OnOk result (string_bytes text.new ≡ string_bytes text.old ++ skipped_text why.now) }
@@ -179,6 +181,7 @@ fn push_skipped(alloc: Global, text: &mut String, why: &[u8]) -> Result<(), Allo
     text.push_str("/>\n")
 }
 
+// Appends the XML attribute with the reason of a known failure; nothing without a reason.
 fn push_reason_attribute(alloc: Global, text: &mut String, why: &[u8]) -> Result<(), AllocError>
     ensures { OnOk result (string_bytes text.new ≡ string_bytes text.old ++ reason_attribute why.now) }
 {
@@ -188,6 +191,7 @@ fn push_reason_attribute(alloc: Global, text: &mut String, why: &[u8]) -> Result
     push_attribute(alloc, text, "message", why)
 }
 
+// Appends the XML element for a failed row with these lines, of which the first one is its message.
 #[tactic(auto, unfolding(crate::specs::Junit::problem_text))]
 fn push_problem(alloc: Global, text: &mut String, row: &Row, lines: &[u8]) -> Result<(), AllocError>
     ensures { OnOk result (string_bytes text.new
@@ -221,6 +225,7 @@ fn problem_element_name(row: &Row) -> &'static str
     }
 }
 
+// Returns the first line of a text, without its line feed.
 fn first_line(text: &[u8]) -> &[u8]
     ensures { result.now ≡ first_line text.now }
 {
