@@ -58,6 +58,7 @@ impl Session {
     }
 }
 
+// Whether a `monitor` command moves to the start of the run.
 fn is_reset(text: &[u8]) -> bool
     ensures { result ≡ is_reset text.now }
 {

@@ -175,6 +175,7 @@ impl Session {
     }
 }
 
+// Whether a move goes forwards in the run.
 fn is_forward(asked: Move) -> bool
     ensures { result ≡ is_forward asked }
 {
@@ -196,6 +197,7 @@ fn watch_told(set_off: Option<WatchHit>) -> Stop
     }
 }
 
+// Returns the stop that reports this end of the run.
 fn end_stop(ending: Ending) -> Stop
     ensures { result ≡ end_stop ending }
 {

@@ -107,6 +107,7 @@ impl Session {
         self.send(alloc, out, &reply)
     }
 
+    // Appends `+` if packets are acknowledged.
     fn acknowledge(&self, out: &mut Vec<u8>) -> Result<(), AllocError>
         ensures { OnOk result (out.new.items ≡ out.old.items ++ acknowledgement self.now) }
     {
@@ -147,6 +148,7 @@ impl Session {
     }
 }
 
+// Appends `-`, which requests the last packet again.
 fn ask_again(out: &mut Vec<u8>) -> Result<(), AllocError>
     ensures { OnOk result (out.new.items ≡ out.old.items ++ 45 ∷ []) }
 {
@@ -154,6 +156,7 @@ fn ask_again(out: &mut Vec<u8>) -> Result<(), AllocError>
     Ok(())
 }
 
+// Whether a checksum is wrong.
 fn is_wrong(sum: Sum) -> bool
     ensures { result ≡ is_wrong sum }
 {

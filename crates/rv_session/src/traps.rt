@@ -43,6 +43,7 @@ pub(crate) fn without_trap(
     }
 }
 
+// Whether the maximum number of breakpoints and watchpoints is set.
 fn is_full(stops: &Stops) -> bool
     ensures { result ≡ is_full stops.now }
 {

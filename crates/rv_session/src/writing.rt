@@ -90,6 +90,7 @@ fn stands_at(bus: &Bus, address: u64, byte: u8) -> bool
     address < END_OF_ADDRESSES && is_byte(bus.byte(address as u32), byte)
 }
 
+// Whether there is a byte and it equals the given one.
 fn is_byte(found: Option<u8>, byte: u8) -> bool
     ensures { result ≡ is_byte found byte }
 {
