@@ -75,6 +75,7 @@ fn look_up_reads<'a, F: Outputs>(
     })
 }
 
+// Returns the files besides the list that `accept` must not write: the report of `--failed`, and the images of all jobs.
 fn inputs_of_accept<'a>(
     alloc: Global,
     args: &AcceptArgs<'_>,
@@ -224,6 +225,7 @@ fn golden_overwrite_stop(alloc: Global, golden: &ReadPath<'_>, read: &ReadPath<'
     }
 }
 
+// Returns the words for an output file: its option, or the job and the key that name it.
 fn writer_text(alloc: Global, role: ReadRole<'_>) -> Result<String, AllocError>
     ensures { IfOk result (λ text. string_bytes text ≡ writer_text role.entry) }
 {
@@ -233,6 +235,7 @@ fn writer_text(alloc: Global, role: ReadRole<'_>) -> Result<String, AllocError>
     }
 }
 
+// Returns the words for an output file that a job names: the job's name and its key.
 fn job_writer_text(alloc: Global, key: &str, job: &str) -> Result<String, AllocError>
     ensures { IfOk result (λ text. string_bytes text ≡ job_writer_text key.now job.now) }
 {
@@ -327,6 +330,7 @@ fn outside_stop(alloc: Global, directory: &str, golden: &ReadPath<'_>) -> Stop
     Stop::of_refusal(outside_message(alloc, directory, golden))
 }
 
+// Returns the error that a golden file is outside of the directory, which `--outside` allows.
 fn outside_message(
     alloc: Global,
     directory: &str,
@@ -341,6 +345,7 @@ fn outside_message(
     Ok(text)
 }
 
+// Appends that a golden file is outside of the directory: `head`, the words for the file, its path, and the directory.
 fn push_outside_text(
     alloc: Global,
     text: &mut Vec<u8>,
@@ -357,12 +362,14 @@ fn push_outside_text(
     push_quoted_text(text, directory)
 }
 
+// Appends the beginning of a message about a golden file outside of the directory: `head` and the words for the file.
 fn push_outside_head(text: &mut Vec<u8>, head: &str, role: &str) -> Result<(), AllocError>
     ensures { OnOk result (text.new.items ≡ text.old.items ++ outside_head head.now role.now) }
 {
     push_spans(text, &[Span::Text(head), Span::Text(role)])
 }
 
+// Appends the path of a golden file, and that it is outside of the directory.
 fn push_outside_path(text: &mut Vec<u8>, path: &str) -> Result<(), AllocError>
     ensures { OnOk result (text.new.items ≡ text.old.items ++ outside_path path.now) }
 {
@@ -376,6 +383,7 @@ fn push_outside_path(text: &mut Vec<u8>, path: &str) -> Result<(), AllocError>
     )
 }
 
+// Appends a text in double quotes.
 fn push_quoted_text(text: &mut Vec<u8>, quoted: &str) -> Result<(), AllocError>
     ensures { OnOk result (text.new.items ≡ text.old.items ++ quoted_text quoted.now) }
 {

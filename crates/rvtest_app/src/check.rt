@@ -114,6 +114,7 @@ fn check_plan(
     })
 }
 
+// Returns the exit status of `check` for a list without errors: 0 if no job is refused, and otherwise 2.
 fn check_status(refused: usize) -> u8
     ensures value { result ≡ check_status refused }
     ensures low { result ≤ 2 }

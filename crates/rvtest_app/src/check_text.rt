@@ -345,6 +345,7 @@ pub(crate) fn push_job_counts_line(
     push_text(told, "\n")
 }
 
+// Appends the number of refused jobs, in words.
 fn push_refused_count(told: &mut Vec<u8>, refused: usize) -> Result<(), AllocError>
     ensures { OnOk result (told.new.items ≡ told.old.items ++ refused_count_text refused) }
 {

@@ -57,6 +57,7 @@ fn colors_of_word(word: Option<&str>, is_terminal: bool) -> Colors
     }
 }
 
+// Returns the default of `--color`: coloured on a terminal, plain otherwise.
 fn terminal_colors(is_terminal: bool) -> Colors
     ensures { result ≡ terminal_colors is_terminal }
 {

@@ -153,6 +153,7 @@ pub(crate) fn sum_error_stop(alloc: Global, path: &str, error: SumError) -> Stop
     }
 }
 
+// Returns the message that the table at the path gives a function another name than an earlier table does.
 fn two_names_message(alloc: Global, path: &str, function: u32) -> Result<Vec<u8>, AllocError>
     ensures { IfOk result (λ text. text.items ≡ two_names_message path.now function) }
 {
@@ -168,6 +169,7 @@ fn two_names_message(alloc: Global, path: &str, function: u32) -> Result<Vec<u8>
     )
 }
 
+// Returns the message that adding the table at the path makes a count 2^64 or more: `what` says which count of `address`.
 fn count_overflow_message<'a>(
     alloc: Global,
     path: &'a str,

@@ -28,18 +28,21 @@ pub(crate) fn sum_note(alloc: Global, table: &CountTable) -> Result<Vec<u8>, All
     )
 }
 
+// Returns " run of " or " runs of ", by the number of runs.
 fn run_word(count: u64) -> &'static str
     ensures { result.now ≡ run_word count }
 {
     if count == 1 { " run of " } else { " runs of " }
 }
 
+// Returns " image, " or " images, ", by the number of images.
 fn image_word(count: u64) -> &'static str
     ensures { result.now ≡ image_word count }
 {
     if count == 1 { " image, " } else { " images, " }
 }
 
+// Returns " instruction" or " instructions", by their number, and a line feed.
 fn instruction_word(count: u64) -> &'static str
     ensures { result.now ≡ instruction_word count }
 {
@@ -50,6 +53,7 @@ fn instruction_word(count: u64) -> &'static str
     }
 }
 
+// Returns "at least " before the greatest 64-bit number, and nothing before any other.
 fn number_head(number: u64) -> &'static str
     ensures { result.now ≡ number_head number }
 {

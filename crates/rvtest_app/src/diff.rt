@@ -209,6 +209,7 @@ fn diff_rows(alloc: Global, compare: Compare, compared: Compared<'_>) -> Result<
     })
 }
 
+// Returns the exit status of `diff`: 0 if no job differs, and otherwise 1.
 fn diff_status(counts: Differing) -> u8
     ensures value { result ≡ diff_status counts }
     ensures low { result ≤ 1 }

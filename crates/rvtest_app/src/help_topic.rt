@@ -30,6 +30,7 @@ fn no_topic_stop(alloc: Global, topic: &str) -> Stop
     Stop::of_refusal(no_topic_message(alloc, topic))
 }
 
+// Returns the message about an unknown topic.
 fn no_topic_message(alloc: Global, topic: &str) -> Result<Vec<u8>, AllocError>
     ensures { IfOk result (λ told. told.items ≡ no_topic_message topic.now) }
 {

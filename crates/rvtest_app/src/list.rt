@@ -104,6 +104,7 @@ fn push_name_lines(names: &mut Vec<u8>, jobs: &[Job], places: &[usize]) -> Resul
     Ok(())
 }
 
+// Appends the name of a job, as a line.
 fn push_name_line(names: &mut Vec<u8>, job: &Job) -> Result<(), AllocError>
     ensures { OnOk result (names.new.items ≡ names.old.items ++ name_line job.now) }
 {

@@ -106,6 +106,7 @@ fn is_noted_missing(note: Option<&UnreadPath>) -> bool
     }
 }
 
+// Whether the reason of a read error is that there is no file at the path.
 fn is_not_found(reason: ErrorKind) -> bool
     ensures { result ≡ is_not_found reason }
 {

@@ -117,6 +117,7 @@ pub(crate) fn overwrite_stop<'a>(
     Stop::of_refusal(overwrite_message(alloc, option, path, read))
 }
 
+// Returns the message that the file of an option, with this path, would overwrite the input `read`.
 fn overwrite_message<'a>(
     alloc: Global,
     option: &'a str,
@@ -132,6 +133,7 @@ fn overwrite_message<'a>(
     Ok(text)
 }
 
+// Returns the first half of the message: which option, with which path, would overwrite an input.
 fn overwrite_head<'a>(alloc: Global, option: &'a str, path: &'a str) -> Result<Vec<u8>, AllocError>
     ensures { IfOk result (λ text. text.items ≡ overwrite_head option.entry.now path.entry.now) }
 {
@@ -147,6 +149,7 @@ fn overwrite_head<'a>(alloc: Global, option: &'a str, path: &'a str) -> Result<V
     )
 }
 
+// Appends the words for an input: its placeholder in the usage, such as LIST, or the key by which a job names it.
 fn push_role(text: &mut Vec<u8>, role: ReadRole<'_>) -> Result<(), AllocError>
     ensures { OnOk result (text.new.items ≡ text.old.items ++ role_text role.entry) }
 {
@@ -156,6 +159,7 @@ fn push_role(text: &mut Vec<u8>, role: ReadRole<'_>) -> Result<(), AllocError>
     }
 }
 
+// Appends the words for an input that a job names: by its key and the job's name.
 fn push_job_file<'a>(text: &mut Vec<u8>, key: &'a str, job: &'a str) -> Result<(), AllocError>
     ensures { OnOk result (text.new.items ≡ text.old.items ++ job_file_text key.now job.now) }
 {
@@ -171,6 +175,7 @@ fn push_job_file<'a>(text: &mut Vec<u8>, key: &'a str, job: &'a str) -> Result<(
     )
 }
 
+// Appends the second half of the message: the path of the input.
 fn push_read_path(text: &mut Vec<u8>, path: &str) -> Result<(), AllocError>
     ensures { OnOk result (text.new.items ≡ text.old.items ++ read_path_text path.now) }
 {

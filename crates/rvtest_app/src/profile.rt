@@ -38,6 +38,7 @@ pub(crate) fn profile_requested_jobs<
     view.put(ChoosingCommand::Profile, to)
 }
 
+// Returns the format of a profile: whether it is CSV, and the largest number of functions of each image.
 fn profile_format(args: &ProfileArgs<'_>) -> ProfileFormat
     ensures { result ≡ profile_format args.now }
 {

@@ -33,6 +33,7 @@ pub(crate) fn text_of_profile(
     }
 }
 
+// Returns the message that the sum of an image's call stacks does not fit in 64 bits.
 fn past_64_bits_message<'a>(
     alloc: Global,
     source: &'a str,

@@ -145,6 +145,7 @@ fn put_summarized_report<F: Outputs + Drop, O: Sink + Drop, E: Sink + Drop>(
     }
 }
 
+// Returns what `show` prints about the rows of a report: the failures, the totals, and the rows with the most steps.
 fn summary_text(alloc: Global, judge: &Judge<'_>, rows: &[Row]) -> Result<Vec<u8>, AllocError>
     requires { length rows.now < 2 ^ 32 }
     ensures { IfOk result (λ text. text.items ≡ summary_text (judging_of judge.now) rows.now) }

@@ -166,6 +166,7 @@ fn add_candidate(candidates: &mut Vec<Candidate>, candidate: Candidate) -> Resul
     Ok(())
 }
 
+// Whether the job at index `place` is selected.
 fn is_marked(marks: &[bool], place: usize) -> bool
     ensures { result ≡ is_marked marks.now place }
 {

@@ -146,6 +146,7 @@ fn has_counts_for(view: View, table: &CountTable) -> bool
     }
 }
 
+// Returns the message that the table at `table` has counts of another image than the one that is now at `path`.
 fn other_image_message<'a>(
     alloc: Global,
     table: &'a str,
@@ -165,6 +166,7 @@ fn other_image_message<'a>(
     )
 }
 
+// Returns the message that the table has no call stacks, and how to write one that has.
 fn no_stacks_message(alloc: Global, path: &str) -> Result<Vec<u8>, AllocError>
     ensures { IfOk result (λ text. text.items ≡ no_stacks_message path.now) }
 {

@@ -121,6 +121,7 @@ fn not_whole_refusal<'a>(
     }
 }
 
+// Returns the message that the report at the path has only some rows of a list with this many jobs.
 fn part_refusal<'a>(
     alloc: Global,
     path: &'a str,
@@ -144,6 +145,7 @@ fn part_refusal<'a>(
     )
 }
 
+// Returns the message that the report at `path` and the list at `list` have different numbers of rows and jobs.
 fn count_refusal<'a>(
     alloc: Global,
     path: &'a str,
@@ -169,6 +171,7 @@ fn count_refusal<'a>(
     )
 }
 
+// Returns the message that the job with this number has different names in the report at `path` and in the list at `list`.
 fn name_refusal<'a>(
     alloc: Global,
     path: &'a str,
