@@ -41,6 +41,7 @@ pub(crate) fn accept_request<'a>(
     }
 }
 
+// Returns the request of `accept` with these values, which misuse no option.
 fn valid_accept_request<'a>(
     alloc: Global,
     values: &ArgMatches<'a>,

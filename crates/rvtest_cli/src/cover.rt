@@ -38,6 +38,7 @@ pub(crate) fn cover_request<'a>(
     }
 }
 
+// Returns the request of `cover` with these values, which misuse no option.
 fn valid_cover_request<'a>(
     alloc: Global,
     values: &ArgMatches<'a>,

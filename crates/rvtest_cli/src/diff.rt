@@ -43,6 +43,7 @@ pub(crate) fn diff_request<'a>(
     }
 }
 
+// Returns the request of `diff` with these values, which misuse no option.
 fn valid_diff_request<'a>(values: &ArgMatches<'a>) -> Option<Request<'a>>
     ensures { IsRequestFor (diff_request (rows_of (found_of values.now))) result }
 {

@@ -43,6 +43,7 @@ pub(crate) fn explain_request<'a>(
     }
 }
 
+// Returns the request of `explain` with these values, which misuse no option.
 fn valid_explain_request<'a>(values: &ArgMatches<'a>) -> Option<Request<'a>>
     ensures { IsRequestFor (explain_request (rows_of (found_of values.now))) result }
 {

@@ -27,6 +27,7 @@ pub(crate) fn list_request<'a>(
     }
 }
 
+// Returns the request of `list` with these values, which misuse no option.
 fn valid_list_request<'a>(
     alloc: Global,
     values: &ArgMatches<'a>,

@@ -41,6 +41,7 @@ pub(crate) fn merge_request<'a>(
     }
 }
 
+// Returns the request of `merge` with these values, which misuse no option.
 fn valid_merge_request<'a>(
     alloc: Global,
     values: &ArgMatches<'a>,

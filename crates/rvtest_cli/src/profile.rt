@@ -46,6 +46,7 @@ pub(crate) fn profile_request<'a>(
     }
 }
 
+// Returns the request of `profile` with these values, which misuse no option.
 fn valid_profile_request<'a>(
     alloc: Global,
     values: &ArgMatches<'a>,

@@ -65,6 +65,7 @@ impl Misuse {
         usage_error(alloc, command, self.misuse_error_kind(), self.misuse_text())
     }
 
+    // Returns the kind of `clap` error that reports this misuse.
     fn misuse_error_kind(self) -> ErrorKind
         ensures { misuse_kinds (Some self) ≡ result ∷ [] }
     {
@@ -88,6 +89,7 @@ impl Misuse {
         }
     }
 
+    // Returns the message about a misuse.
     fn misuse_text(self) -> &'static str
         ensures { result.now ≡ misuse_text self }
     {
@@ -199,6 +201,7 @@ pub(crate) fn color_misuse(values: &ArgMatches<'_>) -> Option<Misuse>
     }
 }
 
+/// Whether the value of `--color` is given and invalid.
 pub(crate) fn is_color_unknown(values: &ArgMatches<'_>) -> bool
     ensures { result ≡ is_color_unknown (rows_of (found_of values.now)) }
 {
@@ -208,6 +211,7 @@ pub(crate) fn is_color_unknown(values: &ArgMatches<'_>) -> bool
     }
 }
 
+// Whether a value of `--color` is valid: `always`, `never` or `auto`.
 fn is_color_word(word: &str) -> bool
     ensures { result ≡ is_color_word word.now }
 {
@@ -227,6 +231,7 @@ pub(crate) fn suite_misuse(values: &ArgMatches<'_>) -> Option<Misuse>
     }
 }
 
+// Whether the value of `--suite` is empty.
 fn is_suite_nameless(values: &ArgMatches<'_>) -> bool
     ensures { result ≡ is_suite_nameless (rows_of (found_of values.now)) }
 {

@@ -87,6 +87,7 @@ pub(crate) fn test_run_request<'a>(
     }
 }
 
+// Returns the request of `run` with these values, which misuse no option.
 fn valid_run_request<'a>(
     alloc: Global,
     values: &ArgMatches<'a>,

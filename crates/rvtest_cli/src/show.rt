@@ -42,6 +42,7 @@ pub(crate) fn show_request<'a>(
     }
 }
 
+// Returns the request of `show` with these values, which misuse no option.
 fn valid_show_request<'a>(values: &ArgMatches<'a>) -> Option<Request<'a>>
     ensures { IsRequestFor (show_request (rows_of (found_of values.now))) result }
 {

@@ -70,6 +70,7 @@ fn text_with_usage(
     usage_error_text(alloc, what, usage.as_str())
 }
 
+// Returns the text of an error: the message `what`, the usage of a command, and where to find help.
 fn usage_error_text(alloc: Global, what: &str, usage: &str) -> Result<String, AllocError>
     ensures { IfOk result (λ text. string_bytes text ≡ usage_error_text what.now usage.now) }
 {
