@@ -25,8 +25,8 @@ texts_of_reported told = map (λ (t : ReportedRow). t.text.items) told
 abbrev pub failures_left : Option ℕ → Judging → List Row → Option ℕ
 failures_left most judging rows = option_map (λ number. failures_left_after (fails judging) number rows) most
 
--- `kept` are the rows up to the failure that stops the run, unless an allocation failed, as `refused` says; `left` is how many more failures
--- stop the run
+-- `kept` are the rows up to the failure that stops the run, unless an allocation failed, as `refused` says; `left` is how many more
+-- failures then stop the run
 pub record AreRowsUpToFailure (most : Option ℕ) (judging : Judging) (left : Option ℕ) (refused : Bool) (kept rows : List Row) : Type 0 where
   pub kept_all : refused ≡ false → kept ≡ rows
   pub left_is : left ≡ failures_left most judging rows
