@@ -1,4 +1,4 @@
-//! Draws, cached outcomes, fleets and streams, by the lines of tables: the setup, the requests, and, in the last cell, the expected results.
+//! Draws, cached outcomes, fleets and streams, by the lines of tables: the setup, the requests and, in the last cell, the expected results.
 ghost use Rattle.std.specs.Prelude.{◌<◌, ◌≤◌, IfOk, None};
 ghost use Rattle.std.specs.List.Sorted.{IsStrictlyIncreasing};
 ghost use Rattle.rv_fleet.specs.Choices.{AreJobIndices};
