@@ -47,6 +47,7 @@ IsPatternStop list text jobs stop = (stop ≡ why.OutOfMemory)
 -- the pattern with this text excludes all of the requested jobs
 pub record LeavesNone (known : Option FileContents) (words : RunArgs) (rule : Rule) (jobs : List Job) (text : List ℕ)
     : Type 0 where
+  -- the selection before any jobs are excluded
   pub wanted : List Bool
   pub notes : List ℕ
   pub are : AreWanted known words rule jobs (Some wanted) notes

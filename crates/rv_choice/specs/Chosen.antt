@@ -71,6 +71,7 @@ AreLeft _ jobs wanted left = left ≡ wanted
 -- `marks` selects the jobs that the arguments choose, without the excluded ones; `notes` are the notes about the choice
 pub record IsChoice (known : Option FileContents) (words : RunArgs) (rule : Rule) (jobs : List Job)
     (marks : Option (List Bool)) (notes : List ℕ) : Type 0 where
+  -- the selection before any jobs are excluded
   pub wanted : Option (List Bool)
   pub are : AreWanted known words rule jobs wanted notes
   pub excluded : Option Regex
