@@ -7,12 +7,14 @@ use Rattle.rv_session.specs.declared.session.Session.{Session}
 
 -- the session received this byte and became `next`, and its reply was written: the output `old` became `new`
 pub record IsByteReplyWritten (session : Session) (byte : ℕ) (old new : Option (List ℕ)) (next : Session) : Type 0 where
+  -- the reply
   pub told : List ℕ
   pub heard : IsByteFed session byte told next
   pub put : Appends old new told
 
 -- the session made the requested move and became `next`, and its reply was written: the output `old` became `new`
 pub record IsMoveReplyWritten (end_text : List ℕ) (may_break : Bool) (session : Session) (old new : Option (List ℕ)) (next : Session) : Type 0 where
+  -- the reply
   pub told : List ℕ
   pub made : IsWorked end_text may_break session told next
   pub put : Appends old new told
@@ -20,7 +22,9 @@ pub record IsMoveReplyWritten (end_text : List ℕ) (may_break : Bool) (session 
 -- the byte at this index of a chunk requested a move, which was made before the next byte of the chunk was received
 pub record IsMoveMade (end_text : List ℕ) (session : Session) (chunk : List ℕ) (index : ℕ) (old new : Option (List ℕ)) (next : Session)
     : Type 0 where
+  -- the session after the byte, before the move is made
   pub standing : Session
+  -- the output before the reply to the move
   pub middle : Option (List ℕ)
   pub within : index + 1 < length chunk
   pub heard : IsByteReplyWritten session (slice_index_or chunk index 0) old middle standing
@@ -41,7 +45,9 @@ comes_next (Some bytes) = is_interrupted bytes true
 
 -- the session was not over after a chunk, when the next bytes were read
 pub record IsOpenBehind (end_text : List ℕ) (session : Session) (chunk bytes : List ℕ) : Type 0 where
+  -- the replies to the chunk
   pub told : List ℕ
+  -- the session after the chunk
   pub standing : Session
   pub fed : IsFed end_text (is_interrupted bytes true) session chunk told standing
   pub is_open : standing.is_over ≡ false
@@ -55,6 +61,7 @@ IsNextRead end_text session chunk before after (Some bytes) next =
 -- the bytes of a chunk were handled, and the chunk `coming` was read if the session was not over
 pub record IsChunkAnswered (end_text : List ℕ) (session : Session) (chunk : List ℕ) (before after old new coming : Option (List ℕ))
     (next : Session) : Type 0 where
+  -- the replies to the chunk
   pub told : List ℕ
   pub fed : IsFed end_text (comes_next coming) session chunk told next
   pub made : next.asked ≡ None

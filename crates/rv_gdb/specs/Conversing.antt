@@ -20,6 +20,7 @@ pub record IsLastReadOpen (end_text : List ℕ) (session : Session) (heard : Lis
   pub last : List ℕ
   pub heard_is : heard ≡ front ++ last
   pub short : length last ≤ most_read
+  -- the replies to the earlier bytes
   pub told : List ℕ
   pub standing : Session
   pub fed : IsFed end_text (is_interrupted last true) session front told standing
@@ -34,6 +35,7 @@ pub record IsConversed (end_text : List ℕ) (session : Session) (before after o
     : Type 0 where
   -- the bytes that were read
   pub heard : List ℕ
+  -- the session's replies
   pub told : List ℕ
   pub read : Consumes before after heard
   -- no read began after the session was over

@@ -247,7 +247,8 @@ fn move_while_reading<R: Threads, E: EndText, I: Read + Send, O: Sink>(
     move_beside_reader(context, session, input, out, &raised)
 }
 
-// Makes the requested move while another thread reads once, and interrupts the move if what was read demands it.
+// Makes the requested move while another thread reads once. The move is interrupted if the bytes read begin with 0x03, if there are none,
+// or if the read fails.
 fn move_beside_reader<R: Threads, E: EndText, I: Read + Send, O: Sink>(
     context: &SessionContext<'_, R, E>,
     session: &mut Session,
