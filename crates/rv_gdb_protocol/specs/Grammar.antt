@@ -24,6 +24,7 @@ Lacks mark text = list_all (λ byte. not (byte == mark)) text ≡ true
 -- the text is the digits of two numbers, separated by a comma
 pub record TellsTwo (text : List ℕ) (first second : ℕ) : Type 0 where
   pub front : List ℕ
+  -- the digits of the second number
   pub behind : List ℕ
   pub text_is : text ≡ parted comma front behind
   pub front_tells : number_of front ≡ Some first

@@ -39,7 +39,9 @@ joined pieces = flat_map (λ piece. piece) pieces
 
 -- however the bytes are split, the parser receives exactly one packet, with this text and checksum, and is then between packets
 pub record IsHeardAlone (bytes text : List ℕ) (sum : Sum) : Type 0 where
+  -- in whatever pieces the bytes arrive, this packet is the only item received
   pub heard : (pieces : List (List ℕ)) → joined pieces ≡ bytes → heard_in_pieces between pieces ≡ Packet text sum ∷ []
+  -- afterwards the parser is between packets
   pub behind : fold frame_after between bytes ≡ between
 
 -- a framed body is received as one packet with a correct checksum, and its data is the body
