@@ -73,6 +73,7 @@ pub record IsAppended (old new : List ℕ) (IsSuch : List ℕ → Type 0) : Type
 -- a packet with this body is acknowledged, parsed and answered: `out` is sent, and the session becomes `next`
 pub record IsTaken (session : Session) (body out : List ℕ) (next : Session) : Type 0 where
   pub reply : Reply
+  -- the session after the reply
   pub behind : Session
   pub answered : IsAnswered session (request_of body) reply behind
   pub out_is : out ≡ acknowledgement session ++ packets_of reply
@@ -115,9 +116,11 @@ IsByteFed session byte out next = IsRespondedTo (record session { reader = frame
 
 -- the requested move is made: `out` is sent for it, and the session becomes `next`; `may_break` says whether it can be interrupted
 pub record IsWorked (end_text : List ℕ) (may_break : Bool) (session : Session) (out : List ℕ) (next : Session) : Type 0 where
+  -- the requested move
   pub asked : Move
   pub asked_is : session.asked ≡ Some asked
   pub reply : Reply
+  -- the session after the move
   pub behind : Session
   pub moved : IsMoved end_text may_break (record session { asked = None }) asked reply behind
   pub out_is : out ≡ packets_of reply

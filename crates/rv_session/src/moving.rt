@@ -61,7 +61,7 @@ impl Session {
         self.tell(alloc, asked, stop, text)
     }
 
-    // Makes a move. Returns what it found where it ended.
+    // Makes a move, and returns its result.
     fn go<I: Interrupt>(
         &mut self,
         alloc: Global,
