@@ -44,8 +44,8 @@ fn put_word(text: &mut String, word: &str) -> Result<(), AllocError> {
     text.push_str(word)
 }
 
-// Returns what a summary keeps of a line of a report: the last line, or the rest of a line whose first word is in `view`; nothing of any
-// other line.
+// Returns the part of a report's line that a summary keeps: all of the last line, the rest of a line whose first word is in `view`, and
+// nothing of any other line.
 fn kept<'a>(view: &str, line: &'a str) -> &'a str {
     match line.split_once(' ') {
         Some(("done", _)) => line,
