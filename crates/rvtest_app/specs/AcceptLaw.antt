@@ -29,11 +29,11 @@ use Rattle.rvtest_app.specs.Runs.{IsPlanFor}
 pub record IsStoreAfter (written : List CommittedFile) (before after : FileContents) : Type 0 where
   -- the file that a path leads to; links give one file several paths
   pub leads : List ℕ → List ℕ
-  -- paths that lead to one file have equal contents before
+  -- paths that lead to one file had equal contents before
   pub one_before : (path other : List ℕ) → leads path ≡ leads other → before path ≡ before other
-  -- paths that lead to one file have equal contents after
+  -- paths that lead to one file have equal contents afterwards
   pub one_after : (path other : List ℕ) → leads path ≡ leads other → after path ≡ after other
-  -- each written file is in the new store
+  -- the new store has the bytes of each written file
   pub there : All (λ file. after file.path ≡ Some file.bytes) written
   -- a path that leads to no written file keeps its contents
   pub others : (path : List ℕ) → (after path ≡ before path) ⊎ Any (λ file. leads file.path ≡ leads path) written
@@ -47,6 +47,7 @@ HaveOneTextEach leads files = All (λ (file : GoldenFile). All (λ (other : Gold
 
 -- `job` is at index `place` of the list, it is accepted, none of its golden files is skipped, and it has no `same_as`
 pub record IsWhollyAccepted (told : AcceptSummary) (place : ℕ) (job : Job) : Type 0 where
+  -- the job is at index `place` of the list
   pub stands : slice_get told.list.jobs.now place ≡ Some job
   pub accepted : IsTrue (is_of_accepted (slice_get told.runs.now place))
   pub files : All (λ (file : GoldenFile). IsTrue (names_golden_file file.target.path job)
@@ -73,6 +74,7 @@ pub record IsRowIn (store : FileContents) (words : RunArgs) (place : ℕ) (row :
   pub jobs : List Job
   pub listed : job_list_of bytes ≡ Ok jobs
   pub job : Job
+  -- the job is at index `place`
   pub stands : slice_get jobs place ≡ Some job
   pub places : List ℕ
   pub plan : Planned

@@ -78,6 +78,7 @@ pub record IsGoldenFile (known : Option FileContents) (root : Option (List ℕ))
     : Type 0 where
   pub of : file.target ≡ target
   pub leads : file.place ≡ resolved_path root target.path
+  -- the old contents are those of the file there
   pub stands : IsOldAt known file.place file.old
 
 -- the files are the golden files of the targets, in order: with the targets' paths, resolved against `root`, and the contents of the files

@@ -69,6 +69,7 @@ IsUnaddedStop known path before why = IsResultUnreadStop known path why
 pub record IsSumStop (known : Option FileContents) (paths : List (Bor (List ℕ))) (why : Stop) : Type 0 where
   pub before : List (Bor (List ℕ))
   pub path : Bor (List ℕ)
+  -- the paths after that of the table
   pub behind : List (Bor (List ℕ))
   pub sum : CountTable
   pub listed : paths ≡ before ++ path ∷ behind

@@ -85,7 +85,7 @@ pub record IsGdbAnswered (known : Option FileContents) (is_terminal : Bool) (wor
   pub read : Consumes input rest heard
   -- no byte was read after the session ended
   pub while_open : IsReadWhileOpen end_text first heard
-  -- the responses; before each stop at the end of the run they have what `run` reports for the job
+  -- the replies; before each stop at the end of the run they have what `run` reports for the job
   pub told : List ℕ
   pub last : Session
   -- whether the end of the input may have interrupted a move; otherwise only the byte 0x03 did

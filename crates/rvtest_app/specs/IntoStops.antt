@@ -55,8 +55,9 @@ jobs_beside_part extent.Whole = None
 jobs_beside_part (extent.Choice jobs) = Some jobs
 jobs_beside_part (extent.Shard shard) = Some shard.jobs
 
--- `other` is the first index, counted from 1, at which the two lists have different names, with both names
+-- `other` has the number, counted from 1, of the first name that differs between the two lists, and the name in each list
 pub record IsFirstOtherName (names all : List (List ℕ)) (other : OtherName) : Type 0 where
+  -- the index of the name
   pub place : ℕ
   pub number : other.number ≡ place + 1
   pub met : slice_get names place ≡ Some other.met.now

@@ -18,6 +18,7 @@ use Rattle.rvtest_app.specs.WriteStops.{IsOutputStop}
 pub record IsPartUnreadStop (known : Option FileContents) (paths : List (Bor (List ℕ))) (why : Stop) : Type 0 where
   pub before : List (Bor (List ℕ))
   pub path : Bor (List ℕ)
+  -- the paths after that of the part
   pub behind : List (Bor (List ℕ))
   pub texts : List (List ℕ)
   pub listed : paths ≡ before ++ path ∷ behind

@@ -107,7 +107,7 @@ module _ {P S : Type 0} where
 abbrev pub AreFilesCommitted : Option (List CommittedFile) → Option (List CommittedFile) → Option (List CommittedFile) → Type 0
 AreFilesCommitted before after files = IfSome before (λ earlier. IfSome files (λ files. after ≡ Some (earlier ++ files)))
 
--- after an error, no more files are committed, or only the first of two files
+-- after an error, no more files than those of `before` are committed, or only those of `first`, the first of two files
 abbrev pub AreFilesPartlyCommitted : Option (List CommittedFile) → Option (List CommittedFile) → Option (List CommittedFile) → Type 0
 AreFilesPartlyCommitted before after first = (after ≡ before) ⊎ AreFilesCommitted before after first
 
