@@ -49,8 +49,8 @@ back_at frames t = (slice_index_or frames (length (popped frames t)) (frame_of t
 abbrev pub goes_on_at : List Frame → Transfer → ℕ
 goes_on_at frames t = if is_pushed (popped frames t) t then t.from else t.to
 
--- whether a transfer enters `path` by continuing in another function, through a jump or by running into it. That function replaces the last
--- one of the path, so a tail call replaces its caller.
+-- whether a transfer enters `path` by continuing in another function, through a jump or by running into it; that function replaces the last
+-- one of the path, so a tail call replaces its caller
 abbrev pub jumps_to : (ℕ → ℕ) → List ℕ → List Frame → Transfer → Bool
 jumps_to function path frames t = not (function (back_at frames t) == function (goes_on_at frames t))
     && bytes_eq (path_at function (popped frames t) (goes_on_at frames t)) path
