@@ -44,8 +44,8 @@ const REGIONS: &str = "\
 17 | job 1: region
 ";
 
-// As many jobs as a list may have, each with its own image and reference; the reference of the last is wrong: the number of jobs before the
-// last
+// As many jobs as a list may have, each with its own image and reference; the reference of the last one is wrong. The row is the number of
+// jobs before it.
 const PATHS: &str = "\
 1|reads verdict|rvfleet run jobs --workers 4 --group 7| + \
 $0 times [[job]]/name = '%'/image = 'sign#%'/budget = 100/$S/\
