@@ -113,8 +113,8 @@ pub record IsPlanCheckOf (known : Option FileContents) (root : Option (List ℕ)
   pub text : output ≡ check_text path bytes root plan unread
   pub judged : status ≡ check_status (refused_job_count plan)
 
--- the output and exit status of `check` for a list with these errors. With errors, the status is 2, and the output has at least one line
--- for each invalid job, which begins with the list's path, a line and column, and the job's number and name
+-- the output and exit status of `check` for a list with these errors: if there are any, the status is 2, and the output has at least one
+-- line for each invalid job, which begins with the list's path, a line and column, and the job's number and name
 abbrev pub IsCheckOf : Option FileContents → Option (List ℕ) → List JobError → List ℕ → List ℕ → List ℕ → ℕ → Type 0
 IsCheckOf known root [] path bytes output status = IsPlanCheckOf known root path bytes output status
 IsCheckOf known root (fault ∷ faults) path bytes output status =
